@@ -1,0 +1,6 @@
+pub mod Text
+pub mod Parts
+pub mod Net
+pub mod Serving
+pub mod Wiring
+pub mod Input

@@ -1,0 +1,44 @@
+-- How a net's actors are joined, and the kinds of its links for losses.
+use Rattle.std.specs.Prelude.{ℕ, List, map, length}
+use Rattle.sl_machine.specs.declared.wiring.Link.{Link}
+use Rattle.sl_net.specs.declared.actor.ActorId.{ActorId}
+use Rattle.sl_net.specs.declared.actor.ActorId.TheVariants.{Observer, Control, Unit as OfUnit, Host as OfHost}
+use Rattle.sl_net.specs.declared.actor.Sort.{Sort}
+use Rattle.sl_net.specs.declared.actor.Sort.TheVariants.{Cable, Crossbar, Init, Notice}
+use Rattle.sl_net.specs.declared.actor.LinkKind.{LinkKind}
+use Rattle.sl_net.specs.declared.actor.LinkKind.TheVariants.{Cable as CableKind, Crossbar as CrossbarKind, Init as InitKind, Notice as NoticeKind, Reliable}
+use Rattle.sl_net.specs.Parts.{below}
+use Rattle.sl_net.specs.Net.{Net, link_of, link_numbers, links_into, links_from, link_at, place_in, choice_of, unit_place, data_channels}
+
+-- the observer issues and resends, a control plane sweeps, a host injects
+abbrev pub actions_of : ActorId → ℕ
+actions_of Observer = 2
+actions_of (Control d) = 1
+actions_of (OfUnit u) = 0
+actions_of (OfHost h) = 1
+
+abbrev pub wired_link : Net → ℕ → Link
+wired_link net l = record { from = (link_of net l).from; out = place_in 0 l (links_from net (link_of net l).from); to = (link_of net l).to; choice = choice_of net l }
+
+abbrev pub wired_links : Net → List Link
+wired_links net = map (wired_link net) (link_numbers net)
+
+abbrev pub in_counts : Net → List ℕ
+in_counts net = map (λ a. length (links_into net a)) (below (length net.actors))
+
+abbrev pub out_counts : Net → List ℕ
+out_counts net = map (λ a. length (links_from net a)) (below (length net.actors))
+
+abbrev pub action_counts : Net → List ℕ
+action_counts net = map actions_of net.actors
+
+abbrev pub kind_of : Sort → LinkKind
+kind_of Cable = CableKind
+kind_of Crossbar = CrossbarKind
+kind_of Init = InitKind
+kind_of Notice = NoticeKind
+kind_of _ = Reliable
+
+-- the senders of a unit's data channels in order, as places among the units; the unit is an actor's number
+abbrev pub upstream_of : Net → ℕ → List ℕ
+upstream_of net u = map (λ c. unit_place net (link_of net (link_at net u c)).from) (data_channels net u)

@@ -1,0 +1,72 @@
+// Actors and links of a net.
+
+/// A direction of a port. An ingress unit handles what comes in from the cable or the host, an
+/// egress unit what goes out to it.
+#[derive(Clone, Copy, Debug, PartialEq, Eq)]
+pub enum Side {
+    Ingress,
+    Egress,
+}
+
+/// A processing unit: one direction of one port of one device (Yaseen, Sonchack, Liu 2018).
+#[derive(Clone, Copy, Debug, PartialEq, Eq)]
+pub struct UnitId {
+    /// The device's place, from 0.
+    pub device: u32,
+    /// The port's number, from 0.
+    pub port: u32,
+    pub side: Side,
+}
+
+/// An actor: the observer, the control plane of a device, a unit, or a host. Devices and hosts
+/// are named by their places, from 0.
+#[derive(Clone, Copy, Debug, PartialEq, Eq)]
+pub enum ActorId {
+    Observer,
+    Control(u32),
+    Unit(UnitId),
+    Host(u32),
+}
+
+/// What a link is between.
+#[derive(Clone, Copy, Debug, PartialEq, Eq)]
+pub enum Sort {
+    /// From a host to its ingress unit.
+    FromHost,
+    /// From an egress unit to its host.
+    ToHost,
+    /// From an egress unit to the ingress unit at the other end of its cable.
+    Cable,
+    /// From an ingress unit to an egress unit of its device.
+    Crossbar,
+    /// Initiations, from a control plane to an ingress unit of its device.
+    Init,
+    /// Polls, from a control plane to a unit of its device.
+    Poll,
+    /// Notices, from a unit to its control plane.
+    Notice,
+    /// Register dumps, from a unit to its control plane.
+    Dump,
+    /// Begins, from the observer to a control plane.
+    Begin,
+    /// Reports, from a control plane to the observer.
+    Done,
+}
+
+/// The kind of a link for losses. A reliable link loses nothing.
+#[derive(Clone, Copy, Debug, PartialEq, Eq)]
+pub enum LinkKind {
+    Cable,
+    Crossbar,
+    Init,
+    Notice,
+    Reliable,
+}
+
+/// A link by the numbers of the actors at its ends.
+#[derive(Clone, Copy, Debug, PartialEq, Eq)]
+pub struct LinkPart {
+    pub from: u32,
+    pub to: u32,
+    pub sort: Sort,
+}

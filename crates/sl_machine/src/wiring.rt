@@ -1,3 +1,6 @@
+// How actors are joined by links, and the book of a run.
+use std::marker::Model;
+
 /// A link from one actor to another. `from` and `to` are the actors' numbers, `out` is the place
 /// of the link among its sender's outgoing links, and `choice` its place among its receiver's
 /// incoming links.
@@ -19,6 +22,14 @@ pub struct Wiring {
     pub action_counts: Vec<u32>,
 }
 
+impl Model for Wiring {
+    ghost use Rattle.sl_machine.specs.Plan.{Plan};
+
+    ghost Value = { Plan };
+
+    ghost view = { λ w. record { links = w.links.items; ins = w.in_counts.items; outs = w.out_counts.items; actions = w.action_counts.items } };
+}
+
 /// A turn that did something: its number, the actor and the choice that it made. An event in the
 /// sense of Lamport 1978.
 #[derive(Clone, Copy, Debug, PartialEq, Eq)]
@@ -32,4 +43,12 @@ pub struct Entry {
 #[derive(Drop)]
 pub struct Book {
     pub entries: Vec<Entry>,
+}
+
+impl Model for Book {
+    ghost use Rattle.sl_machine.specs.Book.{Book};
+
+    ghost Value = { Book };
+
+    ghost view = { λ b. record { entries = b.entries.items } };
 }

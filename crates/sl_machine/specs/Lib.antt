@@ -1,0 +1,4 @@
+pub mod Machine
+pub mod Plan
+pub mod Fit
+pub mod Book

@@ -4,3 +4,4 @@ pub mod Net
 pub mod Serving
 pub mod Wiring
 pub mod Input
+pub mod Number

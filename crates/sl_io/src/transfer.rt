@@ -43,7 +43,11 @@ impl From<AllocError> for ReadFault {
 
 /// Reads to the end, or until `limit` bytes are read. At a fault the bytes read so far, at most
 /// `limit` of them, are lost to the source.
-pub fn read_all<S: Source>(alloc: Global, source: &mut S, limit: usize) -> Result<Vec<u8>, ReadFault>
+pub fn read_all<S: Source>(
+    alloc: Global,
+    source: &mut S,
+    limit: usize,
+) -> Result<Vec<u8>, ReadFault>
     ensures read { IfOk result (λ bytes. IsReadUpTo limit (S.left source.old) (S.left source.new) bytes.items) }
     ensures lost { OnErr result (TakesUpTo limit (S.left source.old) (S.left source.new)) }
     ensures tells { TellsAsBefore (S.left source.old) (S.left source.new) }

@@ -1,4 +1,4 @@
-use Rattle.std.proofs.Common.{arith, ◌≡◌, ◌+◌, ◌≤◌, ◌++◌, ℕ, List, length, take, length-append, length-take, Ok, Err, Result, OnErr}
+use Rattle.std.proofs.Common.{arith, length-append, length-take, Ok, Err, Result, OnErr}
 use Rattle.std.proofs.KnownBytes.{Consumes-trans}
 use Rattle.sl_io.specs.Pieces.{TakesUpTo}
 use Rattle.sl_io.proofs.transfer.read_all.Goals as goal

@@ -1,4 +1,4 @@
-use Rattle.std.proofs.Common.{arith, ◌≡◌, ◌+◌, ◌-◌, ◌<◌, ◌≤◌, ◌++◌, ℕ, List, [], length, take, drop, length-append, length-drop, length-take, take-append-drop, sym, ap, ◌∙◌}
+use Rattle.std.proofs.Common.{arith, ◌≡◌, ◌+◌, ◌-◌, ◌++◌, ℕ, List, length, take, drop, length-append, length-drop, length-take, take-append-drop, sym, ap, ◌∙◌}
 use Rattle.std.proofs.lemmas.List.{take_at, drop-drop, drop_all}
 use Rattle.sl_io.proofs.in_memory.MemorySourceSource.read.Goals as goal
 
@@ -17,6 +17,7 @@ returns-clause-next c =
     let width : at + n - at ≡ n = omega arith in
     let size : length c.copy_from_slice.new.self ≡ n = omega (arith, length-take n c.args.buf.now, c.copy_from_slice.ensures.len, c.min-n.ensures) in
     let same = rw (width, c.deref.ensures.value) at c.copy_from_slice.ensures.after in
-    let parts = copied_and_left at n c.self.inside.bytes.items c.copy_from_slice.new.self (drop n c.args.buf.now) size same in
-    ( sym (ap (λ s. s.left) c.self.view_is) ∙ parts
-    , λ none some. drop_all (at + n) c.self.inside.bytes.items (omega (arith, length-append c.copy_from_slice.new.self (drop n c.args.buf.now), length-drop n c.args.buf.now, c.self.inside.bytes.ok.0, c.len.ensures)) )
+    let parts = copied_and_left at n c.self.inside.bytes.items c.copy_from_slice.new.self (drop n c.args.buf.now) size same in (
+      sym (ap (λ s. s.left) c.self.view_is) ∙ parts,
+      λ none some. drop_all (at + n) c.self.inside.bytes.items (omega (arith, length-append c.copy_from_slice.new.self (drop n c.args.buf.now), length-drop n c.args.buf.now, c.self.inside.bytes.ok.0, c.len.ensures)),
+    )

@@ -1,5 +1,5 @@
 // A source and a sink in memory, with calls that fail by their number.
-ghost use Rattle.std.specs.Prelude.{◌≡◌, ℕ, ◌+◌, ◌<◌, ◌≤◌, ◌⊎◌, ◌↔◌, [], length, drop, min, Some, IfOk, OnErr, IsErr, IsTrue, is_err, if◌then◌else◌, Contains};
+ghost use Rattle.std.specs.Prelude.{◌≡◌, ℕ, ◌+◌, ◌<◌, ◌≤◌, ◌⊎◌, ◌↔◌, [], length, drop, min, Some, IfOk, OnErr, IsOk, IsErr, IsTrue, is_err, if◌then◌else◌, Contains};
 ghost use Rattle.std.specs.Io.{ReadsAtMost, WritesAtMost};
 ghost use Rattle.std.specs.Io.KnownBytes.{ReadConsumes, WriteAppends};
 ghost use Rattle.sl_io.specs.Faults.{Rose, raised};
@@ -139,7 +139,8 @@ impl MemorySink {
     /// A sink with room for `room` bytes whose calls fail where their number, from 1, is in `fail`,
     /// or where no byte fits of a piece that isn't empty.
     pub fn new(alloc: Global, room: usize, fail: Vec<u64>) -> Result<MemorySink, Memory>
-        ensures { IfOk result (λ sink. sink ≡ record { written = []; room = room; fail = fail.items; calls = 0; faults = 0 }) }
+        ensures made { IfOk result (λ sink. sink ≡ record { written = []; room = room; fail = fail.items; calls = 0; faults = 0 }) }
+        ensures no_room { room ≡ 0 → IsOk result }
     {
         let bytes = Vec::with_capacity(alloc, room).map_err(|_| Memory)?;
         Ok(MemorySink {

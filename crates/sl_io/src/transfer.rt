@@ -1,5 +1,5 @@
 // Reading to the end, and writing a whole piece.
-ghost use Rattle.std.specs.Prelude.{◌≡◌, ◌≤◌, IfOk, OnOk, OnErr};
+ghost use Rattle.std.specs.Prelude.{◌≡◌, ◌≤◌, IfOk, IsOk, OnOk, OnErr};
 ghost use Rattle.std.specs.Io.KnownBytes.{Appends};
 ghost use Rattle.sl_io.specs.Faults.{Rose};
 ghost use Rattle.sl_io.specs.Pieces.{TellsAsBefore, IsReadUpTo, TakesUpTo, AppendsPart};
@@ -49,6 +49,7 @@ pub fn read_all<S: Source>(
     limit: usize,
 ) -> Result<Vec<u8>, ReadFault>
     ensures read { IfOk result (λ bytes. IsReadUpTo limit (S.left source.old) (S.left source.new) bytes.items) }
+    ensures nothing_to_read { limit ≡ 0 → IsOk result }
     ensures lost { OnErr result (TakesUpTo limit (S.left source.old) (S.left source.new)) }
     ensures tells { TellsAsBefore (S.left source.old) (S.left source.new) }
     ensures never_falls { S.faults source.old ≤ S.faults source.new }

@@ -1,0 +1,3 @@
+pub mod Nets
+pub mod Rows
+pub mod Ends

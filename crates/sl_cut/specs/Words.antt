@@ -1,0 +1,56 @@
+-- Words on lists and numbers that the definitions share.
+--     Each P xs        P holds of each element
+--     Rises n xs b     n, then the numbers xs, then b, never fall
+--     weigh f xs       a number of each element, added up
+use Rattle.std.specs.Prelude.{ℕ, suc, ◌+◌, ◌≤◌, min, Bool, List, [], ◌∷◌, ◌++◌, if◌then◌else◌, Option, Some, None, unwrap_or}
+
+abbrev pub Each : {A : Type 0} → (A → Type 0) → List A → Type 0
+Each P [] = Unit {0}
+Each P (x ∷ xs) = P x × Each P xs
+
+abbrev pub Rises : ℕ → List ℕ → ℕ → Type 0
+Rises n [] b = n ≤ b
+Rises n (x ∷ xs) b = (n ≤ x) × Rises x xs b
+
+abbrev pub weigh : {A : Type 0} → (A → ℕ) → List A → ℕ
+weigh f [] = 0
+weigh f (x ∷ xs) = f x + weigh f xs
+
+-- how many elements pass a test
+abbrev pub tally : {A : Type 0} → (A → Bool) → List A → ℕ
+tally test xs = weigh (λ x. if test x then 1 else 0) xs
+
+abbrev pub listed : {A : Type 0} → Option A → List A
+listed None = []
+listed (Some x) = x ∷ []
+
+-- the numbers that some elements have, in order
+abbrev pub numbers : {A : Type 0} → (A → Option ℕ) → List A → List ℕ
+numbers f [] = []
+numbers f (x ∷ xs) = listed (f x) ++ numbers f xs
+
+-- the least of a number and others
+abbrev pub least_of : ℕ → List ℕ → ℕ
+least_of n [] = n
+least_of n (x ∷ xs) = least_of (min n x) xs
+
+-- the least of a number, where there is one, and others
+abbrev pub least_in : Option ℕ → List ℕ → Option ℕ
+least_in o [] = o
+least_in o (x ∷ xs) = least_in (Some (min (unwrap_or o x) x)) xs
+
+-- the least of some numbers, where there are any
+abbrev pub least : List ℕ → Option ℕ
+least xs = least_in None xs
+
+abbrev pub or_later : {A : Type 0} → ℕ → Option A → Option (ℕ × A) → Option (ℕ × A)
+or_later n (Some a) o = Some (n, a)
+or_later n None o = o
+
+-- the first element of which f says something, by its place counted from n, and what f says of it
+abbrev pub first_from : {A B : Type 0} → ℕ → (A → Option B) → List A → Option (ℕ × B)
+first_from n f [] = None
+first_from n f (x ∷ xs) = or_later n (f x) (first_from (suc n) f xs)
+
+abbrev pub first_told : {A B : Type 0} → (A → Option B) → List A → Option (ℕ × B)
+first_told f xs = first_from 0 f xs

@@ -1,0 +1,15 @@
+// Histories, cuts and verdicts: the definitions that the theorems speak of, and the findings that
+// the report prints.
+#![tactic(auto)]
+
+mod findings;
+mod history;
+mod message;
+mod total;
+mod verdict;
+
+pub use findings::{Counts, Drops, Finding, FindingList, Findings, Lost, Row, Rows1};
+pub use history::{History, World};
+pub use message::{Message, Put, Puts, Step};
+pub use total::Total;
+pub use verdict::{Cause, Lag, Verdict};

@@ -1,7 +1,7 @@
 -- The nets of the worked rows, and how a row's run goes.
 --     net_a    one device with two hosts          net_b    one device with one host
 --     net_c    two devices joined by a cable      net_d    three devices in a line
-use Rattle.std.specs.Prelude.{ℕ, Bool, false, ◌&&◌, List, [], ◌∷◌, ◌++◌, codes, ◌==◌, unwrap_or}
+use Rattle.std.specs.Prelude.{ℕ, false, ◌&&◌, List, [], ◌∷◌, ◌++◌, codes, ◌==◌, unwrap_or}
 use Rattle.sl_net.specs.declared.parts.PortRef.{PortRef}
 use Rattle.sl_net.specs.declared.parts.DevicePart.{DevicePart}
 use Rattle.sl_net.specs.declared.parts.CablePart.{CablePart}

@@ -1,7 +1,6 @@
 -- Worked rows that need no text, by computation.
-use Rattle.std.specs.Prelude.{◌≡◌, ℕ, List, [], ◌∷◌, map, length, Option, Some, None, refl}
+use Rattle.std.specs.Prelude.{◌≡◌, ℕ, List, [], ◌∷◌, map, length, Some, None, refl}
 use Rattle.sl_net.specs.declared.input.Packet.{Packet}
-use Rattle.sl_net.specs.declared.parts.CablePart.{CablePart}
 use Rattle.sl_net.specs.Parts.{Parts}
 use Rattle.sl_net.specs.Net.{units, hosts}
 use Rattle.sl_cut.specs.Frame.{plain_frame, packet_of}

@@ -1,7 +1,7 @@
 -- What a unit counts, and what it drops.
 --     packets h, bytes h       the data packets that it took, and their bytes
 --     bad, expired, noroute    the steps in which an ingress unit dropped what it took
-use Rattle.std.specs.Prelude.{ℕ, ◌+◌, Bool, true, false, ◌&&◌, not, List, [], ◌∷◌, ◌==◌, Option, Some, None, unwrap_or, option_and_then, option_map, is_none}
+use Rattle.std.specs.Prelude.{ℕ, ◌+◌, Bool, false, ◌&&◌, not, [], ◌∷◌, ◌==◌, Option, Some, None, unwrap_or, option_and_then, option_map, is_none}
 use Rattle.sl_net.specs.declared.input.Packet.{Packet}
 use Rattle.sl_net.specs.Parts.{Parts}
 use Rattle.sl_cut.specs.declared.message.Message.{Message}

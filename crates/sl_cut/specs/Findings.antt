@@ -1,15 +1,15 @@
 -- The findings of a run, as data.
-use Rattle.std.specs.Prelude.{ℕ, suc, Bool, false, List, [], ◌++◌, map, filter, length, take, replicate}
+use Rattle.std.specs.Prelude.{ℕ, Bool, false, List, [], ◌++◌, map, filter, length, take, replicate}
 use Rattle.sl_net.specs.declared.actor.Side.TheVariants.{Ingress}
 use Rattle.sl_net.specs.declared.actor.ActorId.{ActorId}
 use Rattle.sl_net.specs.declared.actor.ActorId.TheVariants.{Unit as OfUnit}
 use Rattle.sl_net.specs.declared.actor.Sort.{Sort}
 use Rattle.sl_net.specs.declared.actor.Sort.TheVariants.{Cable, Crossbar, Init, Notice}
-use Rattle.sl_net.specs.Parts.{Parts, numbers_from}
+use Rattle.sl_net.specs.Parts.{numbers_from}
 use Rattle.sl_net.specs.Net.{Net, same_side, same_sort, actor_of, link_of, link_at, link_numbers, action_choice, units, hosts, data_channels}
 use Rattle.sl_cut.specs.declared.total.Total.{Total}
 use Rattle.sl_cut.specs.declared.verdict.Verdict.{Verdict}
-use Rattle.sl_cut.specs.declared.verdict.Verdict.TheVariants.{Consistent, Inconsistent, Pending, NotIssued}
+use Rattle.sl_cut.specs.declared.verdict.Verdict.TheVariants.{Consistent}
 use Rattle.sl_cut.specs.declared.findings.Row.{Row}
 use Rattle.sl_cut.specs.declared.findings.Finding.{Finding}
 use Rattle.sl_cut.specs.declared.findings.Drops.{Drops}

@@ -4,7 +4,7 @@
 --     known place h           what the observer knows of one
 --     floor net w             F, up to which the observer knows all units
 -- Choices of the observer, a control plane and a host past their links are their own actions.
-use Rattle.std.specs.Prelude.{ℕ, suc, ◌+◌, min, Bool, true, false, ◌&&◌, ◌||◌, not, List, [], ◌∷◌, map, length, nat_lt, nat_le, ◌==◌, if◌then◌else◌, Option, Some, None, unwrap_or, option_and_then}
+use Rattle.std.specs.Prelude.{ℕ, suc, ◌+◌, Bool, false, ◌&&◌, ◌||◌, List, [], ◌∷◌, map, length, nat_lt, nat_le, ◌==◌, if◌then◌else◌, Option, Some, None, unwrap_or, option_and_then}
 use Rattle.std.specs.List.{list_any, list_all}
 use Rattle.sl_net.specs.declared.actor.Sort.TheVariants.{Init}
 use Rattle.sl_net.specs.Net.{Net, choices_of, action_choice, data_channels, units, unit_place}
@@ -12,7 +12,6 @@ use Rattle.sl_net.specs.Serving.{Served, served}
 use Rattle.sl_cut.specs.declared.message.Message.{Message}
 use Rattle.sl_cut.specs.declared.message.Message.TheVariants.{Notice as NoticeMsg}
 use Rattle.sl_cut.specs.declared.message.Put.{Put}
-use Rattle.sl_cut.specs.declared.message.Step.{Step}
 use Rattle.sl_cut.specs.Words.{least, least_of}
 use Rattle.sl_cut.specs.History.{History, World, history, dump_of, done_of, id, heard, last, first, taken, put}
 use Rattle.sl_cut.specs.Setup.{Setup}

@@ -2,7 +2,7 @@
 -- The n-th take of a link matches the n-th message that the link carried. Here n counts from 0, so the n-th take lies in a prefix
 -- of the receiver's history exactly where that prefix took more than n messages of the link, and the put of the n-th message carried
 -- lies in a prefix of the sender's history exactly where that prefix put more than n messages that are not lost.
-use Rattle.std.specs.Prelude.{ℕ, ◌<◌, Bool, true, false, List, length, IsTrue}
+use Rattle.std.specs.Prelude.{ℕ, ◌<◌, Bool, true, false, length, IsTrue}
 use Rattle.sl_net.specs.declared.actor.Sort.{Sort}
 use Rattle.sl_net.specs.declared.actor.Sort.TheVariants.{Cable, Crossbar}
 use Rattle.sl_net.specs.Net.{Net, link_of}

@@ -3,7 +3,7 @@
 --     next_port parts d h    the lowest port whose cable begins such a walk, or the host's own port on its own device
 -- Both are None where there is no walk or no such host. A least walk meets no device twice, so it has fewer cables than the net has devices,
 -- and only the walks of fewer cables are looked at.
-use Rattle.std.specs.Prelude.{ℕ, suc, zero, List, [], ◌∷◌, ◌++◌, map, filter, flat_map, length, ◌==◌, Option, Some, None, slice_get, option_map, option_and_then}
+use Rattle.std.specs.Prelude.{ℕ, suc, zero, List, [], ◌∷◌, ◌++◌, map, filter, flat_map, length, ◌==◌, Option, Some, None, slice_get, option_and_then}
 use Rattle.sl_net.specs.declared.parts.PortRef.{PortRef}
 use Rattle.sl_net.specs.declared.parts.CablePart.{CablePart}
 use Rattle.sl_net.specs.Parts.{Parts, below}

@@ -6,7 +6,6 @@ use Rattle.std.specs.Prelude.{ℕ, Bool, false, ◌&&◌, List, [], ◌∷◌, n
 use Rattle.sl_net.specs.Net.{Net, units, data_channels}
 use Rattle.sl_cut.specs.declared.message.Message.{Message}
 use Rattle.sl_cut.specs.declared.message.Message.TheVariants.{Data}
-use Rattle.sl_cut.specs.declared.message.Step.{Step}
 use Rattle.sl_cut.specs.declared.verdict.Cause.{Cause}
 use Rattle.sl_cut.specs.declared.verdict.Cause.TheVariants.{Skipped, Miscredited}
 use Rattle.sl_cut.specs.declared.verdict.Lag.{Lag}

@@ -3,6 +3,7 @@
 
 mod actor;
 mod input;
+mod name;
 mod net;
 mod number;
 mod parts;

@@ -1,0 +1,38 @@
+-- Distances of wrapped ids are differences of numbers.
+use Rattle.std.proofs.Common.{◌≡◌, ℕ, ◌+◌, ◌-◌, ◌*◌, ◌/◌, ◌%◌, ◌<◌, ◌≤◌, ◌⊎◌, inl, inr, sym, ◌∙◌, ap, arith}
+use Rattle.std.proofs.lemmas.Bool.{cases_lt}
+use Rattle.std.proofs.lemmas.Nat.{div-add-mod', mod-mul-add, mod_below, pow_pos}
+use Rattle.std.proofs.Math.Nat.{add-mod-mod, mod-add-mod, mod-eq_of_lt}
+use Rattle.sl_ids.specs.Ids.{modulus, wrapped, distance}
+
+-- going up from a wrapped id by its distance to another leads there
+around : (m base w : ℕ) → w < m → (base + (w + m - base % m) % m) % m ≡ w
+around m base w h =
+    let below : base % m < m = mod_below base m (omega (arith, h)) in
+    let parts : base / m * m + base % m ≡ base = div-add-mod' base m in
+    let sum : base + (w + m - base % m) ≡ (base / m + 1) * m + w = omega arith in
+    add-mod-mod base (w + m - base % m) m ∙ ap (λ n. n % m) sum ∙ mod-mul-add (base / m + 1) m w h
+
+pub wrapped-distance : (bits base w : ℕ) → w < modulus bits → wrapped bits (base + distance bits (wrapped bits base) w) ≡ w
+wrapped-distance bits base w h = around (modulus bits) base w h
+
+distance-by : (m r d b : ℕ) → r < m → d < m → b ≡ (r + d) % m → (b + m - r) % m ≡ d
+distance-by m r d b h l e = by_cases (cases_lt (r + d) m)
+  where
+    by_cases : ((r + d < m) ⊎ (m ≤ r + d)) → (b + m - r) % m ≡ d
+    by_cases (inl p) =
+        let is : b ≡ r + d = e ∙ mod-eq_of_lt p in
+        let sum : b + m - r ≡ 1 * m + d = omega arith in
+        ap (λ n. n % m) sum ∙ mod-mul-add 1 m d l
+    by_cases (inr p) =
+        let sum : r + d ≡ 1 * m + (r + d - m) = omega arith in
+        let is : b ≡ r + d - m = e ∙ ap (λ n. n % m) sum ∙ mod-mul-add 1 m (r + d - m) (omega arith) in
+        let back : b + m - r ≡ d = omega arith in
+        ap (λ n. n % m) back ∙ mod-eq_of_lt l
+
+-- the distance between the wrapped ids of numbers that lie less than the modulus apart
+pub distance-wrapped : (bits a b : ℕ) → a ≤ b → b < a + modulus bits → distance bits (wrapped bits a) (wrapped bits b) ≡ b - a
+distance-wrapped bits a b h l =
+    let sum : a + (b - a) ≡ b = omega arith in
+    distance-by (modulus bits) (wrapped bits a) (b - a) (wrapped bits b) (mod_below a (modulus bits) (pow_pos bits)) (omega (arith, h, l))
+    (sym (mod-add-mod a (modulus bits) (b - a) ∙ ap (λ n. n % modulus bits) sum))

@@ -1,0 +1,15 @@
+-- Wrapped ids of some bits. Of Yaseen, Sonchack and Liu 2018: ids on the wire wrap, and are compared relative to one
+-- that is known.
+use Rattle.std.specs.Prelude.{ℕ, ◌+◌, ◌-◌, ◌%◌, ◌^◌}
+
+-- how many wrapped ids there are
+abbrev pub modulus : ℕ → ℕ
+modulus bits = 2 ^ bits
+
+-- the wrapped id of a number
+abbrev pub wrapped : ℕ → ℕ → ℕ
+wrapped bits k = k % modulus bits
+
+-- how far one goes up from one wrapped id to another
+abbrev pub distance : ℕ → ℕ → ℕ → ℕ
+distance bits from to = (to + modulus bits - from) % modulus bits

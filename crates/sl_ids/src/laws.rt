@@ -1,0 +1,12 @@
+ghost use Rattle.std.specs.Prelude.{◌≡◌, ℕ, ◌+◌, ◌-◌, ◌<◌, ◌≤◌};
+ghost use Rattle.sl_ids.specs.Ids.{modulus, wrapped, distance};
+
+/// Wrapped ids of numbers that lie near one another tell how far the numbers lie apart.
+pub fn distances_are_differences()
+    ensures { (bits a b : ℕ) → a ≤ b → b < a + modulus bits → distance bits (wrapped bits a) (wrapped bits b) ≡ b - a }
+{}
+
+/// Who goes up from a number by the distance to a wrapped id comes to a number that has it.
+pub fn distances_lead_back()
+    ensures { (bits base w : ℕ) → w < modulus bits → wrapped bits (base + distance bits (wrapped bits base) w) ≡ w }
+{}

@@ -1,0 +1,31 @@
+ghost use Rattle.std.specs.Prelude.{◌≡◌, ℕ, ◌≤◌, ◌^◌, ◌↔◌, IsSome, IfSome};
+ghost use Rattle.sl_ids.specs.Ids.{modulus};
+
+/// The width of wrapped ids, in bits: 1 to 8.
+#[derive(Clone, Copy, Debug, PartialEq, Eq)]
+pub struct Width {
+    pub bits: u8,
+    pub ghost least: { 1 ≤ bits },
+    pub ghost most: { bits ≤ 8 },
+}
+
+impl Width {
+    /// The width of so many bits, or none where they are not 1 to 8.
+    pub fn new(bits: u8) -> Option<Width>
+        ensures fits { IsSome result ↔ ((1 ≤ bits) × (bits ≤ 8)) }
+        ensures bits { IfSome result (λ width. width.bits ≡ bits) }
+    {
+        if bits >= 1 && bits <= 8 {
+            Some(Width { bits })
+        } else {
+            None
+        }
+    }
+}
+
+/// How many wrapped ids there are.
+pub(crate) fn modulus(width: Width) -> u32
+    ensures { result ≡ modulus width.bits }
+{
+    1 << width.bits
+}

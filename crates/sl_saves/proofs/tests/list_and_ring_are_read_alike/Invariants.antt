@@ -1,0 +1,14 @@
+use Rattle.std.proofs.Common.{◌≡◌, length}
+use Rattle.sl_saves.specs.Lists.{list_window, list_size}
+use Rattle.sl_saves.specs.Rings.{ring_window, ring_size}
+use Rattle.sl_saves.proofs.tests.list_and_ring_are_read_alike.Given as goal
+
+abbrev pub invariant-loop : goal.invariant-loop
+invariant-loop g l = record {
+  of_list_window : list_window l.list ≡ 7;
+  of_list_size : list_size l.list ≡ 9;
+  list_slots : length l.list_view.slots ≡ 9;
+  of_ring_window : ring_window l.ring ≡ 7;
+  of_ring_size : ring_size l.ring ≡ 9;
+  ring_slots : length l.ring_view.slots ≡ 9;
+}

@@ -1,0 +1,50 @@
+-- What an adoption and a credit make of the view of a ring, and of a list of all entries.
+use Rattle.std.specs.Prelude.{ℕ, ◌+◌, ◌-◌, ◌%◌, min, max, List, [], ◌∷◌, length, replicate, drop, nat_lt, if◌then◌else◌, slice_index_or, slice_set}
+use Rattle.sl_saves.specs.declared.entry.Total.{Total}
+use Rattle.sl_saves.specs.declared.entry.Slot.{Slot}
+use Rattle.sl_saves.specs.declared.entry.View.{View}
+use Rattle.sl_saves.specs.declared.list.Entry.{Entry}
+use Rattle.sl_saves.specs.Calls.{Credit, Save, totals}
+use Rattle.sl_saves.specs.Views.{last_count, slot_of, free_slot, no_slot}
+
+-- the place that lies `by` above another, in a ring of some size
+abbrev pub place_above : ℕ → ℕ → ℕ → ℕ
+place_above size at by = if nat_lt (at + by) size then at + by else at + by - size
+
+-- a slot as an adoption writes it
+abbrev pub new_slot : ℕ → ℕ → ℕ → Slot
+new_slot by packets bytes = record { packets = packets; bytes = bytes; inflight = totals []; back = by; reach = 0 }
+
+abbrev pub view_adopted : ℕ → ℕ → ℕ → View → View
+view_adopted by packets bytes view = let at = place_above (length view.slots) view.at by in
+    record { at = at; slots = slice_set view.slots at (new_slot by packets bytes) }
+
+-- one data packet more, where totals stay at the last value of their type
+abbrev pub grown : ℕ → Total → Total
+grown bytes t = record { packets = min (t.packets + 1) last_count; bytes = min (t.bytes + bytes) last_count }
+
+abbrev pub no_total : Total
+no_total = record { packets = 0; bytes = 0 }
+
+abbrev pub slot_credited : Credit → Slot → Slot
+slot_credited c s = record s {
+  inflight = slice_set s.inflight c.channel (grown c.bytes (slice_index_or s.inflight c.channel no_total));
+  reach = max s.reach c.age;
+}
+
+abbrev pub view_credited : Credit → View → View
+view_credited c view = record view { slots = slice_set view.slots view.at (slot_credited c (slice_index_or view.slots view.at no_slot)) }
+
+-- A list of all entries, oldest first.
+
+abbrev pub entry_of : Save → Entry
+entry_of s = record { number = s.number; slot = slot_of s }
+
+-- numbered slots written into a ring, later ones over earlier ones
+abbrev pub written : List Slot → List Entry → List Slot
+written slots [] = slots
+written slots (e ∷ es) = written (slice_set slots (e.number % length slots) e.slot) es
+
+-- the view of a list: its last entries, as many as the ring has slots
+abbrev pub view_of : ℕ → ℕ → List Entry → View
+view_of size last entries = record { at = last % size; slots = written (replicate size free_slot) (drop (length entries - size) entries) }

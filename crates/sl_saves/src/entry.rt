@@ -1,0 +1,210 @@
+// Totals, slots, views and answers.
+ghost use Rattle.std.specs.Prelude.{◌≡◌, ℕ, ◌<◌, ◌≤◌, ◌^◌, length, replicate, slice_index_or, slice_set, IfOk};
+
+use crate::place::place_above;
+use sl_machine::Memory;
+use std::alloc::Global;
+use std::marker::Model;
+
+/// Packets and bytes of a channel that were in flight.
+#[derive(Clone, Copy, Debug, PartialEq, Eq)]
+pub struct Total {
+    pub packets: u64,
+    pub bytes: u64,
+}
+
+/// A saved entry: the counters before its number was adopted, what was in flight by channel, how
+/// far the number lies above the one saved before, and the greatest age that was credited.
+/// Nothing is saved in it where `back` is 0.
+#[derive(Clone, Copy, Debug, PartialEq, Eq)]
+pub struct Slot {
+    pub packets: u64,
+    pub bytes: u64,
+    pub inflight: [Total; 8],
+    pub back: u16,
+    pub reach: u16,
+}
+
+const _: () = prove!(size_of::<Slot>() <= 160);
+
+/// What was saved for a number: its value, or the least number above it that was saved, or the
+/// least number at which a packet older than it was credited, with the greatest age there.
+#[derive(Clone, Copy, Debug, PartialEq, Eq)]
+pub enum Saved {
+    Value {
+        packets: u64,
+        bytes: u64,
+        inflight: [Total; 8],
+    },
+    Skipped {
+        to: u64,
+    },
+    Miscredited {
+        by: u64,
+        reach: u16,
+    },
+}
+
+/// A list of slots.
+#[derive(Debug, Drop)]
+pub struct Slots {
+    pub items: Vec<Slot>,
+}
+
+impl Model for Slots {
+    ghost use Rattle.std.specs.Prelude.{List};
+    ghost use Rattle.sl_saves.specs.declared.entry.Slot.{Slot};
+
+    ghost Value = { List Slot };
+
+    ghost view = { λ s. s.items.items };
+}
+
+/// A ring of slots, and the place in it of the id's slot.
+#[derive(Debug, Drop)]
+pub struct View {
+    pub at: u16,
+    pub slots: Slots,
+}
+
+impl Total {
+    /// No packet.
+    const NONE: Total = Total {
+        packets: 0,
+        bytes: 0,
+    };
+}
+
+impl Slot {
+    ghost use Rattle.sl_saves.specs.Calls.{Credit};
+    ghost use Rattle.sl_saves.specs.Views.{free_slot};
+    ghost use Rattle.sl_saves.specs.Keeping.{new_slot, slot_credited};
+
+    /// A slot in which nothing is saved.
+    pub(crate) fn free() -> Slot
+        ensures { result ≡ free_slot }
+    {
+        Slot::adopted(0, 0, 0)
+    }
+
+    /// A slot as an adoption writes it.
+    pub(crate) fn adopted(by: u16, packets: u64, bytes: u64) -> Slot
+        ensures { result ≡ new_slot by packets bytes }
+    {
+        Slot {
+            packets,
+            bytes,
+            inflight: [Total::NONE; 8],
+            back: by,
+            reach: 0,
+        }
+    }
+
+    /// Adds a data packet in flight.
+    pub(crate) fn credit(&mut self, channel: u32, age: u16, bytes: u64)
+        requires { channel < 8 }
+        ensures { self.new ≡ slot_credited (record { channel = channel; age = age; bytes = bytes }) self.old }
+    {
+        let total = &mut self.inflight[channel as usize];
+        total.packets = total.packets.saturating_add(1);
+        total.bytes = total.bytes.saturating_add(bytes);
+        self.reach = self.reach.max(age);
+    }
+}
+
+impl Slots {
+    ghost use Rattle.sl_saves.specs.Calls.{Credit};
+    ghost use Rattle.sl_saves.specs.Views.{free_slot, no_slot};
+    ghost use Rattle.sl_saves.specs.Keeping.{slot_credited};
+
+    /// So many slots in which nothing is saved.
+    pub(crate) fn free(alloc: Global, size: u16) -> Result<Slots, Memory>
+        ensures { IfOk result (λ slots. slots ≡ replicate size free_slot) }
+    {
+        let items = vec![in alloc; Slot::free(); size as usize].map_err(|_| Memory)?;
+        Ok(Slots { items })
+    }
+
+    /// How many there are.
+    pub(crate) fn len(&self) -> usize
+        ensures { result ≡ length self.now }
+    {
+        self.items.len()
+    }
+
+    /// The slot at a place.
+    pub(crate) fn get(&self, place: usize) -> &Slot
+        requires { place < length self.now }
+        ensures { result.now ≡ slice_index_or self.now place no_slot }
+    {
+        &self.items[place]
+    }
+
+    /// A copy of the slots.
+    pub(crate) fn copy(&self) -> Result<Slots, Memory>
+        ensures { IfOk result (λ slots. slots ≡ self.now) }
+    {
+        let alloc = *self.items.allocator();
+        let items = Vec::from_slice(alloc, &self.items).map_err(|_| Memory)?;
+        Ok(Slots { items })
+    }
+
+    /// Makes them what others are.
+    pub(crate) fn copy_from(&mut self, other: &Slots)
+        requires { length self.old ≡ length other.now }
+        ensures { self.new ≡ other.now }
+    {
+        self.items.as_mut_slice().copy_from_slice(&other.items);
+    }
+
+    /// Saves nothing in any of them.
+    pub(crate) fn clear(&mut self)
+        ensures { self.new ≡ replicate (length self.old) free_slot }
+    {
+        self.items.as_mut_slice().fill(Slot::free());
+    }
+
+    /// Writes a slot.
+    pub(crate) fn set(&mut self, place: usize, slot: Slot)
+        requires { place < length self.old }
+        ensures { self.new ≡ slice_set self.old place slot }
+    {
+        self.items[place] = slot;
+    }
+
+    /// Adds a data packet in flight to a slot.
+    pub(crate) fn credit(&mut self, place: usize, channel: u32, age: u16, bytes: u64)
+        requires place { place < length self.old }
+        requires channel { channel < 8 }
+        ensures { self.new ≡ slice_set self.old place (slot_credited (record { channel = channel; age = age; bytes = bytes }) (slice_index_or self.old place no_slot)) }
+    {
+        self.items[place].credit(channel, age, bytes);
+    }
+}
+
+impl View {
+    ghost use Rattle.sl_saves.specs.Calls.{Credit};
+    ghost use Rattle.sl_saves.specs.Keeping.{view_adopted, view_credited};
+
+    /// Moves on to another number, and saves the counters there.
+    pub(crate) fn adopt(&mut self, by: u16, packets: u64, bytes: u64)
+        requires at { self.old.at < length self.old.slots }
+        requires by { by ≤ length self.old.slots }
+        requires size { length self.old.slots < 2 ^ 16 }
+        ensures { self.new ≡ view_adopted by packets bytes self.old }
+    {
+        let size = self.slots.len();
+        let place = place_above(size, self.at as usize, by as usize);
+        self.slots.set(place, Slot::adopted(by, packets, bytes));
+        self.at = place as u16;
+    }
+
+    /// Adds a data packet in flight to the id's slot.
+    pub(crate) fn credit(&mut self, channel: u32, age: u16, bytes: u64)
+        requires at { self.old.at < length self.old.slots }
+        requires channel { channel < 8 }
+        ensures { self.new ≡ view_credited (record { channel = channel; age = age; bytes = bytes }) self.old }
+    {
+        self.slots.credit(self.at as usize, channel, age, bytes);
+    }
+}

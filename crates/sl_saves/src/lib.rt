@@ -1,0 +1,21 @@
+// Saved entries of a unit: what it saved at each number, kept as a list of all entries or in a
+// ring of slots, and the walk back over a ring that reads what was saved for a number.
+#![tactic(auto)]
+
+mod entry;
+mod keep;
+mod laws;
+mod list;
+mod place;
+mod read;
+mod ring;
+
+pub use entry::{Saved, Slot, Slots, Total, View};
+pub use keep::Saves;
+pub use laws::{shown_is_live, shown_is_read};
+pub use list::ListSaves;
+pub use read::{read_saved, try_read_saved};
+pub use ring::RingSaves;
+
+#[cfg(test)]
+mod tests;

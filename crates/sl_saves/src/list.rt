@@ -1,0 +1,130 @@
+// Saved entries in a list.
+ghost use Rattle.std.specs.Prelude.{◌≡◌, ℕ, ◌+◌, ◌-◌, ◌*◌, ◌<◌, ◌≤◌, ◌^◌, length, drop, [], IfOk, vec_len};
+
+use crate::entry::{Slot, Slots, View};
+use crate::keep::Saves;
+use sl_machine::Memory;
+use std::alloc::Global;
+
+/// A slot with its number.
+#[derive(Clone, Copy)]
+pub struct Entry {
+    number: u64,
+    slot: Slot,
+}
+
+/// More entries than fit any memory.
+const MOST_ENTRIES: usize = 140_737_488_355_328;
+
+/// All saved entries in a list, with plain numbers.
+#[derive(Drop)]
+pub struct ListSaves {
+    window: u16,
+    ring: u16,
+    number: u64,
+    entries: Vec<Entry>,
+    ghost least: { 1 ≤ window },
+    ghost most: { window ≤ ring },
+    ghost low: { number ≤ 65535 * length entries.items },
+    ghost few: { length entries.items ≤ 140737488355328 },
+}
+
+impl ListSaves {
+    ghost use Rattle.sl_saves.specs.Lists.{list_shows, list_window, list_size, list_image};
+
+    /// Saved entries at the number 0, with nothing saved, whose views have `ring` slots.
+    pub fn new(alloc: Global, window: u16, ring: u16) -> Result<ListSaves, Memory>
+        requires least { 1 ≤ window }
+        requires most { window ≤ ring }
+        ensures shows { IfOk result (λ saves. list_shows saves []) }
+        ensures window { IfOk result (λ saves. list_window saves ≡ window) }
+        ensures size { IfOk result (λ saves. list_size saves ≡ ring) }
+    {
+        Ok(ListSaves {
+            window,
+            ring,
+            number: 0,
+            entries: Vec::new(alloc),
+        })
+    }
+
+    /// The last entries, as many as a view has slots.
+    fn recent(&self) -> &[Entry]
+        ensures { result.now ≡ drop (length self.now.entries.items - self.now.ring) self.now.entries.items }
+    {
+        let old = self.entries.len().saturating_sub(self.ring as usize);
+        &self.entries[old..]
+    }
+
+    /// Writes the last entries into a view.
+    fn write(&self, view: &mut View)
+        requires { length view.old.slots ≡ self.now.ring }
+        ensures { view.new ≡ list_image self.now }
+    {
+        view.slots.clear();
+        write_entries(&mut view.slots, self.recent());
+        view.at = (self.number % u64::from(self.ring)) as u16;
+    }
+}
+
+ghost use Rattle.sl_saves.specs.Keeping.{written};
+
+/// Writes entries into a ring of slots, later ones over earlier ones.
+fn write_entries(slots: &mut Slots, entries: &[Entry])
+    requires some { 1 ≤ length slots.old }
+    ensures { slots.new ≡ written slots.old entries.now }
+{
+    let size = slots.len() as u64;
+    for entry in entries {
+        slots.set((entry.number % size) as usize, entry.slot);
+    }
+}
+
+impl Saves for ListSaves {
+    ghost use Rattle.sl_saves.specs.Lists.{list_shows, list_image, list_window, list_size, ListHasRoom};
+
+    ghost shows = { list_shows };
+
+    ghost image = { list_image };
+
+    ghost window = { list_window };
+
+    ghost size = { list_size };
+
+    ghost has_room = { ListHasRoom };
+
+    fn ready(&mut self) -> Result<(), Memory> {
+        if self.entries.len() >= MOST_ENTRIES {
+            return Err(Memory);
+        }
+        match self.entries.reserve(1) {
+            Ok(()) => Ok(()),
+            Err(_) => Err(Memory),
+        }
+    }
+
+    fn adopt(&mut self, by: u16, packets: u64, bytes: u64) {
+        self.number += u64::from(by);
+        let _ = self.entries.push(Entry {
+            number: self.number,
+            slot: Slot::adopted(by, packets, bytes),
+        });
+    }
+
+    fn credit(&mut self, channel: u32, age: u16, bytes: u64) {
+        if let Some(entry) = self.entries.last_mut() {
+            entry.slot.credit(channel, age, bytes);
+        }
+    }
+
+    fn view(&self) -> Result<View, Memory> {
+        let slots = Slots::free(*self.entries.allocator(), self.ring)?;
+        let mut view = View { at: 0, slots };
+        self.write(&mut view);
+        Ok(view)
+    }
+
+    fn fill(&self, view: &mut View) {
+        self.write(view);
+    }
+}

@@ -1,0 +1,76 @@
+// Saved entries in a ring of slots.
+ghost use Rattle.std.specs.Prelude.{◌≡◌, ◌<◌, ◌≤◌, ◌^◌, length, [], IfOk};
+
+use crate::entry::{Slots, View};
+use crate::keep::Saves;
+use sl_machine::Memory;
+use std::alloc::Global;
+
+/// Saved entries in a ring of slots, each number in the slot that it has modulo the ring's size.
+#[derive(Drop)]
+pub struct RingSaves {
+    window: u16,
+    view: View,
+    ghost least: { 1 ≤ window },
+    ghost most: { window ≤ length view.slots },
+    ghost at: { view.at < length view.slots },
+    ghost size: { length view.slots < 2 ^ 16 },
+}
+
+impl RingSaves {
+    ghost use Rattle.sl_saves.specs.Rings.{ring_shows, ring_window, ring_size};
+
+    /// Saved entries at the number 0, with nothing saved, in a ring of `ring` slots.
+    pub fn new(alloc: Global, window: u16, ring: u16) -> Result<RingSaves, Memory>
+        requires least { 1 ≤ window }
+        requires most { window ≤ ring }
+        ensures shows { IfOk result (λ saves. ring_shows saves []) }
+        ensures window { IfOk result (λ saves. ring_window saves ≡ window) }
+        ensures size { IfOk result (λ saves. ring_size saves ≡ ring) }
+    {
+        let slots = Slots::free(alloc, ring)?;
+        Ok(RingSaves {
+            window,
+            view: View { at: 0, slots },
+        })
+    }
+}
+
+impl Saves for RingSaves {
+    ghost use Rattle.sl_saves.specs.Rings.{ring_shows, ring_image, ring_window, ring_size};
+
+    ghost shows = { ring_shows };
+
+    ghost image = { ring_image };
+
+    ghost window = { ring_window };
+
+    ghost size = { ring_size };
+
+    ghost has_room = { λ _. Unit {0} };
+
+    fn ready(&mut self) -> Result<(), Memory> {
+        Ok(())
+    }
+
+    fn adopt(&mut self, by: u16, packets: u64, bytes: u64) {
+        self.view.adopt(by, packets, bytes);
+    }
+
+    fn credit(&mut self, channel: u32, age: u16, bytes: u64) {
+        self.view.credit(channel, age, bytes);
+    }
+
+    fn view(&self) -> Result<View, Memory> {
+        let slots = self.view.slots.copy()?;
+        Ok(View {
+            at: self.view.at,
+            slots,
+        })
+    }
+
+    fn fill(&self, view: &mut View) {
+        view.slots.copy_from(&self.view.slots);
+        view.at = self.view.at;
+    }
+}

@@ -1,0 +1,145 @@
+ghost use Rattle.std.specs.Prelude.{◌≡◌, ◌+◌, ◌<◌, ◌≤◌, length};
+
+use crate::{ListSaves, RingSaves, Saved, Saves, Total, View, read_saved, try_read_saved};
+use sl_machine::Memory;
+use std::process::Abort;
+use std::test::Fail;
+
+const NONE: Total = Total {
+    packets: 0,
+    bytes: 0,
+};
+
+/// What a view of three slots at the number `id` says of `k`.
+fn answer(view: &View, id: u64, k: u64) -> Option<Saved>
+    requires least { 1 ≤ k }
+    requires most { k ≤ id }
+    requires near { id < k + 3 }
+    requires at { view.now.at < 3 }
+    requires size { length view.now.slots ≡ 3 }
+{
+    let tried = try_read_saved(view, id, k);
+    if tried.is_some() {
+        return Some(read_saved(view, id, k));
+    }
+    None
+}
+
+fn check_entries<S: Saves>(rt: &impl Abort, saves: &mut S) -> Result<(), Memory>
+    requires window { S.window saves.old ≡ 3 }
+    requires size { S.size saves.old ≡ 3 }
+{
+    let mut inflight = [NONE; 8];
+    saves.ready()?;
+    saves.adopt(1, 5, 500);
+    let five = Saved::Value {
+        packets: 5,
+        bytes: 500,
+        inflight,
+    };
+    saves.ready()?;
+    saves.adopt(2, 7, 700);
+    saves.credit(0, 2, 100);
+    let mut view = saves.view()?;
+    inflight[0] = Total {
+        packets: 1,
+        bytes: 100,
+    };
+    let seven = Saved::Value {
+        packets: 7,
+        bytes: 700,
+        inflight,
+    };
+    assert_eq!(rt; answer(&view, 3, 3), Some(seven));
+    assert_eq!(rt; answer(&view, 3, 2), Some(Saved::Skipped { to: 3 }));
+    assert_eq!(rt; answer(&view, 3, 1), Some(five));
+    saves.credit(0, 3, 100);
+    saves.fill(&mut view);
+    let late = Saved::Miscredited { by: 3, reach: 3 };
+    assert_eq!(rt; answer(&view, 3, 1), Some(late));
+    Ok(())
+}
+
+#[test]
+fn saved_entries(rt: HostRuntime) -> Result<(), Fail> {
+    check_entries(&rt, &mut ListSaves::new(rt.alloc(), 3, 3)?)?;
+    check_entries(&rt, &mut RingSaves::new(rt.alloc(), 3, 3)?)?;
+    Ok(())
+}
+
+const WINDOW: u16 = 7;
+
+const RING: u16 = 9;
+
+/// The next number of a linear congruence.
+fn next_random(x: u64) -> u64 {
+    x.wrapping_mul(6_364_136_223_846_793_005)
+        .wrapping_add(1_442_695_040_888_963_407)
+}
+
+/// Adopts or credits, as a random number says. The answer is by how much the number rose.
+fn take_turn<S: Saves>(saves: &mut S, random: u64) -> Result<u16, Memory>
+    requires { S.window saves.old ≡ WINDOW }
+    ensures window { S.window saves.new ≡ S.window saves.old }
+    ensures size { S.size saves.new ≡ S.size saves.old }
+{
+    let kind = random >> 61;
+    let step = ((random >> 33) % 7 + 1) as u16;
+    if kind < 3 {
+        let by = if kind == 0 { step } else { 1 };
+        saves.ready()?;
+        saves.adopt(by, random % 1000, random % 100_000);
+        return Ok(by);
+    }
+    saves.credit(((random >> 40) % 8) as u32, step, (random >> 20) % 1000);
+    Ok(0)
+}
+
+/// What two views of the number `id` say alike of the numbers below it. The answer is how many of
+/// them have a value.
+fn check_alike(rt: &impl Abort, one: &View, other: &View, id: u64) -> u64
+    requires at { one.now.at < 9 }
+    requires size { length one.now.slots ≡ 9 }
+    requires other_at { other.now.at < 9 }
+    requires other_size { length other.now.slots ≡ 9 }
+{
+    let mut values = 0u64;
+    for back in 0..9u64 {
+        if back < id {
+            let said = try_read_saved(one, id, id - back);
+            assert!(rt; said.is_some());
+            assert_eq!(rt;
+                said,
+                try_read_saved(other, id, id - back),
+                "{id} less {back}"
+            );
+            if let Some(Saved::Value { .. }) = said {
+                values = values.saturating_add(1);
+            }
+        }
+    }
+    values
+}
+
+/// Ten thousand turns on a list and on a ring, whose views say the same.
+#[test]
+fn list_and_ring_are_read_alike(rt: HostRuntime) -> Result<(), Fail> {
+    let mut list = ListSaves::new(rt.alloc(), WINDOW, RING)?;
+    let mut ring = RingSaves::new(rt.alloc(), WINDOW, RING)?;
+    let mut list_view = list.view()?;
+    let mut ring_view = ring.view()?;
+    let mut random = 1u64;
+    let mut id = 0u64;
+    let mut values = 0u64;
+    for _ in 0..10_000 {
+        random = next_random(random);
+        let by = take_turn(&mut list, random)?;
+        assert_eq!(rt; take_turn(&mut ring, random)?, by);
+        id = id.saturating_add(u64::from(by));
+        list.fill(&mut list_view);
+        ring.fill(&mut ring_view);
+        values = values.saturating_add(check_alike(&rt, &list_view, &ring_view, id));
+    }
+    assert!(rt; values > 1000 && id > 1000);
+    Ok(())
+}

@@ -19,13 +19,12 @@ pub fn place_above(size: usize, place: usize, by: usize) -> usize
 pub fn place_below(size: usize, place: usize, back: usize) -> usize
     requires place { place < size }
     requires back { back < size }
-    requires size { size < 2 ^ 32 }
     ensures value { result ≡ place_below size place back }
     ensures inside { result < size }
 {
     if back <= place {
         place - back
     } else {
-        place + size - back
+        size - (back - place)
     }
 }

@@ -40,7 +40,6 @@ pub fn try_read_saved(view: &View, id: u64, k: u64) -> Option<Saved>
     requires most { k ≤ id }
     requires near { id < k + length view.now.slots }
     requires at { view.now.at < length view.now.slots }
-    requires size { length view.now.slots < 2 ^ 32 }
     ensures live { IsSome result ↔ IsLive view.now id k }
     ensures value { IfSome result (λ saved. saved ≡ read view.now id k) }
 {
@@ -72,7 +71,6 @@ pub fn read_saved(view: &View, id: u64, k: u64) -> Saved
     requires most { k ≤ id }
     requires near { id < k + length view.now.slots }
     requires at { view.now.at < length view.now.slots }
-    requires size { length view.now.slots < 2 ^ 32 }
     requires live { IsLive view.now id k }
     ensures walk { result ≡ read view.now id k }
 

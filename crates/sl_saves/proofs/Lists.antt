@@ -7,9 +7,9 @@ use Rattle.std.proofs.lemmas.Nat.{mod_below}
 use Rattle.std.proofs.Math.Seq.{drop-append_seam, set-append_seam, get_or-append_seam}
 use Rattle.sl_saves.specs.declared.entry.Slot.{Slot}
 use Rattle.sl_saves.specs.declared.list.Entry.{Entry}
-use Rattle.sl_saves.specs.Calls.{Save, Call, Credit, saves, number, with_credit, IsRising}
+use Rattle.sl_saves.specs.Calls.{Save, Call, Adopt, Credited, Credit, saves, number, with_credit, IsRising}
 use Rattle.sl_saves.specs.Views.{slot_of, free_slot, no_slot, IsShown}
-use Rattle.sl_saves.specs.Keeping.{slot_credited, entry_of, written, view_of}
+use Rattle.sl_saves.specs.Keeping.{slot_credited, entry_of, written, Listed, IsListed, list_adopted, list_credited, list_view, last_credited, no_entry, new_slot}
 use Rattle.sl_saves.proofs.Chains.{top, IsChain, all-weaken, chain-below, chain-older, chain-saves, top-number}
 use Rattle.sl_saves.proofs.Rings.{IsKept, kept-set, slot-credited}
 
@@ -79,9 +79,9 @@ drop-reverse n xs =
     let len : length (reverse xs) - n ≡ length (reverse (drop n xs)) = omega (arith, length-reverse xs, length-reverse (drop n xs), length-drop n xs) in
     ap (λ m. drop m (reverse xs)) len ∙ ap (drop (length (reverse (drop n xs)))) parts ∙ drop-append_seam (reverse (drop n xs)) (reverse (take n xs))
 
-pub list-shown : (size : ℕ) (calls : List Call) (last : ℕ) (entries : List Entry) → 1 ≤ size → IsRising calls → last ≡ number calls
-    → entries ≡ reverse (map entry_of (saves calls)) → IsShown (view_of size last entries) calls
-list-shown size calls last entries one rising l e =
+shown : (size : ℕ) (calls : List Call) (last : ℕ) (entries : List Entry) → 1 ≤ size → IsRising calls → last ≡ number calls
+    → entries ≡ reverse (map entry_of (saves calls)) → IsShown (list_view (record { size = size; last = last; entries = entries })) calls
+shown size calls last entries one rising l e =
     let ss : List Save = saves calls in
     let free : List Slot = replicate size free_slot in
     let n : length (replicate size free_slot) ≡ size = length-replicate size free_slot in
@@ -110,23 +110,36 @@ list-shown size calls last entries one rising l e =
           (subst (λ ys. AllByRecursion (IsKept size ys (number calls)) (saves calls)) (sym slots) kept);
     }
 
--- A credit grows the last entry.
-list-credit-front : (c : Credit) (s : Save) (front items : List Entry) (n : ℕ) (e : Entry) (slot : Slot) → c.channel < 8 → items ≡ front ++ entry_of s ∷ [] → n ≡ length items
-    → e ≡ slice_index_or items (n - 1) e → slot ≡ slot_credited c e.slot
-    → slice_set items (n - 1) (record { number = e.number; slot = slot }) ≡ front ++ entry_of (record s { credits = c ∷ s.credits }) ∷ []
-list-credit-front c s front items n e slot b i m is t =
-    let l : n - 1 ≡ length front = omega (arith, m, ap length i, length-append front (entry_of s ∷ [])) in
-    let last : e ≡ entry_of s = is ∙ ap (λ k. slice_index_or items k e) l ∙ ap (λ xs. slice_index_or xs (length front) e) i ∙ get_or-append_seam front (entry_of s) [] e in
-    let grown : slot ≡ slot_of (record s { credits = c ∷ s.credits }) = t ∙ ap (λ x. slot_credited c x.slot) last ∙ slot-credited c s b in
-    ap (λ k. slice_set items k (record { number = e.number; slot = slot })) l
-    ∙ ap (λ xs. slice_set xs (length front) (record { number = e.number; slot = slot })) i
-    ∙ set-append_seam front (entry_of s) [] (record { number = e.number; slot = slot })
-    ∙ (λ j. front ++ record { number = (last j).number; slot = grown j } ∷ [])
+pub list-shown : (l : Listed) (calls : List Call) → IsListed l calls → IsShown (list_view l) calls
+list-shown l calls s = shown l.size calls l.last l.entries s.some s.rising s.last s.entries
 
-pub list-credit : (c : Credit) (ss : List Save) (items : List Entry) (n : ℕ) (e : Entry) (slot : Slot) → c.channel < 8 → items ≡ reverse (map entry_of ss) → n ≡ length items
-    → e ≡ slice_index_or items (n - 1) e → 0 < n → slot ≡ slot_credited c e.slot
-    → slice_set items (n - 1) (record { number = e.number; slot = slot }) ≡ reverse (map entry_of (with_credit c ss))
-list-credit c [] items n e slot b i m is p t = absurd (let z : length items ≡ 0 = ap length i in omega (arith, z, m, p))
-list-credit c (s ∷ ss) items n e slot b i m is p t =
-    list-credit-front c s (reverse (map entry_of ss)) items n e slot b (i ∙ reverse-append (entry_of s ∷ []) (map entry_of ss)) m is t
+-- An adoption adds an entry.
+pub list-adopt : (by packets bytes : ℕ) (l : Listed) (calls : List Call) → 1 ≤ by → IsListed l calls → IsListed (list_adopted by packets bytes l) (Adopt by packets bytes ∷ calls)
+list-adopt by packets bytes l calls one s =
+    let e : Entry = record { number = number calls + by; slot = new_slot by packets bytes } in
+    record {
+      rising = (one, s.rising);
+      some = s.some;
+      last = ap (λ n. n + by) s.last;
+      entries = (λ i. s.entries i ++ record { number = s.last i + by; slot = new_slot by packets bytes } ∷ []) ∙ sym (reverse-append (e ∷ []) (map entry_of (saves calls)));
+    }
+
+-- A credit grows the last entry.
+credit-front : (c : Credit) (s : Save) (front : List Entry) → c.channel < 8
+    → last_credited c (front ++ entry_of s ∷ []) ≡ front ++ entry_of (record s { credits = c ∷ s.credits }) ∷ []
+credit-front c s front b =
+    let l : length (front ++ entry_of s ∷ []) - 1 ≡ length front = omega (arith, length-append front (entry_of s ∷ [])) in
+    let last : slice_index_or (front ++ entry_of s ∷ []) (length front) no_entry ≡ entry_of s = get_or-append_seam front (entry_of s) [] no_entry in
+    let grown = slot-credited c s b in
+    (λ i. slice_set (front ++ entry_of s ∷ []) (l i) (record { number = (slice_index_or (front ++ entry_of s ∷ []) (l i) no_entry).number; slot = slot_credited c (slice_index_or (front ++ entry_of s ∷ []) (l i) no_entry).slot }))
+    ∙ (λ i. slice_set (front ++ entry_of s ∷ []) (length front) (record { number = (last i).number; slot = slot_credited c (last i).slot }))
+    ∙ set-append_seam front (entry_of s) [] (record { number = s.number; slot = slot_credited c (slot_of s) })
+    ∙ (λ i. front ++ record { number = s.number; slot = grown i } ∷ [])
+
+credit-last : (c : Credit) (ss : List Save) → c.channel < 8 → last_credited c (reverse (map entry_of ss)) ≡ reverse (map entry_of (with_credit c ss))
+credit-last c [] b = refl
+credit-last c (s ∷ ss) b = ap (last_credited c) (reverse-append (entry_of s ∷ []) (map entry_of ss)) ∙ credit-front c s (reverse (map entry_of ss)) b
     ∙ sym (reverse-append (entry_of (record s { credits = c ∷ s.credits }) ∷ []) (map entry_of ss))
+
+pub list-credit : (c : Credit) (l : Listed) (calls : List Call) → c.channel < 8 → IsListed l calls → IsListed (list_credited c l) (Credited c ∷ calls)
+list-credit c l calls b s = record { rising = s.rising; some = s.some; last = s.last; entries = ap (last_credited c) s.entries ∙ credit-last c (saves calls) b }

@@ -1,13 +1,14 @@
 -- An adoption and a credit on a ring keep what it shows.
 use Rattle.std.proofs.Common.{◌≡◌, ℕ, ◌+◌, ◌%◌, ◌<◌, ◌≤◌, List, [], ◌∷◌, length, sym, ap, subst, ◌∙◌, arith}
-use Rattle.std.specs.Prelude.{slice_set, slice_index_or, max, map}
+use Rattle.std.specs.Prelude.{replicate, slice_set, slice_index_or, max, map}
 use Rattle.std.specs.List.{AllByRecursion}
-use Rattle.std.proofs.lemmas.List.{length-set, get_or-set_same, get_or-set_other}
+use Rattle.std.proofs.lemmas.List.{length-replicate, length-set, get_or-set_same, get_or-set_other}
 use Rattle.std.proofs.lemmas.Nat.{mod_below}
+use Rattle.std.proofs.Math.Nat.{mod-eq_of_lt}
 use Rattle.sl_saves.specs.declared.entry.Slot.{Slot}
 use Rattle.sl_saves.specs.declared.entry.View.{View}
 use Rattle.sl_saves.specs.Calls.{Save, Call, Adopt, Credited, Credit, saves, number, with_credit, greatest}
-use Rattle.sl_saves.specs.Views.{slot_of, no_slot, IsSeen, IsShown}
+use Rattle.sl_saves.specs.Views.{free_slot, slot_of, no_slot, IsSeen, IsShown}
 use Rattle.sl_saves.specs.Keeping.{new_slot, place_above, view_adopted, slot_credited, view_credited}
 use Rattle.sl_saves.proofs.Chains.{top, IsChain, all-weaken, chain-below, chain-older, chain-saves, top-number}
 use Rattle.sl_saves.proofs.Held.{held-credit}
@@ -92,3 +93,8 @@ ring-credit view c calls b s =
           (credited view.slots view.at (number calls) c (saves calls) (chain-saves calls s.rising) b s.some
           (s.at ∙ ap (λ n. n % length view.slots) (sym (top-number calls))) (sym (top-number calls)) s.seen);
     }
+
+-- a ring in which nothing is saved shows no call
+pub ring-first : (size : ℕ) → 1 ≤ size → IsShown (record { at = 0; slots = replicate size free_slot }) []
+ring-first size one = let n = length-replicate size free_slot in
+    record { rising = tt; some = subst (λ m. 1 ≤ m) (sym n) one; at = sym (ap (λ m. 0 % m) n ∙ mod-eq_of_lt one); seen = tt }

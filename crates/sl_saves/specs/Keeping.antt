@@ -1,10 +1,10 @@
 -- What an adoption and a credit make of the view of a ring, and of a list of all entries.
-use Rattle.std.specs.Prelude.{ℕ, ◌+◌, ◌-◌, ◌%◌, min, max, List, [], ◌∷◌, length, replicate, drop, nat_lt, if◌then◌else◌, slice_index_or, slice_set}
+use Rattle.std.specs.Prelude.{◌≡◌, ℕ, ◌+◌, ◌-◌, ◌%◌, ◌≤◌, min, max, List, [], ◌∷◌, ◌++◌, length, map, reverse, replicate, drop, nat_lt, if◌then◌else◌, slice_index_or, slice_set}
 use Rattle.sl_saves.specs.declared.entry.Total.{Total}
 use Rattle.sl_saves.specs.declared.entry.Slot.{Slot}
 use Rattle.sl_saves.specs.declared.entry.View.{View}
 use Rattle.sl_saves.specs.declared.list.Entry.{Entry}
-use Rattle.sl_saves.specs.Calls.{Credit, Save, totals}
+use Rattle.sl_saves.specs.Calls.{Call, Credit, Save, number, saves, IsRising, totals}
 use Rattle.sl_saves.specs.Views.{last_count, slot_of, free_slot, no_slot}
 
 -- the place that lies `by` above another, in a ring of some size
@@ -35,16 +35,43 @@ slot_credited c s = record s {
 abbrev pub view_credited : Credit → View → View
 view_credited c view = record view { slots = slice_set view.slots view.at (slot_credited c (slice_index_or view.slots view.at no_slot)) }
 
--- A list of all entries, oldest first.
+-- A list of all entries, oldest first, with the number that it has come to, for views of so many slots.
 
-abbrev pub entry_of : Save → Entry
-entry_of s = record { number = s.number; slot = slot_of s }
+pub record Listed : Type 0 where
+  pub size : ℕ
+  pub last : ℕ
+  pub entries : List Entry
+
+abbrev pub list_adopted : ℕ → ℕ → ℕ → Listed → Listed
+list_adopted by packets bytes l =
+    record l { last = l.last + by; entries = l.entries ++ record { number = l.last + by; slot = new_slot by packets bytes } ∷ [] }
+
+abbrev pub no_entry : Entry
+no_entry = record { number = 0; slot = no_slot }
+
+-- a credit goes to the last entry, if there is one
+abbrev pub last_credited : Credit → List Entry → List Entry
+last_credited c es = let e = slice_index_or es (length es - 1) no_entry in
+    slice_set es (length es - 1) (record e { slot = slot_credited c e.slot })
+
+abbrev pub list_credited : Credit → Listed → Listed
+list_credited c l = record l { entries = last_credited c l.entries }
 
 -- numbered slots written into a ring, later ones over earlier ones
 abbrev pub written : List Slot → List Entry → List Slot
 written slots [] = slots
 written slots (e ∷ es) = written (slice_set slots (e.number % length slots) e.slot) es
 
--- the view of a list: its last entries, as many as the ring has slots
-abbrev pub view_of : ℕ → ℕ → List Entry → View
-view_of size last entries = record { at = last % size; slots = written (replicate size free_slot) (drop (length entries - size) entries) }
+-- its view: its last entries, as many as the ring has slots
+abbrev pub list_view : Listed → View
+list_view l = record { at = l.last % l.size; slots = written (replicate l.size free_slot) (drop (length l.entries - l.size) l.entries) }
+
+abbrev pub entry_of : Save → Entry
+entry_of s = record { number = s.number; slot = slot_of s }
+
+-- it holds what calls saved
+pub record IsListed (l : Listed) (calls : List Call) : Type 0 where
+  pub rising : IsRising calls
+  pub some : 1 ≤ l.size
+  pub last : l.last ≡ number calls
+  pub entries : l.entries ≡ reverse (map entry_of (saves calls))

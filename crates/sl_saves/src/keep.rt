@@ -1,20 +1,31 @@
 // What keeps saved entries.
 ghost use Rattle.std.specs.Prelude.{◌≡◌, ℕ, List, ◌∷◌, ◌<◌, ◌≤◌, length, IfOk, OnOk};
-ghost use Rattle.sl_saves.specs.Calls.{Call, Adopt, Credited};
+ghost use Rattle.sl_saves.specs.Calls.{Call, Adopt, Credited, Credit};
 ghost use Rattle.sl_saves.specs.declared.entry.View.{View};
 ghost use Rattle.sl_saves.specs.Views.{IsShown};
 
 use crate::entry::View;
 use sl_machine::Memory;
 
-/// What keeps the saved entries of a unit, for the last numbers up to its own. What it stands for
-/// is a list of calls, newest first, and each call of `adopt` and `credit` adds itself to that list.
+/// What keeps the saved entries of a unit, for the last numbers up to its own. It stands for a
+/// list of calls, newest first, and each call of `adopt` and `credit` adds itself to that list.
 pub trait Saves: Drop {
-    /// Whether it may stand for these calls.
-    ghost shows: { Self → List Call → Type 0 };
+    /// What is kept, as data.
+    ghost Kept: { Type 0 };
+
+    ghost kept: { Self → Kept };
+
+    /// What an adoption by so many numbers makes of it, with the packets and bytes that it saves.
+    ghost adopted: { ℕ → ℕ → ℕ → Kept → Kept };
+
+    /// What a credit makes of it.
+    ghost credited: { Credit → Kept → Kept };
 
     /// The view that it gives.
-    ghost image: { Self → View };
+    ghost image: { Kept → View };
+
+    /// Whether it stands for these calls.
+    ghost shows: { Kept → List Call → Type 0 };
 
     /// The largest step of an adoption, and the greatest age of a credit.
     ghost window: { Self → ℕ };
@@ -25,11 +36,10 @@ pub trait Saves: Drop {
     /// Whether the room that the next adoption needs is there.
     ghost has_room: { Self → Type 0 };
 
-    /// Takes the room that the next adoption needs. What is saved stays as it was.
+    /// Takes the room that the next adoption needs. What is kept stays as it was.
     fn ready(&mut self) -> Result<(), Memory>
         ensures room { OnOk result (has_room self.new) }
-        ensures kept { (calls : List Call) → shows self.old calls → shows self.new calls }
-        ensures image { image self.new ≡ image self.old }
+        ensures kept { kept self.new ≡ kept self.old }
         ensures window { window self.new ≡ window self.old }
         ensures size { size self.new ≡ size self.old };
 
@@ -38,7 +48,8 @@ pub trait Saves: Drop {
         requires room { has_room self.old }
         requires least { 1 ≤ by }
         requires most { by ≤ window self.old }
-        ensures shows { (calls : List Call) → shows self.old calls → shows self.new (Adopt by packets bytes ∷ calls) }
+        ensures kept { kept self.new ≡ adopted by packets bytes (kept self.old) }
+        ensures shows { (calls : List Call) → shows (kept self.old) calls → shows (kept self.new) (Adopt by packets bytes ∷ calls) }
         ensures window { window self.new ≡ window self.old }
         ensures size { size self.new ≡ size self.old };
 
@@ -47,24 +58,25 @@ pub trait Saves: Drop {
         requires channel { channel < 8 }
         requires least { 1 ≤ age }
         requires most { age ≤ window self.old }
-        ensures shows { (calls : List Call) → shows self.old calls
-            → shows self.new (Credited (record { channel = channel; age = age; bytes = bytes }) ∷ calls) }
+        ensures kept { kept self.new ≡ credited (record { channel = channel; age = age; bytes = bytes }) (kept self.old) }
+        ensures shows { (calls : List Call) → shows (kept self.old) calls
+            → shows (kept self.new) (Credited (record { channel = channel; age = age; bytes = bytes }) ∷ calls) }
         ensures room { has_room self.old → has_room self.new }
         ensures window { window self.new ≡ window self.old }
         ensures size { size self.new ≡ size self.old };
 
-    /// A view that shows what is saved.
+    /// A view that shows what is kept.
     fn view(&self) -> Result<View, Memory>
-        ensures value { IfOk result (λ view. view ≡ image self.now) }
-        ensures slots { length (image self.now).slots ≡ size self.now }
-        ensures at { (image self.now).at < size self.now }
-        ensures shows { (calls : List Call) → shows self.now calls → IsShown (image self.now) calls };
+        ensures value { IfOk result (λ view. view ≡ image (kept self.now)) }
+        ensures slots { length (image (kept self.now)).slots ≡ size self.now }
+        ensures at { (image (kept self.now)).at < size self.now }
+        ensures shows { (calls : List Call) → shows (kept self.now) calls → IsShown (image (kept self.now)) calls };
 
     /// Makes a view with as many slots what `view` gives.
     fn fill(&self, view: &mut View)
         requires { length view.old.slots ≡ size self.now }
-        ensures value { view.new ≡ image self.now }
-        ensures slots { length (image self.now).slots ≡ size self.now }
-        ensures at { (image self.now).at < size self.now }
-        ensures shows { (calls : List Call) → shows self.now calls → IsShown (image self.now) calls };
+        ensures value { view.new ≡ image (kept self.now) }
+        ensures slots { length (image (kept self.now)).slots ≡ size self.now }
+        ensures at { (image (kept self.now)).at < size self.now }
+        ensures shows { (calls : List Call) → shows (kept self.now) calls → IsShown (image (kept self.now)) calls };
 }

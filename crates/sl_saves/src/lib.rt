@@ -12,7 +12,7 @@ mod ring;
 
 pub use entry::{Saved, Slot, Slots, Total, View};
 pub use keep::Saves;
-pub use laws::{shown_is_live, shown_is_read};
+pub use laws::{calls_are_listed, calls_are_shown, shown_is_live, shown_is_read};
 pub use list::ListSaves;
 pub use read::{read_saved, try_read_saved};
 pub use ring::RingSaves;

@@ -30,13 +30,15 @@ pub struct ListSaves {
 }
 
 impl ListSaves {
-    ghost use Rattle.sl_saves.specs.Lists.{list_shows, list_window, list_size, list_image};
+    ghost use Rattle.sl_saves.specs.Keeping.{IsListed, list_view};
+    ghost use Rattle.sl_saves.specs.Lists.{list_kept, list_window, list_size};
 
     /// Saved entries at the number 0, with nothing saved, whose views have `ring` slots.
     pub fn new(alloc: Global, window: u16, ring: u16) -> Result<ListSaves, Memory>
         requires least { 1 ≤ window }
         requires most { window ≤ ring }
-        ensures shows { IfOk result (λ saves. list_shows saves []) }
+        ensures kept { IfOk result (λ saves. list_kept saves ≡ record { size = ring; last = 0; entries = [] }) }
+        ensures shows { IfOk result (λ saves. IsListed (list_kept saves) []) }
         ensures window { IfOk result (λ saves. list_window saves ≡ window) }
         ensures size { IfOk result (λ saves. list_size saves ≡ ring) }
     {
@@ -59,7 +61,7 @@ impl ListSaves {
     /// Writes the last entries into a view.
     fn write(&self, view: &mut View)
         requires { length view.old.slots ≡ self.now.ring }
-        ensures { view.new ≡ list_image self.now }
+        ensures { view.new ≡ list_view (list_kept self.now) }
     {
         view.slots.clear();
         write_entries(&mut view.slots, self.recent());
@@ -81,11 +83,20 @@ fn write_entries(slots: &mut Slots, entries: &[Entry])
 }
 
 impl Saves for ListSaves {
-    ghost use Rattle.sl_saves.specs.Lists.{list_shows, list_image, list_window, list_size, ListHasRoom};
+    ghost use Rattle.sl_saves.specs.Keeping.{Listed, IsListed, list_adopted, list_credited, list_view};
+    ghost use Rattle.sl_saves.specs.Lists.{list_kept, list_window, list_size, ListHasRoom};
 
-    ghost shows = { list_shows };
+    ghost Kept = { Listed };
 
-    ghost image = { list_image };
+    ghost kept = { list_kept };
+
+    ghost adopted = { list_adopted };
+
+    ghost credited = { list_credited };
+
+    ghost image = { list_view };
+
+    ghost shows = { IsListed };
 
     ghost window = { list_window };
 

@@ -1,5 +1,5 @@
 // Saved entries in a ring of slots.
-ghost use Rattle.std.specs.Prelude.{◌≡◌, ◌<◌, ◌≤◌, ◌^◌, length, [], IfOk};
+ghost use Rattle.std.specs.Prelude.{◌≡◌, ◌<◌, ◌≤◌, ◌^◌, length, replicate, [], IfOk};
 
 use crate::entry::{Slots, View};
 use crate::keep::Saves;
@@ -18,13 +18,15 @@ pub struct RingSaves {
 }
 
 impl RingSaves {
-    ghost use Rattle.sl_saves.specs.Rings.{ring_shows, ring_window, ring_size};
+    ghost use Rattle.sl_saves.specs.Views.{IsShown, free_slot};
+    ghost use Rattle.sl_saves.specs.Rings.{ring_view, ring_window, ring_size};
 
     /// Saved entries at the number 0, with nothing saved, in a ring of `ring` slots.
     pub fn new(alloc: Global, window: u16, ring: u16) -> Result<RingSaves, Memory>
         requires least { 1 ≤ window }
         requires most { window ≤ ring }
-        ensures shows { IfOk result (λ saves. ring_shows saves []) }
+        ensures view { IfOk result (λ saves. ring_view saves ≡ record { at = 0; slots = replicate ring free_slot }) }
+        ensures shows { IfOk result (λ saves. IsShown (ring_view saves) []) }
         ensures window { IfOk result (λ saves. ring_window saves ≡ window) }
         ensures size { IfOk result (λ saves. ring_size saves ≡ ring) }
     {
@@ -37,11 +39,22 @@ impl RingSaves {
 }
 
 impl Saves for RingSaves {
-    ghost use Rattle.sl_saves.specs.Rings.{ring_shows, ring_image, ring_window, ring_size};
+    ghost use Rattle.sl_saves.specs.declared.entry.View.{View};
+    ghost use Rattle.sl_saves.specs.Views.{IsShown};
+    ghost use Rattle.sl_saves.specs.Keeping.{view_adopted, view_credited};
+    ghost use Rattle.sl_saves.specs.Rings.{ring_view, ring_window, ring_size};
 
-    ghost shows = { ring_shows };
+    ghost Kept = { View };
 
-    ghost image = { ring_image };
+    ghost kept = { ring_view };
+
+    ghost adopted = { view_adopted };
+
+    ghost credited = { view_credited };
+
+    ghost image = { λ view. view };
+
+    ghost shows = { IsShown };
 
     ghost window = { ring_window };
 

@@ -1,4 +1,3 @@
-use Rattle.std.proofs.Common.{arith}
 use Rattle.sl_saves.proofs.Lists.{list-shown, length-view}
 use Rattle.sl_saves.proofs.list.ListSavesSaves.view.Goals as goal
 
@@ -6,10 +5,10 @@ pub returns-clause-slots : goal.returns-clause-slots
 returns-clause-slots c = length-view c.args.self.now.ring c.args.self.now.entries.items
 
 pub returns-clause-shows : goal.returns-clause-shows
-returns-clause-shows c calls s = list-shown c.args.self.now.ring calls c.args.self.now.number c.args.self.now.entries.items (omega arith) s.rising s.number s.entries
+returns-clause-shows c = list-shown _
 
 pub returns-in_err-slots-clause-slots : goal.returns-in_err-slots-clause-slots
 returns-in_err-slots-clause-slots c = length-view c.args.self.now.ring c.args.self.now.entries.items
 
 pub returns-in_err-slots-clause-shows : goal.returns-in_err-slots-clause-shows
-returns-in_err-slots-clause-shows c calls s = list-shown c.args.self.now.ring calls c.args.self.now.number c.args.self.now.entries.items (omega arith) s.rising s.number s.entries
+returns-in_err-slots-clause-shows c = list-shown _

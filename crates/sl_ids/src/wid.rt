@@ -1,7 +1,7 @@
 ghost use Rattle.std.specs.Prelude.{◌≡◌, ℕ, ◌+◌, ◌-◌, ◌<◌, ◌≤◌, ◌^◌, ◌↔◌, IsTrue};
 ghost use Rattle.sl_ids.specs.Ids.{modulus, wrapped, distance};
 
-use crate::width::{Width, modulus};
+use crate::width::Width;
 
 /// A wrapped id: a snapshot number modulo 2 to the power of the width.
 #[derive(Clone, Copy, Debug, PartialEq, Eq)]
@@ -14,7 +14,7 @@ pub fn wrap(width: Width, k: u64) -> Wid
     ensures value { result.raw ≡ wrapped width.bits k }
     ensures below { result.raw < modulus width.bits }
 {
-    let mask = u64::from(modulus(width)) - 1;
+    let mask = u64::from(width.modulus()) - 1;
     Wid {
         raw: (k & mask) as u16,
     }
@@ -34,7 +34,7 @@ pub fn distance(width: Width, from: Wid, to: Wid) -> u16
     if from.raw <= to.raw {
         to.raw - from.raw
     } else {
-        (u32::from(to.raw) + modulus(width) - u32::from(from.raw)) as u16
+        (u32::from(to.raw) + width.modulus() - u32::from(from.raw)) as u16
     }
 }
 

@@ -21,11 +21,11 @@ impl Width {
             None
         }
     }
-}
 
-/// How many wrapped ids there are.
-pub(crate) fn modulus(width: Width) -> u32
-    ensures { result ≡ modulus width.bits }
-{
-    1 << width.bits
+    /// How many wrapped ids there are.
+    pub fn modulus(self) -> u32
+        ensures { result ≡ modulus self.bits }
+    {
+        1 << self.bits
+    }
 }

@@ -1,0 +1,122 @@
+-- Frames of 24 bytes, by their columns. Numbers are big-endian.
+--     bytes      plain   carried       probe         initiation
+--     0          0       1             2             3
+--     1          0       below 8       below 8       255             the channel
+--     2, 3       0       an id         an id         an id
+--     4, 5       any     any           0             0               the source
+--     6, 7       any     any           0             0               the destination
+--     8 to 11    any     any           0             0               the number in its flow
+--     12, 13     any     any           0             0               the length
+--     14         any     any           0             0               the hop limit
+--     15         1       1             1             1               the version
+--     16 to 23   0       0             0             0
+use Rattle.std.specs.Prelude.{◌≡◌, ℕ, ◌+◌, ◌*◌, ◌/◌, ◌%◌, ◌<◌, Bool, true, false, not, ◌&&◌, ◌||◌, ◌==◌, nat_lt, if◌then◌else◌, List, [], ◌∷◌, length, slice_index, slice_range, Option, Some, None, Result, Ok, Err, IsTrue}
+use Rattle.sl_ids.specs.Ids.{modulus}
+use Rattle.sl_net.specs.declared.input.Packet.{Packet}
+use Rattle.sl_wire.specs.declared.frame.Kind.{Kind}
+use Rattle.sl_wire.specs.declared.frame.Kind.TheVariants.{Plain, Carried, Probe, Init}
+use Rattle.sl_wire.specs.declared.frame.Header.{Header}
+use Rattle.sl_wire.specs.declared.frame.WireFault.{WireFault}
+use Rattle.sl_wire.specs.declared.frame.WireFault.TheVariants.{E1, E2, E3, E4}
+
+-- What the columns allow.
+
+abbrev pub kind_byte : Kind → ℕ
+kind_byte Plain = 0
+kind_byte Carried = 1
+kind_byte Probe = 2
+kind_byte Init = 3
+
+abbrev pub channel_fits : Kind → ℕ → Bool
+channel_fits Plain c = c == 0
+channel_fits Carried c = nat_lt c 8
+channel_fits Probe c = nat_lt c 8
+channel_fits Init c = c == 255
+
+-- an id of some bits
+abbrev pub id_fits : ℕ → Kind → ℕ → Bool
+id_fits bits Plain id = id == 0
+id_fits bits Carried id = nat_lt id (modulus bits)
+id_fits bits Probe id = nat_lt id (modulus bits)
+id_fits bits Init id = nat_lt id (modulus bits)
+
+abbrev pub IsZeroPacket : Packet → Type 0
+IsZeroPacket p = (p.src ≡ 0) × (p.dst ≡ 0) × (p.seq ≡ 0) × (p.len ≡ 0) × (p.hops ≡ 0)
+
+-- a probe and an initiation carry no packet
+abbrev pub PacketFits : Kind → Packet → Type 0
+PacketFits Plain p = Unit {0}
+PacketFits Carried p = Unit {0}
+PacketFits Probe p = IsZeroPacket p
+PacketFits Init p = IsZeroPacket p
+
+-- a header and packet that the columns allow
+pub record IsCanonical (bits : ℕ) (h : Header) (p : Packet) : Type 0 where
+  pub id : IsTrue (id_fits bits h.kind h.id.raw)
+  pub channel : IsTrue (channel_fits h.kind h.channel)
+  pub packet : PacketFits h.kind p
+
+-- their bytes
+unfoldable pub frame : Header → Packet → List ℕ
+frame h p =
+    kind_byte h.kind ∷ h.channel ∷ h.id.raw / 256 ∷ h.id.raw % 256 ∷ p.src / 256 ∷ p.src % 256 ∷ p.dst / 256 ∷ p.dst % 256
+    ∷ p.seq / 65536 / 256 ∷ p.seq / 65536 % 256 ∷ p.seq % 65536 / 256 ∷ p.seq % 65536 % 256 ∷ p.len / 256 ∷ p.len % 256 ∷ p.hops ∷ 1
+    ∷ 0 ∷ 0 ∷ 0 ∷ 0 ∷ 0 ∷ 0 ∷ 0 ∷ 0 ∷ []
+
+-- bytes are the frame of a header and packet
+pub record IsFrame (bits : ℕ) (bytes : List ℕ) (h : Header) (p : Packet) : Type 0 where
+  pub canonical : IsCanonical bits h p
+  pub spelled : bytes ≡ frame h p
+
+-- What bytes are read as.
+
+abbrev pub kind_of : ℕ → Option Kind
+kind_of b = if b == 0 then Some Plain else if b == 1 then Some Carried else if b == 2 then Some Probe else if b == 3 then Some Init else None
+
+abbrev pub number : ℕ → ℕ → ℕ
+number high low = high * 256 + low
+
+abbrev pub wide_number : ℕ → ℕ → ℕ
+wide_number high low = high * 65536 + low
+
+abbrev pub all_zero : List ℕ → Bool
+all_zero [] = true
+all_zero (b ∷ bs) = b == 0 && all_zero bs
+
+abbrev pub packet_fits : Kind → List ℕ → Bool
+packet_fits Plain bytes = true
+packet_fits Carried bytes = true
+packet_fits Probe bytes = all_zero (slice_range bytes 4 15)
+packet_fits Init bytes = all_zero (slice_range bytes 4 15)
+
+abbrev pub header_of : Kind → List ℕ → Header
+header_of kind bytes =
+    record { kind = kind; id = record { raw = number (slice_index bytes 2) (slice_index bytes 3) }; channel = slice_index bytes 1 }
+
+unfoldable pub packet_of : List ℕ → Packet
+packet_of bytes = record {
+  src = number (slice_index bytes 4) (slice_index bytes 5);
+  dst = number (slice_index bytes 6) (slice_index bytes 7);
+  seq = wide_number (number (slice_index bytes 8) (slice_index bytes 9)) (number (slice_index bytes 10) (slice_index bytes 11));
+  len = number (slice_index bytes 12) (slice_index bytes 13);
+  hops = slice_index bytes 14;
+}
+
+-- E3 for the id, E4 for another byte that the kind doesn't allow
+abbrev pub columns_decoded : ℕ → List ℕ → Kind → Result (Header × Packet) WireFault
+columns_decoded bits bytes kind =
+    if not (id_fits bits kind (number (slice_index bytes 2) (slice_index bytes 3))) then Err E3
+    else if not (channel_fits kind (slice_index bytes 1)) || (not (packet_fits kind bytes) || not (all_zero (slice_range bytes 16 24))) then Err E4
+    else Ok (header_of kind bytes, packet_of bytes)
+
+-- E2 for the kind or the version
+abbrev pub kind_decoded : ℕ → List ℕ → Option Kind → Result (Header × Packet) WireFault
+kind_decoded bits bytes None = Err E2
+kind_decoded bits bytes (Some kind) = if slice_index bytes 15 == 1 then columns_decoded bits bytes kind else Err E2
+
+-- what bytes say, or the first refusal: E1 for the length
+unfoldable pub decoded : ℕ → List ℕ → Result (Header × Packet) WireFault
+decoded bits bytes = if length bytes == 24 then kind_decoded bits bytes (kind_of (slice_index bytes 0)) else Err E1
+
+abbrev pub IsBytes : List ℕ → Type 0
+IsBytes bs = (i : ℕ) → slice_index bs i < 256

@@ -1,0 +1,225 @@
+// Frames as bytes, and bytes as frames.
+ghost use Rattle.std.specs.Prelude.{◌≡◌, ℕ, ◌/◌, ◌%◌, ◌^◌, length, IfOk, Ok, IsTrue};
+ghost use Rattle.sl_wire.specs.Frames.{kind_of, kind_byte, channel_fits, id_fits, number, wide_number, all_zero, packet_of, packet_fits, frame, decoded, IsCanonical, IsFrame};
+
+use sl_ids::{Wid, Width};
+use sl_net::Packet;
+
+/// What a frame is: a host's frame, a data packet between units, a probe, or an initiation.
+#[derive(Clone, Copy, Debug, PartialEq, Eq)]
+pub enum Kind {
+    Plain,
+    Carried,
+    Probe,
+    Init,
+}
+
+/// The snapshot header of a frame: its kind, the wrapped id of its sender, and the sender's port
+/// as a channel. A plain frame has id and channel 0, an initiation has channel 255.
+#[derive(Clone, Copy, Debug, PartialEq, Eq)]
+pub struct Header {
+    pub kind: Kind,
+    pub id: Wid,
+    pub channel: u8,
+}
+
+/// The bytes of a frame.
+#[derive(Clone, Copy, Debug, PartialEq, Eq)]
+pub struct Frame {
+    pub bytes: [u8; 24],
+}
+
+/// Why bytes are no frame: E1 where there are not 24; E2 where byte 0 is no kind or byte 15 is no
+/// version; E3 where the id has more bits than ids have, or is not 0 in a plain frame; E4 where
+/// another byte has a value that the kind doesn't allow.
+#[derive(Clone, Copy, Debug, PartialEq, Eq)]
+pub enum WireFault {
+    E1,
+    E2,
+    E3,
+    E4,
+}
+
+/// The bytes of the header and the packet.
+#[tactic(auto, unfolding(crate::specs::Frames::frame))]
+pub fn encode(width: Width, header: &Header, packet: &Packet) -> Frame
+    requires { IsCanonical width.bits header.now packet.now }
+    ensures frame { IsFrame width.bits result.bytes header.now packet.now }
+    ensures back { decoded width.bits result.bytes ≡ Ok (header.now, packet.now) }
+{
+    frame_of(header, packet)
+}
+
+/// The header and packet of which the bytes are the frame, or the first fault of E1 to E4.
+#[tactic(auto, unfolding(crate::specs::Frames::decoded))]
+pub fn decode(width: Width, bytes: &[u8]) -> Result<(Header, Packet), WireFault>
+    ensures value { result ≡ decoded width.bits bytes.now }
+    ensures frame { IfOk result (λ read. IsFrame width.bits bytes.now read.0 read.1) }
+{
+    if bytes.len() != 24 {
+        return Err(WireFault::E1);
+    }
+    let kind = match kind_of(bytes[0]) {
+        Some(kind) if bytes[15] == 1 => kind,
+        _ => return Err(WireFault::E2),
+    };
+    let raw = number(bytes[2], bytes[3]);
+    if !id_fits(width, kind, raw) {
+        return Err(WireFault::E3);
+    }
+    let channel = bytes[1];
+    if !channel_fits(kind, channel) || !packet_fits(kind, bytes) || !all_zero(&bytes[16..24]) {
+        return Err(WireFault::E4);
+    }
+    let header = Header {
+        kind,
+        id: Wid { raw },
+        channel,
+    };
+    Ok((header, packet_of(bytes)))
+}
+
+#[tactic(auto, unfolding(crate::specs::Frames::frame))]
+fn frame_of(header: &Header, packet: &Packet) -> Frame
+    ensures { result.bytes ≡ frame header.now packet.now }
+{
+    let id = header.id.raw;
+    let src = packet.src;
+    let dst = packet.dst;
+    let front = (packet.seq / 65536) as u16;
+    let back = (packet.seq % 65536) as u16;
+    let len = packet.len;
+    let bytes = [
+        kind_byte(header.kind),
+        header.channel,
+        high(id),
+        low(id),
+        high(src),
+        low(src),
+        high(dst),
+        low(dst),
+        high(front),
+        low(front),
+        high(back),
+        low(back),
+        high(len),
+        low(len),
+        packet.hops,
+        1,
+        0,
+        0,
+        0,
+        0,
+        0,
+        0,
+        0,
+        0,
+    ];
+    Frame { bytes }
+}
+
+#[tactic(auto, unfolding(crate::specs::Frames::packet_of))]
+fn packet_of(bytes: &[u8]) -> Packet
+    requires { length bytes.now ≡ 24 }
+    ensures { result ≡ packet_of bytes.now }
+{
+    let src = number(bytes[4], bytes[5]);
+    let dst = number(bytes[6], bytes[7]);
+    let seq = wide_number(number(bytes[8], bytes[9]), number(bytes[10], bytes[11]));
+    let len = number(bytes[12], bytes[13]);
+    let hops = bytes[14];
+    Packet {
+        src,
+        dst,
+        seq,
+        len,
+        hops,
+    }
+}
+
+fn kind_byte(kind: Kind) -> u8
+    ensures { result ≡ kind_byte kind }
+{
+    match kind {
+        Kind::Plain => 0,
+        Kind::Carried => 1,
+        Kind::Probe => 2,
+        Kind::Init => 3,
+    }
+}
+
+fn kind_of(byte: u8) -> Option<Kind>
+    ensures { result ≡ kind_of byte }
+{
+    match byte {
+        0 => Some(Kind::Plain),
+        1 => Some(Kind::Carried),
+        2 => Some(Kind::Probe),
+        3 => Some(Kind::Init),
+        _ => None,
+    }
+}
+
+fn channel_fits(kind: Kind, channel: u8) -> bool
+    ensures { result ≡ channel_fits kind channel }
+{
+    match kind {
+        Kind::Plain => channel == 0,
+        Kind::Carried | Kind::Probe => channel < 8,
+        Kind::Init => channel == 255,
+    }
+}
+
+fn id_fits(width: Width, kind: Kind, id: u16) -> bool
+    ensures { result ≡ id_fits width.bits kind id }
+{
+    match kind {
+        Kind::Plain => id == 0,
+        _ => u32::from(id) < width.modulus(),
+    }
+}
+
+fn packet_fits(kind: Kind, bytes: &[u8]) -> bool
+    requires { length bytes.now ≡ 24 }
+    ensures { result ≡ packet_fits kind bytes.now }
+{
+    match kind {
+        Kind::Plain | Kind::Carried => true,
+        Kind::Probe | Kind::Init => all_zero(&bytes[4..15]),
+    }
+}
+
+fn all_zero(bytes: &[u8]) -> bool
+    ensures { result ≡ all_zero bytes.now }
+{
+    for byte in bytes {
+        if *byte != 0 {
+            return false;
+        }
+    }
+    true
+}
+
+fn number(high: u8, low: u8) -> u16
+    ensures { result ≡ number high low }
+{
+    u16::from(high) * 256 + u16::from(low)
+}
+
+fn wide_number(high: u16, low: u16) -> u32
+    ensures { result ≡ wide_number high low }
+{
+    u32::from(high) * 65536 + u32::from(low)
+}
+
+fn high(n: u16) -> u8
+    ensures { result ≡ n / 256 }
+{
+    (n / 256) as u8
+}
+
+fn low(n: u16) -> u8
+    ensures { result ≡ n % 256 }
+{
+    (n % 256) as u8
+}

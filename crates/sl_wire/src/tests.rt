@@ -1,0 +1,117 @@
+ghost use Rattle.std.specs.Prelude.{◌<◌};
+
+use crate::{Header, Kind, WireFault, decode, encode};
+use sl_ids::{Wid, Width};
+use sl_net::Packet;
+use std::test::Fail;
+
+const CARRIED: [u8; 24] = [
+    0x01, 0x01, 0x00, 0x03, 0x00, 0x00, 0x00, 0x01, 0x00, 0x00, 0x00, 0x02, 0x00, 0x64, 0x07, 0x01,
+    0x00, 0x00, 0x00, 0x00, 0x00, 0x00, 0x00, 0x00,
+];
+
+const PLAIN: [u8; 24] = [
+    0x00, 0x00, 0x00, 0x00, 0x00, 0x00, 0x00, 0x01, 0x00, 0x00, 0x00, 0x00, 0x00, 0x64, 0x08, 0x01,
+    0x00, 0x00, 0x00, 0x00, 0x00, 0x00, 0x00, 0x00,
+];
+
+const PROBE: [u8; 24] = [
+    0x02, 0x00, 0x00, 0x01, 0x00, 0x00, 0x00, 0x00, 0x00, 0x00, 0x00, 0x00, 0x00, 0x00, 0x00, 0x01,
+    0x00, 0x00, 0x00, 0x00, 0x00, 0x00, 0x00, 0x00,
+];
+
+const INITIATION: [u8; 24] = [
+    0x03, 0xff, 0x00, 0x01, 0x00, 0x00, 0x00, 0x00, 0x00, 0x00, 0x00, 0x00, 0x00, 0x00, 0x00, 0x01,
+    0x00, 0x00, 0x00, 0x00, 0x00, 0x00, 0x00, 0x00,
+];
+
+const EMPTY: Packet = Packet {
+    src: 0,
+    dst: 0,
+    seq: 0,
+    len: 0,
+    hops: 0,
+};
+
+/// The frames of the table with what they are frames of.
+#[test]
+fn frames_and_back(rt: HostRuntime) -> Result<(), Fail> {
+    let width = Width::new(2).ok_or("two bits")?;
+    let first = Packet {
+        src: 0,
+        dst: 1,
+        seq: 2,
+        len: 100,
+        hops: 7,
+    };
+    let second = Packet {
+        src: 0,
+        dst: 1,
+        seq: 0,
+        len: 100,
+        hops: 8,
+    };
+    for (bytes, kind, id, channel, packet) in [
+        (CARRIED, Kind::Carried, 3, 1, first),
+        (PLAIN, Kind::Plain, 0, 0, second),
+        (PROBE, Kind::Probe, 1, 0, EMPTY),
+        (INITIATION, Kind::Init, 1, 255, EMPTY),
+    ] {
+        let header = Header {
+            kind,
+            id: Wid { raw: id },
+            channel,
+        };
+        assert_eq!(rt; decode(width, &bytes), Ok((header, packet)));
+    }
+    let header = Header {
+        kind: Kind::Carried,
+        id: Wid { raw: 3 },
+        channel: 1,
+    };
+    assert_eq!(rt; encode(width, &header, &first).bytes, CARRIED);
+    let header = Header {
+        kind: Kind::Plain,
+        id: Wid { raw: 0 },
+        channel: 0,
+    };
+    assert_eq!(rt; encode(width, &header, &second).bytes, PLAIN);
+    let header = Header {
+        kind: Kind::Probe,
+        id: Wid { raw: 1 },
+        channel: 0,
+    };
+    assert_eq!(rt; encode(width, &header, &EMPTY).bytes, PROBE);
+    let header = Header {
+        kind: Kind::Init,
+        id: Wid { raw: 1 },
+        channel: 255,
+    };
+    assert_eq!(rt; encode(width, &header, &EMPTY).bytes, INITIATION);
+    Ok(())
+}
+
+/// A frame with one byte changed.
+fn changed(mut bytes: [u8; 24], place: usize, byte: u8) -> [u8; 24]
+    requires { place < 24 }
+{
+    bytes[place] = byte;
+    bytes
+}
+
+#[test]
+fn refused_bytes(rt: HostRuntime) -> Result<(), Fail> {
+    let width = Width::new(2).ok_or("two bits")?;
+    assert_eq!(rt; decode(width, &CARRIED[..23]), Err(WireFault::E1));
+    for (bytes, fault) in [
+        (changed(CARRIED, 0, 0x04), WireFault::E2),
+        (changed(CARRIED, 3, 0x04), WireFault::E3),
+        (changed(PLAIN, 3, 0x01), WireFault::E3),
+        (changed(PLAIN, 16, 0x01), WireFault::E4),
+        (changed(PROBE, 14, 0x01), WireFault::E4),
+        (changed(CARRIED, 1, 0x08), WireFault::E4),
+    ] {
+        assert_eq!(rt; decode(width, &bytes), Err(fault));
+    }
+    Ok(())
+}

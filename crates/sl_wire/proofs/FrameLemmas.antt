@@ -1,5 +1,5 @@
 -- A frame is read as the header and packet that it was made of.
-use Rattle.std.proofs.Common.{◌≡◌, ℕ, Result, Err, zero, suc, Some, subst, ◌<◌, length, get_or, drop, ◌+◌, ◌*◌, ◌/◌, ◌%◌, ◌==◌, nat_lt, Bool, true, false, List, [], ◌∷◌, Ok, refl, arith, sym, ◌∙◌, ap}
+use Rattle.std.proofs.Common.{◌≡◌, ℕ, Result, Err, zero, suc, Some, subst, ◌<◌, length, get_or, drop, ◌+◌, ◌*◌, ◌/◌, ◌%◌, ◌==◌, Bool, true, false, List, [], ◌∷◌, Ok, refl, arith, sym, ◌∙◌, ap}
 use Rattle.std.proofs.lemmas.Bool.Decides.{nat_tests}
 use Rattle.std.proofs.lemmas.Bool.{and_parts}
 use Rattle.std.specs.Prelude.{slice_range}
@@ -8,7 +8,7 @@ use Rattle.sl_wire.specs.declared.frame.Kind.TheVariants.{Plain, Carried, Probe,
 use Rattle.sl_wire.specs.declared.frame.Header.{Header}
 use Rattle.sl_net.specs.declared.input.Packet.{Packet}
 use Rattle.sl_wire.specs.declared.frame.WireFault.{WireFault}
-use Rattle.sl_wire.specs.Frames.{frame, decoded, columns_decoded, kind_decoded, kind_of, kind_byte, header_of, number, packet_fits, all_zero, packet_of, id_fits, channel_fits, PacketFits, IsZeroPacket, IsBytes, IsCanonical, IsFrame}
+use Rattle.sl_wire.specs.Frames.{frame, decoded, columns_decoded, kind_decoded, kind_byte, header_of, number, packet_fits, all_zero, packet_of, id_fits, channel_fits, PacketFits, IsZeroPacket, IsBytes, IsFrame}
 
 split : (n : ℕ) → n / 256 * 256 + n % 256 ≡ n
 split n = omega arith

@@ -10,7 +10,7 @@
 --     14         any     any           0             0               the hop limit
 --     15         1       1             1             1               the version
 --     16 to 23   0       0             0             0
-use Rattle.std.specs.Prelude.{◌≡◌, ℕ, ◌+◌, ◌*◌, ◌/◌, ◌%◌, ◌<◌, Bool, true, false, not, ◌&&◌, ◌||◌, ◌==◌, nat_lt, if◌then◌else◌, List, [], ◌∷◌, length, slice_index, slice_range, Option, Some, None, Result, Ok, Err, IsTrue}
+use Rattle.std.specs.Prelude.{◌≡◌, ℕ, ◌+◌, ◌*◌, ◌/◌, ◌%◌, ◌<◌, Bool, true, not, ◌&&◌, ◌||◌, ◌==◌, nat_lt, if◌then◌else◌, List, [], ◌∷◌, length, slice_index, slice_range, Option, Some, None, Result, Ok, Err, IsTrue}
 use Rattle.sl_ids.specs.Ids.{modulus}
 use Rattle.sl_net.specs.declared.input.Packet.{Packet}
 use Rattle.sl_wire.specs.declared.frame.Kind.{Kind}

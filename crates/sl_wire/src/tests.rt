@@ -1,8 +1,9 @@
 ghost use Rattle.std.specs.Prelude.{◌<◌};
 
-use crate::{Header, Kind, WireFault, decode, encode};
+use crate::{Done, Header, Kind, Msg, PlainDump, Rows, WireFault, decode, encode};
 use sl_ids::{Wid, Width};
 use sl_net::Packet;
+use sl_saves::{Slots, View};
 use std::test::Fail;
 
 const CARRIED: [u8; 24] = [
@@ -113,5 +114,36 @@ fn refused_bytes(rt: HostRuntime) -> Result<(), Fail> {
     ] {
         assert_eq!(rt; decode(width, &bytes), Err(fault));
     }
+    Ok(())
+}
+
+/// Gives a value back that may go to another thread.
+fn sent<T: Send>(value: T) -> T {
+    value
+}
+
+#[test]
+fn messages_go_to_other_threads(rt: HostRuntime) -> Result<(), Fail> {
+    let slots = Slots {
+        items: Vec::new(rt.alloc()),
+    };
+    let dump = PlainDump {
+        id: 0,
+        cpu: 0,
+        last: [0; 8],
+        view: View { at: 0, slots },
+    };
+    assert!(rt; matches!(sent(Msg::Dump(dump)), Msg::Dump(_)));
+    let rows = Rows {
+        items: Vec::new(rt.alloc()),
+    };
+    let done = Done {
+        unit: 3,
+        id: 0,
+        last: [0; 8],
+        floor: 0,
+        rows,
+    };
+    assert!(rt; matches!(sent(Msg::Done(done)), Msg::Done(Done { unit: 3, .. })));
     Ok(())
 }

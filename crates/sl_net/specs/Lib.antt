@@ -4,3 +4,6 @@ pub mod Net
 pub mod Serving
 pub mod Wiring
 pub mod Input
+pub mod Fault
+pub mod Valid
+pub mod Ports

@@ -2,12 +2,17 @@
 #![tactic(auto)]
 
 mod actor;
+mod check;
+mod fault;
 mod input;
 mod net;
 mod parts;
+mod ports;
+mod table;
 mod text;
 
 pub use actor::{ActorId, LinkKind, LinkPart, Side, Sort, UnitId};
+pub use fault::{NetFault, Place};
 pub use input::{Drop1, Flow, Input, LossSpec, Packet, RawPart, Script1, Snapshot};
 pub use net::Net;
 pub use parts::{CablePart, DevicePart, HostPart, Parts, PortRef};

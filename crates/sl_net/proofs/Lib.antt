@@ -1,0 +1,3 @@
+pub mod Clash
+pub mod Tables
+pub mod Checked

@@ -11,11 +11,11 @@ use Rattle.sl_net.specs.declared.parts.CablePart.{CablePart}
 use Rattle.sl_net.specs.declared.parts.HostPart.{HostPart}
 use Rattle.sl_net.specs.Parts.{same_port, other_end, host_from}
 use Rattle.std.proofs.lemmas.List.{take_more, length-take}
-use Rattle.sl_net.specs.Parts.{Parts}
+use Rattle.sl_net.specs.Parts.{Parts, is_used}
 use Rattle.sl_net.specs.Valid.{IsPort, IsValid}
 use Rattle.sl_net.specs.Fault.{has_end, has_guest, reuses_port, takes_used_port, first_clash}
 use Rattle.sl_net.proofs.Clash.{clash_here, clash_later}
-use Rattle.sl_net.specs.Ports.{slot_of, HasEnds, HasGuests, with_cable, IsNear}
+use Rattle.sl_net.specs.Ports.{slot_of, HasEnds, HasGuests, with_cable, IsNear, PortLists, ShowsPorts}
 
 -- Ports.
 
@@ -249,3 +249,11 @@ host_added {parts} {i} {ends} {guests} {h} s z =
     none-of : (o : Option ℕ) → is_none o ≡ true → o ≡ None
     none-of None q = refl
     none-of (Some x) q = absurd cc
+
+-- a port is used where one of its two places in the tables is not empty
+pub used-is : (parts : Parts) (t : PortLists) (p : PortRef) → ShowsPorts parts t → p.device < length parts.devices → p.port < 8
+    → (is_some (get_or t.ends (slot_of p) None) || is_some (get_or t.guests (slot_of p) None)) ≡ is_used parts p
+used-is parts t p s d k =
+    ap (λ o. is_some o || is_some (get_or t.guests (slot_of p) None)) (s.ends.each p d k)
+    ∙ ap (λ o. is_some (other_end parts.cables p) || is_some o) (s.guests.each p d k)
+    ∙ sym (ap (λ b. b || has_guest parts.hosts p) (has_end-is parts.cables p) ∙ ap (λ b. is_some (other_end parts.cables p) || b) (has_guest-is 0 parts.hosts p))

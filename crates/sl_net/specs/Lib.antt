@@ -7,3 +7,5 @@ pub mod Input
 pub mod Fault
 pub mod Valid
 pub mod Ports
+pub mod Layout
+pub mod Roster

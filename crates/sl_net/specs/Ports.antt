@@ -3,7 +3,7 @@ use Rattle.std.specs.Prelude.{◌≡◌, ℕ, ◌+◌, ◌*◌, ◌<◌, List, l
 use Rattle.sl_net.specs.declared.parts.PortRef.{PortRef}
 use Rattle.sl_net.specs.declared.parts.CablePart.{CablePart}
 use Rattle.sl_net.specs.declared.parts.HostPart.{HostPart}
-use Rattle.sl_net.specs.Parts.{other_end, host_from}
+use Rattle.sl_net.specs.Parts.{Parts, other_end, host_from}
 
 abbrev pub slot_of : PortRef → ℕ
 slot_of p = 8 * p.device + p.port
@@ -26,3 +26,13 @@ with_cable ends c = slice_set (slice_set ends (slot_of c.a) (Some c.b)) (slot_of
 pub record IsNear (devices : ℕ) (p : PortRef) : Type 0 where
   pub device : p.device < devices
   pub port : p.port < 8
+
+-- the two tables
+pub record PortLists : Type 0 where
+  pub ends : List (Option PortRef)
+  pub guests : List (Option ℕ)
+
+-- the tables show the parts
+pub record ShowsPorts (parts : Parts) (t : PortLists) : Type 0 where
+  pub ends : HasEnds (length parts.devices) parts.cables t.ends
+  pub guests : HasGuests (length parts.devices) parts.hosts t.guests

@@ -2,7 +2,7 @@
 ghost use Rattle.std.specs.Prelude.{◌≡◌, ◌^◌, ◌<◌, ◌≤◌, None, Some, ◌≢◌, OnOk, IfOk, IfErr, length, vec_len, bytes_eq, []};
 ghost use Rattle.std.specs.List.{position};
 ghost use Rattle.sl_net.specs.Valid.{IsValid};
-ghost use Rattle.sl_net.specs.Ports.{HasEnds, HasGuests};
+ghost use Rattle.sl_net.specs.Ports.{ShowsPorts};
 ghost use Rattle.sl_net.specs.Fault.{fault_of, is_port, no_device, too_many_devices, wrong_ports, stray_cable, stray_host, too_many_hosts, is_stray_cable, is_stray_host, has_wrong_ports, first_clash, device_named, host_named, device_namesake, host_namesake};
 
 use crate::fault::{NetFault, Place};
@@ -201,8 +201,7 @@ pub fn check(alloc: Global, parts: &Parts) -> Result<PortTable, NetFault>
     ensures ok { OnOk result (fault_of parts.now ≡ None) }
     ensures valid { OnOk result (IsValid parts.now) }
     ensures few { OnOk result (length parts.now.hosts ≤ 128) }
-    ensures ends { IfOk result (λ t. HasEnds (length parts.now.devices) parts.now.cables t.ends.items) }
-    ensures guests { IfOk result (λ t. HasGuests (length parts.now.devices) parts.now.hosts t.guests.items) }
+    ensures shown { IfOk result (λ table. ShowsPorts parts.now table) }
     ensures err { IfErr result (λ e. e ≢ NetFault.Memory → fault_of parts.now ≡ Some e) }
 {
     check_ranges(parts)?;

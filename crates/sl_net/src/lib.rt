@@ -5,9 +5,12 @@ mod actor;
 mod check;
 mod fault;
 mod input;
+mod layout;
 mod net;
+mod numbers;
 mod parts;
 mod ports;
+mod roster;
 mod table;
 mod text;
 

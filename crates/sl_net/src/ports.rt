@@ -9,6 +9,7 @@ use crate::fault::NetFault;
 use crate::parts::{CablePart, Parts, PortRef};
 use crate::table::filled;
 use std::alloc::{AllocError, Global};
+use std::marker::Model;
 
 /// Tables by ports, with eight places for each device: what the cable at each port leads to, and
 /// which host stands there.
@@ -16,6 +17,14 @@ use std::alloc::{AllocError, Global};
 pub struct PortTable {
     pub ends: Vec<Option<PortRef>>,
     pub guests: Vec<Option<u32>>,
+}
+
+impl Model for PortTable {
+    ghost use Rattle.sl_net.specs.Ports.{PortLists};
+
+    ghost Value = { PortLists };
+
+    ghost view = { λ t. record { ends = t.ends.items; guests = t.guests.items } };
 }
 
 /// The place of a port in a table by ports.

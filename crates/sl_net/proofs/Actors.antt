@@ -9,14 +9,10 @@ use Rattle.sl_net.specs.declared.actor.Side.TheVariants.{Ingress, Egress}
 use Rattle.sl_net.specs.declared.parts.PortRef.{PortRef}
 use Rattle.sl_net.specs.Parts.{Parts, below, numbers_from, is_used, used_ports, ports_of}
 use Rattle.sl_net.specs.Net.{net_of, actor_of, nobody, same_actor, ingress, egress, units_of, actors_of, place_of}
-use Rattle.sl_net.proofs.Lists.{Each, each-append, each-map, each-imp, each-flat, each-below, each-both, each-of, each-at, Member, member-left, member-right, member-flat, member-map, member-filter, member-from, member-parts, Distinct, distinct-append, distinct-filter, distinct-flat, distinct-from, inside}
+use Rattle.sl_net.specs.Roster.{IsActor}
+use Rattle.sl_net.proofs.Lists.{Each, each-append, each-map, each-imp, each-flat, each-below, each-both, each-of, each-at, Member, member-left, member-right, member-flat, member-map, member-filter, member-from, member-parts, Distinct, distinct-append, distinct-filter, distinct-flat, distinct-from, inside, all-from_each}
+use Rattle.std.specs.List.{All}
 use Rattle.sl_net.proofs.Numbering.{actor_tells, AreOneActor, AreTwoActors}
-
-abbrev pub IsActor : Parts → ActorId → Type 0
-IsActor parts Observer = Unit {0}
-IsActor parts (Control d) = d < length parts.devices
-IsActor parts (OfUnit u) = (u.device < length parts.devices) × (u.port < ports_of parts u.device) × (is_used parts (record { device = u.device; port = u.port }) ≡ true)
-IsActor parts (OfHost h) = h < length parts.hosts
 
 member-unit : (parts : Parts) (d p : ℕ) (u : ActorId) → d < length parts.devices → p < ports_of parts d → is_used parts (record { device = d; port = p }) ≡ true → Member u (ingress d p ∷ egress d p ∷ []) → Member u (actors_of parts)
 member-unit parts d p u k j i m = inr (member-left u (flat_map (λ d. Control d ∷ units_of parts d) (below (length parts.devices))) (map OfHost (below (length parts.hosts)))
@@ -36,7 +32,7 @@ actor-member parts (OfUnit u) h = of_side u.side refl
 actor-member parts (OfHost i) h = inr (member-right (OfHost i) (flat_map (λ d. Control d ∷ units_of parts d) (below (length parts.devices))) (map OfHost (below (length parts.hosts)))
     (member-map OfHost i (below (length parts.hosts)) (member-from i 0 (length parts.hosts) (omega arith) (omega arith))))
 
-each-used : (parts : Parts) (d : ℕ) → Each (λ p. (p < ports_of parts d) × (is_used parts (record { device = d; port = p }) ≡ true)) (used_ports parts d)
+pub each-used : (parts : Parts) (d : ℕ) → Each (λ p. (p < ports_of parts d) × (is_used parts (record { device = d; port = p }) ≡ true)) (used_ports parts d)
 each-used parts d = each-both (λ p. p < ports_of parts d) (λ p. is_used parts (record { device = d; port = p })) (below (ports_of parts d))
     (each-below (λ p. p < ports_of parts d) (ports_of parts d) (λ i p. p))
 
@@ -175,3 +171,9 @@ place-of-at (x ∷ xs) (suc i) d e p = by_bool (place-of-at xs i d e.1 (omega ar
 
 pub place-at : (parts : Parts) (i : ℕ) → i < length (actors_of parts) → place_of (actor_of (net_of parts) i) (actors_of parts) ≡ i
 place-at parts i p = place-of-at (actors_of parts) i nobody (actors-distinct parts) p
+
+pub all-actors : (parts : Parts) → All (IsActor parts) (actors_of parts)
+all-actors parts = all-from_each (IsActor parts) (actors_of parts) (each-actor parts)
+
+pub each-place : (parts : Parts) (i : ℕ) (d : ActorId) → i < length (actors_of parts) → place_of (get_or (actors_of parts) i d) (actors_of parts) ≡ i
+each-place parts i d h = place-of-at (actors_of parts) i d (actors-distinct parts) h

@@ -6,3 +6,4 @@ pub mod Numbering
 pub mod Lists
 pub mod Actors
 pub mod Sizes
+pub mod Wires

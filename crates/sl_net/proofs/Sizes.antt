@@ -3,15 +3,16 @@ use Rattle.std.proofs.Common.{◌≡◌, ℕ, zero, suc, ◌+◌, ◌*◌, ◌<�
 use Rattle.std.specs.Prelude.{cond, true, false, Bool, filter, flat_map}
 use Rattle.std.specs.List.{All}
 use Rattle.std.proofs.lemmas.List.{length-map}
+use Rattle.sl_net.specs.declared.parts.PortRef.{PortRef}
 use Rattle.sl_net.specs.declared.actor.ActorId.{ActorId}
 use Rattle.sl_net.specs.declared.actor.ActorId.TheVariants.{Observer, Control, Unit as OfUnit, Host as OfHost}
 use Rattle.sl_net.specs.Parts.{Parts, below, is_used, ports_of, used_ports}
 use Rattle.sl_net.specs.Net.{units_of, actors_of, ingress, egress}
-use Rattle.sl_net.specs.Roster.{IsFew}
+use Rattle.sl_net.specs.Roster.{IsFew, IsActor}
 use Rattle.sl_net.specs.Valid.{IsValid}
 use Rattle.sl_net.proofs.Lists.{Each, each-imp, each-of, all-from_each}
 use Rattle.sl_net.proofs.Counting.{length_numbers}
-use Rattle.sl_net.proofs.Actors.{IsActor, each-actor}
+use Rattle.sl_net.proofs.Actors.{each-actor, each-used}
 
 pub length_filter_le : {A : Type 0} (t : A → Bool) (xs : List A) → length (filter t xs) ≤ length xs
 length_filter_le t [] = omega arith
@@ -49,3 +50,6 @@ few_of parts v h (OfHost i) k = omega arith
 
 pub all_few : (parts : Parts) → IsValid parts → length parts.hosts ≤ 128 → All IsFew (actors_of parts)
 all_few parts v h = all-from_each IsFew (actors_of parts) (each-imp (IsActor parts) IsFew (actors_of parts) (few_of parts v h) (each-actor parts))
+
+pub small_ports : (parts : Parts) (d : ℕ) → IsValid parts → All (λ p. p < 8) (used_ports parts d)
+small_ports parts d v = all-from_each (λ p. p < 8) (used_ports parts d) (each-imp (λ p. (p < ports_of parts d) × (is_used parts (record { device = d; port = p }) ≡ true)) (λ p. p < 8) (used_ports parts d) (λ p h. omega (arith, h.0, v.ports d)) (each-used parts d))

@@ -1,5 +1,6 @@
 // Parts that are a net's, with tables to look things up.
-ghost use Rattle.std.specs.Prelude.{◌≡◌, ◌≢◌, ◌<◌, ◌≤◌, ◌||◌, None, Some, OnOk, IfOk, IfErr, length, map, is_some, slice_index_or, slice_index};
+ghost use Rattle.std.specs.Prelude.{◌≡◌, ◌≢◌, ◌<◌, ◌≤◌, ◌||◌, None, Some, OnOk, IfOk, IfErr, IfSome, length, map, is_some, slice_index_or, slice_index};
+ghost use Rattle.std.specs.List.{All};
 ghost use Rattle.sl_net.specs.Parts.{below, is_used, ports_of, used_ports, other_end, host_at};
 ghost use Rattle.sl_net.specs.Fault.{fault_of};
 ghost use Rattle.sl_net.specs.Valid.{IsValid};
@@ -101,7 +102,8 @@ impl Layout {
     /// The used ports of a device, ascending.
     pub fn used_ports(&self, device: u32) -> &[u32]
         requires { device < length self.now.devices }
-        ensures { result.now ≡ used_ports self.now device }
+        ensures ports { result.now ≡ used_ports self.now device }
+        ensures small { All (λ p. p < 8) result.now }
     {
         row(self.used.as_slice(), device as usize)
     }
@@ -109,7 +111,8 @@ impl Layout {
     /// The other end of the cable at this port.
     pub fn other_end(&self, port: PortRef) -> Option<PortRef>
         requires { IsNear (length self.now.devices) port }
-        ensures { result ≡ other_end self.now.cables port }
+        ensures end { result ≡ other_end self.now.cables port }
+        ensures near { IfSome result (IsNear (length self.now.devices)) }
     {
         self.table.ends[slot_of(port)]
     }
@@ -117,7 +120,8 @@ impl Layout {
     /// The place of the host at this port.
     pub fn host_at(&self, port: PortRef) -> Option<u32>
         requires { IsNear (length self.now.devices) port }
-        ensures { result ≡ host_at self.now port }
+        ensures host { result ≡ host_at self.now port }
+        ensures few { IfSome result (λ h. h < 128) }
     {
         self.table.guests[slot_of(port)]
     }

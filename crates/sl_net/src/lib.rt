@@ -6,6 +6,7 @@ mod check;
 mod fault;
 mod input;
 mod layout;
+mod links;
 mod net;
 mod numbers;
 mod parts;

@@ -1,9 +1,11 @@
 // The actors of a net, with their numbers.
-ghost use Rattle.std.specs.Prelude.{◌≡◌, ◌+◌, ◌^◌, ◌<◌, ◌≤◌, ◌++◌, ◌∷◌, [], OnOk, IfOk, length, cond, slice_set, slice_index_or, map, flat_map};
+ghost use Rattle.std.specs.Prelude.{ℕ, ◌≡◌, ◌+◌, ◌^◌, ◌<◌, ◌≤◌, ◌++◌, ◌∷◌, [], OnOk, IfOk, length, cond, slice_set, slice_index_or, map, flat_map};
 ghost use Rattle.std.specs.List.{All};
+ghost use Rattle.sl_net.specs.declared.actor.ActorId.{ActorId};
 ghost use Rattle.sl_net.specs.Parts.{Parts, below, used_ports};
 ghost use Rattle.sl_net.specs.Net.{actors_of, units_of, ingress, egress, place_of};
-ghost use Rattle.sl_net.specs.Roster.{IsFew, seat_of, side_number, HasNumbers};
+ghost use Rattle.sl_net.specs.Valid.{IsValid};
+ghost use Rattle.sl_net.specs.Roster.{IsFew, IsActor, seat_of, side_number, HasNumbers};
 
 use crate::actor::{ActorId, Side, UnitId};
 use crate::layout::Layout;
@@ -122,6 +124,9 @@ impl Roster {
     pub fn actors(&self) -> &[ActorId]
         ensures now { result.now ≡ actors_of self.now }
         ensures few { length result.now ≤ 1217 }
+        ensures valid { IsValid self.now }
+        ensures each { All (IsActor self.now) result.now }
+        ensures placed { (i : ℕ) (d : ActorId) → i < length result.now → place_of (slice_index_or result.now i d) (actors_of self.now) ≡ i }
     {
         self.actors.as_slice()
     }

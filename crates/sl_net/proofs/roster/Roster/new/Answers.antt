@@ -22,6 +22,7 @@ invariant_of-result c =
     let valid = subst IsValid c.layout.view_is c.layout.invariant.valid in
     let few = subst (λ p. length p.hosts ≤ 128) c.layout.view_is c.layout.invariant.few_hosts in
     record {
+      valid = valid;
       actors_are = c.in_ok-actors.ensures;
       few = omega (arith, ap length c.in_ok-actors.ensures, few_actors c.args.layout valid few);
       numbers_are = subst (λ xs. HasNumbers 0 xs c.in_ok-numbers.numbers.items) c.as_slice.ensures.value c.in_ok-numbers.ensures }

@@ -7,3 +7,4 @@ pub mod Lists
 pub mod Actors
 pub mod Sizes
 pub mod Wires
+pub mod Grouping

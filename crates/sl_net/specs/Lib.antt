@@ -9,3 +9,4 @@ pub mod Valid
 pub mod Ports
 pub mod Layout
 pub mod Roster
+pub mod Groups

@@ -4,6 +4,7 @@
 mod actor;
 mod check;
 mod fault;
+mod groups;
 mod input;
 mod layout;
 mod links;

@@ -6,5 +6,6 @@ pub mod Numbering
 pub mod Lists
 pub mod Actors
 pub mod Sizes
-pub mod Wires
+pub mod Senders
 pub mod Grouping
+pub mod Ends

@@ -10,3 +10,8 @@ grouped keys n key = filter (λ i. slice_index keys i == key) (below n)
 -- a place's place among those of its key
 abbrev pub places_in_groups : List ℕ → ℕ → ℕ
 places_in_groups keys i = place_in 0 i (grouped keys (length keys) (slice_index keys i))
+
+-- the places by keys, and each place's place among those of its key
+pub record Sorted : Type 0 where
+  pub lists : List (List ℕ)
+  pub places : List ℕ

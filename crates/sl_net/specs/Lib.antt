@@ -10,3 +10,4 @@ pub mod Ports
 pub mod Layout
 pub mod Roster
 pub mod Groups
+pub mod Wires

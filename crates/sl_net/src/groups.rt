@@ -4,15 +4,40 @@ ghost use Rattle.std.specs.List.{All};
 ghost use Rattle.sl_net.specs.Parts.{below};
 ghost use Rattle.sl_net.specs.Groups.{grouped, places_in_groups};
 
-use crate::numbers::Numbers;
+use crate::numbers::{Numbers, row};
 use std::alloc::{AllocError, Global};
+use std::marker::Model;
 
 /// For each key the places at which it stands, ascending, and for each place its place among
 /// those of its key.
 #[derive(Drop)]
 pub struct Groups {
-    pub lists: Vec<Numbers>,
-    pub places: Vec<u32>,
+    lists: Vec<Numbers>,
+    places: Vec<u32>,
+}
+
+impl Model for Groups {
+    ghost use Rattle.sl_net.specs.Groups.{Sorted};
+
+    ghost Value = { Sorted };
+
+    ghost view = { λ g. record { lists = g.lists.items; places = g.places.items } };
+}
+
+impl Groups {
+    /// The places at which a key stands.
+    pub fn list(&self, key: u32) -> &[u32]
+        requires { key < length self.now.lists }
+        ensures { result.now ≡ slice_index_or self.now.lists key [] }
+    {
+        row(self.lists.as_slice(), key as usize)
+    }
+
+    pub fn places(&self) -> &[u32]
+        ensures { result.now ≡ self.now.places }
+    {
+        self.places.as_slice()
+    }
 }
 
 fn empty_lists(alloc: Global, count: usize) -> Result<Vec<Numbers>, AllocError>
@@ -42,8 +67,8 @@ fn add_to(lists: &mut Vec<Numbers>, key: u32, number: u32) -> Result<u32, AllocE
 pub fn group(alloc: Global, keys: &[u32], count: usize) -> Result<Groups, AllocError>
     requires keys { All (λ k. k < count) keys.now }
     requires few { length keys.now < 2 ^ 32 }
-    ensures lists { IfOk result (λ groups. groups.lists.items ≡ map (grouped keys.now (length keys.now)) (below count)) }
-    ensures places { IfOk result (λ groups. groups.places.items ≡ map (places_in_groups keys.now) (below (length keys.now))) }
+    ensures lists { IfOk result (λ groups. groups.lists ≡ map (grouped keys.now (length keys.now)) (below count)) }
+    ensures places { IfOk result (λ groups. groups.places ≡ map (places_in_groups keys.now) (below (length keys.now))) }
 {
     let mut lists = empty_lists(alloc, count)?;
     let mut places = Vec::new(alloc);

@@ -4,7 +4,7 @@ use Rattle.std.specs.Prelude.{IfSome}
 use Rattle.sl_net.specs.Parts.{other_end}
 use Rattle.sl_net.specs.Valid.{IsValid}
 use Rattle.sl_net.specs.Ports.{IsNear}
-use Rattle.sl_net.proofs.Wires.{end_near}
+use Rattle.sl_net.proofs.Senders.{end_near}
 use Rattle.sl_net.proofs.layout.Layout.other_end.Goals as goal
 
 pub returns-clause-near : goal.returns-clause-near

@@ -1,0 +1,16 @@
+use Rattle.std.proofs.Common.{[], ap, ◌∙◌, length, get_or, arith}
+use Rattle.sl_net.specs.Net.{net_of, links_from}
+use Rattle.sl_net.proofs.Counting.{at_below, length_below}
+use Rattle.sl_net.proofs.wires.Wires.links_from.Goals as goal
+
+pub list-requires : goal.list-requires
+list-requires c =
+    let net = net_of c.self.inside.roster in
+    omega (arith, ap length c.self.invariant.from_are, length_below (links_from net) (length net.actors), ap (λ n. length n.actors) c.self.view_is)
+
+pub returns : goal.returns
+returns c =
+    let net = net_of c.self.inside.roster in
+    let actor = c.args.actor in
+    c.list.ensures ∙ ap (λ xs. get_or xs actor []) c.self.invariant.from_are
+    ∙ at_below (links_from net) (length net.actors) actor [] (omega (arith, ap (λ n. length n.actors) c.self.view_is)) ∙ ap (λ n. links_from n actor) c.self.view_is

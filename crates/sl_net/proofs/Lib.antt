@@ -9,3 +9,5 @@ pub mod Sizes
 pub mod Senders
 pub mod Grouping
 pub mod Ends
+pub mod Placing
+pub mod UnitLists

@@ -11,3 +11,4 @@ pub mod Layout
 pub mod Roster
 pub mod Groups
 pub mod Wires
+pub mod Units

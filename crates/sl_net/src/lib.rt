@@ -15,6 +15,7 @@ mod ports;
 mod roster;
 mod table;
 mod text;
+mod units;
 mod wires;
 
 pub use actor::{ActorId, LinkKind, LinkPart, Side, Sort, UnitId};

@@ -1,13 +1,11 @@
 -- The actors of a net: each is one of the parts, and no two are one.
-use Rattle.std.proofs.Common.{◌≡◌, ℕ, zero, suc, ◌+◌, ◌<◌, ◌≤◌, List, [], ◌∷◌, ◌++◌, length, refl, sym, ap, subst, ◌∙◌, Option, Some, None, arith, inl, inr, eq-eqb, get_or, map}
-use Rattle.std.specs.Prelude.{◌⊎◌, cond, true, false, Bool, ◌&&◌, ◌==◌, if◌then◌else◌, filter, flat_map, slice_index_or}
+use Rattle.std.proofs.Common.{◌≡◌, ℕ, zero, suc, ◌<◌, List, [], ◌∷◌, length, refl, sym, ap, subst, ◌∙◌, arith, inl, inr, eq-eqb, get_or, map}
+use Rattle.std.specs.Prelude.{◌⊎◌, true, false, Bool, if◌then◌else◌, flat_map}
 use Rattle.sl_net.specs.declared.actor.ActorId.{ActorId}
 use Rattle.sl_net.specs.declared.actor.ActorId.TheVariants.{Observer, Control, Unit as OfUnit, Host as OfHost}
-use Rattle.sl_net.specs.declared.actor.UnitId.{UnitId}
 use Rattle.sl_net.specs.declared.actor.Side.{Side}
 use Rattle.sl_net.specs.declared.actor.Side.TheVariants.{Ingress, Egress}
-use Rattle.sl_net.specs.declared.parts.PortRef.{PortRef}
-use Rattle.sl_net.specs.Parts.{Parts, below, numbers_from, is_used, used_ports, ports_of}
+use Rattle.sl_net.specs.Parts.{Parts, below, is_used, used_ports, ports_of}
 use Rattle.sl_net.specs.Net.{net_of, actor_of, nobody, same_actor, ingress, egress, units_of, actors_of, place_of}
 use Rattle.sl_net.specs.Roster.{IsActor}
 use Rattle.sl_net.proofs.Lists.{Each, each-append, each-map, each-imp, each-flat, each-below, each-both, each-of, each-at, Member, member-left, member-right, member-flat, member-map, member-filter, member-from, member-parts, Distinct, distinct-append, distinct-filter, distinct-flat, distinct-from, inside, all-from_each}

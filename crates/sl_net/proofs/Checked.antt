@@ -1,15 +1,12 @@
 -- What follows where no reason against the parts applies.
-use Rattle.std.proofs.Common.{◌≡◌, ℕ, ◌<◌, ◌≤◌, List, [], ◌∷◌, length, get_or, refl, sym, ap, subst, ◌∙◌, arith, Bool, true, false, Option, Some, None, inl, inr, map}
-use Rattle.std.specs.Prelude.{if◌then◌else◌, cond, ◌&&◌, ◌||◌, not, ◌⊎◌, nat_lt, option_map}
+use Rattle.std.proofs.Common.{◌≡◌, ℕ, ◌<◌, ◌≤◌, List, [], length, get_or, refl, sym, subst, arith, Bool, true, false, Option, Some, None, inl, inr, map}
+use Rattle.std.specs.Prelude.{if◌then◌else◌, not, ◌⊎◌, nat_lt, option_map}
 use Rattle.std.specs.List.{position, position_or_len, All}
-use Rattle.std.proofs.lemmas.Bool.{and_parts, or_parts, cases_lt, lt-ltb, ltb-true, ltb-false, not-true, not-false}
+use Rattle.std.proofs.lemmas.Bool.{and_parts, or_parts, cases_lt, ltb-true, ltb-false, not-true, not-false}
 use Rattle.std.proofs.lemmas.List.Sums.{prefix_len_passes}
 use Rattle.std.proofs.lemmas.List.{get_or-map, get_or_past, length-map}
 use Rattle.sl_net.specs.declared.parts.PortRef.{PortRef}
-use Rattle.sl_net.specs.declared.parts.CablePart.{CablePart}
 use Rattle.sl_net.specs.declared.parts.DevicePart.{DevicePart}
-use Rattle.sl_net.specs.declared.parts.HostPart.{HostPart}
-use Rattle.sl_net.specs.declared.fault.NetFault.{NetFault}
 use Rattle.sl_net.specs.Parts.{Parts, ports_of}
 use Rattle.sl_net.specs.Fault.{is_port, has_wrong_ports, is_stray_cable, is_stray_host, too_many_devices, wrong_ports, stray_cable, stray_host, too_many_hosts}
 use Rattle.sl_net.specs.Ports.{IsNear}

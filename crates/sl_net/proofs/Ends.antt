@@ -1,6 +1,6 @@
 -- The ends of a net's links, how many links there are, and their order at each end.
-use Rattle.std.proofs.Common.{◌≡◌, ℕ, zero, suc, ◌+◌, ◌*◌, ◌<◌, ◌≤◌, List, [], ◌∷◌, ◌++◌, length, refl, sym, ap, subst, ◌∙◌, Option, Some, None, arith, inl, inr, get_or, map, Bool, true, false, length-append}
-use Rattle.std.specs.Prelude.{◌⊎◌, cond, ◌==◌, if◌then◌else◌, filter, flat_map, slice_get, slice_index}
+use Rattle.std.proofs.Common.{◌≡◌, ℕ, suc, ◌<◌, ◌≤◌, List, [], ◌∷◌, length, refl, sym, ap, subst, ◌∙◌, Option, Some, None, arith, inl, inr, get_or, map, Bool, true, false, length-append}
+use Rattle.std.specs.Prelude.{◌⊎◌, cond, ◌==◌, if◌then◌else◌, filter, slice_get, slice_index}
 use Rattle.std.specs.List.{All}
 use Rattle.std.proofs.Math.ListN.{get_or-map}
 use Rattle.sl_net.specs.declared.actor.ActorId.{ActorId}
@@ -12,14 +12,14 @@ use Rattle.sl_net.specs.declared.actor.LinkPart.{LinkPart}
 use Rattle.sl_net.specs.declared.parts.PortRef.{PortRef}
 use Rattle.sl_net.specs.declared.parts.HostPart.{HostPart}
 use Rattle.sl_net.specs.Parts.{Parts, below, other_end, host_at, used_ports}
-use Rattle.sl_net.specs.Net.{Net, net_of, link_of, no_link, link_numbers, links_into, links_from, choice_of, place_in, same_actor, units_of, actors_of, Incoming, incoming, unit_incoming, from_outside, from_host_or_cable, to_host, place_of, links_to, ingress}
+use Rattle.sl_net.specs.Net.{Net, net_of, no_link, link_numbers, links_into, links_from, choice_of, place_in, same_actor, units_of, actors_of, Incoming, incoming, unit_incoming, from_outside, from_host_or_cable, to_host, place_of, links_to, ingress}
 use Rattle.sl_net.specs.Valid.{IsValid}
 use Rattle.sl_net.specs.Groups.{grouped, places_in_groups}
 use Rattle.sl_net.specs.Wires.{HasEnds, out_of}
-use Rattle.sl_net.proofs.Lists.{Each, each-imp, each-of, each-map, each-from_all, all-from_each, Member}
+use Rattle.sl_net.proofs.Lists.{each-imp, each-of, each-map, each-from_all, all-from_each, Member}
 use Rattle.sl_net.proofs.Counting.{length_numbers}
 use Rattle.sl_net.proofs.Grouping.{map_same}
-use Rattle.sl_net.proofs.Sizes.{few_used, few_units, few_actors, length_flat_le, length_map-is}
+use Rattle.sl_net.proofs.Sizes.{few_used, few_units, length_flat_le, length_map-is}
 use Rattle.sl_net.proofs.Actors.{same_actor_refl, actor-member}
 use Rattle.sl_net.proofs.Senders.{IsLink, each-link}
 

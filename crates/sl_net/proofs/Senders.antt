@@ -1,25 +1,25 @@
 -- The links of a net: where they come from.
-use Rattle.std.proofs.Common.{◌≡◌, ℕ, zero, suc, ◌+◌, ◌<◌, ◌≤◌, List, [], ◌∷◌, ◌++◌, length, refl, sym, ap, subst, ◌∙◌, Option, Some, None, arith, inl, inr, eq-eqb, get_or, map}
-use Rattle.std.specs.Prelude.{◌⊎◌, cond, true, false, Bool, ◌&&◌, ◌||◌, ◌==◌, if◌then◌else◌, filter, flat_map, slice_get, slice_index_or, IfSome}
+use Rattle.std.proofs.Common.{◌≡◌, ℕ, zero, suc, ◌+◌, ◌<◌, ◌≤◌, List, [], ◌∷◌, length, refl, subst, Option, Some, None, arith, inl, inr, eq-eqb, map}
+use Rattle.std.specs.Prelude.{◌⊎◌, true, false, Bool, ◌||◌, ◌==◌, if◌then◌else◌, flat_map, slice_get, slice_index_or, IfSome}
 use Rattle.std.specs.List.{list_any}
 use Rattle.std.proofs.lemmas.Bool.{or_left, or_right, and_from}
 use Rattle.sl_net.specs.declared.actor.ActorId.{ActorId}
 use Rattle.sl_net.specs.declared.actor.ActorId.TheVariants.{Observer, Control, Unit as OfUnit, Host as OfHost}
 use Rattle.sl_net.specs.declared.actor.Side.{Side}
 use Rattle.sl_net.specs.declared.actor.Side.TheVariants.{Ingress, Egress}
-use Rattle.sl_net.specs.declared.actor.Sort.TheVariants.{ToHost, Crossbar, Init, Poll, Notice, Dump, Done}
+use Rattle.sl_net.specs.declared.actor.Sort.TheVariants.{Crossbar, Init, Poll, Notice, Dump, Done}
 use Rattle.sl_net.specs.declared.actor.LinkPart.{LinkPart}
 use Rattle.sl_net.specs.declared.parts.PortRef.{PortRef}
 use Rattle.sl_net.specs.declared.parts.CablePart.{CablePart}
 use Rattle.sl_net.specs.declared.parts.HostPart.{HostPart}
 use Rattle.sl_net.specs.Parts.{Parts, below, same_port, other_end, host_from, host_at, is_used, used_ports, ports_of}
-use Rattle.sl_net.specs.Net.{net_of, actor_of, link_of, no_link, sort_number, ingress, egress, units_of, actors_of, Incoming, incoming, unit_incoming, from_outside, from_host_or_cable, to_host, place_of, links_to}
+use Rattle.sl_net.specs.Net.{net_of, link_of, no_link, sort_number, ingress, egress, units_of, actors_of, Incoming, incoming, unit_incoming, from_outside, from_host_or_cable, to_host, place_of, links_to}
 use Rattle.sl_net.specs.Valid.{IsPort, IsValid}
 use Rattle.sl_net.specs.Roster.{IsActor}
 use Rattle.sl_net.specs.Ports.{IsNear}
 use Rattle.sl_net.proofs.Tables.{near}
 use Rattle.sl_net.proofs.Lists.{Each, each-append, each-map, each-imp, each-flat, each-below, each-of, each-at, each-from_all, Member}
-use Rattle.sl_net.proofs.Actors.{each-actor, each-used, actor-at, actor-member}
+use Rattle.sl_net.proofs.Actors.{each-actor, each-used}
 
 abbrev pub sends : ActorId → ℕ → Bool
 sends Observer n = n == 8

@@ -1,12 +1,14 @@
 -- Steps of listing the units.
-use Rattle.std.proofs.Common.{◌≡◌, ℕ, suc, zero, ◌+◌, ◌<◌, List, [], ◌∷◌, ◌++◌, length, get_or, map, refl, sym, ap, ◌∙◌, arith, Bool, true, false, append-nil}
+use Rattle.std.proofs.Common.{◌≡◌, ℕ, ◌+◌, ◌<◌, List, [], ◌∷◌, ◌++◌, length, get_or, map, refl, sym, ap, ◌∙◌, Bool, true, false}
 use Rattle.std.specs.Prelude.{filter, cond}
 use Rattle.std.specs.List.{All}
 use Rattle.std.proofs.lemmas.List.{map-append, get_or_default}
 use Rattle.sl_net.specs.declared.actor.ActorId.{ActorId}
 use Rattle.sl_net.specs.Parts.{below}
-use Rattle.sl_net.specs.Net.{is_unit, nobody}
-use Rattle.sl_net.proofs.Lists.{Each, each-imp, each-both, each-below, all-from_each}
+use Rattle.sl_net.specs.declared.actor.Sort.{Sort}
+use Rattle.sl_net.specs.Net.{Net, is_unit, nobody, same_sort, link_of, link_at, unit_place}
+use Rattle.sl_net.specs.Wiring.{sender_by}
+use Rattle.sl_net.proofs.Lists.{each-imp, each-both, each-below, all-from_each}
 use Rattle.sl_net.proofs.Counting.{filter_below_more}
 
 abbrev test : List ActorId → ℕ → Bool
@@ -29,3 +31,18 @@ id_noted actors numbers i d h =
 
 pub low_filter : (t : ℕ → Bool) (n : ℕ) → All (λ i. i < n) (filter t (below n))
 low_filter t n = all-from_each (λ i. i < n) (filter t (below n)) (each-imp (λ i. (i < n) × (t i ≡ true)) (λ i. i < n) (filter t (below n)) (λ i h. h.0) (each-both (λ i. i < n) t (below n) (each-below (λ i. i < n) n (λ i h. h))))
+
+abbrev is_of : Net → ℕ → Sort → ℕ → Bool
+is_of net u s c = same_sort (link_of net (link_at net u c)).sort s
+
+pub sender_noted : (net : Net) (u c l : ℕ) (s : Sort) → l ≡ link_at net u c
+    → map (sender_by net u) (filter (λ c. same_sort (link_of net (link_at net u c)).sort s) (below c)) ++ cond (same_sort (link_of net l).sort s) (unit_place net (link_of net l).from ∷ []) []
+      ≡ map (sender_by net u) (filter (λ c. same_sort (link_of net (link_at net u c)).sort s) (below (c + 1)))
+sender_noted net u c l s q =
+    ap (λ l. map (sender_by net u) (filter (is_of net u s) (below c)) ++ cond (same_sort (link_of net l).sort s) (unit_place net (link_of net l).from ∷ []) []) q
+    ∙ ap (λ xs. map (sender_by net u) (filter (is_of net u s) (below c)) ++ xs) (by_bool (is_of net u s c))
+    ∙ sym (ap (map (sender_by net u)) (filter_below_more (is_of net u s) c) ∙ map-append (sender_by net u) (filter (is_of net u s) (below c)) (cond (is_of net u s c) (c ∷ []) []))
+  where
+    by_bool : (b : Bool) → cond b (sender_by net u c ∷ []) [] ≡ map (sender_by net u) (cond b (c ∷ []) [])
+    by_bool true = refl
+    by_bool false = refl

@@ -1,6 +1,6 @@
 -- Why parts are no net: the first of these reasons that applies.
-use Rattle.std.specs.Prelude.{◌≡◌, ℕ, ◌<◌, Bool, not, ◌&&◌, ◌||◌, ◌==◌, nat_lt, if◌then◌else◌, List, [], ◌∷◌, ◌++◌, length, map, Option, Some, None, option_map, bytes_eq}
-use Rattle.std.specs.List.{list_any, position, All}
+use Rattle.std.specs.Prelude.{ℕ, Bool, not, ◌&&◌, ◌||◌, ◌==◌, nat_lt, if◌then◌else◌, List, [], ◌∷◌, ◌++◌, length, Option, Some, None, option_map, bytes_eq}
+use Rattle.std.specs.List.{list_any, position}
 use Rattle.sl_net.specs.declared.parts.PortRef.{PortRef}
 use Rattle.sl_net.specs.declared.parts.CablePart.{CablePart}
 use Rattle.sl_net.specs.declared.parts.DevicePart.{DevicePart}

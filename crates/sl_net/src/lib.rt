@@ -16,7 +16,9 @@ mod roster;
 mod table;
 mod text;
 mod units;
+mod upstream;
 mod wires;
+mod wiring;
 
 pub use actor::{ActorId, LinkKind, LinkPart, Side, Sort, UnitId};
 pub use fault::{NetFault, Place};

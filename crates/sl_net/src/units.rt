@@ -97,7 +97,8 @@ impl Units {
 
     /// The actors' numbers of the units.
     pub fn actors(&self) -> &[u32]
-        ensures { result.now ≡ units self.now }
+        ensures now { result.now ≡ units self.now }
+        ensures each { All (λ a. a < length self.now.actors) result.now }
     {
         self.actors.as_slice()
     }

@@ -2,7 +2,7 @@
 ghost use Rattle.std.specs.Prelude.{◌≡◌, ◌<◌, ◌≤◌, IfOk, length, map};
 ghost use Rattle.std.specs.List.{All};
 ghost use Rattle.sl_net.specs.Parts.{below};
-ghost use Rattle.sl_net.specs.Net.{net_of, link_numbers, links_into, links_from, choice_of};
+ghost use Rattle.sl_net.specs.Net.{net_of, link_of, link_numbers, links_into, links_from, choice_of};
 ghost use Rattle.sl_net.specs.Wires.{HasEnds, out_of};
 
 use crate::actor::LinkPart;
@@ -81,6 +81,13 @@ impl Wires {
         &self.roster
     }
 
+    /// How many actors there are.
+    pub fn count(&self) -> u32
+        ensures { result ≡ length self.now.actors }
+    {
+        self.roster.actors().len() as u32
+    }
+
     pub fn links(&self) -> &[LinkPart]
         ensures now { result.now ≡ self.now.links }
         ensures few { length result.now ≤ 77888 }
@@ -89,10 +96,20 @@ impl Wires {
         self.links.as_slice()
     }
 
+    pub fn link(&self, link: u32) -> LinkPart
+        requires { link < length self.now.links }
+        ensures link { result ≡ link_of self.now link }
+        ensures ends { HasEnds self.now result }
+    {
+        self.links[link as usize]
+    }
+
     /// The links that an actor takes from, in the order of its choices.
     pub fn links_into(&self, actor: u32) -> &[u32]
         requires { actor < length self.now.actors }
-        ensures { result.now ≡ links_into self.now actor }
+        ensures links { result.now ≡ links_into self.now actor }
+        ensures each { All (λ l. l < length self.now.links) result.now }
+        ensures few { length result.now ≤ 77888 }
     {
         self.into.list(actor)
     }
@@ -100,21 +117,27 @@ impl Wires {
     /// The links on which an actor puts, ascending.
     pub fn links_from(&self, actor: u32) -> &[u32]
         requires { actor < length self.now.actors }
-        ensures { result.now ≡ links_from self.now actor }
+        ensures links { result.now ≡ links_from self.now actor }
+        ensures each { All (λ l. l < length self.now.links) result.now }
+        ensures few { length result.now ≤ 77888 }
     {
         self.from.list(actor)
     }
 
     /// The choice by which each link is taken.
     pub fn choices(&self) -> &[u32]
-        ensures { result.now ≡ map (choice_of self.now) (link_numbers self.now) }
+        ensures now { result.now ≡ map (choice_of self.now) (link_numbers self.now) }
+        ensures len { length result.now ≡ length self.now.links }
+        ensures few { length result.now ≤ 77888 }
     {
         self.into.places()
     }
 
     /// The place of each link among its sender's links.
     pub fn outs(&self) -> &[u32]
-        ensures { result.now ≡ map (out_of self.now) (link_numbers self.now) }
+        ensures now { result.now ≡ map (out_of self.now) (link_numbers self.now) }
+        ensures len { length result.now ≡ length self.now.links }
+        ensures few { length result.now ≤ 77888 }
     {
         self.from.places()
     }

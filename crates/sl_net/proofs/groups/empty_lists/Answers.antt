@@ -1,4 +1,4 @@
-use Rattle.std.proofs.Common.{ℕ, List, [], arith, map}
+use Rattle.std.proofs.Common.{ℕ, List, [], arith}
 use Rattle.std.proofs.lemmas.Grind.{common_steps}
 use Rattle.sl_net.proofs.Counting.{map_below_more}
 use Rattle.sl_net.proofs.groups.empty_lists.Goals as goal

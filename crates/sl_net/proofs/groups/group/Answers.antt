@@ -1,4 +1,4 @@
-use Rattle.std.proofs.Common.{◌≡◌, ◌≤◌, ◌<◌, ◌++◌, ◌∷◌, [], arith, ap, sym, ◌∙◌, length, get_or, set, map}
+use Rattle.std.proofs.Common.{◌≡◌, ◌++◌, ◌∷◌, [], arith, ap, sym, ◌∙◌, length, get_or, set, map}
 use Rattle.std.specs.Prelude.{slice_index}
 use Rattle.sl_net.specs.Parts.{below}
 use Rattle.sl_net.specs.Groups.{grouped}

@@ -1,6 +1,6 @@
-use Rattle.std.proofs.Common.{◌++◌, ◌∷◌, [], ap, sym, ◌∙◌, map, arith}
+use Rattle.std.proofs.Common.{arith}
 use Rattle.std.proofs.lemmas.Grind.{common_steps}
-use Rattle.sl_net.specs.Parts.{below, used_ports}
+use Rattle.sl_net.specs.Parts.{used_ports}
 use Rattle.sl_net.proofs.Counting.{map_below_more}
 use Rattle.sl_net.proofs.layout.all_ports.Goals as goal
 

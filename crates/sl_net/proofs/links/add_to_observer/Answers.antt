@@ -1,4 +1,4 @@
-use Rattle.std.proofs.Common.{arith, map}
+use Rattle.std.proofs.Common.{arith}
 use Rattle.std.proofs.lemmas.Grind.{common_steps}
 use Rattle.std.proofs.lemmas.List.{map-append}
 use Rattle.sl_net.specs.declared.actor.ActorId.TheVariants.{Control}

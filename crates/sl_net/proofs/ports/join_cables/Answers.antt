@@ -1,4 +1,4 @@
-use Rattle.std.proofs.Common.{ℕ, ◌+◌, ◌<◌, List, [], get_or, take, ap, sym, subst, ◌∙◌, length}
+use Rattle.std.proofs.Common.{◌+◌, get_or, take, ap, sym, subst, ◌∙◌}
 use Rattle.std.specs.Prelude.{option_map}
 use Rattle.sl_net.specs.declared.parts.CablePart.{CablePart}
 use Rattle.sl_net.specs.declared.fault.NetFault.TheVariants.{N5}

@@ -1,6 +1,5 @@
-use Rattle.std.proofs.Common.{◌≡◌, ◌<◌, ◌+◌, take, arith, ap, sym, subst, ◌∙◌, get_or, length, List}
+use Rattle.std.proofs.Common.{◌≡◌, ◌+◌, take, arith, ap, sym, subst, ◌∙◌, length}
 use Rattle.std.specs.Prelude.{option_map}
-use Rattle.sl_net.specs.declared.parts.HostPart.{HostPart}
 use Rattle.sl_net.specs.declared.fault.NetFault.TheVariants.{N7}
 use Rattle.sl_net.specs.Ports.{HasGuests}
 use Rattle.sl_net.proofs.Tables.{HostStep, host_clash, host_fits, host_added}

@@ -1,5 +1,4 @@
-use Rattle.std.proofs.Common.{ℕ, ◌++◌, ◌∷◌, [], arith, map}
-use Rattle.std.specs.Prelude.{flat_map}
+use Rattle.std.proofs.Common.{◌∷◌, arith}
 use Rattle.std.proofs.lemmas.Grind.{common_steps}
 use Rattle.sl_net.specs.declared.actor.ActorId.TheVariants.{Control, Host}
 use Rattle.sl_net.specs.Net.{units_of}

@@ -1,4 +1,4 @@
-use Rattle.std.proofs.Common.{◌≡◌, ◌++◌, ◌∷◌, [], length, map}
+use Rattle.std.proofs.Common.{◌≡◌, ◌++◌, ◌∷◌, length, map}
 use Rattle.std.specs.Prelude.{flat_map}
 use Rattle.sl_net.specs.declared.actor.ActorId.TheVariants.{Observer, Control, Host}
 use Rattle.sl_net.specs.Parts.{below}

@@ -1,2 +1,15 @@
 pub mod NumberLemmas
 pub mod NameLemmas
+pub mod Clash
+pub mod Tables
+pub mod Checked
+pub mod Counting
+pub mod Numbering
+pub mod Lists
+pub mod Actors
+pub mod Sizes
+pub mod Senders
+pub mod Grouping
+pub mod Ends
+pub mod Placing
+pub mod UnitLists

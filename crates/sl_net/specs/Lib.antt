@@ -5,3 +5,12 @@ pub mod Serving
 pub mod Wiring
 pub mod Input
 pub mod Number
+pub mod Fault
+pub mod Valid
+pub mod Ports
+pub mod Layout
+pub mod Roster
+pub mod Groups
+pub mod Wires
+pub mod Units
+pub mod Tables

@@ -1,6 +1,7 @@
 -- How a net's actors are joined, and the kinds of its links for losses.
 use Rattle.std.specs.Prelude.{ℕ, List, map, length}
 use Rattle.sl_machine.specs.declared.wiring.Link.{Link}
+use Rattle.sl_machine.specs.Plan.{Plan}
 use Rattle.sl_net.specs.declared.actor.ActorId.{ActorId}
 use Rattle.sl_net.specs.declared.actor.ActorId.TheVariants.{Observer, Control, Unit as OfUnit, Host as OfHost}
 use Rattle.sl_net.specs.declared.actor.Sort.{Sort}
@@ -32,6 +33,10 @@ out_counts net = map (λ a. length (links_from net a)) (below (length net.actors
 abbrev pub action_counts : Net → List ℕ
 action_counts net = map actions_of net.actors
 
+-- how the net's actors are joined
+abbrev pub plan_of : Net → Plan
+plan_of net = record { links = wired_links net; ins = in_counts net; outs = out_counts net; actions = action_counts net }
+
 abbrev pub kind_of : Sort → LinkKind
 kind_of Cable = CableKind
 kind_of Crossbar = CrossbarKind
@@ -39,6 +44,10 @@ kind_of Init = InitKind
 kind_of Notice = NoticeKind
 kind_of _ = Reliable
 
+-- the sender of a unit's channel, as a place among the units
+abbrev pub sender_by : Net → ℕ → ℕ → ℕ
+sender_by net u c = unit_place net (link_of net (link_at net u c)).from
+
 -- the senders of a unit's data channels in order, as places among the units; the unit is an actor's number
 abbrev pub upstream_of : Net → ℕ → List ℕ
-upstream_of net u = map (λ c. unit_place net (link_of net (link_at net u c)).from) (data_channels net u)
+upstream_of net u = map (sender_by net u) (data_channels net u)

@@ -2,14 +2,28 @@
 #![tactic(auto)]
 
 mod actor;
+mod check;
+mod fault;
+mod groups;
 mod input;
+mod layout;
+mod links;
 mod name;
 mod net;
 mod number;
+mod numbers;
 mod parts;
+mod ports;
+mod roster;
+mod table;
 mod text;
+mod units;
+mod upstream;
+mod wires;
+mod wiring;
 
 pub use actor::{ActorId, LinkKind, LinkPart, Side, Sort, UnitId};
+pub use fault::{NetFault, Place};
 pub use input::{Drop1, Flow, Input, LossSpec, Packet, RawPart, Script1, Snapshot};
 pub use net::Net;
 pub use number::{plain_number, plain_numbers};

@@ -1,23 +1,183 @@
 // A net: its parts with the actors and links that they give.
-use crate::actor::{ActorId, LinkPart};
+ghost use Rattle.std.specs.Prelude.{◌≡◌, ◌≢◌, ◌<◌, ◌≤◌, None, Some, IfOk, IfErr, OnOk, length, slice_index};
+ghost use Rattle.std.specs.List.{All};
+ghost use Rattle.sl_net.specs.Fault.{fault_of};
+ghost use Rattle.sl_net.specs.Valid.{IsValid};
+ghost use Rattle.sl_net.specs.Net.{net_of, link_of, links_into, links_from, units, unit_place};
+ghost use Rattle.sl_net.specs.Wires.{HasEnds};
+ghost use Rattle.sl_net.specs.Units.{AreUnits};
+ghost use Rattle.sl_net.specs.Wiring.{kind_of, upstream_of, plan_of};
+
+use crate::actor::{ActorId, LinkKind, LinkPart, Sort, UnitId};
+use crate::fault::NetFault;
+use crate::layout::Layout;
+use crate::numbers::{Numbers, row};
 use crate::parts::Parts;
+use crate::roster::Roster;
+use crate::units::Units;
+use crate::upstream::list_upstream;
+use crate::wires::Wires;
+use crate::wiring::make_wiring;
+use sl_machine::Wiring;
+use std::alloc::{AllocError, Global};
 use std::marker::Model;
 
 /// A net whose parts are valid, with its actors and links in order.
 #[derive(Drop)]
 pub struct Net {
-    parts: Parts,
-    actors: Vec<ActorId>,
-    links: Vec<LinkPart>,
+    units: Units,
+    wiring: Wiring,
+    upstream: Vec<Numbers>,
 }
 
 impl Model for Net {
-    ghost use Rattle.std.specs.Prelude.{◌≡◌};
-    ghost use Rattle.sl_net.specs.Net.{Net, net_of};
+    ghost use Rattle.sl_net.specs.Net.{Net};
 
     ghost Value = { Net };
 
-    ghost view = { λ n. record { parts = n.parts; actors = n.actors.items; links = n.links.items } };
+    ghost use Rattle.sl_net.specs.Tables.{HasTables};
 
-    ghost invariant = { λ n. (record { parts = n.parts; actors = n.actors.items; links = n.links.items }) ≡ net_of n.parts };
+    ghost view = { λ n. n.units };
+
+    ghost invariant = { λ n. HasTables n.units n.wiring n.upstream.items };
+}
+
+/// The kind of the links of a sort, for losses.
+fn kind_of(sort: Sort) -> LinkKind
+    ensures { result ≡ kind_of sort }
+{
+    match sort {
+        Sort::Cable => LinkKind::Cable,
+        Sort::Crossbar => LinkKind::Crossbar,
+        Sort::Init => LinkKind::Init,
+        Sort::Notice => LinkKind::Notice,
+        _ => LinkKind::Reliable,
+    }
+}
+
+fn assemble(alloc: Global, layout: Layout) -> Result<Net, AllocError>
+    ensures { IfOk result (λ net. net ≡ net_of layout) }
+{
+    let roster = Roster::new(alloc, layout)?;
+    let wires = Wires::new(alloc, roster)?;
+    let wiring = make_wiring(alloc, &wires)?;
+    let units = Units::new(alloc, wires)?;
+    let upstream = list_upstream(alloc, &units)?;
+    Ok(Net {
+        units,
+        wiring,
+        upstream,
+    })
+}
+
+impl Net {
+    /// The net of these parts, or the first reason why they are none.
+    pub fn build(alloc: Global, parts: Parts) -> Result<Net, NetFault>
+        ensures net { IfOk result (λ net. net ≡ net_of parts) }
+        ensures right { OnOk result (fault_of parts ≡ None) }
+        ensures fault { IfErr result (λ e. e ≢ NetFault.Memory → fault_of parts ≡ Some e) }
+    {
+        let layout = Layout::new(alloc, parts)?;
+        Ok(assemble(alloc, layout)?)
+    }
+
+    pub fn parts(&self) -> &Parts
+        ensures now { result.now ≡ self.now.parts }
+        ensures net { self.now ≡ net_of self.now.parts }
+        ensures right { fault_of self.now.parts ≡ None }
+        ensures valid { IsValid self.now.parts }
+    {
+        self.units.wires().roster().layout().parts()
+    }
+
+    /// The actors in order.
+    pub fn actors(&self) -> &[ActorId]
+        ensures now { result.now ≡ self.now.actors }
+        ensures few { length result.now ≤ 1217 }
+    {
+        self.units.wires().roster().actors()
+    }
+
+    /// The links in order.
+    pub fn links(&self) -> &[LinkPart]
+        ensures now { result.now ≡ self.now.links }
+        ensures few { length result.now ≤ 77888 }
+        ensures ends { All (HasEnds self.now) result.now }
+    {
+        self.units.wires().links()
+    }
+
+    pub fn link(&self, link: u32) -> LinkPart
+        requires { link < length self.now.links }
+        ensures link { result ≡ link_of self.now link }
+        ensures ends { HasEnds self.now result }
+    {
+        self.units.wires().link(link)
+    }
+
+    /// The links that an actor takes from, in the order of its choices.
+    pub fn links_into(&self, actor: u32) -> &[u32]
+        requires { actor < length self.now.actors }
+        ensures links { result.now ≡ links_into self.now actor }
+        ensures each { All (λ l. l < length self.now.links) result.now }
+    {
+        self.units.wires().links_into(actor)
+    }
+
+    /// The links on which an actor puts, ascending.
+    pub fn links_from(&self, actor: u32) -> &[u32]
+        requires { actor < length self.now.actors }
+        ensures links { result.now ≡ links_from self.now actor }
+        ensures each { All (λ l. l < length self.now.links) result.now }
+    {
+        self.units.wires().links_from(actor)
+    }
+
+    /// The kind of a link, for losses.
+    pub fn kind(&self, link: u32) -> LinkKind
+        requires { link < length self.now.links }
+        ensures { result ≡ kind_of (link_of self.now link).sort }
+    {
+        kind_of(self.link(link).sort)
+    }
+
+    /// The units in order.
+    pub fn units(&self) -> &[UnitId]
+        ensures { AreUnits self.now (units self.now) result.now }
+    {
+        self.units.ids()
+    }
+
+    /// The number of the actor that is a unit, by its place among the units.
+    pub fn unit_actor(&self, unit: u32) -> u32
+        requires { unit < length (units self.now) }
+        ensures actor { result ≡ slice_index (units self.now) unit }
+        ensures within { result < length self.now.actors }
+    {
+        self.units.actors()[unit as usize]
+    }
+
+    /// The place of an actor among the units, or how many units there are where it is none.
+    pub fn unit_place(&self, actor: u32) -> u32
+        requires { actor < length self.now.actors }
+        ensures { result ≡ unit_place self.now actor }
+    {
+        self.units.place_of(actor)
+    }
+
+    /// How the actors are joined.
+    pub fn wiring(&self) -> &Wiring
+        ensures { result.now ≡ plan_of self.now }
+    {
+        &self.wiring
+    }
+
+    /// The senders of a unit's data channels in order. The unit is a place among the units, and
+    /// so are its senders.
+    pub fn upstream(&self, unit: u32) -> &[u32]
+        requires { unit < length (units self.now) }
+        ensures { result.now ≡ upstream_of self.now (slice_index (units self.now) unit) }
+    {
+        row(self.upstream.as_slice(), unit as usize)
+    }
 }

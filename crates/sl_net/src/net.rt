@@ -148,6 +148,14 @@ impl Net {
         self.units.ids()
     }
 
+    /// The actors' numbers of the units, in order.
+    pub fn unit_actors(&self) -> &[u32]
+        ensures actors { result.now ≡ units self.now }
+        ensures each { All (λ a. a < length self.now.actors) result.now }
+    {
+        self.units.actors()
+    }
+
     /// The number of the actor that is a unit, by its place among the units.
     pub fn unit_actor(&self, unit: u32) -> u32
         requires { unit < length (units self.now) }

@@ -1,3 +1,9 @@
 pub mod Nets
 pub mod Rows
 pub mod Ends
+pub mod ForwardLists
+pub mod ForwardSteps
+pub mod ForwardPuts
+pub mod Actions
+pub mod Packets
+pub mod Trails

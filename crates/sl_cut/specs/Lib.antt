@@ -17,3 +17,5 @@ pub mod End
 pub mod Bound
 pub mod Findings
 pub mod Runs
+pub mod Lossless
+pub mod Fuel

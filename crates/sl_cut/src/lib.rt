@@ -2,13 +2,27 @@
 // the report prints.
 #![tactic(auto)]
 
+mod control;
 mod findings;
+mod finish;
+mod flow;
+mod follow;
+mod frames;
 mod history;
+mod knowledge;
 mod message;
+mod route;
+mod schedule;
+mod sends;
+mod step;
+mod tell;
 mod total;
+mod units;
 mod verdict;
+mod wires;
 
 pub use findings::{Counts, Drops, Finding, FindingList, Findings, Lost, Row, Rows1};
+pub use finish::{finish_histories, finish_histories_after};
 pub use history::{History, World};
 pub use message::{Message, Put, Puts, Step};
 pub use total::Total;

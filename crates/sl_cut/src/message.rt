@@ -1,5 +1,8 @@
 // Messages, and the steps that actors make with them.
+ghost use Rattle.std.specs.Prelude.{◌≡◌, IfOk};
+
 use sl_net::{Bytes, Packet};
+use std::alloc::{AllocError, Global};
 use std::marker::Model;
 
 /// A message on a link. Stamps are whole numbers, as all numbers of the definitions.
@@ -54,4 +57,32 @@ pub struct Step {
     pub choice: u32,
     pub taken: Option<Message>,
     pub puts: Puts,
+}
+
+/// The same bytes once more.
+pub fn copy_bytes(alloc: Global, bytes: &Bytes) -> Result<Bytes, AllocError>
+    ensures { IfOk result (λ copy. copy ≡ bytes.now) }
+{
+    Ok(Bytes {
+        items: Vec::from_slice(alloc, &bytes.items)?,
+    })
+}
+
+impl Message {
+    /// The same message once more.
+    pub fn copy(&self, alloc: Global) -> Result<Message, AllocError>
+        ensures { IfOk result (λ copy. copy ≡ self.now) }
+    {
+        match self {
+            Message::Host(bytes) => Ok(Message::Host(copy_bytes(alloc, bytes)?)),
+            Message::Data(stamp, packet) => Ok(Message::Data(*stamp, *packet)),
+            Message::Probe(stamp) => Ok(Message::Probe(*stamp)),
+            Message::Init(stamp) => Ok(Message::Init(*stamp)),
+            Message::Poll => Ok(Message::Poll),
+            Message::Notice => Ok(Message::Notice),
+            Message::Dump(count) => Ok(Message::Dump(*count)),
+            Message::Begin(number) => Ok(Message::Begin(*number)),
+            Message::Done(unit, count) => Ok(Message::Done(*unit, *count)),
+        }
+    }
 }

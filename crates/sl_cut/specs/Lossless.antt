@@ -1,0 +1,26 @@
+-- Runs that lose nothing, and inputs whose frames can be written.
+use Rattle.std.specs.Prelude.{◌≡◌, ◌^◌, ◌<◌, false, []}
+use Rattle.std.specs.List.{All}
+use Rattle.sl_net.specs.declared.input.Flow.{Flow}
+use Rattle.sl_net.specs.Input.{LossSpec, Input}
+use Rattle.sl_cut.specs.History.{Losses}
+
+abbrev pub no_loss : Losses
+no_loss l n = false
+
+-- no rate is set and no loss is named
+pub record IsLossless (loss : LossSpec) : Type 0 where
+  pub cable : loss.cable ≡ 0
+  pub crossbar : loss.crossbar ≡ 0
+  pub init : loss.init ≡ 0
+  pub notice : loss.notice ≡ 0
+  pub drops : loss.drops ≡ []
+
+-- a packet has 16 bits for each of its hosts
+pub record HasAddresses (flow : Flow) : Type 0 where
+  pub from : flow.from < 2 ^ 16
+  pub to : flow.to < 2 ^ 16
+
+pub record IsLosslessInput (input : Input) : Type 0 where
+  pub lossless : IsLossless input.loss
+  pub addresses : All HasAddresses input.flows

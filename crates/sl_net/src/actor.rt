@@ -53,6 +53,35 @@ pub enum Sort {
     Done,
 }
 
+impl Sort {
+    ghost use Rattle.std.specs.Prelude.{◌≡◌};
+    ghost use Rattle.sl_net.specs.Net.{sort_number, same_sort};
+
+    fn number(self) -> u8
+        ensures { result ≡ sort_number self }
+    {
+        match self {
+            Sort::FromHost => 0,
+            Sort::ToHost => 1,
+            Sort::Cable => 2,
+            Sort::Crossbar => 3,
+            Sort::Init => 4,
+            Sort::Poll => 5,
+            Sort::Notice => 6,
+            Sort::Dump => 7,
+            Sort::Begin => 8,
+            Sort::Done => 9,
+        }
+    }
+
+    /// Whether two sorts are the same.
+    pub fn is(self, other: Sort) -> bool
+        ensures { result ≡ same_sort self other }
+    {
+        self.number() == other.number()
+    }
+}
+
 /// The kind of a link for losses. A reliable link loses nothing.
 #[derive(Clone, Copy, Debug, PartialEq, Eq)]
 pub enum LinkKind {

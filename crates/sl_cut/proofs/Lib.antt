@@ -7,3 +7,4 @@ pub mod ForwardPuts
 pub mod Actions
 pub mod Packets
 pub mod Trails
+pub mod Legal

@@ -3,6 +3,7 @@
 #![tactic(auto)]
 
 mod control;
+mod ends_laws;
 mod findings;
 mod finish;
 mod flow;
@@ -21,6 +22,7 @@ mod units;
 mod verdict;
 mod wires;
 
+pub use ends_laws::finishing_is_legal;
 pub use findings::{Counts, Drops, Finding, FindingList, Findings, Lost, Row, Rows1};
 pub use finish::{finish_histories, finish_histories_after};
 pub use history::{History, World};

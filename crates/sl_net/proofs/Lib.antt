@@ -13,3 +13,4 @@ pub mod Grouping
 pub mod Ends
 pub mod Placing
 pub mod UnitLists
+pub mod Naming

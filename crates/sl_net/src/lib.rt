@@ -16,6 +16,8 @@ mod parts;
 mod ports;
 mod roster;
 mod table;
+#[cfg(test)]
+mod tests;
 mod text;
 mod units;
 mod upstream;

@@ -143,7 +143,8 @@ impl Net {
 
     /// The units in order.
     pub fn units(&self) -> &[UnitId]
-        ensures { AreUnits self.now (units self.now) result.now }
+        ensures units { AreUnits self.now (units self.now) result.now }
+        ensures len { length result.now ≡ length (units self.now) }
     {
         self.units.ids()
     }

@@ -100,7 +100,8 @@ impl Units {
     }
 
     pub fn ids(&self) -> &[UnitId]
-        ensures { AreUnits self.now (units self.now) result.now }
+        ensures units { AreUnits self.now (units self.now) result.now }
+        ensures len { length result.now ≡ length (units self.now) }
     {
         self.ids.as_slice()
     }

@@ -1,0 +1,111 @@
+// Worked nets, and parts that are refused.
+use crate::{ActorId, CablePart, DevicePart, HostPart, LinkKind, Name, Net, NetFault, Parts, Place, PortRef, Sort};
+use std::alloc::Global;
+use std::test::Fail;
+
+fn name(alloc: Global, text: &str) -> Result<Name, Fail> {
+    Ok(Name::new(Vec::from_slice(alloc, text.as_bytes())?).ok_or("no name")?)
+}
+
+fn port((device, port): (u32, u32)) -> PortRef {
+    PortRef { device, port }
+}
+
+/// Devices by name and ports, cables by their ends, hosts by name and port.
+fn parts(
+    alloc: Global,
+    devices: &[(&str, u32)],
+    cables: &[((u32, u32), (u32, u32))],
+    hosts: &[(&str, (u32, u32))],
+) -> Result<Parts, Fail> {
+    let mut made = Parts {
+        devices: Vec::new(alloc),
+        cables: Vec::new(alloc),
+        hosts: Vec::new(alloc),
+    };
+    for (text, ports) in devices {
+        made.devices.push(DevicePart { name: name(alloc, text)?, ports: *ports })?;
+    }
+    for (a, b) in cables {
+        made.cables.push(CablePart { a: port(*a), b: port(*b) })?;
+    }
+    for (text, at) in hosts {
+        made.hosts.push(HostPart { name: name(alloc, text)?, at: port(*at) })?;
+    }
+    Ok(made)
+}
+
+/// Parts and what is wrong with them.
+#[derive(Drop)]
+struct Case<'a> {
+    devices: &'a [(&'a str, u32)],
+    cables: &'a [((u32, u32), (u32, u32))],
+    hosts: &'a [(&'a str, (u32, u32))],
+    fault: NetFault,
+}
+
+fn fault(alloc: Global, case: &Case) -> Result<Option<NetFault>, Fail> {
+    Ok(Net::build(alloc, parts(alloc, case.devices, case.cables, case.hosts)?).err())
+}
+
+#[test]
+fn one_device(rt: HostRuntime) -> Result<(), Fail> {
+    let alloc = rt.alloc();
+    let net = Net::build(alloc, parts(alloc, &[("a", 2)], &[], &[("h0", (0, 0)), ("h1", (0, 1))])?).map_err(|_| "refused")?;
+    assert_eq!(rt; net.actors().len(), 8);
+    assert_eq!(rt; net.actors()[1], ActorId::Control(0));
+    assert_eq!(rt; net.links().len(), 24);
+    let from: [u32; 24] = [1, 0, 2, 2, 3, 3, 4, 4, 5, 5, 6, 1, 1, 2, 4, 1, 7, 1, 1, 2, 4, 1, 3, 5];
+    for (link, sender) in net.links().iter().zip(&from) {
+        assert_eq!(rt; link.from, *sender);
+    }
+    Ok(())
+}
+
+/// The first fault of each kind, and the last place where it can stand.
+#[test]
+fn faults(rt: HostRuntime) -> Result<(), Fail> {
+    let some = [("a", 2), ("b", 2)];
+    let many = [("d", 1); 65];
+    let crowd = [("h", (0, 0)); 129];
+    let cases = [
+        Case { devices: &[], cables: &[], hosts: &[], fault: NetFault::N1 },
+        Case { devices: &many, cables: &[], hosts: &[], fault: NetFault::N2(65) },
+        Case { devices: &[("a", 0), ("b", 9)], cables: &[], hosts: &[], fault: NetFault::N3(0) },
+        Case { devices: &[("a", 8), ("b", 9)], cables: &[], hosts: &[], fault: NetFault::N3(1) },
+        Case { devices: &some, cables: &[((0, 0), (2, 0))], hosts: &[], fault: NetFault::N4(Place::Cable(0)) },
+        Case { devices: &some, cables: &[((0, 0), (1, 0)), ((1, 2), (0, 1))], hosts: &[], fault: NetFault::N4(Place::Cable(1)) },
+        Case { devices: &some, cables: &[], hosts: &[("h", (0, 2))], fault: NetFault::N4(Place::Host(0)) },
+        Case { devices: &some, cables: &[((0, 0), (0, 0))], hosts: &[], fault: NetFault::N5(0) },
+        Case { devices: &some, cables: &[((0, 0), (0, 1)), ((1, 0), (0, 1))], hosts: &[], fault: NetFault::N5(1) },
+        Case { devices: &some, cables: &[], hosts: &crowd, fault: NetFault::N6(129) },
+        Case { devices: &some, cables: &[((0, 0), (1, 1))], hosts: &[("g", (0, 1)), ("h", (1, 1))], fault: NetFault::N7(1) },
+        Case { devices: &some, cables: &[], hosts: &[("g", (0, 1)), ("h", (0, 1))], fault: NetFault::N7(1) },
+        Case { devices: &[("a", 1), ("a", 1)], cables: &[], hosts: &[], fault: NetFault::N8(Place::Device(1)) },
+        Case { devices: &some, cables: &[], hosts: &[("a", (0, 1)), ("h", (0, 0)), ("h", (1, 0))], fault: NetFault::N8(Place::Host(2)) },
+    ];
+    for case in &cases {
+        assert_eq!(rt; fault(rt.alloc(), case)?, Some(case.fault));
+    }
+    Ok(())
+}
+
+/// A cable with both ends on one device, and the units upstream of each unit.
+#[test]
+fn loop_cable(rt: HostRuntime) -> Result<(), Fail> {
+    let alloc = rt.alloc();
+    let made = parts(alloc, &[("a", 3)], &[((0, 2), (0, 0))], &[])?;
+    let net = Net::build(alloc, made).map_err(|_| "refused")?;
+    assert_eq!(rt; net.units().len(), 4);
+    assert_eq!(rt; net.links().len(), 33);
+    assert_eq!(rt; net.actors().len(), 6);
+    assert_eq!(rt; net.unit_actor(3), 5);
+    assert_eq!(rt; net.unit_place(5), 3);
+    assert_eq!(rt; net.upstream(0), [3].as_slice());
+    assert_eq!(rt; net.upstream(1), [0, 2].as_slice());
+    assert_eq!(rt; net.kind(0), LinkKind::Reliable);
+    assert_eq!(rt; net.link(10).sort, Sort::Cable);
+    assert_eq!(rt; net.kind(10), LinkKind::Cable);
+    assert_eq!(rt; net.wiring().links.len(), net.links().len());
+    Ok(())
+}

@@ -1,9 +1,8 @@
 -- Names and their test.
-use Rattle.std.proofs.Common.{◌≡◌, ℕ, ◌≤◌, List, length, refl, arith, true, false, Bool}
-use Rattle.std.specs.Prelude.{◌&&◌, ◌||◌, ◌==◌, not, nat_le, IsTrue}
-use Rattle.std.specs.List.{list_all}
+use Rattle.std.proofs.Common.{◌≡◌, ℕ, ◌≤◌, List, length, arith, true}
+use Rattle.std.specs.Prelude.{◌==◌}
 use Rattle.std.proofs.lemmas.Bool.{and_parts, and_from, not-true, eqb-false, leb-true, le-leb, ne_eqb, not_from_false}
-use Rattle.sl_net.specs.Text.{IsName, is_name, is_name_byte}
+use Rattle.sl_net.specs.Text.{IsName, is_name}
 
 pub name_from_test : (bytes : List ℕ) → is_name bytes ≡ true → IsName bytes
 name_from_test bytes h =

@@ -8,30 +8,10 @@ ghost use Rattle.sl_net.specs.Valid.{IsValid};
 ghost use Rattle.sl_net.specs.Ports.{IsNear};
 ghost use Rattle.sl_net.specs.Roster.{IsFew, IsActor, link_by};
 
-use crate::actor::{ActorId, LinkPart, Side, Sort, UnitId};
+use crate::actor::{ActorId, LinkPart, Side, Sort};
 use crate::parts::PortRef;
-use crate::roster::Roster;
+use crate::roster::{Roster, egress, ingress};
 use std::alloc::{AllocError, Global};
-
-fn ingress(device: u32, port: u32) -> ActorId
-    ensures { result ≡ ingress device port }
-{
-    ActorId::Unit(UnitId {
-        device,
-        port,
-        side: Side::Ingress,
-    })
-}
-
-fn egress(device: u32, port: u32) -> ActorId
-    ensures { result ≡ egress device port }
-{
-    ActorId::Unit(UnitId {
-        device,
-        port,
-        side: Side::Egress,
-    })
-}
 
 /// Adds a link from an actor to the actor of the number `to`.
 fn add_link(

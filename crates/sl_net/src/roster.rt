@@ -13,6 +13,26 @@ use crate::table::filled;
 use std::alloc::{AllocError, Global};
 use std::marker::Model;
 
+pub fn ingress(device: u32, port: u32) -> ActorId
+    ensures { result ≡ ingress device port }
+{
+    ActorId::Unit(UnitId {
+        device,
+        port,
+        side: Side::Ingress,
+    })
+}
+
+pub fn egress(device: u32, port: u32) -> ActorId
+    ensures { result ≡ egress device port }
+{
+    ActorId::Unit(UnitId {
+        device,
+        port,
+        side: Side::Egress,
+    })
+}
+
 fn side_number(side: Side) -> usize
     ensures { result ≡ side_number side }
 {
@@ -42,16 +62,8 @@ fn seat_of(actor: ActorId) -> usize
 fn add_units(actors: &mut Vec<ActorId>, device: u32, port: u32) -> Result<(), AllocError>
     ensures { OnOk result (actors.new.items ≡ actors.old.items ++ ingress device port ∷ egress device port ∷ []) }
 {
-    actors.push(ActorId::Unit(UnitId {
-        device,
-        port,
-        side: Side::Ingress,
-    }))?;
-    actors.push(ActorId::Unit(UnitId {
-        device,
-        port,
-        side: Side::Egress,
-    }))?;
+    actors.push(ingress(device, port))?;
+    actors.push(egress(device, port))?;
     Ok(())
 }
 

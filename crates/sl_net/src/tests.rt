@@ -1,5 +1,8 @@
 // Worked nets, and parts that are refused.
-use crate::{ActorId, CablePart, DevicePart, HostPart, LinkKind, Name, Net, NetFault, Parts, Place, PortRef, Sort};
+use crate::{
+    ActorId, CablePart, DevicePart, HostPart, LinkKind, Name, Net, NetFault, Parts, Place, PortRef,
+    Sort,
+};
 use std::alloc::Global;
 use std::test::Fail;
 
@@ -24,23 +27,32 @@ fn parts(
         hosts: Vec::new(alloc),
     };
     for (text, ports) in devices {
-        made.devices.push(DevicePart { name: name(alloc, text)?, ports: *ports })?;
+        made.devices.push(DevicePart {
+            name: name(alloc, text)?,
+            ports: *ports,
+        })?;
     }
     for (a, b) in cables {
-        made.cables.push(CablePart { a: port(*a), b: port(*b) })?;
+        made.cables.push(CablePart {
+            a: port(*a),
+            b: port(*b),
+        })?;
     }
     for (text, at) in hosts {
-        made.hosts.push(HostPart { name: name(alloc, text)?, at: port(*at) })?;
+        made.hosts.push(HostPart {
+            name: name(alloc, text)?,
+            at: port(*at),
+        })?;
     }
     Ok(made)
 }
 
 /// Parts and what is wrong with them.
 #[derive(Drop)]
-struct Case<'a> {
-    devices: &'a [(&'a str, u32)],
-    cables: &'a [((u32, u32), (u32, u32))],
-    hosts: &'a [(&'a str, (u32, u32))],
+struct Case {
+    devices: &'static [(&'static str, u32)],
+    cables: &'static [((u32, u32), (u32, u32))],
+    hosts: &'static [(&'static str, (u32, u32))],
     fault: NetFault,
 }
 
@@ -51,38 +63,117 @@ fn fault(alloc: Global, case: &Case) -> Result<Option<NetFault>, Fail> {
 #[test]
 fn one_device(rt: HostRuntime) -> Result<(), Fail> {
     let alloc = rt.alloc();
-    let net = Net::build(alloc, parts(alloc, &[("a", 2)], &[], &[("h0", (0, 0)), ("h1", (0, 1))])?).map_err(|_| "refused")?;
+    let net = Net::build(
+        alloc,
+        parts(alloc, &[("a", 2)], &[], &[("h0", (0, 0)), ("h1", (0, 1))])?,
+    )
+    .map_err(|_| "refused")?;
     assert_eq!(rt; net.actors().len(), 8);
     assert_eq!(rt; net.actors()[1], ActorId::Control(0));
     assert_eq!(rt; net.links().len(), 24);
-    let from: [u32; 24] = [1, 0, 2, 2, 3, 3, 4, 4, 5, 5, 6, 1, 1, 2, 4, 1, 7, 1, 1, 2, 4, 1, 3, 5];
+    let from: [u32; 24] = [
+        1, 0, 2, 2, 3, 3, 4, 4, 5, 5, 6, 1, 1, 2, 4, 1, 7, 1, 1, 2, 4, 1, 3, 5,
+    ];
     for (link, sender) in net.links().iter().zip(&from) {
         assert_eq!(rt; link.from, *sender);
     }
     Ok(())
 }
 
+static SOME: [(&str, u32); 2] = [("a", 2), ("b", 2)];
+
+static MANY: [(&str, u32); 65] = [("d", 1); 65];
+
+static CROWD: [(&str, (u32, u32)); 129] = [("h", (0, 0)); 129];
+
 /// The first fault of each kind, and the last place where it can stand.
 #[test]
 fn faults(rt: HostRuntime) -> Result<(), Fail> {
-    let some = [("a", 2), ("b", 2)];
-    let many = [("d", 1); 65];
-    let crowd = [("h", (0, 0)); 129];
     let cases = [
-        Case { devices: &[], cables: &[], hosts: &[], fault: NetFault::N1 },
-        Case { devices: &many, cables: &[], hosts: &[], fault: NetFault::N2(65) },
-        Case { devices: &[("a", 0), ("b", 9)], cables: &[], hosts: &[], fault: NetFault::N3(0) },
-        Case { devices: &[("a", 8), ("b", 9)], cables: &[], hosts: &[], fault: NetFault::N3(1) },
-        Case { devices: &some, cables: &[((0, 0), (2, 0))], hosts: &[], fault: NetFault::N4(Place::Cable(0)) },
-        Case { devices: &some, cables: &[((0, 0), (1, 0)), ((1, 2), (0, 1))], hosts: &[], fault: NetFault::N4(Place::Cable(1)) },
-        Case { devices: &some, cables: &[], hosts: &[("h", (0, 2))], fault: NetFault::N4(Place::Host(0)) },
-        Case { devices: &some, cables: &[((0, 0), (0, 0))], hosts: &[], fault: NetFault::N5(0) },
-        Case { devices: &some, cables: &[((0, 0), (0, 1)), ((1, 0), (0, 1))], hosts: &[], fault: NetFault::N5(1) },
-        Case { devices: &some, cables: &[], hosts: &crowd, fault: NetFault::N6(129) },
-        Case { devices: &some, cables: &[((0, 0), (1, 1))], hosts: &[("g", (0, 1)), ("h", (1, 1))], fault: NetFault::N7(1) },
-        Case { devices: &some, cables: &[], hosts: &[("g", (0, 1)), ("h", (0, 1))], fault: NetFault::N7(1) },
-        Case { devices: &[("a", 1), ("a", 1)], cables: &[], hosts: &[], fault: NetFault::N8(Place::Device(1)) },
-        Case { devices: &some, cables: &[], hosts: &[("a", (0, 1)), ("h", (0, 0)), ("h", (1, 0))], fault: NetFault::N8(Place::Host(2)) },
+        Case {
+            devices: &[],
+            cables: &[],
+            hosts: &[],
+            fault: NetFault::N1,
+        },
+        Case {
+            devices: &MANY,
+            cables: &[],
+            hosts: &[],
+            fault: NetFault::N2(65),
+        },
+        Case {
+            devices: &[("a", 0), ("b", 9)],
+            cables: &[],
+            hosts: &[],
+            fault: NetFault::N3(0),
+        },
+        Case {
+            devices: &[("a", 8), ("b", 9)],
+            cables: &[],
+            hosts: &[],
+            fault: NetFault::N3(1),
+        },
+        Case {
+            devices: &SOME,
+            cables: &[((0, 0), (2, 0))],
+            hosts: &[],
+            fault: NetFault::N4(Place::Cable(0)),
+        },
+        Case {
+            devices: &SOME,
+            cables: &[((0, 0), (1, 0)), ((1, 2), (0, 1))],
+            hosts: &[],
+            fault: NetFault::N4(Place::Cable(1)),
+        },
+        Case {
+            devices: &SOME,
+            cables: &[],
+            hosts: &[("h", (0, 2))],
+            fault: NetFault::N4(Place::Host(0)),
+        },
+        Case {
+            devices: &SOME,
+            cables: &[((0, 0), (0, 0))],
+            hosts: &[],
+            fault: NetFault::N5(0),
+        },
+        Case {
+            devices: &SOME,
+            cables: &[((0, 0), (0, 1)), ((1, 0), (0, 1))],
+            hosts: &[],
+            fault: NetFault::N5(1),
+        },
+        Case {
+            devices: &SOME,
+            cables: &[],
+            hosts: &CROWD,
+            fault: NetFault::N6(129),
+        },
+        Case {
+            devices: &SOME,
+            cables: &[((0, 0), (1, 1))],
+            hosts: &[("g", (0, 1)), ("h", (1, 1))],
+            fault: NetFault::N7(1),
+        },
+        Case {
+            devices: &SOME,
+            cables: &[],
+            hosts: &[("g", (0, 1)), ("h", (0, 1))],
+            fault: NetFault::N7(1),
+        },
+        Case {
+            devices: &[("a", 1), ("a", 1)],
+            cables: &[],
+            hosts: &[],
+            fault: NetFault::N8(Place::Device(1)),
+        },
+        Case {
+            devices: &SOME,
+            cables: &[],
+            hosts: &[("a", (0, 1)), ("h", (0, 0)), ("h", (1, 0))],
+            fault: NetFault::N8(Place::Host(2)),
+        },
     ];
     for case in &cases {
         assert_eq!(rt; fault(rt.alloc(), case)?, Some(case.fault));
@@ -97,7 +188,7 @@ fn loop_cable(rt: HostRuntime) -> Result<(), Fail> {
     let made = parts(alloc, &[("a", 3)], &[((0, 2), (0, 0))], &[])?;
     let net = Net::build(alloc, made).map_err(|_| "refused")?;
     assert_eq!(rt; net.units().len(), 4);
-    assert_eq!(rt; net.links().len(), 33);
+    assert_eq!(rt; net.links().len(), 22);
     assert_eq!(rt; net.actors().len(), 6);
     assert_eq!(rt; net.unit_actor(3), 5);
     assert_eq!(rt; net.unit_place(5), 3);

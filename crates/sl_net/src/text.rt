@@ -46,7 +46,11 @@ impl Name {
         ensures name { IsSome result ↔ IsName items.items }
         ensures same { IfSome result (λ name. name ≡ items.items) }
     {
-        if is_name(items.as_slice()) { Some(Name { items }) } else { None }
+        if is_name(items.as_slice()) {
+            Some(Name { items })
+        } else {
+            None
+        }
     }
 }
 

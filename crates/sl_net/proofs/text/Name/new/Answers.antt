@@ -1,4 +1,4 @@
-use Rattle.std.proofs.Common.{◌≡◌, refl, subst, sym, ap, ◌∙◌, true, false}
+use Rattle.std.proofs.Common.{◌≡◌, refl, sym, ap, ◌∙◌, true, false}
 use Rattle.sl_net.specs.Text.{is_name}
 use Rattle.sl_net.proofs.Naming.{name_from_test, test_from_name}
 use Rattle.sl_net.proofs.text.Name.new.Goals as goal

@@ -13,4 +13,3 @@ pub mod Grouping
 pub mod Ends
 pub mod Placing
 pub mod UnitLists
-pub mod Naming

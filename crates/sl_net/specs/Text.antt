@@ -1,5 +1,5 @@
 -- Names.
-use Rattle.std.specs.Prelude.{ℕ, ◌≤◌, Bool, not, ◌&&◌, ◌||◌, nat_le, ◌==◌, List, length, IsTrue}
+use Rattle.std.specs.Prelude.{ℕ, ◌≤◌, Bool, ◌&&◌, ◌||◌, nat_le, ◌==◌, List, length, IsTrue}
 use Rattle.std.specs.List.{list_all}
 
 -- a to z, 0 to 9, and the underscore
@@ -10,7 +10,3 @@ pub record IsName (bytes : List ℕ) : Type 0 where
   pub some : 1 ≤ length bytes
   pub at_most : length bytes ≤ 16
   pub each : IsTrue (list_all is_name_byte bytes)
-
--- the test for a name
-abbrev pub is_name : List ℕ → Bool
-is_name bytes = not (length bytes == 0) && (nat_le (length bytes) 16 && list_all is_name_byte bytes)

@@ -1,35 +1,12 @@
 // The units upstream of each unit.
 ghost use Rattle.std.specs.Prelude.{◌≡◌, ◌<◌, ◌++◌, OnOk, IfOk, length, map};
-ghost use Rattle.sl_net.specs.Net.{sort_number, same_sort, choices_of, units};
+ghost use Rattle.sl_net.specs.Net.{choices_of, units};
 ghost use Rattle.sl_net.specs.Wiring.{sender_by, upstream_of};
 
 use crate::actor::Sort;
 use crate::numbers::{Numbers, push_if};
 use crate::units::Units;
 use std::alloc::{AllocError, Global};
-
-fn sort_number(sort: Sort) -> u8
-    ensures { result ≡ sort_number sort }
-{
-    match sort {
-        Sort::FromHost => 0,
-        Sort::ToHost => 1,
-        Sort::Cable => 2,
-        Sort::Crossbar => 3,
-        Sort::Init => 4,
-        Sort::Poll => 5,
-        Sort::Notice => 6,
-        Sort::Dump => 7,
-        Sort::Begin => 8,
-        Sort::Done => 9,
-    }
-}
-
-fn same_sort(a: Sort, b: Sort) -> bool
-    ensures { result ≡ same_sort a b }
-{
-    sort_number(a) == sort_number(b)
-}
 
 /// Adds the senders of a unit's channels of a sort, as places among the units.
 fn add_senders(
@@ -46,7 +23,7 @@ fn add_senders(
         let part = wires.link(*link);
         push_if(
             senders,
-            same_sort(part.sort, sort),
+            part.sort.is(sort),
             listed.place_of(part.from),
         )?;
     }

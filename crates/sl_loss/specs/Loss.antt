@@ -1,6 +1,6 @@
 -- Which puts on a link are lost. The words are those of PCG-XSH-RR 64/32 (O'Neill, "PCG: a family of simple fast
 -- space-efficient statistically good algorithms for random number generation").
-use Rattle.std.specs.Prelude.{◌≡◌, ℕ, zero, suc, ◌+◌, ◌-◌, ◌%◌, ◌^◌, ◌==◌, ◌||◌, Bool, nat_lt, min, List}
+use Rattle.std.specs.Prelude.{◌≡◌, ℕ, zero, suc, ◌+◌, ◌-◌, ◌%◌, ◌^◌, ◌==◌, ◌||◌, Bool, false, nat_lt, min, List, Option, Some, None, option_map, ⊤}
 use Rattle.std.specs.List.{list_any}
 use Rattle.std.specs.List.Sorted.{IsNonDecreasing}
 use Rattle.rand_pcg.specs.Lcg.{Lcg, started, increment_of}
@@ -39,6 +39,20 @@ one_more n = min (n + 1) (2 ^ 64 - 1)
 -- once it has answered of the next put
 abbrev pub after : Loss → Loss
 after loss = record loss { answered = one_more loss.answered }
+
+-- the next put on a link with this loss, or with none, is lost
+abbrev pub loses_next : Option Loss → Bool
+loses_next None = false
+loses_next (Some loss) = is_next_lost loss
+
+-- the loss of a link after a put
+abbrev pub after_put : Option Loss → Option Loss
+after_put loss = option_map after loss
+
+-- it has not answered yet, where there is one
+abbrev pub IsFresh : Option Loss → Type 0
+IsFresh None = ⊤
+IsFresh (Some loss) = loss.answered ≡ 0
 
 -- what the fields of a loss hold: the next word is drawn already, and the sorted numbers are those of the list
 pub record Holds (seed link answered : ℕ) (drops sorted : List ℕ) (drawn : ℕ) (generator : Lcg) : Type 0 where

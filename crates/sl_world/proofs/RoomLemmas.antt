@@ -9,6 +9,7 @@ use Rattle.sl_machine.specs.declared.wiring.Link.{Link}
 use Rattle.sl_machine.specs.Machine.{puts_on, is_fitting}
 use Rattle.sl_machine.specs.Plan.{Plan, IsSound, link_out, link_at}
 use Rattle.sl_world.specs.Scene.{Line, empty_line, line_at, line_put, put_at, put_each}
+use Rattle.sl_world.specs.Keeping.{length-put_each}
 use Rattle.sl_world.specs.LineView.{LineView}
 use Rattle.sl_world.specs.Mesh.{lines_of, no_view, room_at, HasRoom, KeepsRoom, HasRoomFor, IsElsewhere}
 use Rattle.sl_world.specs.Places.{place_of, Leads}
@@ -67,10 +68,6 @@ HasRoom-kept links old new actor kept room k low from = omega (arith, kept k, ro
 -- as many links as before
 pub length_same : {M : Type 0} (old new : List (LineView M)) → lines_of new ≡ lines_of old → length new ≡ length old
 length_same old new e = sym (length-map new (λ v. v.line)) ∙ (ap length e ∙ length-map old (λ v. v.line))
-
-pub length-put_each : {M : Type 0} (place : ℕ → ℕ) (ps : List (ℕ × M)) (ls : List (Line M)) → length (put_each place ps ls) ≡ length ls
-length-put_each place [] ls = refl
-length-put_each place (p ∷ ps) ls = length-put_each place ps (put_at ls (place p.0) p.1) ∙ length-set ls (place p.0) (line_put (line_at ls (place p.0)) p.1)
 
 pub length_put : {M : Type 0} (place : ℕ → ℕ) (ps : List (ℕ × M)) (old new : List (LineView M)) → lines_of new ≡ put_each place ps (lines_of old) → length new ≡ length old
 length_put place ps old new e = sym (length-map new (λ v. v.line)) ∙ (ap length e ∙ (length-put_each place ps (lines_of old) ∙ length-map old (λ v. v.line)))

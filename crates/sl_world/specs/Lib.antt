@@ -5,3 +5,5 @@ pub mod Places
 pub mod Laws
 pub mod Counts
 pub mod World
+pub mod Legal
+pub mod Keeping

@@ -2,6 +2,7 @@
 #![tactic(auto)]
 
 mod book;
+mod laws;
 mod line;
 mod links;
 mod machines;
@@ -9,4 +10,5 @@ mod make;
 mod places;
 mod world;
 
+pub use laws::books_are_runs;
 pub use world::{Turn, World};

@@ -5,3 +5,4 @@ pub mod RoomLemmas
 pub mod MeshLemmas
 pub mod TurnLemmas
 pub mod RunLemmas
+pub mod ResumeLemmas

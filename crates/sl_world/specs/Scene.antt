@@ -35,6 +35,13 @@ line_at lines k = slice_index_or lines k empty_line
 abbrev pub first_scene : {S M : Type 0} → Plan → List S → List (Option Loss) → Scene S M
 first_scene plan states losses = record { plan = plan; states = states; lines = map new_line losses; book = [] }
 
+-- the links that have these losses, these numbers of lost puts and these messages, link by link
+abbrev pub lines_with : {M : Type 0} → List (Option Loss) → List ℕ → List (List M) → List (Line M)
+lines_with (loss ∷ losses) (n ∷ ns) (queue ∷ queues) = record { queue = queue; loss = loss; lost = n } ∷ lines_with losses ns queues
+lines_with (loss ∷ losses) (n ∷ ns) [] = []
+lines_with (loss ∷ losses) [] queues = []
+lines_with [] ns queues = []
+
 -- a link after a put: its loss answers once, and a put that is not lost goes to the end
 abbrev pub line_put : {M : Type 0} → Line M → M → Line M
 line_put line m =

@@ -10,5 +10,4 @@ use sl_machine::Machine;
 pub fn books_are_runs<A: Machine>()
     ensures legal { (w : Scene A.State A.Msg) (es : List (ℕ × ℕ)) → run_of A.rules w (kept A.rules w es) ≡ Some (after_all A.rules w es) }
     ensures book { (w : Scene A.State A.Msg) (es : List (ℕ × ℕ)) → (after_all A.rules w es).book ≡ w.book ++ numbered_from (last_number w.book) (kept A.rules w es) }
-{
-}
+{}

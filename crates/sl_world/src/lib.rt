@@ -12,3 +12,6 @@ mod world;
 
 pub use laws::books_are_runs;
 pub use world::{Turn, World};
+
+#[cfg(test)]
+mod tests;

@@ -38,6 +38,17 @@ impl<M: Drop> Line<M> {
         }
     }
 
+    /// A link with messages on it that has lost this many puts.
+    pub fn with(loss: Option<Loss>, lost: u64, messages: Vec<M>) -> Line<M>
+        ensures { result.line ≡ record { queue = messages.items; loss = loss; lost = lost } }
+    {
+        Line {
+            queue: VecDeque::from(messages),
+            loss,
+            lost,
+        }
+    }
+
     pub fn lost(&self) -> u64
         ensures { result ≡ self.now.line.lost }
     {

@@ -1,7 +1,7 @@
 // The parts of a world that are made once.
 ghost use Rattle.std.specs.Prelude.{◌≡◌, ◌≤◌, ℕ, length, map, slice_index, IfOk};
 ghost use Rattle.sl_machine.specs.Plan.{IsSound, link_in, link_out};
-ghost use Rattle.sl_world.specs.Scene.{new_line};
+ghost use Rattle.sl_world.specs.Scene.{new_line, lines_with};
 ghost use Rattle.sl_world.specs.Mesh.{lines_of};
 ghost use Rattle.sl_world.specs.Places.{Leads, incoming, outgoing};
 
@@ -10,6 +10,7 @@ use crate::places::Places;
 use sl_loss::Loss;
 use sl_machine::{Link, Memory, Wiring};
 use std::alloc::Global;
+use std::mem;
 
 /// A link for each loss, with nothing on it.
 pub fn make_lines<M: Drop>(alloc: Global, losses: Vec<Option<Loss>>) -> Result<Vec<Line<M>>, Memory>
@@ -18,6 +19,28 @@ pub fn make_lines<M: Drop>(alloc: Global, losses: Vec<Option<Loss>>) -> Result<V
     let mut lines = Vec::new(alloc);
     for loss in losses {
         if lines.push(Line::new(alloc, loss)).is_err() {
+            return Err(Memory);
+        }
+    }
+    Ok(lines)
+}
+
+/// The links with these losses, numbers of lost puts and messages.
+pub fn lines_with<M: Drop>(
+    alloc: Global,
+    mut losses: Vec<Option<Loss>>,
+    lost: &[u64],
+    mut rests: Vec<Vec<M>>,
+) -> Result<Vec<Line<M>>, Memory>
+    requires lost { length lost.now ≡ length losses.items }
+    requires rests { length rests.items ≡ length losses.items }
+    ensures { IfOk result (λ lines. lines_of lines.items ≡ lines_with losses.items lost.now (map (λ v. v.items) rests.items)) }
+{
+    let mut lines = Vec::new(alloc);
+    for link in 0..lost.len() {
+        let rest = mem::replace(&mut rests[link], Vec::new(alloc));
+        let line = Line::with(losses[link].take(), lost[link], rest);
+        if lines.push(line).is_err() {
             return Err(Memory);
         }
     }

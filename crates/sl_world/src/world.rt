@@ -1,15 +1,17 @@
 // The world: machines, the links between them, and the book of the turns that did something.
 ghost use Rattle.std.specs.Prelude.{◌≡◌, ◌+◌, ◌<◌, ◌≤◌, ◌^◌, ℕ, Some, None, Ok, length, map, slice_get, slice_index, slice_index_or, IfOk, OnOk, OnErr, All, true, false};
-ghost use Rattle.sl_machine.specs.Plan.{HasChoice, link_in};
+ghost use Rattle.sl_machine.specs.Plan.{HasChoice, IsSound, link_in};
 ghost use Rattle.sl_machine.specs.Fit.{ins_of, actions_of, HasCounts, Fits};
 ghost use Rattle.sl_loss.specs.Loss.{IsFresh};
 ghost use Rattle.sl_world.specs.Counts.{SameCounts};
-ghost use Rattle.sl_world.specs.Scene.{last_number, line_at};
+ghost use Rattle.sl_world.specs.Scene.{last_number, line_at, lines_with};
+ghost use Rattle.sl_world.specs.Mesh.{lines_of};
 
 use crate::book::{note, strike_out};
+use crate::line::Line;
 use crate::links::Links;
 use crate::machines::{act_at, ready_at, take_at};
-use crate::make::{greatest, make_lines};
+use crate::make::{greatest, lines_with, make_lines};
 use sl_loss::Loss;
 use sl_machine::{Book, Machine, Memory, Outputs, Wiring};
 use std::alloc::Global;
@@ -50,12 +52,50 @@ impl<A: Machine> World<A> {
         requires fresh { All IsFresh losses.items }
         ensures { IfOk result (λ w. scene w ≡ first_scene wiring.now (map A.state machines.items) losses.items) }
     {
-        let out = Outputs::with_room(alloc, greatest(wiring.out_counts.as_slice()))?;
         let lines = make_lines(alloc, losses)?;
-        let links = Links::join(alloc, wiring, lines)?;
         let book = Book {
             entries: Vec::new(alloc),
         };
+        World::with_lines(alloc, machines, wiring, lines, book)
+    }
+
+    /// A world that goes on from these machines, losses, numbers of lost puts, messages on the
+    /// links and book. After want of memory they are given up.
+    pub fn resume(
+        alloc: Global,
+        machines: Vec<A>,
+        wiring: &Wiring,
+        losses: Vec<Option<Loss>>,
+        lost: Vec<u64>,
+        rests: Vec<Vec<A::Msg>>,
+        book: Book,
+    ) -> Result<World<A>, Memory>
+        requires fit { Fits A.counts wiring.now machines.items losses.items }
+        requires lost { length lost.items ≡ length wiring.now.links }
+        requires rests { length rests.items ≡ length wiring.now.links }
+        requires book { length book.entries < 2 ^ 40 }
+        requires numbers { All (λ e. e.number ≤ length book.entries) book.entries }
+        ensures { IfOk result (λ w. scene w ≡ record { plan = wiring.now; states = map A.state machines.items; lines = lines_with losses.items lost.items (map (λ v. v.items) rests.items); book = book.entries }) }
+    {
+        let lines = lines_with(alloc, losses, lost.as_slice(), rests)?;
+        World::with_lines(alloc, machines, wiring, lines, book)
+    }
+
+    fn with_lines(
+        alloc: Global,
+        machines: Vec<A>,
+        wiring: &Wiring,
+        lines: Vec<Line<A::Msg>>,
+        book: Book,
+    ) -> Result<World<A>, Memory>
+        requires sound { IsSound wiring.now }
+        requires machines { HasCounts A.counts wiring.now machines.items }
+        requires lines { length lines.items ≡ length wiring.now.links }
+        requires numbers { last_number book.entries ≤ length book.entries }
+        ensures { IfOk result (λ w. scene w ≡ record { plan = wiring.now; states = map A.state machines.items; lines = lines_of lines.items; book = book.entries }) }
+    {
+        let out = Outputs::with_room(alloc, greatest(wiring.out_counts.as_slice()))?;
+        let links = Links::join(alloc, wiring, lines)?;
         Ok(World {
             machines,
             links,

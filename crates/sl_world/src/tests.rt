@@ -1,11 +1,11 @@
 // Two machines in a ring.
-ghost use Rattle.std.specs.Prelude.{◌≡◌, ◌+◌, ◌-◌, ◌==◌, ◌∷◌, [], ℕ, List, Option, Some, None, length, if◌then◌else◌, IfOk};
+ghost use Rattle.std.specs.Prelude.{◌≡◌, ◌+◌, ◌-◌, ◌==◌, ◌∷◌, [], ℕ, List, Option, Some, None, length, if◌then◌else◌, IfOk, All, ◌≤◌};
 
 ghost use Rattle.sl_world.specs.World.{scene};
 
 use crate::{Turn, World};
 use sl_loss::Loss;
-use sl_machine::{Link, Machine, Memory, Outputs, Wiring};
+use sl_machine::{Book, Entry, Link, Machine, Memory, Outputs, Wiring};
 use std::alloc::{AllocError, Global};
 use std::marker::Model;
 use std::test::Fail;
@@ -151,5 +151,52 @@ fn tokens_go_round(rt: HostRuntime) -> Result<(), Fail> {
     assert_eq!(rt; seen.as_slice(), [1, 1].as_slice());
     let numbers: Vec<u64> = book.entries.iter().map(|e| e.number).collect(rt.alloc())?;
     assert_eq!(rt; numbers.as_slice(), [1, 2, 3, 4, 5].as_slice());
+    Ok(())
+}
+
+// The ring, where seven puts were lost on the link back and the first actor has noted a turn.
+fn ring_later(alloc: Global, rests: Vec<Vec<u32>>, book: Book) -> Result<World<Relay>, Memory>
+    requires rests { length rests.items ≡ 2 }
+    requires book { length book.entries ≡ 1 }
+    requires numbers { All (λ e. e.number ≤ length book.entries) book.entries }
+    ensures plan { IfOk result (λ w. (scene w).plan ≡ record {
+        links = record { from = 1; out = 0; to = 0; choice = 0 } ∷ record { from = 0; out = 0; to = 1; choice = 0 } ∷ [];
+        ins = 1 ∷ 1 ∷ []; outs = 1 ∷ 1 ∷ []; actions = 1 ∷ 1 ∷ [] }) }
+    ensures book { IfOk result (λ w. length (scene w).book ≡ 1) }
+    ensures states { IfOk result (λ w. length (scene w).states ≡ 2) }
+{
+    let Ok(wiring) = ring(alloc) else {
+        return Err(Memory);
+    };
+    let Ok(machines) = vec![in alloc; Relay::new(0), Relay::new(0)] else {
+        return Err(Memory);
+    };
+    let Ok(losses) = vec![in alloc; None, None] else {
+        return Err(Memory);
+    };
+    let Ok(lost) = vec![in alloc; 7, 0] else {
+        return Err(Memory);
+    };
+    World::resume(alloc, machines, &wiring, losses, lost, rests, book)
+}
+
+#[test]
+fn a_world_goes_on(rt: HostRuntime) -> Result<(), Fail> {
+    let alloc = rt.alloc();
+    let rests = vec![in alloc; vec![in alloc; 4, 3]?, vec![in alloc]?]?;
+    let first = Entry {
+        number: 1,
+        actor: 0,
+        choice: 1,
+    };
+    let book = Book {
+        entries: vec![in alloc; first]?,
+    };
+    let mut world = ring_later(alloc, rests, book)?;
+    assert_eq!(rt; world.lost(0), 7);
+    assert_eq!(rt; world.turn(0, 0)?, Turn::Did);
+    assert_eq!(rt; world.machine(0).seen(), 4);
+    let numbers: Vec<u64> = world.book().entries.iter().map(|e| e.number).collect(alloc)?;
+    assert_eq!(rt; numbers.as_slice(), [1, 2].as_slice());
     Ok(())
 }

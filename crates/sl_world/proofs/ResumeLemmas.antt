@@ -1,8 +1,8 @@
 -- Links with given messages and losses.
-use Rattle.std.proofs.Common.{◌≡◌, ◌≢◌, ℕ, ◌+◌, ◌<◌, ◌≤◌, List, [], ◌∷◌, ◌++◌, length, get_or, set, map, take, refl, ap, ◌∙◌, arith, Option, None}
+use Rattle.std.proofs.Common.{◌≡◌, ◌≢◌, ℕ, ◌+◌, ◌<◌, ◌≤◌, List, [], ◌∷◌, ◌++◌, length, get_or, set, take, refl, ap, ◌∙◌, arith, Option, None}
 use Rattle.std.proofs.lemmas.List.{length-take, take_more, map-append, get_or-set_other}
 use Rattle.sl_loss.specs.Loss.{Loss}
-use Rattle.sl_world.specs.Scene.{Line, lines_with}
+use Rattle.sl_world.specs.Scene.{lines_with}
 use Rattle.sl_world.specs.LineView.{LineView}
 use Rattle.sl_world.specs.Mesh.{lines_of}
 

@@ -1,6 +1,6 @@
 -- What holds of each link, or of each message on the links, is kept by takes and puts.
-use Rattle.std.specs.Prelude.{◌≡◌, ◌≢◌, ◌<◌, ℕ, List, [], ◌∷◌, ◌++◌, length, map, All, Bool, true, false, if◌then◌else◌, Some, Option, slice_get, slice_set, slice_index_or, refl}
-use Rattle.std.proofs.Common.{inl, inr, ap, sym, ◌∙◌, subst, arith, zero, suc, get_or, set}
+use Rattle.std.specs.Prelude.{◌≡◌, ◌<◌, ℕ, List, [], ◌∷◌, ◌++◌, length, All, Bool, true, false, if◌then◌else◌, Some, slice_get, refl}
+use Rattle.std.proofs.Common.{inl, inr, sym, ◌∙◌, subst, arith, zero, suc, get_or}
 use Rattle.std.proofs.lemmas.Bool.{cases_eq}
 use Rattle.std.proofs.lemmas.List.{length-set, get_or-set_same, get_or-set_other}
 use Rattle.std.proofs.lemmas.List.Elements.{All-head, All-tail, All-push}

@@ -1,6 +1,6 @@
 -- Laws of turns and schedules, for any machines: what a turn that did something is, and what every schedule keeps.
 use Rattle.std.specs.Prelude.{◌≡◌, ◌<◌, ◌≤◌, ℕ, List, [], ◌∷◌, length, ◌⊎◌, Option, Some, None, Bool, true, false, if◌then◌else◌, slice_get, slice_set, option_map, unwrap_or, nat_lt, refl}
-use Rattle.std.proofs.Common.{inl, inr, ap, sym, ◌∙◌, subst, ltb-true, ltb-false}
+use Rattle.std.proofs.Common.{inl, inr, sym, subst, ltb-true, ltb-false}
 use Rattle.sl_machine.specs.Machine.{After, Rules}
 use Rattle.sl_machine.specs.Plan.{link_in}
 use Rattle.sl_world.specs.Scene.{Scene, Line, done, without_first, take_first, take_turn, act_turn, turn_of, after_turn, after_all}

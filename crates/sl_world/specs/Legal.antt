@@ -1,6 +1,6 @@
 -- Laws of legal schedules and of books: a schedule without its idle entries is legal and leads to the same world, and the
 -- book of a world is the legal schedule that leads to it, numbered one after another.
-use Rattle.std.specs.Prelude.{◌≡◌, ◌+◌, ◌-◌, ◌<◌, ◌≤◌, ℕ, List, [], ◌∷◌, ◌++◌, length, map, Option, Some, None, if◌then◌else◌, slice_index_or, unwrap_or, is_some, refl}
+use Rattle.std.specs.Prelude.{◌≡◌, ◌+◌, ◌-◌, ℕ, List, [], ◌∷◌, ◌++◌, length, Option, Some, None, if◌then◌else◌, unwrap_or, is_some, refl}
 use Rattle.std.specs.Option.{option_and_then}
 use Rattle.std.proofs.Common.{inl, inr, ap, sym, ◌∙◌, subst, arith, append_assoc, append-nil}
 use Rattle.std.proofs.lemmas.List.{length_push, get_or_push}
@@ -8,7 +8,7 @@ use Rattle.sl_machine.specs.Machine.{Rules}
 use Rattle.sl_machine.specs.Plan.{Plan}
 use Rattle.sl_machine.specs.declared.wiring.Entry.{Entry}
 use Rattle.sl_loss.specs.Loss.{Loss}
-use Rattle.sl_world.specs.Scene.{Scene, last_number, entry_after, schedule_of, turn_of, after_turn, after_all, run_of, kept, first_scene}
+use Rattle.sl_world.specs.Scene.{Scene, last_number, entry_after, schedule_of, turn_of, after_all, run_of, kept, first_scene}
 use Rattle.sl_world.specs.Laws.{KeptByTurns, turn_is, did_kept}
 
 -- the entries of a book in which these turns follow the number n

@@ -1,6 +1,5 @@
 // Two machines in a ring.
 ghost use Rattle.std.specs.Prelude.{◌≡◌, ◌+◌, ◌-◌, ◌==◌, ◌∷◌, [], ℕ, List, Option, Some, None, length, if◌then◌else◌, IfOk, All, ◌≤◌};
-
 ghost use Rattle.sl_world.specs.World.{scene};
 
 use crate::{Turn, World};
@@ -114,8 +113,11 @@ fn ring(alloc: Global) -> Result<Wiring, AllocError>
 // Actor 0 has two tokens, and the second put on the link back to it is lost.
 fn ring_world(alloc: Global) -> Result<World<Relay>, Memory>
     ensures plan { IfOk result (λ w. (scene w).plan ≡ record {
-        links = record { from = 1; out = 0; to = 0; choice = 0 } ∷ record { from = 0; out = 0; to = 1; choice = 0 } ∷ [];
-        ins = 1 ∷ 1 ∷ []; outs = 1 ∷ 1 ∷ []; actions = 1 ∷ 1 ∷ [] }) }
+      links = record { from = 1; out = 0; to = 0; choice = 0 } ∷ record { from = 0; out = 0; to = 1; choice = 0 } ∷ [];
+      ins = 1 ∷ 1 ∷ [];
+      outs = 1 ∷ 1 ∷ [];
+      actions = 1 ∷ 1 ∷ [];
+    }) }
     ensures book { IfOk result (λ w. length (scene w).book ≡ 0) }
     ensures states { IfOk result (λ w. length (scene w).states ≡ 2) }
 {
@@ -160,8 +162,11 @@ fn ring_later(alloc: Global, rests: Vec<Vec<u32>>, book: Book) -> Result<World<R
     requires book { length book.entries ≡ 1 }
     requires numbers { All (λ e. e.number ≤ length book.entries) book.entries }
     ensures plan { IfOk result (λ w. (scene w).plan ≡ record {
-        links = record { from = 1; out = 0; to = 0; choice = 0 } ∷ record { from = 0; out = 0; to = 1; choice = 0 } ∷ [];
-        ins = 1 ∷ 1 ∷ []; outs = 1 ∷ 1 ∷ []; actions = 1 ∷ 1 ∷ [] }) }
+      links = record { from = 1; out = 0; to = 0; choice = 0 } ∷ record { from = 0; out = 0; to = 1; choice = 0 } ∷ [];
+      ins = 1 ∷ 1 ∷ [];
+      outs = 1 ∷ 1 ∷ [];
+      actions = 1 ∷ 1 ∷ [];
+    }) }
     ensures book { IfOk result (λ w. length (scene w).book ≡ 1) }
     ensures states { IfOk result (λ w. length (scene w).states ≡ 2) }
 {
@@ -196,7 +201,12 @@ fn a_world_goes_on(rt: HostRuntime) -> Result<(), Fail> {
     assert_eq!(rt; world.lost(0), 7);
     assert_eq!(rt; world.turn(0, 0)?, Turn::Did);
     assert_eq!(rt; world.machine(0).seen(), 4);
-    let numbers: Vec<u64> = world.book().entries.iter().map(|e| e.number).collect(alloc)?;
+    let numbers: Vec<u64> = world
+        .book()
+        .entries
+        .iter()
+        .map(|e| e.number)
+        .collect(alloc)?;
     assert_eq!(rt; numbers.as_slice(), [1, 2].as_slice());
     Ok(())
 }

@@ -1,5 +1,5 @@
-use Rattle.std.proofs.Common.{◌≡◌, ◌∙◌, ◌<◌, ◌≤◌, ap, arith, sym, refl, length, map, get_or, [], None, List}
-use Rattle.std.proofs.lemmas.List.{get_or_read, get_or-map, get_or-set_other, length-set, length-map, map-set}
+use Rattle.std.proofs.Common.{◌∙◌, ◌<◌, ◌≤◌, ap, arith, sym, refl, length, map, get_or, [], None}
+use Rattle.std.proofs.lemmas.List.{get_or_read, get_or-map, length-set, length-map, map-set}
 use Rattle.sl_world.proofs.ResumeLemmas.{line_pushed, left_more}
 use Rattle.sl_world.proofs.make.lines_with.Goals as goal
 

@@ -1,0 +1,27 @@
+-- A list of machines where one has changed.
+use Rattle.std.proofs.Common.{◌≡◌, ℕ, ◌<◌, List, length, get_or, set, map, ap, ◌∙◌, Some, slice_get}
+use Rattle.std.specs.Prelude.{option_map}
+use Rattle.std.proofs.lemmas.List.{length-set, get_or-set_same}
+use Rattle.std.proofs.lemmas.Option.{slice_get-map, slice_get-get_or}
+use Rattle.std.proofs.Math.Seq.{map-set_same}
+use Rattle.sl_machine.specs.Machine.{Counts}
+use Rattle.sl_world.specs.Counts.{SameCounts}
+
+pub same_counts : {A : Type 0} (counts : A → Counts) (xs : List A) (k : ℕ) (e v : A) → counts v ≡ counts (get_or xs k e) → SameCounts counts xs (set xs k v)
+same_counts counts xs k e v h =
+    record {
+      same_ins = map-set_same (λ a. (counts a).ins) xs k v e (ap (λ (n : Counts). n.ins) h);
+      same_outs = map-set_same (λ a. (counts a).outs) xs k v e (ap (λ (n : Counts). n.outs) h);
+      same_actions = map-set_same (λ a. (counts a).actions) xs k v e (ap (λ (n : Counts). n.actions) h);
+    }
+
+-- what a list of meanings has at a place is the meaning of what is there
+pub meaning_at : {A S : Type 0} (f : A → S) (xs : List A) (k : ℕ) (e : A) (s : S) → k < length xs → slice_get (map f xs) k ≡ Some s → f (get_or xs k e) ≡ s
+meaning_at f xs k e s low h =
+    let here : slice_get (map f xs) k ≡ Some (f (get_or xs k e)) = slice_get-map f xs k ∙ ap (option_map f) (slice_get-get_or xs k e low) in
+    cc
+
+pub meaning_set : {A S : Type 0} (f : A → S) (xs : List A) (k : ℕ) (v : A) → k < length xs → slice_get (map f (set xs k v)) k ≡ Some (f v)
+meaning_set f xs k v low =
+    let long : k < length (set xs k v) = rw length-set low in
+    slice_get-map f (set xs k v) k ∙ ap (option_map f) (slice_get-get_or (set xs k v) k v long ∙ ap Some (get_or-set_same xs k v v low))

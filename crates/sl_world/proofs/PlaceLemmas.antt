@@ -1,0 +1,171 @@
+-- Tables of places.
+use Rattle.std.proofs.Common.{◌≡◌, ◌≢◌, ℕ, zero, suc, ◌+◌, ◌<◌, ◌≤◌, List, [], ◌∷◌, ◌++◌, add-one, length, get_or, set, refl, ap, sym, ◌∙◌, subst, arith, inl, inr}
+use Rattle.std.specs.Prelude.{slice_index}
+use Rattle.std.proofs.lemmas.Bool.{cases_eq, cases_lt}
+use Rattle.std.proofs.lemmas.List.{get_or-map, get_or-set_same, get_or-set_other, length-map, length-set, length_push, get_or_push, get_or_append_left}
+use Rattle.sl_machine.specs.declared.wiring.Link.{Link}
+use Rattle.sl_machine.specs.Plan.{Plan, IsSound, link_in, link_out, link_at, no_link}
+use Rattle.sl_world.specs.Places.{start_of, place_of, pair_at, IsLaidOut, IsNumbering, Finds, IsTableOf, Leads, incoming, outgoing}
+use Rattle.sl_world.specs.declared.places.Places.{Places}
+use Rattle.sl_world.proofs.LinkLemmas.{link_in_is, link_out_is}
+
+pub start_of-zero : (counts : List ℕ) → start_of counts 0 ≡ 0
+start_of-zero [] = refl
+start_of-zero (x ∷ xs) = refl
+
+-- one more actor
+pub start_of-suc : (counts : List ℕ) (a : ℕ) → a < length counts → start_of counts (suc a) ≡ start_of counts a + slice_index counts a
+start_of-suc [] a low = absurd (omega arith)
+start_of-suc (x ∷ xs) zero low = omega (arith, start_of-zero xs)
+start_of-suc (x ∷ xs) (suc a) low = omega (arith, start_of-suc xs a (omega arith))
+
+-- one more start is laid out
+pub started_more : (starts new counts : List ℕ) (i end next : ℕ) → new ≡ starts ++ end ∷ [] → length starts ≡ i → i < length counts → end ≡ start_of counts i → next ≡ end + slice_index counts i → ((a : ℕ) → a < i → slice_index starts a ≡ start_of counts a) → record { long : length new ≡ i + 1; end : next ≡ start_of counts (i + 1); starts : (a : ℕ) → a < i + 1 → slice_index new a ≡ start_of counts a }
+started_more starts new counts i end next pushed long low is more before =
+    record {
+      long = ap length pushed ∙ (length_push starts end ∙ ap (λ (n : ℕ). n + 1) long);
+      end = rw add-one (omega (arith, start_of-suc counts i low));
+      starts = λ a h.
+          elim (cases_eq a i) [
+            | inl same ↦ ap (λ (xs : List ℕ). get_or xs a 0) pushed ∙ (ap (λ (k : ℕ). get_or (starts ++ end ∷ []) k 0) same ∙ (get_or_push starts end 0 i long ∙ (is ∙ ap (start_of counts) (sym same))))
+            | inr other ↦
+                let lt : a < length starts = omega arith in
+                ap (λ (xs : List ℕ). get_or xs a 0) pushed ∙ (get_or_append_left starts (end ∷ []) 0 a lt ∙ before a (omega arith))
+          ];
+    }
+
+-- the parts of the actors stand one after another
+pub start_of_up : (counts : List ℕ) (a b : ℕ) → a < b → b ≤ length counts → start_of counts a + slice_index counts a ≤ start_of counts b
+start_of_up [] a b up low = absurd (omega arith)
+start_of_up (x ∷ xs) a zero up low = absurd (omega arith)
+start_of_up (x ∷ xs) zero (suc b) up low = omega arith
+start_of_up (x ∷ xs) (suc a) (suc b) up low = omega (arith, start_of_up xs a b (omega arith) (omega arith))
+
+-- and within the table
+pub start_of_within : (counts : List ℕ) (a n : ℕ) → a < length counts → n < slice_index counts a → start_of counts a + n < start_of counts (length counts)
+start_of_within [] a n low here = absurd (omega arith)
+start_of_within (x ∷ xs) zero n low here = omega arith
+start_of_within (x ∷ xs) (suc a) n low here = omega (arith, start_of_within xs a n (omega arith) here)
+
+-- so two pairs have two places
+pub places_apart : (counts : List ℕ) (a b n m : ℕ) → a < length counts → b < length counts → n < slice_index counts a → m < slice_index counts b → (a ≡ b → n ≡ m → ⊥) → start_of counts a + n ≢ start_of counts b + m
+places_apart counts a b n m low_a low_b low_n low_m apart e =
+    elim (cases_eq a b) [
+      | inl same ↦
+          let starts : start_of counts a ≡ start_of counts b = ap (start_of counts) same in
+          apart same (omega arith)
+      | inr other ↦
+          elim (cases_lt a b) [
+            | inl less ↦ omega (arith, start_of_up counts a b less (omega arith))
+            | inr more ↦ omega (arith, start_of_up counts b a (omega arith) (omega arith))
+          ]
+    ]
+
+-- the place of an actor's number in the table
+pub position_is : (t : Places) (counts : List ℕ) (a n : ℕ) → IsLaidOut t counts → a < length counts → slice_index t.starts.items a + n ≡ start_of counts a + n
+position_is t counts a n laid low = ap (λ (s : ℕ). s + n) (laid.starts a low)
+
+pub position_within : (t : Places) (counts : List ℕ) (a n : ℕ) → IsLaidOut t counts → a < length counts → n < slice_index counts a → slice_index t.starts.items a + n < length t.places.items
+position_within t counts a n laid low here = omega (arith, position_is t counts a n laid low, start_of_within counts a n low here, laid.long)
+
+pub starts_within : (t : Places) (counts : List ℕ) (a : ℕ) → IsLaidOut t counts → a < length counts → a < length t.starts.items
+starts_within t counts a laid low = omega (arith, laid.starts_each)
+
+-- one more pair is entered
+pub entered : (t new : Places) (counts : List ℕ) (pairs : List (ℕ × ℕ)) (l a n : ℕ) → IsLaidOut t counts → IsNumbering counts pairs → l < length pairs → (a, n) ≡ pair_at pairs l → new.starts.items ≡ t.starts.items → new.places.items ≡ set t.places.items (slice_index t.starts.items a + n) l → Finds t pairs l → record { laid_out : IsLaidOut new counts; finds : Finds new pairs (l + 1) }
+entered t new counts pairs l a n laid numbering low pair starts places finds =
+    let a_is : a ≡ (pair_at pairs l).0 = ap (λ (p : ℕ × ℕ). p.0) pair in
+    let n_is : n ≡ (pair_at pairs l).1 = ap (λ (p : ℕ × ℕ). p.1) pair in
+    let low_a : a < length counts = omega (arith, numbering.actor_below l low) in
+    let counts_is : slice_index counts a ≡ slice_index counts (pair_at pairs l).0 = ap (slice_index counts) a_is in
+    let low_n : n < slice_index counts a = omega (arith, numbering.number_below l low) in
+    let at : ℕ = slice_index t.starts.items a + n in
+    let within : at < length t.places.items = position_within t counts a n laid low_a low_n in
+    let place_is = λ (b m : ℕ). (ap (λ (xs : List ℕ). get_or xs (slice_index new.starts.items b + m) 0) places ∙ ap (λ (xs : List ℕ). get_or (set t.places.items at l) (slice_index xs b + m) 0) starts) in
+    record {
+      laid_out = record {
+        starts_each = ap length starts ∙ laid.starts_each;
+        starts = λ b below. ap (λ (xs : List ℕ). slice_index xs b) starts ∙ laid.starts b below;
+        long = ap length places ∙ (length-set t.places.items at l ∙ laid.long);
+      };
+      finds = λ k below.
+          let b : ℕ = (pair_at pairs k).0 in
+          let m : ℕ = (pair_at pairs k).1 in
+          elim (cases_eq k l) [
+            | inl same ↦
+                let there : slice_index t.starts.items b + m ≡ at = ap (λ (p : ℕ × ℕ). slice_index t.starts.items p.0 + p.1) (ap (pair_at pairs) same ∙ sym pair) in
+                place_is b m ∙ (ap (λ (i : ℕ). get_or (set t.places.items at l) i 0) there ∙ (get_or-set_same t.places.items at l 0 within ∙ sym same))
+            | inr other ↦
+                let before : k < l = omega arith in
+                let low_k : k < length pairs = omega arith in
+                let there : slice_index t.starts.items b + m ≢ at = λ e.
+                places_apart counts b a m n (numbering.actor_below k low_k) low_a (numbering.number_below k low_k) low_n
+                (λ f g. other (numbering.apart k l low_k low (f ∙ a_is) (g ∙ n_is)))
+                (sym (position_is t counts b m laid (numbering.actor_below k low_k)) ∙ (e ∙ position_is t counts a n laid low_a)) in
+                place_is b m ∙ (get_or-set_other t.places.items at (slice_index t.starts.items b + m) l 0 there ∙ finds k before)
+          ];
+    }
+
+-- the links of a sound wiring number its choices
+pub incoming_numbering : (plan : Plan) → IsSound plan → IsNumbering plan.ins (incoming plan.links)
+incoming_numbering plan sound =
+    let long : length (incoming plan.links) ≡ length plan.links = length-map plan.links (λ l. (l.to, l.choice)) in
+    let pair = λ (l : ℕ) (low : l < length plan.links). get_or-map {Y = ℕ × ℕ} (λ (k : Link). (k.to, k.choice)) plan.links l no_link (0, 0) low in
+    record {
+      fits = omega (arith, sound.links_fit);
+      actor_below = λ l low. let here : l < length plan.links = omega arith in rw (pair l here) (sound.to_below l here);
+      number_below = λ l low. let here : l < length plan.links = omega arith in rw (pair l here) (sound.choice_below l here);
+      apart = λ l k low_l low_k same_to same_choice.
+          let here_l : l < length plan.links = omega arith in
+          let here_k : k < length plan.links = omega arith in
+          let same_actor : (link_at plan.links l).to ≡ (link_at plan.links k).to = sym (ap (λ (p : ℕ × ℕ). p.0) (pair l here_l)) ∙ (same_to ∙ ap (λ (p : ℕ × ℕ). p.0) (pair k here_k)) in
+          let same_number : (link_at plan.links l).choice ≡ (link_at plan.links k).choice = sym (ap (λ (p : ℕ × ℕ). p.1) (pair l here_l)) ∙ (same_choice ∙ ap (λ (p : ℕ × ℕ). p.1) (pair k here_k)) in
+          sym (sound.once_in l here_l) ∙ (ap (λ (a : ℕ). link_in plan.links a (link_at plan.links l).choice) same_actor ∙ (ap (link_in plan.links (link_at plan.links k).to) same_number ∙ sound.once_in k here_k));
+    }
+
+pub outgoing_numbering : (plan : Plan) → IsSound plan → IsNumbering plan.outs (outgoing plan.links)
+outgoing_numbering plan sound =
+    let long : length (outgoing plan.links) ≡ length plan.links = length-map plan.links (λ l. (l.from, l.out)) in
+    let pair = λ (l : ℕ) (low : l < length plan.links). get_or-map {Y = ℕ × ℕ} (λ (k : Link). (k.from, k.out)) plan.links l no_link (0, 0) low in
+    record {
+      fits = omega (arith, sound.links_fit);
+      actor_below = λ l low. let here : l < length plan.links = omega arith in rw (pair l here, sound.outs_each) (sound.from_below l here);
+      number_below = λ l low. let here : l < length plan.links = omega arith in rw (pair l here) (sound.out_below l here);
+      apart = λ l k low_l low_k same_from same_out.
+          let here_l : l < length plan.links = omega arith in
+          let here_k : k < length plan.links = omega arith in
+          let same_actor : (link_at plan.links l).from ≡ (link_at plan.links k).from = sym (ap (λ (p : ℕ × ℕ). p.0) (pair l here_l)) ∙ (same_from ∙ ap (λ (p : ℕ × ℕ). p.0) (pair k here_k)) in
+          let same_number : (link_at plan.links l).out ≡ (link_at plan.links k).out = sym (ap (λ (p : ℕ × ℕ). p.1) (pair l here_l)) ∙ (same_out ∙ ap (λ (p : ℕ × ℕ). p.1) (pair k here_k)) in
+          sym (sound.once_out l here_l) ∙ (ap (λ (a : ℕ). link_out plan.links a (link_at plan.links l).out) same_actor ∙ (ap (link_out plan.links (link_at plan.links k).from) same_number ∙ sound.once_out k here_k));
+    }
+
+-- and the table has what a search finds
+pub incoming_leads : (plan : Plan) (t : Places) → IsSound plan → IsTableOf t plan.ins (incoming plan.links) → Leads t plan.ins (link_in plan.links)
+incoming_leads plan t sound table =
+    record {
+      laid_out = table.laid_out;
+      is = λ a n low here.
+          let l : ℕ = link_in plan.links a n in
+          let below : l < length plan.links = sound.each_in a n low here in
+          let long : length (incoming plan.links) ≡ length plan.links = length-map plan.links (λ k. (k.to, k.choice)) in
+          let pair = get_or-map {Y = ℕ × ℕ} (λ (k : Link). (k.to, k.choice)) plan.links l no_link (0, 0) below in
+          let is = link_in_is plan.links a n below in
+          let to_is : (pair_at (incoming plan.links) l).0 ≡ a = ap (λ (p : ℕ × ℕ). p.0) pair ∙ is.0 in
+          let choice_is : (pair_at (incoming plan.links) l).1 ≡ n = ap (λ (p : ℕ × ℕ). p.1) pair ∙ is.1 in
+          subst (λ (m : ℕ). place_of t a m ≡ l) choice_is (subst (λ (b : ℕ). place_of t b (pair_at (incoming plan.links) l).1 ≡ l) to_is (table.finds l (omega arith)));
+    }
+
+pub outgoing_leads : (plan : Plan) (t : Places) → IsSound plan → IsTableOf t plan.outs (outgoing plan.links) → Leads t plan.outs (link_out plan.links)
+outgoing_leads plan t sound table =
+    record {
+      laid_out = table.laid_out;
+      is = λ a n low here.
+          let l : ℕ = link_out plan.links a n in
+          let below : l < length plan.links = sound.each_out a n (omega (arith, sound.outs_each)) here in
+          let long : length (outgoing plan.links) ≡ length plan.links = length-map plan.links (λ k. (k.from, k.out)) in
+          let pair = get_or-map {Y = ℕ × ℕ} (λ (k : Link). (k.from, k.out)) plan.links l no_link (0, 0) below in
+          let is = link_out_is plan.links a n below in
+          let from_is : (pair_at (outgoing plan.links) l).0 ≡ a = ap (λ (p : ℕ × ℕ). p.0) pair ∙ is.0 in
+          let out_is : (pair_at (outgoing plan.links) l).1 ≡ n = ap (λ (p : ℕ × ℕ). p.1) pair ∙ is.1 in
+          subst (λ (m : ℕ). place_of t a m ≡ l) out_is (subst (λ (b : ℕ). place_of t b (pair_at (outgoing plan.links) l).1 ≡ l) from_is (table.finds l (omega arith)));
+    }

@@ -1,0 +1,165 @@
+-- Room on links.
+use Rattle.std.proofs.Common.{◌≡◌, ◌≢◌, ℕ, zero, suc, ◌+◌, ◌<◌, ◌≤◌, List, [], ◌∷◌, length, get_or, set, replicate, refl, ap, sym, ◌∙◌, subst, arith, Bool, true, false, inl, inr}
+use Rattle.std.specs.Prelude.{slice_index, All}
+use Rattle.std.proofs.lemmas.Bool.Decides.{nat_tests}
+use Rattle.std.proofs.lemmas.Bool.{cases_eq}
+use Rattle.std.proofs.lemmas.List.{map-set, length-map, length-set, get_or_read, get_or-map, get_or-set_same, get_or-set_other}
+use Rattle.std.proofs.Math.Seq.{map-set_same}
+use Rattle.sl_machine.specs.declared.wiring.Link.{Link}
+use Rattle.sl_machine.specs.Machine.{puts_on, is_fitting}
+use Rattle.sl_machine.specs.Plan.{Plan, IsSound, link_out, link_at}
+use Rattle.sl_world.specs.Scene.{Line, empty_line, line_at, line_put, put_at, put_each}
+use Rattle.sl_world.specs.Keeping.{length-put_each}
+use Rattle.sl_world.specs.LineView.{LineView}
+use Rattle.sl_world.specs.Mesh.{lines_of, no_view, room_at, HasRoom, KeepsRoom, HasRoomFor, IsElsewhere}
+use Rattle.sl_world.specs.Places.{place_of, Leads}
+use Rattle.sl_world.specs.declared.places.Places.{Places}
+
+-- a change of room alone
+pub lines_of-same : {M : Type 0} (views : List (LineView M)) (k : ℕ) (e new : LineView M) → new.line ≡ (get_or views k e).line → lines_of (set views k new) ≡ lines_of views
+lines_of-same views k e new same = map-set_same (λ v. v.line) views k new e same
+
+-- a put on a link
+pub lines_of-put : {M : Type 0} (views : List (LineView M)) (k : ℕ) (e new : LineView M) (m : M) → k < length views → new.line ≡ line_put (get_or views k e).line m → lines_of (set views k new) ≡ put_at (lines_of views) k m
+lines_of-put {M} views k e new m low put =
+    map-set (λ v. v.line) views k new ∙ ap (set (lines_of views) k) (put ∙ ap (λ l. line_put l m) (sym (get_or-map (λ v. v.line) views k e empty_line low)))
+
+-- the link at a place
+pub line_is : {M : Type 0} (views : List (LineView M)) (k : ℕ) (e : LineView M) → k < length views → e ≡ get_or views k e → line_at (lines_of views) k ≡ e.line
+line_is views k e low read = get_or-map (λ v. v.line) views k e empty_line low ∙ sym (ap (λ v. v.line) read)
+
+-- a write that takes away no room
+pub KeepsRoom-set : {M : Type 0} (views : List (LineView M)) (k : ℕ) (e new : LineView M) → k < length views → e ≡ get_or views k e → e.room ≤ new.room → KeepsRoom views (set views k new)
+KeepsRoom-set views k e new low read more j =
+    elim (cases_eq j k) [
+      | inl same ↦
+          let is : e ≡ get_or views k no_view = get_or_read views k e low read no_view in
+          let old : room_at views j ≡ e.room = ap (room_at views) same ∙ sym (ap (λ v. v.room) is) in
+          let here : room_at (set views k new) j ≡ new.room = ap (room_at (set views k new)) same ∙ ap (λ v. v.room) (get_or-set_same views k new no_view low) in
+          omega arith
+      | inr other ↦
+          let same : room_at (set views k new) j ≡ room_at views j = ap (λ v. v.room) (get_or-set_other views k j new no_view other) in
+          omega arith
+    ]
+
+pub room_at-set_same : {M : Type 0} (views : List (LineView M)) (k : ℕ) (new : LineView M) → k < length views → room_at (set views k new) k ≡ new.room
+room_at-set_same views k new low = ap (λ v. v.room) (get_or-set_same views k new no_view low)
+
+pub room_at-set_other : {M : Type 0} (views : List (LineView M)) (k j : ℕ) (new : LineView M) → j ≢ k → room_at (set views k new) j ≡ room_at views j
+room_at-set_other views k j new other = ap (λ v. v.room) (get_or-set_other views k j new no_view other)
+
+-- room on one link more
+pub room_more : {M : Type 0} (place : ℕ → ℕ) (views : List (LineView M)) (n k : ℕ) (e new : LineView M) → k ≡ place n → k < length views → e ≡ get_or views k e → e.room ≤ new.room → 0 < new.room → ((o : ℕ) → o < n → 0 < room_at views (place o)) → (o : ℕ) → o < n + 1 → 0 < room_at (set views k new) (place o)
+room_more place views n k e new at low read more some below o h =
+    let kept = KeepsRoom-set views k e new low read more (place o) in
+    elim (cases_eq o n) [
+      | inl same ↦
+          let there : room_at (set views k new) (place o) ≡ new.room = ap (λ (i : ℕ). room_at (set views k new) (place i)) same ∙ (ap (room_at (set views k new)) (sym at) ∙ room_at-set_same views k new low) in
+          omega arith
+      | inr other ↦ let before : o < n = omega arith in omega (arith, kept, below o before)
+    ]
+
+pub KeepsRoom-trans : {M : Type 0} (xs ys zs : List (LineView M)) → KeepsRoom xs ys → KeepsRoom ys zs → KeepsRoom xs zs
+KeepsRoom-trans xs ys zs f g k = omega (arith, f k, g k)
+
+pub HasRoom-kept : {M : Type 0} (links : List Link) (old new : List (LineView M)) (actor : ℕ) → KeepsRoom old new → HasRoom links old actor → HasRoom links new actor
+HasRoom-kept links old new actor kept room k low from = omega (arith, kept k, room k low from)
+
+-- as many links as before
+pub length_same : {M : Type 0} (old new : List (LineView M)) → lines_of new ≡ lines_of old → length new ≡ length old
+length_same old new e = sym (length-map new (λ v. v.line)) ∙ (ap length e ∙ length-map old (λ v. v.line))
+
+pub length_put : {M : Type 0} (place : ℕ → ℕ) (ps : List (ℕ × M)) (old new : List (LineView M)) → lines_of new ≡ put_each place ps (lines_of old) → length new ≡ length old
+length_put place ps old new e = sym (length-map new (λ v. v.line)) ∙ (ap length e ∙ (length-put_each place ps (lines_of old) ∙ length-map old (λ v. v.line)))
+
+-- an actor has room on all its links where it has room at each number
+pub room_from : {M : Type 0} (plan : Plan) (outs : Places) (views : List (LineView M)) (actor : ℕ) → IsSound plan → Leads outs plan.outs (link_out plan.links) → actor < length plan.ins → ((o : ℕ) → o < slice_index plan.outs actor → 0 < room_at views (place_of outs actor o)) → HasRoom plan.links views actor
+room_from plan outs views actor sound leads low room k below from =
+    let out_low : (link_at plan.links k).out < slice_index plan.outs actor = subst (λ (a : ℕ). (link_at plan.links k).out < slice_index plan.outs a) from (sound.out_below k below) in
+    let place_is : place_of outs actor (link_at plan.links k).out ≡ k = leads.is actor (link_at plan.links k).out (omega (arith, sound.outs_each)) out_low ∙ (ap (λ (a : ℕ). link_out plan.links a (link_at plan.links k).out) (sym from) ∙ sound.once_out k below) in
+    subst (λ (i : ℕ). 0 < room_at views i) place_is (room (link_at plan.links k).out out_low)
+
+-- each put's number is below the actor's outgoing links
+pub all_fitting : {M : Type 0} (P : ℕ → Type 0) (outs : ℕ) (ps : List (ℕ × M)) → is_fitting outs ps ≡ true → ((o : ℕ) → o < outs → P o) → All (λ p. P p.0) ps
+all_fitting P outs [] fits each k d low = absurd (omega arith)
+all_fitting P outs (p ∷ ps) fits each zero d low = each p.0 (grind (arith, nat_tests))
+all_fitting P outs (p ∷ ps) fits each (suc k) d low = all_fitting P outs ps (grind (arith, nat_tests)) each k d (omega arith)
+
+-- puts on other numbers go elsewhere
+elsewhere : {M : Type 0} (place : ℕ → ℕ) (outs n : ℕ) (ps : List (ℕ × M)) → is_fitting outs ps ≡ true → puts_on n ps ≡ false → ((o : ℕ) → o < outs → place o ≡ place n → o ≡ n) → IsElsewhere place ps (place n)
+elsewhere place outs n [] fits apart once = tt
+elsewhere place outs n (p ∷ ps) fits apart once =
+    let low : p.0 < outs = grind (arith, nat_tests) in
+    let others : is_fitting outs ps ≡ true = grind (arith, nat_tests) in
+    let rest : puts_on n ps ≡ false = grind (arith, nat_tests) in
+    let ne : p.0 ≢ n = grind (arith, nat_tests) in
+    (λ e. ne (once p.0 low e), elsewhere place outs n ps others rest once)
+
+-- the puts of a machine that fits have room
+pub room_for : {M : Type 0} (place : ℕ → ℕ) (outs : ℕ) (views : List (LineView M)) (ps : List (ℕ × M)) → ((o : ℕ) → o < outs → place o < length views) → ((o : ℕ) → o < outs → 0 < room_at views (place o)) → ((o n : ℕ) → o < outs → n < outs → place o ≡ place n → o ≡ n) → is_fitting outs ps ≡ true → HasRoomFor place views ps
+room_for place outs views [] within room once fits = tt
+room_for place outs views (p ∷ ps) within room once fits =
+    let low : p.0 < outs = grind (arith, nat_tests) in
+    let apart : puts_on p.0 ps ≡ false = grind (arith, nat_tests) in
+    let others : is_fitting outs ps ≡ true = grind (arith, nat_tests) in
+    (within p.0 low, room p.0 low, elsewhere place outs p.0 ps others apart (λ o h e. once o p.0 h low e), room_for place outs views ps within room once others)
+
+-- no put goes to a place that no number stands for
+pub all_elsewhere : {M : Type 0} (place : ℕ → ℕ) (outs k : ℕ) (ps : List (ℕ × M)) → is_fitting outs ps ≡ true → ((o : ℕ) → o < outs → place o ≢ k) → IsElsewhere place ps k
+all_elsewhere place outs k [] fits other = tt
+all_elsewhere place outs k (p ∷ ps) fits other = (other p.0 (grind (arith, nat_tests)), all_elsewhere place outs k ps (grind (arith, nat_tests)) other)
+
+-- where two ways to find a place agree, the puts go to the same links
+pub put_each_same : {M : Type 0} (f g : ℕ → ℕ) (outs : ℕ) (ps : List (ℕ × M)) (ls : List (Line M)) → is_fitting outs ps ≡ true → ((o : ℕ) → o < outs → f o ≡ g o) → put_each f ps ls ≡ put_each g ps ls
+put_each_same f g outs [] ls fits same = refl
+put_each_same f g outs (p ∷ ps) ls fits same =
+    ap (λ (k : ℕ). put_each f ps (put_at ls k p.1)) (same p.0 (grind (arith, nat_tests)))
+    ∙ put_each_same f g outs ps (put_at ls (g p.0) p.1) (grind (arith, nat_tests)) same
+
+-- a write at another link leaves the room for the rest
+HasRoomFor-set : {M : Type 0} (place : ℕ → ℕ) (k : ℕ) (views : List (LineView M)) (new : LineView M) (ps : List (ℕ × M)) → IsElsewhere place ps k → HasRoomFor place views ps → HasRoomFor place (set views k new) ps
+HasRoomFor-set place k views new [] apart room = tt
+HasRoomFor-set place k views new (p ∷ ps) apart room =
+    let long : length (set views k new) ≡ length views = length-set views k new in
+    let same : room_at (set views k new) (place p.0) ≡ room_at views (place p.0) = room_at-set_other views k (place p.0) new apart.0 in
+    (omega (arith, room.0), omega (arith, room.1), room.2, HasRoomFor-set place k views new ps apart.1 room.3)
+
+-- the first put is done, and the others are left
+pub deliver_step : {M : Type 0} (place : ℕ → ℕ) (views : List (LineView M)) (n k : ℕ) (m : M) (e new : LineView M) (items ps : List (ℕ × M)) → items ≡ (n, m) ∷ ps → k ≡ place n → new.line ≡ line_put (get_or views k e).line m → HasRoomFor place views items → record { rest : put_each place ps (lines_of (set views k new)) ≡ put_each place items (lines_of views); room : HasRoomFor place (set views k new) ps; others : (j : ℕ) → IsElsewhere place items j → (room_at (set views k new) j ≡ room_at views j) × IsElsewhere place ps j }
+deliver_step place views n k m e new items ps first at put room =
+    let here = subst (HasRoomFor place views) first room in
+    let low : k < length views = omega (arith, here.0) in
+    let put_is : lines_of (set views k new) ≡ put_at (lines_of views) (place n) m = lines_of-put views k e new m low put ∙ ap (λ (i : ℕ). put_at (lines_of views) i m) at in
+    record {
+      rest = ap (put_each place ps) put_is ∙ ap (λ qs. put_each place qs (lines_of views)) (sym first);
+      room = HasRoomFor-set place k views new ps (subst (IsElsewhere place ps) (sym at) here.2) here.3;
+      others = λ j h.
+          let apart = subst (λ qs. IsElsewhere place qs j) first h in
+          (room_at-set_other views k j new (λ f. apart.0 (sym at ∙ sym f)), apart.1);
+    }
+
+-- no actor is known to have room at first
+pub none_roomy : (n a : ℕ) → get_or (replicate n false) a false ≡ false
+none_roomy zero a = refl
+none_roomy (suc n) zero = refl
+none_roomy (suc n) (suc a) = none_roomy n a
+
+-- an actor more is known to have room
+pub roomy_more : {M : Type 0} (links : List Link) (views : List (LineView M)) (roomy : List Bool) (actor : ℕ) → actor < length roomy → HasRoom links views actor → ((a : ℕ) → get_or roomy a false ≡ true → HasRoom links views a) → (a : ℕ) → get_or (set roomy actor true) a false ≡ true → HasRoom links views a
+roomy_more links views roomy actor low room known a h =
+    elim (cases_eq a actor) [
+      | inl same ↦ subst (HasRoom links views) (sym same) room
+      | inr other ↦ known a (sym (get_or-set_other roomy actor a true false other) ∙ h)
+    ]
+
+-- an actor's puts leave the room of the others
+pub roomy_less : {M : Type 0} (links : List Link) (old new : List (LineView M)) (roomy : List Bool) (actor : ℕ) → actor < length roomy → ((k : ℕ) → k < length links → (link_at links k).from ≢ actor → room_at new k ≡ room_at old k) → ((a : ℕ) → get_or roomy a false ≡ true → HasRoom links old a) → (a : ℕ) → get_or (set roomy actor false) a false ≡ true → HasRoom links new a
+roomy_less links old new roomy actor low same known a h k below from =
+    elim (cases_eq a actor) [
+      | inl e ↦
+          let is : false ≡ true = sym (get_or-set_same roomy actor false false low) ∙ (ap (λ (i : ℕ). get_or (set roomy actor false) i false) (sym e) ∙ h) in
+          absurd (cc)
+      | inr other ↦
+          let there : room_at new k ≡ room_at old k = same k below (λ f. other (sym from ∙ f)) in
+          omega (arith, known a (sym (get_or-set_other roomy actor a false false other) ∙ h) k below from)
+    ]

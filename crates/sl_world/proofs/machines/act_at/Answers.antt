@@ -1,0 +1,30 @@
+use Rattle.std.proofs.Common.{◌∙◌, ap, sym, Some, ◌≡◌, subst, Bool, true, false}
+use Rattle.std.proofs.lemmas.List.{map-set}
+use Rattle.std.proofs.Math.Seq.{map-set_same}
+use Rattle.std.specs.Bool.{OnTrue, OnFalse}
+use Rattle.sl_world.proofs.MachineLemmas.{same_counts, meaning_at}
+use Rattle.sl_world.proofs.machines.act_at.Goals as goal
+
+on_true : {P Q : Type 0} (b : Bool) → (P → Q) → OnTrue b P → OnTrue b Q
+on_true true f h = f h
+on_true false f h = h
+
+on_false : {P Q : Type 0} (b : Bool) → (P → Q) → OnFalse b P → OnFalse b Q
+on_false true f h = h
+on_false false f h = f h
+
+pub returns-clause-did : goal.returns-clause-did
+returns-clause-did g c s h =
+    let is = ap g.A.Machine.state c.index_mut.ensures.value ∙ meaning_at _ _ _ c.index_mut.result.now _ c.requires.actor h in
+    on_true c.act.result (λ e. (g.A.Machine.state c.act.new.self, map-set _ _ _ _, subst (λ t. g.A.Machine.rules.act t c.args.choice ≡ Some (record { state = g.A.Machine.state c.act.new.self; puts = c.act.new.out.items })) is e)) c.act.ensures.did
+
+pub returns-clause-idle : goal.returns-clause-idle
+returns-clause-idle g c s h =
+    let is = ap g.A.Machine.state c.index_mut.ensures.value ∙ meaning_at _ _ _ c.index_mut.result.now _ c.requires.actor h in
+    on_false c.act.result (λ e. ap (λ t. g.A.Machine.rules.act t c.args.choice) (sym is) ∙ e) c.act.ensures.idle
+
+pub returns-clause-same : goal.returns-clause-same
+returns-clause-same g c = on_false c.act.result (λ e. map-set_same _ _ _ _ c.index_mut.result.now (e ∙ ap g.A.Machine.state c.index_mut.ensures.value)) c.act.ensures.same
+
+pub returns-clause-counts : goal.returns-clause-counts
+returns-clause-counts g c = same_counts _ _ _ c.index_mut.result.now _ (c.act.ensures.counts ∙ ap g.A.Machine.counts c.index_mut.ensures.value)

@@ -1,0 +1,17 @@
+// The world of any machines, in one thread.
+#![tactic(auto)]
+
+mod book;
+mod laws;
+mod line;
+mod links;
+mod machines;
+mod make;
+mod places;
+mod world;
+
+pub use laws::books_are_runs;
+pub use world::{Turn, World};
+
+#[cfg(test)]
+mod tests;

@@ -1,0 +1,103 @@
+// One link: the messages on it and its losses.
+ghost use Rattle.std.specs.Prelude.{◌≡◌, ◌+◌, ◌<◌, ◌≤◌, ◌↔◌, ◌≢◌, ◌∷◌, [], IsTrue, OnOk, drop};
+ghost use Rattle.sl_loss.specs.Loss.{loses_next, one_more};
+ghost use Rattle.sl_world.specs.Scene.{line_put, without_first, new_line};
+
+use sl_loss::Loss;
+use sl_machine::Memory;
+use std::alloc::Global;
+use std::collections::VecDeque;
+use std::marker::Model;
+
+/// A link: the messages on it, its loss where it has one, and how many puts it lost.
+#[derive(Drop)]
+pub struct Line<M> {
+    queue: VecDeque<M>,
+    loss: Option<Loss>,
+    lost: u64,
+}
+
+impl<M> Model for Line<M> {
+    ghost use Rattle.std.specs.Prelude.{◌-◌};
+    ghost use Rattle.std.specs.VecDeque.{deque_capacity, deque_len};
+    ghost use Rattle.sl_world.specs.LineView.{LineView};
+
+    ghost Value = { LineView M };
+
+    ghost view = { λ a. record { line = record { queue = a.queue.items; loss = a.loss; lost = a.lost }; room = deque_capacity a.queue - deque_len a.queue } };
+}
+
+impl<M: Drop> Line<M> {
+    pub fn new(alloc: Global, loss: Option<Loss>) -> Line<M>
+        ensures { result.line ≡ new_line loss }
+    {
+        Line {
+            queue: VecDeque::new(alloc),
+            loss,
+            lost: 0,
+        }
+    }
+
+    /// A link with messages on it that has lost this many puts.
+    pub fn with(loss: Option<Loss>, lost: u64, messages: Vec<M>) -> Line<M>
+        ensures { result.line ≡ record { queue = messages.items; loss = loss; lost = lost } }
+    {
+        Line {
+            queue: VecDeque::from(messages),
+            loss,
+            lost,
+        }
+    }
+
+    pub fn lost(&self) -> u64
+        ensures { result ≡ self.now.line.lost }
+    {
+        self.lost
+    }
+
+    pub fn is_empty(&self) -> bool
+        ensures { IsTrue result ↔ (self.now.line.queue ≡ []) }
+    {
+        self.queue.is_empty()
+    }
+
+    /// Makes room for one more message.
+    pub fn make_room(&mut self) -> Result<(), Memory>
+        ensures line { self.new.line ≡ self.old.line }
+        ensures room { OnOk result (0 < self.new.room) }
+        ensures keeps { self.old.room ≤ self.new.room }
+    {
+        match self.queue.reserve(1) {
+            Ok(()) => Ok(()),
+            Err(_) => Err(Memory),
+        }
+    }
+
+    pub fn put(&mut self, m: M)
+        requires { 0 < self.old.room }
+        ensures { self.new.line ≡ line_put self.old.line m }
+    {
+        let is_lost = match &mut self.loss {
+            None => false,
+            Some(loss) => loss.next(),
+        };
+        if is_lost {
+            self.lost = self.lost.saturating_add(1);
+        } else {
+            let _ = self.queue.push_back(m);
+        }
+    }
+
+    /// Takes the first message.
+    pub fn take(&mut self) -> M
+        requires { self.old.line.queue ≢ [] }
+        ensures queue { self.old.line.queue ≡ result ∷ self.new.line.queue }
+        ensures line { self.new.line ≡ without_first self.old.line self.new.line.queue }
+        ensures room { self.old.room ≤ self.new.room }
+    {
+        match self.queue.pop_front() {
+            Some(m) => m,
+            None => unreachable!(),
+        }
+    }
+}

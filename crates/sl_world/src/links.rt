@@ -1,0 +1,178 @@
+// All links of a net: where each goes, and what is on it.
+ghost use Rattle.std.specs.Prelude.{◌≡◌, ◌≢◌, ◌+◌, ◌<◌, ◌≤◌, ◌↔◌, ◌∷◌, [], ℕ, true, false, length, drop, slice_index, slice_get, slice_set, slice_index_or, IsTrue, IfOk, IfSome, IfNone, OnOk, Some, All};
+ghost use Rattle.sl_machine.specs.Machine.{is_fitting};
+ghost use Rattle.sl_machine.specs.Plan.{IsSound, link_in, link_out, link_at};
+ghost use Rattle.sl_world.specs.Scene.{line_at, without_first, put_all, put_each};
+ghost use Rattle.sl_world.specs.Mesh.{lines_of, room_at, KeepsRoom, HasRoomFor, IsElsewhere};
+ghost use Rattle.sl_world.specs.Places.{place_of, IsLaidOut};
+
+use crate::line::Line;
+use crate::make::{copy_wiring, incoming_places, outgoing_places};
+use crate::places::Places;
+use sl_machine::{Memory, Outputs, Wiring};
+use std::alloc::Global;
+use std::marker::Model;
+
+/// The links of a net, with tables by which an actor's links are found.
+#[derive(Drop)]
+pub struct Links<M> {
+    wiring: Wiring,
+    ins: Places,
+    outs: Places,
+    lines: Vec<Line<M>>,
+    // whether each outgoing link of an actor is known to have room for a message
+    roomy: Vec<bool>,
+}
+
+impl<M> Model for Links<M> {
+    ghost use Rattle.sl_world.specs.Mesh.{Mesh, IsMesh, lines_of};
+
+    ghost Value = { Mesh M };
+
+    ghost view = { λ a. record { plan = a.wiring; lines = lines_of a.lines.items; roomy = a.roomy.items } };
+
+    ghost invariant = { λ a. IsMesh a.wiring a.ins a.outs a.lines.items a.roomy.items };
+}
+
+impl<M: Drop> Links<M> {
+    /// Joins these links by this wiring.
+    pub fn join(alloc: Global, wiring: &Wiring, lines: Vec<Line<M>>) -> Result<Links<M>, Memory>
+        requires sound { IsSound wiring.now }
+        requires each { length lines.items ≡ length wiring.now.links }
+        ensures plan { IfOk result (λ m. m.plan ≡ wiring.now) }
+        ensures lines { IfOk result (λ m. m.lines ≡ lines_of lines.items) }
+    {
+        let ins = incoming_places(alloc, wiring)?;
+        let outs = outgoing_places(alloc, wiring)?;
+        let wiring = copy_wiring(alloc, wiring)?;
+        let Ok(roomy) = vec![in alloc; false; wiring.in_counts.len()] else {
+            return Err(Memory);
+        };
+        Ok(Links {
+            wiring,
+            ins,
+            outs,
+            lines,
+            roomy,
+        })
+    }
+
+    /// The link that a choice takes from; None where the choice is an action.
+    pub fn incoming(&self, actor: u32, choice: u32) -> Option<usize>
+        requires { actor < length self.now.plan.ins }
+        ensures link { IfSome result (λ l. l ≡ link_in self.now.plan.links actor choice) }
+        ensures found { IfSome result (λ l. l < length self.now.plan.links) }
+        ensures choice { IfSome result (λ _. choice < slice_index self.now.plan.ins actor) }
+        ensures none { IfNone result (length self.now.plan.links ≤ link_in self.now.plan.links actor choice) }
+        ensures action { IfNone result (slice_index self.now.plan.ins actor ≤ choice) }
+    {
+        let wiring = &self.wiring;
+        if choice < wiring.in_counts[actor as usize] {
+            Some(self.ins.place(actor as usize, choice))
+        } else {
+            None
+        }
+    }
+
+    pub fn is_empty(&self, link: usize) -> bool
+        requires { link < length self.now.plan.links }
+        ensures { IsTrue result ↔ ((line_at self.now.lines link).queue ≡ []) }
+    {
+        self.lines[link].is_empty()
+    }
+
+    /// How many puts a link has lost.
+    pub fn lost(&self, link: usize) -> u64
+        requires { link < length self.now.plan.links }
+        ensures { result ≡ (line_at self.now.lines link).lost }
+    {
+        self.lines[link].lost()
+    }
+
+    /// Makes room for a message on each outgoing link of an actor, unless there is.
+    pub fn make_room(&mut self, actor: u32) -> Result<(), Memory>
+        requires { actor < length self.old.plan.ins }
+        ensures plan { self.new.plan ≡ self.old.plan }
+        ensures lines { self.new.lines ≡ self.old.lines }
+        ensures roomy { OnOk result (slice_index_or self.new.roomy actor false ≡ true) }
+    {
+        let actor = actor as usize;
+        if self.roomy[actor] {
+            return Ok(());
+        }
+        let wiring = &self.wiring;
+        let count = wiring.out_counts[actor];
+        make_room_at(&mut self.lines, &self.outs, actor, count)?;
+        self.roomy[actor] = true;
+        Ok(())
+    }
+
+    /// Takes the first message of a link.
+    pub fn take(&mut self, link: usize) -> M
+        requires link { link < length self.old.plan.links }
+        requires some { (line_at self.old.lines link).queue ≢ [] }
+        ensures first { (line_at self.old.lines link).queue ≡ result ∷ drop 1 (line_at self.old.lines link).queue }
+        ensures rest { let line = line_at self.old.lines link in self.new.lines ≡ slice_set self.old.lines link (without_first line (drop 1 line.queue)) }
+        ensures plan { self.new.plan ≡ self.old.plan }
+        ensures roomy { self.new.roomy ≡ self.old.roomy }
+    {
+        self.lines[link].take()
+    }
+
+    /// Puts an actor's messages on its links.
+    pub fn deliver(&mut self, actor: u32, out: &mut Outputs<M>)
+        requires actor { actor < length self.old.plan.ins }
+        requires roomy { slice_index_or self.old.roomy actor false ≡ true }
+        requires fitting { is_fitting (slice_index self.old.plan.outs actor) out.old.items ≡ true }
+        ensures lines { self.new.lines ≡ put_all self.old.plan.links actor out.old.items self.old.lines }
+        ensures plan { self.new.plan ≡ self.old.plan }
+        ensures items { out.new.items ≡ [] }
+        ensures room { out.new.room ≡ out.old.room }
+    {
+        let actor = actor as usize;
+        put_at_places(&mut self.lines, &self.outs, actor, out);
+        self.roomy[actor] = false;
+    }
+}
+
+/// Makes room for a message on each of the first links of an actor.
+fn make_room_at<M: Drop>(
+    lines: &mut Vec<Line<M>>,
+    outs: &Places,
+    actor: usize,
+    count: u32,
+) -> Result<(), Memory>
+    requires actor { actor < length outs.now.starts.items }
+    requires within { (o : ℕ) → o < count → slice_index outs.now.starts.items actor + o < length outs.now.places.items }
+    requires places { (o : ℕ) → o < count → place_of outs.now actor o < length lines.old.items }
+    ensures lines { lines_of lines.new.items ≡ lines_of lines.old.items }
+    ensures keeps { KeepsRoom lines.old.items lines.new.items }
+    ensures room { OnOk result ((o : ℕ) → o < count → 0 < room_at lines.new.items (place_of outs.now actor o)) }
+{
+    for number in 0..count {
+        let place = outs.place(actor, number);
+        lines[place].make_room()?;
+    }
+    Ok(())
+}
+
+/// Puts each message on the link that the table has for its number.
+fn put_at_places<M: Drop>(
+    lines: &mut Vec<Line<M>>,
+    outs: &Places,
+    actor: usize,
+    out: &mut Outputs<M>,
+)
+    requires actor { actor < length outs.now.starts.items }
+    requires within { All (λ p. slice_index outs.now.starts.items actor + p.0 < length outs.now.places.items) out.old.items }
+    requires room { HasRoomFor (place_of outs.now actor) lines.old.items out.old.items }
+    ensures lines { lines_of lines.new.items ≡ put_each (place_of outs.now actor) out.old.items (lines_of lines.old.items) }
+    ensures others { (k : ℕ) → IsElsewhere (place_of outs.now actor) out.old.items k → room_at lines.new.items k ≡ room_at lines.old.items k }
+    ensures items { out.new.items ≡ [] }
+    ensures room { out.new.room ≡ out.old.room }
+{
+    while let Some((number, m)) = out.take_first() {
+        let place = outs.place(actor, number);
+        lines[place].put(m);
+    }
+}

@@ -1,0 +1,237 @@
+// The world: machines, the links between them, and the book of the turns that did something.
+ghost use Rattle.std.specs.Prelude.{◌≡◌, ◌+◌, ◌<◌, ◌≤◌, ◌^◌, ℕ, Some, None, Ok, length, map, slice_get, slice_index, slice_index_or, IfOk, OnOk, OnErr, All, true, false};
+ghost use Rattle.sl_machine.specs.Plan.{HasChoice, IsSound, link_in};
+ghost use Rattle.sl_machine.specs.Fit.{ins_of, actions_of, HasCounts, Fits};
+ghost use Rattle.sl_loss.specs.Loss.{IsFresh};
+ghost use Rattle.sl_world.specs.Counts.{SameCounts};
+ghost use Rattle.sl_world.specs.Scene.{last_number, line_at, lines_with};
+ghost use Rattle.sl_world.specs.Mesh.{lines_of};
+
+use crate::book::{note, strike_out};
+use crate::line::Line;
+use crate::links::Links;
+use crate::machines::{act_at, ready_at, take_at};
+use crate::make::{greatest, lines_with, make_lines};
+use sl_loss::Loss;
+use sl_machine::{Book, Machine, Memory, Outputs, Wiring};
+use std::alloc::Global;
+
+/// Whether a turn did something.
+#[derive(Clone, Copy, Debug, PartialEq, Eq)]
+pub enum Turn {
+    Did,
+    Idle,
+}
+
+/// Machines, the links between them, and the turns that did something.
+#[derive(Drop)]
+pub struct World<A: Machine> {
+    machines: Vec<A>,
+    links: Links<A::Msg>,
+    book: Book,
+    out: Outputs<A::Msg>,
+    ghost machines_fit: { HasCounts A.counts links.plan machines.items },
+    ghost clear: { length out.items ≡ 0 },
+    ghost space: { (k : ℕ) → slice_index links.plan.outs k ≤ out.room },
+    ghost numbered: { last_number book.entries ≤ length book.entries },
+}
+
+impl<A: Machine> World<A> {
+    ghost use Rattle.sl_world.specs.World.{scene};
+    ghost use Rattle.sl_world.specs.Scene.{turn_of, after_turn, after_all, IsFront, first_scene};
+
+    /// A world where nothing has happened: nothing is on the links, and the book is empty. After
+    /// want of memory the machines and losses are given up.
+    pub fn new(
+        alloc: Global,
+        machines: Vec<A>,
+        wiring: &Wiring,
+        losses: Vec<Option<Loss>>,
+    ) -> Result<World<A>, Memory>
+        requires fit { Fits A.counts wiring.now machines.items losses.items }
+        requires fresh { All IsFresh losses.items }
+        ensures { IfOk result (λ w. scene w ≡ first_scene wiring.now (map A.state machines.items) losses.items) }
+    {
+        let lines = make_lines(alloc, losses)?;
+        let book = Book {
+            entries: Vec::new(alloc),
+        };
+        World::with_lines(alloc, machines, wiring, lines, book)
+    }
+
+    /// A world that goes on from these machines, losses, numbers of lost puts, messages on the
+    /// links and book. After want of memory they are given up.
+    pub fn resume(
+        alloc: Global,
+        machines: Vec<A>,
+        wiring: &Wiring,
+        losses: Vec<Option<Loss>>,
+        lost: Vec<u64>,
+        rests: Vec<Vec<A::Msg>>,
+        book: Book,
+    ) -> Result<World<A>, Memory>
+        requires fit { Fits A.counts wiring.now machines.items losses.items }
+        requires lost { length lost.items ≡ length wiring.now.links }
+        requires rests { length rests.items ≡ length wiring.now.links }
+        requires book { length book.entries < 2 ^ 40 }
+        requires numbers { All (λ e. e.number ≤ length book.entries) book.entries }
+        ensures { IfOk result (λ w. scene w ≡ record { plan = wiring.now; states = map A.state machines.items; lines = lines_with losses.items lost.items (map (λ v. v.items) rests.items); book = book.entries }) }
+    {
+        let lines = lines_with(alloc, losses, lost.as_slice(), rests)?;
+        World::with_lines(alloc, machines, wiring, lines, book)
+    }
+
+    fn with_lines(
+        alloc: Global,
+        machines: Vec<A>,
+        wiring: &Wiring,
+        lines: Vec<Line<A::Msg>>,
+        book: Book,
+    ) -> Result<World<A>, Memory>
+        requires sound { IsSound wiring.now }
+        requires machines { HasCounts A.counts wiring.now machines.items }
+        requires lines { length lines.items ≡ length wiring.now.links }
+        requires numbers { last_number book.entries ≤ length book.entries }
+        ensures { IfOk result (λ w. scene w ≡ record { plan = wiring.now; states = map A.state machines.items; lines = lines_of lines.items; book = book.entries }) }
+    {
+        let out = Outputs::with_room(alloc, greatest(wiring.out_counts.as_slice()))?;
+        let links = Links::join(alloc, wiring, lines)?;
+        Ok(World {
+            machines,
+            links,
+            book,
+            out,
+        })
+    }
+
+    /// The machine of an actor.
+    pub fn machine(&self, actor: u32) -> &A
+        requires { actor < length (scene self.now).states }
+        ensures { slice_get (scene self.now).states actor ≡ Some (A.state result.now) }
+    {
+        &self.machines[actor as usize]
+    }
+
+    /// How many puts a link has lost.
+    pub fn lost(&self, link: u32) -> u64
+        requires { link < length (scene self.now).plan.links }
+        ensures { result ≡ (line_at (scene self.now).lines link).lost }
+    {
+        self.links.lost(link as usize)
+    }
+
+    /// The turns that did something, in order.
+    pub fn book(&self) -> &Book
+        ensures { result.now.entries ≡ (scene self.now).book }
+    {
+        &self.book
+    }
+
+    /// The machines and the book.
+    pub fn into_book(self) -> (Vec<A>, Book)
+        ensures machines { map A.state result.0.items ≡ (scene self).states }
+        ensures book { result.1.entries ≡ (scene self).book }
+    {
+        (self.machines, self.book)
+    }
+
+    /// One turn of an actor. A turn that is refused for memory has changed nothing.
+    pub fn turn(&mut self, actor: u32, choice: u32) -> Result<Turn, Memory>
+        requires choice { HasChoice (scene self.old).plan actor choice }
+        requires book { length (scene self.old).book < 2 ^ 40 }
+        ensures after { OnOk result (scene self.new ≡ after_turn A.rules (scene self.old) (actor, choice)) }
+        ensures did { result ≡ Ok Turn.Did → turn_of A.rules (scene self.old) actor choice ≡ Some (scene self.new) }
+        ensures idle { result ≡ Ok Turn.Idle → turn_of A.rules (scene self.old) actor choice ≡ None }
+        ensures same { result ≡ Ok Turn.Idle → scene self.new ≡ scene self.old }
+        ensures err { OnErr result (scene self.new ≡ scene self.old) }
+
+        // for callers who take many turns
+        ensures plan { (scene self.new).plan ≡ (scene self.old).plan }
+        ensures book { length (scene self.new).book ≤ length (scene self.old).book + 1 }
+    {
+        match self.links.incoming(actor, choice) {
+            Some(link) => self.take_turn(actor, choice, link),
+            None => self.act_turn(actor, choice),
+        }
+    }
+
+    /// The turns of a whole schedule; after want of memory, those of a front of it.
+    pub fn run(&mut self, schedule: &[(u32, u32)]) -> Result<(), Memory>
+        requires choices { All (λ e. HasChoice (scene self.old).plan e.0 e.1) schedule.now }
+        requires book { length (scene self.old).book + length schedule.now < 2 ^ 40 }
+        ensures ok { OnOk result (scene self.new ≡ after_all A.rules (scene self.old) schedule.now) }
+        ensures front { IsFront A.rules (scene self.old) schedule.now (scene self.new) }
+        ensures plan { (scene self.new).plan ≡ (scene self.old).plan }
+        ensures book { length (scene self.new).book ≤ length (scene self.old).book + length schedule.now }
+    {
+        for (actor, choice) in schedule {
+            self.turn(*actor, *choice)?;
+        }
+        Ok(())
+    }
+
+    fn take_turn(&mut self, actor: u32, choice: u32, link: usize) -> Result<Turn, Memory>
+        requires actor { actor < length (scene self.old).plan.ins }
+        requires choice { choice < slice_index (scene self.old).plan.ins actor }
+        requires book { length (scene self.old).book < 2 ^ 40 }
+        requires link { link ≡ link_in (scene self.old).plan.links actor choice }
+        requires below { link < length (scene self.old).plan.links }
+        ensures after { OnOk result (scene self.new ≡ after_turn A.rules (scene self.old) (actor, choice)) }
+        ensures did { result ≡ Ok Turn.Did → turn_of A.rules (scene self.old) actor choice ≡ Some (scene self.new) }
+        ensures idle { result ≡ Ok Turn.Idle → turn_of A.rules (scene self.old) actor choice ≡ None }
+        ensures same { result ≡ Ok Turn.Idle → scene self.new ≡ scene self.old }
+        ensures err { OnErr result (scene self.new ≡ scene self.old) }
+    {
+        if self.links.is_empty(link) {
+            return Ok(Turn::Idle);
+        }
+        prepare(&mut self.machines, &mut self.links, actor, choice)?;
+        note(&mut self.book, actor, choice)?;
+        let m = self.links.take(link);
+        take_at(&mut self.machines, actor as usize, choice, m, &mut self.out);
+        self.links.deliver(actor, &mut self.out);
+        Ok(Turn::Did)
+    }
+
+    fn act_turn(&mut self, actor: u32, choice: u32) -> Result<Turn, Memory>
+        requires choice { HasChoice (scene self.old).plan actor choice }
+        requires action { slice_index (scene self.old).plan.ins actor ≤ choice }
+        requires book { length (scene self.old).book < 2 ^ 40 }
+        requires none { length (scene self.old).plan.links ≤ link_in (scene self.old).plan.links actor choice }
+        ensures after { OnOk result (scene self.new ≡ after_turn A.rules (scene self.old) (actor, choice)) }
+        ensures did { result ≡ Ok Turn.Did → turn_of A.rules (scene self.old) actor choice ≡ Some (scene self.new) }
+        ensures idle { result ≡ Ok Turn.Idle → turn_of A.rules (scene self.old) actor choice ≡ None }
+        ensures same { result ≡ Ok Turn.Idle → scene self.new ≡ scene self.old }
+        ensures err { OnErr result (scene self.new ≡ scene self.old) }
+    {
+        prepare(&mut self.machines, &mut self.links, actor, choice)?;
+        note(&mut self.book, actor, choice)?;
+        if !act_at(&mut self.machines, actor as usize, choice, &mut self.out) {
+            strike_out(&mut self.book);
+            return Ok(Turn::Idle);
+        }
+        self.links.deliver(actor, &mut self.out);
+        Ok(Turn::Did)
+    }
+}
+
+/// Takes the memory that a turn of an actor can need.
+fn prepare<A: Machine>(
+    machines: &mut Vec<A>,
+    links: &mut Links<A::Msg>,
+    actor: u32,
+    choice: u32,
+) -> Result<(), Memory>
+    requires actor { actor < length machines.old.items }
+    requires choice { choice < slice_index (ins_of A.counts machines.old.items) actor + slice_index (actions_of A.counts machines.old.items) actor }
+    requires linked { actor < length links.old.plan.ins }
+    ensures states { map A.state machines.new.items ≡ map A.state machines.old.items }
+    ensures counts { SameCounts A.counts machines.old.items machines.new.items }
+    ensures plan { links.new.plan ≡ links.old.plan }
+    ensures lines { links.new.lines ≡ links.old.lines }
+    ensures roomy { OnOk result (slice_index_or links.new.roomy actor false ≡ true) }
+    ensures ready { OnOk result (slice_get (map A.ready_for machines.new.items) actor ≡ Some (Some choice)) }
+{
+    links.make_room(actor)?;
+    ready_at(machines, actor as usize, choice)
+}

@@ -17,3 +17,4 @@ pub mod End
 pub mod Bound
 pub mod Findings
 pub mod Runs
+pub mod Fit

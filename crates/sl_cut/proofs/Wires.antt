@@ -1,0 +1,78 @@
+-- The links and choices of an actor, by their sorts.
+--     IsOut net a s l         the link l comes from the actor a and is of the sort s
+--     IsChoice net a s c      the choice c of the actor a takes from a link of the sort s
+use Rattle.std.proofs.Common.{◌≡◌, ℕ, zero, suc, ◌<◌, ◌≤◌, List, [], ◌∷◌, length, refl, sym, ap, subst, ◌∙◌, Some, arith, inl, inr, eq-eqb}
+use Rattle.std.specs.Prelude.{◌⊎◌, true, false, Bool, ◌&&◌, ◌==◌, nat_eq, slice_get, slice_index_or}
+use Rattle.std.proofs.lemmas.Bool.Decides.{eqb_tells}
+use Rattle.std.proofs.lemmas.Option.{slice_get_within, slice_get-get_or, get_or_from_slice_get}
+use Rattle.sl_net.specs.declared.actor.Sort.{Sort}
+use Rattle.sl_net.specs.declared.actor.Sort.TheVariants.{FromHost, ToHost, Cable, Crossbar, Init, Poll, Notice, Dump, Begin, Done}
+use Rattle.sl_net.specs.Parts.{below}
+use Rattle.sl_net.specs.Net.{Net, link_of, link_at, link_numbers, links_into, links_from, links_out, choices_of, sort_number, same_sort}
+use Rattle.sl_cut.specs.Words.{Each}
+use Rattle.sl_cut.proofs.Lists.{each-imp, each-passes, each-both, each-below, each-member}
+
+pub told : (x y : ℕ) → nat_eq x y ≡ true → x ≡ y
+told x y h = by_tells (eqb_tells x y)
+  where
+    by_tells : ((nat_eq x y ≡ true) × (x ≡ y)) ⊎ ((nat_eq x y ≡ false) × (x ≡ y → ⊥)) → x ≡ y
+    by_tells (inl q) = q.1
+    by_tells (inr q) = absurd cc
+
+-- Sorts.
+
+-- the sort of a number
+abbrev sort_at : ℕ → Sort
+sort_at n = slice_index_or (FromHost ∷ ToHost ∷ Cable ∷ Crossbar ∷ Init ∷ Poll ∷ Notice ∷ Dump ∷ Begin ∷ Done ∷ []) n Done
+
+at-number : (s : Sort) → sort_at (sort_number s) ≡ s
+at-number FromHost = refl
+at-number ToHost = refl
+at-number Cable = refl
+at-number Crossbar = refl
+at-number Init = refl
+at-number Poll = refl
+at-number Notice = refl
+at-number Dump = refl
+at-number Begin = refl
+at-number Done = refl
+
+pub same-sort-is : (s t : Sort) → same_sort s t ≡ true → s ≡ t
+same-sort-is s t h = sym (at-number s) ∙ ap sort_at (told (sort_number s) (sort_number t) h) ∙ at-number t
+
+-- Links out.
+
+pub record IsOut (net : Net) (a : ℕ) (s : Sort) (l : ℕ) : Type 0 where
+  pub from : (link_of net l).from ≡ a
+  pub sort : (link_of net l).sort ≡ s
+
+pub each-out : (net : Net) (a : ℕ) (s : Sort) → Each (IsOut net a s) (links_out net a s)
+each-out net a s = each-imp (λ l. (((link_of net l).from == a) ≡ true) × (same_sort (link_of net l).sort s ≡ true)) (IsOut net a s) (links_out net a s)
+    (λ l h. record { from = told (link_of net l).from a h.0; sort = same-sort-is (link_of net l).sort s h.1 })
+    (each-both (λ l. ((link_of net l).from == a) ≡ true) (λ l. same_sort (link_of net l).sort s) (links_from net a) (each-passes (λ l. (link_of net l).from == a) (link_numbers net)))
+
+-- Choices.
+
+-- a link that an actor takes from leads to it
+pub into-to : (net : Net) (a c l : ℕ) → slice_get (links_into net a) c ≡ Some l → (link_of net l).to ≡ a
+into-to net a c l k = told (link_of net l).to a (each-at (links_into net a) c l (each-passes (λ l. (link_of net l).to == a) (link_numbers net)) k)
+  where
+    each-at : (xs : List ℕ) (c l : ℕ) → Each (λ l. ((link_of net l).to == a) ≡ true) xs → slice_get xs c ≡ Some l → ((link_of net l).to == a) ≡ true
+    each-at [] c l e q = absurd cc
+    each-at (x ∷ xs) zero l e q = let z : x ≡ l = cc in subst (λ l. ((link_of net l).to == a) ≡ true) z e.0
+    each-at (x ∷ xs) (suc c) l e q = each-at xs c l e.1 q
+
+pub record IsChoice (net : Net) (a : ℕ) (s : Sort) (c : ℕ) : Type 0 where
+  pub into : slice_get (links_into net a) c ≡ Some (link_at net a c)
+  pub sort : (link_of net (link_at net a c)).sort ≡ s
+
+pub each-choice : (net : Net) (a : ℕ) (s : Sort) → Each (IsChoice net a s) (choices_of net a s)
+each-choice net a s = each-imp (λ c. (c < length (links_into net a)) × (same_sort (link_of net (link_at net a c)).sort s ≡ true)) (IsChoice net a s) (choices_of net a s)
+    (λ c p. record { into = slice_get-get_or (links_into net a) c 0 p.0; sort = same-sort-is (link_of net (link_at net a c)).sort s p.1 })
+    (each-both (λ c. c < length (links_into net a)) (λ c. same_sort (link_of net (link_at net a c)).sort s) (below (length (links_into net a)))
+      (each-below (λ c. c < length (links_into net a)) (length (links_into net a)) (λ i p. p)))
+
+-- what holds of each choice of a sort holds of one that takes from a link of this sort
+pub of-choice : (net : Net) (a : ℕ) (s : Sort) (P : ℕ → Type 0) (c l : ℕ) → Each P (choices_of net a s) → slice_get (links_into net a) c ≡ Some l → (link_of net l).sort ≡ s → P c
+of-choice net a s P c l e k q = each-member P (λ c. same_sort (link_of net (link_at net a c)).sort s) 0 (length (links_into net a)) c e (omega arith) (let x : c < length (links_into net a) = slice_get_within (links_into net a) c l k in omega arith)
+    (eq-eqb (sort_number (link_of net (link_at net a c)).sort) (sort_number s) (ap (λ l. sort_number (link_of net l).sort) (get_or_from_slice_get (links_into net a) c l 0 k) ∙ ap sort_number q))

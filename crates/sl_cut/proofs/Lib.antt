@@ -7,3 +7,4 @@ pub mod Numbers
 pub mod Lists
 pub mod Wires
 pub mod Said
+pub mod Stamps

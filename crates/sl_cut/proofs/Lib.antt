@@ -8,3 +8,5 @@ pub mod Lists
 pub mod Wires
 pub mod Said
 pub mod Stamps
+pub mod Prefixes
+pub mod Consistent

@@ -1,14 +1,18 @@
 -- The links and choices of an actor, by their sorts.
 --     IsOut net a s l         the link l comes from the actor a and is of the sort s
 --     IsChoice net a s c      the choice c of the actor a takes from a link of the sort s
-use Rattle.std.proofs.Common.{◌≡◌, ℕ, zero, suc, ◌<◌, ◌≤◌, List, [], ◌∷◌, length, refl, sym, ap, subst, ◌∙◌, Some, arith, inl, inr, eq-eqb}
-use Rattle.std.specs.Prelude.{◌⊎◌, true, false, Bool, ◌&&◌, ◌==◌, nat_eq, slice_get, slice_index_or}
+use Rattle.std.proofs.Common.{◌≡◌, ℕ, zero, suc, ◌<◌, ◌≤◌, List, [], ◌∷◌, length, refl, sym, ap, subst, ◌∙◌, ◌+◌, Some, arith, inl, inr, eq-eqb}
+use Rattle.std.specs.Prelude.{◌⊎◌, cond, true, false, Bool, ◌==◌, if◌then◌else◌, nat_eq, filter, slice_get, slice_index_or}
 use Rattle.std.proofs.lemmas.Bool.Decides.{eqb_tells}
 use Rattle.std.proofs.lemmas.Option.{slice_get_within, slice_get-get_or, get_or_from_slice_get}
+use Rattle.sl_net.specs.declared.actor.UnitId.{UnitId}
+use Rattle.sl_net.specs.declared.actor.ActorId.{ActorId}
+use Rattle.sl_net.specs.declared.actor.ActorId.TheVariants.{Observer, Control, Unit as OfUnit, Host as OfHost}
 use Rattle.sl_net.specs.declared.actor.Sort.{Sort}
 use Rattle.sl_net.specs.declared.actor.Sort.TheVariants.{FromHost, ToHost, Cable, Crossbar, Init, Poll, Notice, Dump, Begin, Done}
-use Rattle.sl_net.specs.Parts.{below}
-use Rattle.sl_net.specs.Net.{Net, link_of, link_at, link_numbers, links_into, links_from, links_out, choices_of, sort_number, same_sort}
+use Rattle.sl_net.specs.Parts.{below, numbers_from}
+use Rattle.sl_net.specs.Net.{Net, actor_of, link_of, link_at, link_numbers, links_into, links_from, links_out, choices_of, sort_number, same_sort, place_in, choice_of}
+use Rattle.sl_net.specs.Wired.{sends, IsWired}
 use Rattle.sl_cut.specs.Words.{Each}
 use Rattle.sl_cut.proofs.Lists.{each-imp, each-passes, each-both, each-below, each-member}
 
@@ -76,3 +80,42 @@ each-choice net a s = each-imp (λ c. (c < length (links_into net a)) × (same_s
 pub of-choice : (net : Net) (a : ℕ) (s : Sort) (P : ℕ → Type 0) (c l : ℕ) → Each P (choices_of net a s) → slice_get (links_into net a) c ≡ Some l → (link_of net l).sort ≡ s → P c
 of-choice net a s P c l e k q = each-member P (λ c. same_sort (link_of net (link_at net a c)).sort s) 0 (length (links_into net a)) c e (omega arith) (let x : c < length (links_into net a) = slice_get_within (links_into net a) c l k in omega arith)
     (eq-eqb (sort_number (link_of net (link_at net a c)).sort) (sort_number s) (ap (λ l. sort_number (link_of net l).sort) (get_or_from_slice_get (links_into net a) c l 0 k) ∙ ap sort_number q))
+
+-- The choice of a link takes from it, and no other does.
+
+pub record Found (n l : ℕ) (xs : List ℕ) : Type 0 where
+  pub place : ℕ
+  pub is_there : place_in n l xs ≡ n + place
+  pub gets : slice_get xs place ≡ Some l
+
+found-in : (t : ℕ → Bool) (l start count n : ℕ) → start ≤ l → l < start + count → t l ≡ true → Found n l (filter t (numbers_from start count))
+found-in t l start zero n p q h = absurd (omega arith)
+found-in t l start (suc count) n p q h = by_tells (λ n r. found-in t l (suc start) count n r (omega (arith, q)) h) (t start) refl (eqb_tells start l)
+  where
+    by_tells : ((n : ℕ) → suc start ≤ l → Found n l (filter t (numbers_from (suc start) count))) → (b : Bool) → t start ≡ b
+        → ((nat_eq start l ≡ true) × (start ≡ l)) ⊎ ((nat_eq start l ≡ false) × (start ≡ l → ⊥))
+        → Found n l (cond b (start ∷ filter t (numbers_from (suc start) count)) (filter t (numbers_from (suc start) count)))
+    by_tells ih true z (inl x) = record { place = 0; is_there = ap (λ b. if b then n else place_in (suc n) l (filter t (numbers_from (suc start) count))) x.0 ∙ (omega arith); gets = ap Some x.1 }
+    by_tells ih true z (inr x) = let k : (start ≡ l → ⊥) = x.1 in let f = ih (suc n) (omega arith) in
+        record { place = suc f.place; is_there = ap (λ b. if b then n else place_in (suc n) l (filter t (numbers_from (suc start) count))) x.0 ∙ (omega (arith, f.is_there)); gets = f.gets }
+    by_tells ih false z (inl x) = absurd (let k : true ≡ false = sym h ∙ ap t (sym x.1) ∙ z in cc)
+    by_tells ih false z (inr x) = ih n (let k : (start ≡ l → ⊥) = x.1 in omega arith)
+
+pub choice-takes : (net : Net) (l : ℕ) → l < length net.links → slice_get (links_into net (link_of net l).to) (choice_of net l) ≡ Some l
+choice-takes net l p = let f : Found 0 l (links_into net (link_of net l).to) = found-in (λ k. (link_of net k).to == (link_of net l).to) l 0 (length net.links) 0 (omega arith) (omega (arith, p)) (eq-eqb (link_of net l).to (link_of net l).to refl) in
+    let e : choice_of net l ≡ f.place = f.is_there ∙ (omega arith) in ap (slice_get (links_into net (link_of net l).to)) e ∙ f.gets
+
+-- Who sends on a link.
+
+data-sender : (a : ActorId) (t : Sort) → (t ≡ Cable) ⊎ (t ≡ Crossbar) → sends a t ≡ true → (i : UnitId) × (a ≡ OfUnit i)
+data-sender (OfUnit i) t d h = (i, refl)
+data-sender Observer t (inl q) h = absurd (let z : sends Observer Cable ≡ true = subst (λ t. sends Observer t ≡ true) q h in cc)
+data-sender Observer t (inr q) h = absurd (let z : sends Observer Crossbar ≡ true = subst (λ t. sends Observer t ≡ true) q h in cc)
+data-sender (Control d) t (inl q) h = absurd (let z : sends (Control d) Cable ≡ true = subst (λ t. sends (Control d) t ≡ true) q h in cc)
+data-sender (Control d) t (inr q) h = absurd (let z : sends (Control d) Crossbar ≡ true = subst (λ t. sends (Control d) t ≡ true) q h in cc)
+data-sender (OfHost d) t (inl q) h = absurd (let z : sends (OfHost d) Cable ≡ true = subst (λ t. sends (OfHost d) t ≡ true) q h in cc)
+data-sender (OfHost d) t (inr q) h = absurd (let z : sends (OfHost d) Crossbar ≡ true = subst (λ t. sends (OfHost d) t ≡ true) q h in cc)
+
+-- cables and crossbars come from units
+pub data-from : (net : Net) (l : ℕ) → IsWired net → l < length net.links → ((link_of net l).sort ≡ Cable) ⊎ ((link_of net l).sort ≡ Crossbar) → (i : UnitId) × (actor_of net (link_of net l).from ≡ OfUnit i)
+data-from net l n p d = data-sender (actor_of net (link_of net l).from) (link_of net l).sort d (n.sender l p)

@@ -18,3 +18,4 @@ pub mod Bound
 pub mod Findings
 pub mod Runs
 pub mod Fit
+pub mod Late

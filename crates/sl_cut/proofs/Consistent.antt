@@ -16,8 +16,8 @@ use Rattle.sl_cut.specs.Cut.{cut, cuts, before, outside, crossing, channel_value
 use Rattle.sl_cut.specs.Matching.{is_data, IsDataChannel, IsConsistentCut}
 use Rattle.sl_cut.specs.Fit.{is_stamped, stamp}
 use Rattle.sl_cut.specs.Late.{is_old, IsLateData}
-use Rattle.sl_cut.proofs.Lists.{each-front}
-use Rattle.sl_cut.proofs.Wires.{choice-takes, data-from}
+use Rattle.sl_net.proofs.Filters.{each-front}
+use Rattle.sl_net.proofs.Sorts.{choice-takes, data-from}
 use Rattle.sl_cut.proofs.Ran.{ran}
 use Rattle.sl_cut.proofs.Prefixes.{AllOld, AllNew, SplitsAt, before-first, count-first, takes-before, takes-split, puts-split, lost-split}
 

@@ -4,8 +4,6 @@ pub mod Ends
 pub mod Turns
 pub mod Ran
 pub mod Numbers
-pub mod Lists
-pub mod Wires
 pub mod Said
 pub mod Stamps
 pub mod Prefixes

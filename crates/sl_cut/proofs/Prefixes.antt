@@ -15,7 +15,7 @@ use Rattle.sl_cut.specs.Made.{IsMade}
 use Rattle.sl_cut.specs.Cut.{cut, before, outside}
 use Rattle.sl_cut.specs.Fit.{is_stamped, stamp}
 use Rattle.sl_cut.proofs.Numbers.{Says}
-use Rattle.sl_cut.proofs.Lists.{each-append, each-imp}
+use Rattle.sl_net.proofs.Lists.{each-append, each-imp}
 use Rattle.sl_cut.proofs.Said.{PutBy}
 use Rattle.sl_cut.proofs.Stamps.{unit-step, each-on-link, each-lost, is-stamped}
 

@@ -26,8 +26,9 @@ use Rattle.sl_cut.specs.Knowledge.{is_outstanding, is_again, is_swept, issued, c
 use Rattle.sl_cut.specs.Puts.{send, send_all, crossbar_to, onward, route, route_frame, ingress_puts, egress_puts, is_own_port, side_puts, notice_puts, dump_puts, id_after, unit_puts, poll_puts, dump_answer, control_puts, guarded, begin_all, action}
 use Rattle.sl_cut.specs.Fit.{fits, fits_link}
 use Rattle.sl_cut.proofs.Numbers.{Says}
-use Rattle.sl_cut.proofs.Lists.{each-append, each-map, each-imp, each-filter, each-flat}
-use Rattle.sl_cut.proofs.Wires.{IsOut, each-out}
+use Rattle.sl_net.proofs.Lists.{each-append, each-map, each-imp, each-flat}
+use Rattle.sl_net.proofs.Filters.{each-filter}
+use Rattle.sl_net.proofs.Sorts.{IsOut, each-out}
 
 pub record Said (k n : ℕ) (m : Message) : Type 0 where
   pub stamp : Says k (stamp_of m)

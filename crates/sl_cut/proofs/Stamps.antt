@@ -19,7 +19,8 @@ use Rattle.sl_cut.specs.Puts.{action, puts_of, id_after, unit_puts}
 use Rattle.sl_cut.specs.Made.{Took, Acted, IsMade, Fifo, Ran}
 use Rattle.sl_cut.specs.Fit.{fits, fits_link, is_stamped}
 use Rattle.sl_cut.proofs.Numbers.{Says, Grows, Ordered, ordered, put-rises}
-use Rattle.sl_cut.proofs.Lists.{each-append, each-imp, each-front}
+use Rattle.sl_net.proofs.Lists.{each-append, each-imp}
+use Rattle.sl_net.proofs.Filters.{each-front}
 use Rattle.sl_cut.proofs.Said.{PutBy, Begins, unit-said, control-said, observer-acts, begin-said, action-said}
 
 -- Steps.

@@ -13,3 +13,5 @@ pub mod Grouping
 pub mod Ends
 pub mod Placing
 pub mod UnitLists
+pub mod Filters
+pub mod Sorts

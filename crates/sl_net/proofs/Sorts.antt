@@ -13,8 +13,8 @@ use Rattle.sl_net.specs.declared.actor.Sort.TheVariants.{FromHost, ToHost, Cable
 use Rattle.sl_net.specs.Parts.{below, numbers_from}
 use Rattle.sl_net.specs.Net.{Net, actor_of, link_of, link_at, link_numbers, links_into, links_from, links_out, choices_of, sort_number, same_sort, place_in, choice_of}
 use Rattle.sl_net.specs.Wired.{sends, IsWired}
-use Rattle.sl_cut.specs.Words.{Each}
-use Rattle.sl_cut.proofs.Lists.{each-imp, each-passes, each-both, each-below, each-member}
+use Rattle.sl_net.proofs.Lists.{Each, each-imp, each-both, each-below}
+use Rattle.sl_net.proofs.Filters.{each-passes, each-member}
 
 pub told : (x y : ℕ) → nat_eq x y ≡ true → x ≡ y
 told x y h = by_tells (eqb_tells x y)

@@ -15,3 +15,4 @@ pub mod Placing
 pub mod UnitLists
 pub mod Filters
 pub mod Sorts
+pub mod Linked

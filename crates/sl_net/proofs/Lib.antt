@@ -16,3 +16,4 @@ pub mod UnitLists
 pub mod Filters
 pub mod Sorts
 pub mod Linked
+pub mod NetWired

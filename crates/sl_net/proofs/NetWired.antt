@@ -16,7 +16,10 @@ use Rattle.sl_net.specs.Parts.{Parts, below, numbers_from, used_ports, ports_of,
 use Rattle.sl_net.specs.Net.{Net, net_of, link_of, link_numbers, links_into, links_from, links_out, actor_of, no_link, same_sort, ingress, egress, units_of, actors_of, Incoming, incoming, unit_incoming, from_outside, place_of, links_to}
 use Rattle.sl_net.specs.Valid.{IsValid}
 use Rattle.sl_net.specs.Roster.{IsActor}
-use Rattle.sl_net.specs.Wired.{sends, receives, unit_sends, unit_receives, Reports, IsWired}
+use Rattle.sl_net.specs.declared.fault.NetFault.{NetFault}
+use Rattle.sl_net.specs.Fault.{first_of, fault_of, no_device, too_many_devices, wrong_ports, stray_cable, stray_host, reused_port, too_many_hosts, used_host_port, device_namesake, host_namesake}
+use Rattle.sl_net.specs.Wired.{sends, receives, unit_sends, unit_receives, Reports, IsWired, IsNet}
+use Rattle.sl_net.proofs.Checked.{valid_from}
 use Rattle.sl_net.proofs.Lists.{Each, each-map, each-imp, each-of, each-at, Member, member-left, member-right, member-flat, member-from, member-map, member-filter, Distinct, distinct-filter, distinct-from}
 use Rattle.sl_net.proofs.Filters.{only-one}
 use Rattle.sl_net.proofs.Actors.{actor-member, each-actor, actor-at, actors-distinct}
@@ -278,3 +281,23 @@ wired parts v = record {
   begin_first = λ a c l k q. begin-first parts a c l v k q;
   reports = λ u i q. reports parts u i v q;
 }
+
+-- Parts without a fault are valid.
+
+none-first : {A : Type 0} (xs : List (Option A)) → first_of xs ≡ None → Each (λ o. o ≡ None) xs
+none-first [] h = tt
+none-first (None ∷ xs) h = (refl, none-first xs h)
+none-first (Some x ∷ xs) h = absurd cc
+
+abbrev reasons : Parts → List (Option NetFault)
+reasons parts = no_device parts ∷ too_many_devices parts ∷ wrong_ports parts ∷ stray_cable parts ∷ stray_host parts ∷ reused_port parts ∷ too_many_hosts parts ∷ used_host_port parts ∷ device_namesake parts ∷ host_namesake parts ∷ []
+
+-- each reason is absent
+pub no-reason : (parts : Parts) → fault_of parts ≡ None → Each (λ o. o ≡ None) (reasons parts)
+no-reason parts h = none-first (reasons parts) h
+
+pub valid : (parts : Parts) → fault_of parts ≡ None → IsValid parts
+valid parts h = let e = no-reason parts h in valid_from parts e.1.0 e.1.1.0 e.1.1.1.0 e.1.1.1.1.0
+
+pub net-wired : (net : Net) → IsNet net → IsWired net
+net-wired net n = subst IsWired (sym n.made) (wired net.parts (valid net.parts n.right))

@@ -2,7 +2,8 @@
 --     sends, receives      whether an actor has outgoing, incoming links of a sort
 --     Reports net u        how the unit u reports to its control plane, and this to the observer
 --     IsWired net          the net is wired so
-use Rattle.std.specs.Prelude.{◌≡◌, ℕ, ◌<◌, Bool, true, false, List, [], ◌∷◌, length, Some, slice_get}
+--     IsNet net            the net is made of parts without a fault; each such net is wired
+use Rattle.std.specs.Prelude.{◌≡◌, ℕ, ◌<◌, Bool, true, false, List, [], ◌∷◌, length, Some, None, slice_get}
 use Rattle.sl_net.specs.declared.actor.Side.TheVariants.{Ingress, Egress}
 use Rattle.sl_net.specs.declared.actor.UnitId.{UnitId}
 use Rattle.sl_net.specs.declared.actor.Side.{Side}
@@ -10,7 +11,8 @@ use Rattle.sl_net.specs.declared.actor.ActorId.{ActorId}
 use Rattle.sl_net.specs.declared.actor.ActorId.TheVariants.{Observer, Control, Unit as OfUnit, Host as OfHost}
 use Rattle.sl_net.specs.declared.actor.Sort.{Sort}
 use Rattle.sl_net.specs.declared.actor.Sort.TheVariants.{FromHost, ToHost, Cable, Crossbar, Init, Poll, Notice, Dump, Begin, Done}
-use Rattle.sl_net.specs.Net.{Net, actor_of, link_of, links_into, links_out}
+use Rattle.sl_net.specs.Fault.{fault_of}
+use Rattle.sl_net.specs.Net.{Net, net_of, actor_of, link_of, links_into, links_out}
 
 abbrev pub unit_sends : Side → Sort → Bool
 unit_sends Ingress Crossbar = true
@@ -79,3 +81,8 @@ pub record IsWired (net : Net) : Type 0 where
   pub begins : (a d : ℕ) → actor_of net a ≡ Control d → (l : ℕ) × (slice_get (links_into net a) 0 ≡ Some l) × ((link_of net l).sort ≡ Begin)
   pub begin_first : (a c l : ℕ) → slice_get (links_into net a) c ≡ Some l → (link_of net l).sort ≡ Begin → c ≡ 0
   pub reports : (u : ℕ) (i : UnitId) → actor_of net u ≡ OfUnit i → Reports net u
+
+-- a net is made of parts without a fault
+pub record IsNet (net : Net) : Type 0 where
+  pub made : net ≡ net_of net.parts
+  pub right : fault_of net.parts ≡ None

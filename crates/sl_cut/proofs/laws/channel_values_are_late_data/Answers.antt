@@ -4,4 +4,4 @@ use Rattle.sl_cut.proofs.Ran.{ran}
 use Rattle.sl_cut.proofs.Consistent.{value-is-late}
 
 pub returns : goal.returns
-returns c s lost es k l n d = value-is-late s lost (world s lost es) k l n (ran s lost es) d
+returns c s lost es k l n d = value-is-late s lost (world s lost es) k l (c.nets_are_wired.ensures s.net n) (ran s lost es) d

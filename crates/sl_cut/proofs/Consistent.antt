@@ -17,7 +17,8 @@ use Rattle.sl_cut.specs.Matching.{is_data, IsDataChannel, IsConsistentCut}
 use Rattle.sl_cut.specs.Fit.{is_stamped, stamp}
 use Rattle.sl_cut.specs.Late.{is_old, IsLateData}
 use Rattle.sl_net.proofs.Filters.{each-front}
-use Rattle.sl_net.proofs.Sorts.{choice-takes, data-from}
+use Rattle.sl_net.proofs.Sorts.{choice-takes}
+use Rattle.sl_net.proofs.EndKinds.{data-from}
 use Rattle.sl_cut.proofs.Ran.{ran}
 use Rattle.sl_cut.proofs.Prefixes.{AllOld, AllNew, SplitsAt, before-first, count-first, takes-before, takes-split, puts-split, lost-split}
 

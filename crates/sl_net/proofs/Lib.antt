@@ -15,5 +15,6 @@ pub mod Placing
 pub mod UnitLists
 pub mod Filters
 pub mod Sorts
+pub mod EndKinds
 pub mod Linked
 pub mod NetWired

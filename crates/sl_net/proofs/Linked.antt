@@ -22,6 +22,7 @@ use Rattle.sl_net.specs.Wired.{sends, receives}
 use Rattle.sl_net.proofs.Lists.{Each, each-append, each-map, each-imp, each-flat, each-below, each-of, each-at, each-index, Member, member-flat, member-map, member-parts, Distinct, distinct-append, distinct-filter, distinct-from, inside}
 use Rattle.sl_net.proofs.Actors.{actor-member, each-actor, actor-at, actors-distinct, place-at, units-distinct, each-unit-of}
 use Rattle.sl_net.proofs.Senders.{IsSender, IsLink, each-sender, each-link}
+use Rattle.sl_net.proofs.EndKinds.{home}
 use Rattle.sl_net.proofs.Filters.{member-of-map, place-of-member, distinct-map, distinct-joined, one-place}
 
 -- Actors by their places.
@@ -42,12 +43,6 @@ is-at parts a x q ne = by_cases (cases_lt a (length (actors_of parts)))
     by_cases (inr h) = absurd (ne (sym q ∙ get_or_past (actors_of parts) a nobody h))
 
 -- What comes to an actor.
-
--- the device of a control plane or a unit
-abbrev pub home : ActorId → ℕ
-home (Control d) = d
-home (OfUnit u) = u.device
-home _ = 0
 
 abbrev port_of : ActorId → ℕ
 port_of (OfUnit u) = u.port

@@ -24,7 +24,8 @@ use Rattle.sl_net.proofs.Lists.{Each, each-map, each-imp, each-of, each-at, Memb
 use Rattle.sl_net.proofs.Filters.{only-one}
 use Rattle.sl_net.proofs.Actors.{actor-member, each-actor, actor-at, actors-distinct}
 use Rattle.sl_net.proofs.Sorts.{IsOut, each-out, out-member, is-link, is-into, one-choice}
-use Rattle.sl_net.proofs.Linked.{same-place, IsAt, is-at, home, Joined, reports_of, link_from, Linked, linked, one-link, Ends, ends}
+use Rattle.sl_net.proofs.EndKinds.{home, notice-receiver, dump-receiver, begin-receiver, done-receiver, poll-sender, begin-sender}
+use Rattle.sl_net.proofs.Linked.{same-place, IsAt, is-at, Joined, reports_of, link_from, Linked, linked, one-link, Ends, ends}
 
 -- The links into an actor.
 
@@ -100,68 +101,6 @@ into-links parts a h = let n = place_of a (actors_of parts) in let f = λ (x : A
     by_tells (inl q) ne = absurd (ne q.1)
     by_tells (inr q) ne = q.0
 
-
--- Kinds of actors.
-
-dump-receiver : (y : ActorId) → receives y Dump ≡ true → y ≡ Control (home y)
-dump-receiver (Control d) h = refl
-dump-receiver Observer h = absurd cc
-dump-receiver (OfUnit u) h = absurd (of_side u.side h)
-  where
-    of_side : (s : Side) → unit_receives s Dump ≡ true → ⊥
-    of_side Ingress h = cc
-    of_side Egress h = cc
-dump-receiver (OfHost i) h = absurd cc
-
-notice-receiver : (y : ActorId) → receives y Notice ≡ true → y ≡ Control (home y)
-notice-receiver (Control d) h = refl
-notice-receiver Observer h = absurd cc
-notice-receiver (OfUnit u) h = absurd (of_side u.side h)
-  where
-    of_side : (s : Side) → unit_receives s Notice ≡ true → ⊥
-    of_side Ingress h = cc
-    of_side Egress h = cc
-notice-receiver (OfHost i) h = absurd cc
-
-begin-receiver : (y : ActorId) → receives y Begin ≡ true → y ≡ Control (home y)
-begin-receiver (Control d) h = refl
-begin-receiver Observer h = absurd cc
-begin-receiver (OfUnit u) h = absurd (of_side u.side h)
-  where
-    of_side : (s : Side) → unit_receives s Begin ≡ true → ⊥
-    of_side Ingress h = cc
-    of_side Egress h = cc
-begin-receiver (OfHost i) h = absurd cc
-
-done-receiver : (y : ActorId) → receives y Done ≡ true → y ≡ Observer
-done-receiver Observer h = refl
-done-receiver (Control d) h = absurd cc
-done-receiver (OfUnit u) h = absurd (of_side u.side h)
-  where
-    of_side : (s : Side) → unit_receives s Done ≡ true → ⊥
-    of_side Ingress h = cc
-    of_side Egress h = cc
-done-receiver (OfHost i) h = absurd cc
-
-poll-sender : (x : ActorId) → sends x Poll ≡ true → x ≡ Control (home x)
-poll-sender (Control d) h = refl
-poll-sender Observer h = absurd cc
-poll-sender (OfUnit u) h = absurd (of_side u.side h)
-  where
-    of_side : (s : Side) → unit_sends s Poll ≡ true → ⊥
-    of_side Ingress h = cc
-    of_side Egress h = cc
-poll-sender (OfHost i) h = absurd cc
-
-begin-sender : (x : ActorId) → sends x Begin ≡ true → x ≡ Observer
-begin-sender Observer h = refl
-begin-sender (Control d) h = absurd cc
-begin-sender (OfUnit u) h = absurd (of_side u.side h)
-  where
-    of_side : (s : Side) → unit_sends s Begin ≡ true → ⊥
-    of_side Ingress h = cc
-    of_side Egress h = cc
-begin-sender (OfHost i) h = absurd cc
 
 -- One link of a sort.
 

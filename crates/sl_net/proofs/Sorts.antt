@@ -140,18 +140,3 @@ choice-takes net l p = let f : Found 0 l (links_into net (link_of net l).to) = f
 
 pub choice-is : (net : Net) (a c l : ℕ) → slice_get (links_into net a) c ≡ Some l → choice_of net l ≡ c
 choice-is net a c l k = let i = is-into net a c l k in one-choice net a (choice_of net l) c l (subst (λ b. slice_get (links_into net b) (choice_of net l) ≡ Some l) i.to (choice-takes net l i.is_link)) k
-
--- Who sends on a link.
-
-data-sender : (a : ActorId) (t : Sort) → (t ≡ Cable) ⊎ (t ≡ Crossbar) → sends a t ≡ true → (i : UnitId) × (a ≡ OfUnit i)
-data-sender (OfUnit i) t d h = (i, refl)
-data-sender Observer t (inl q) h = absurd (let z : sends Observer Cable ≡ true = subst (λ t. sends Observer t ≡ true) q h in cc)
-data-sender Observer t (inr q) h = absurd (let z : sends Observer Crossbar ≡ true = subst (λ t. sends Observer t ≡ true) q h in cc)
-data-sender (Control d) t (inl q) h = absurd (let z : sends (Control d) Cable ≡ true = subst (λ t. sends (Control d) t ≡ true) q h in cc)
-data-sender (Control d) t (inr q) h = absurd (let z : sends (Control d) Crossbar ≡ true = subst (λ t. sends (Control d) t ≡ true) q h in cc)
-data-sender (OfHost d) t (inl q) h = absurd (let z : sends (OfHost d) Cable ≡ true = subst (λ t. sends (OfHost d) t ≡ true) q h in cc)
-data-sender (OfHost d) t (inr q) h = absurd (let z : sends (OfHost d) Crossbar ≡ true = subst (λ t. sends (OfHost d) t ≡ true) q h in cc)
-
--- cables and crossbars come from units
-pub data-from : (net : Net) (l : ℕ) → IsWired net → l < length net.links → ((link_of net l).sort ≡ Cable) ⊎ ((link_of net l).sort ≡ Crossbar) → (i : UnitId) × (actor_of net (link_of net l).from ≡ OfUnit i)
-data-from net l n p d = data-sender (actor_of net (link_of net l).from) (link_of net l).sort d (n.sender l p)

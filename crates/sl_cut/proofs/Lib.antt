@@ -8,3 +8,4 @@ pub mod Said
 pub mod Stamps
 pub mod Prefixes
 pub mod Consistent
+pub mod Begins

@@ -9,3 +9,4 @@ pub mod Stamps
 pub mod Prefixes
 pub mod Consistent
 pub mod Begins
+pub mod Reported

@@ -18,3 +18,4 @@ pub mod Sorts
 pub mod EndKinds
 pub mod Linked
 pub mod NetWired
+pub mod ReportWays

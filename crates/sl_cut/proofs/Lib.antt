@@ -10,3 +10,4 @@ pub mod Prefixes
 pub mod Consistent
 pub mod Begins
 pub mod Reported
+pub mod Floors

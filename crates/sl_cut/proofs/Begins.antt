@@ -1,6 +1,5 @@
 -- Begin numbers and initiations never fall.
 --     TakesFit s a h      each message that h took fits the link that it came from
---     begun h             the last Begin number of a control plane
 use Rattle.std.proofs.Common.{◌≡◌, ℕ, zero, suc, ◌-◌, ◌<◌, ◌≤◌, List, [], ◌∷◌, length, refl, sym, ap, subst, ◌∙◌, Option, Some, None, arith, inl, inr, eq-eqb}
 use Rattle.std.specs.Prelude.{◌⊎◌, true, false, Bool, if◌then◌else◌, ◌==◌, unwrap_or, option_and_then, slice_get, IsTrue}
 use Rattle.sl_cut.specs.declared.message.Step.{Step}
@@ -19,6 +18,7 @@ use Rattle.sl_cut.specs.Knowledge.{observer, issued, can_issue, can_resend}
 use Rattle.sl_cut.specs.Puts.{puts_of}
 use Rattle.sl_cut.specs.Made.{Took, Acted, IsMade, Ran}
 use Rattle.sl_cut.specs.Fit.{fits, fits_link, is_stamped}
+use Rattle.sl_cut.specs.Window.{begun}
 use Rattle.sl_net.proofs.Lists.{each-imp}
 use Rattle.sl_net.proofs.Filters.{each-front, each-back}
 use Rattle.sl_net.proofs.Sorts.{is-into}
@@ -92,9 +92,6 @@ begin-link s lost w a c l n r k q = let h = history w (link_of s.net l).from in
       (r.fifo a c l k)
 
 -- Controls: each initiation is the last Begin number after its step.
-
-abbrev pub begun : History → ℕ
-begun h = heard begin_of 0 h
 
 control-step : (s : Setup) (a d : ℕ) (h : History) (step : Step) → IsWired s.net → actor_of s.net a ≡ Control d → TakesFit s a (step ∷ h) → Took s a h step ⊎ Acted s a h step
     → (n : ℕ) × Each (PutBy s.net (begun (step ∷ h)) n) step.puts

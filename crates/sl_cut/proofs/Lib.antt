@@ -11,3 +11,4 @@ pub mod Consistent
 pub mod Begins
 pub mod Reported
 pub mod Floors
+pub mod Bounds

@@ -19,3 +19,4 @@ pub mod Findings
 pub mod Runs
 pub mod Fit
 pub mod Late
+pub mod Window

@@ -12,3 +12,4 @@ pub mod Begins
 pub mod Reported
 pub mod Floors
 pub mod Bounds
+pub mod Near

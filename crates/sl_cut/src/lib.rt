@@ -11,7 +11,11 @@ mod verdict;
 
 pub use findings::{Counts, Drops, Finding, FindingList, Findings, Lost, Row, Rows1};
 pub use history::{History, World};
-pub use laws::{channel_values_are_late_data, cuts_are_consistent};
+pub use laws::{
+    channel_values_are_late_data, collected_numbers_are_near, cuts_are_consistent,
+    floor_never_falls, histories_only_grow, messages_fit_links, numbers_are_near,
+    worlds_are_in_window, worlds_are_runs,
+};
 pub use message::{Message, Put, Puts, Step};
 pub use total::Total;
 pub use verdict::{Cause, Lag, Verdict};

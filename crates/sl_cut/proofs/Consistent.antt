@@ -30,7 +30,7 @@ front-le k [] ys es bs q o n = omega arith
 front-le k (x ∷ xs) ys [] bs q o n = let e : AllNew k (x ∷ (xs ++ ys)) = subst (AllNew k) (sym q) n in absurd (omega (arith, e.0, o.0))
 front-le k (x ∷ xs) ys (a ∷ es) bs q o n = omega (arith, front-le k xs ys es bs (let z : xs ++ ys ≡ es ++ bs = cc in z) o.1 n)
 
-none-old : (k : ℕ) (ms : List Message) → AllNew k ms → filter (is_old k) ms ≡ []
+pub none-old : (k : ℕ) (ms : List Message) → AllNew k ms → filter (is_old k) ms ≡ []
 none-old k [] n = refl
 none-old k (m ∷ ms) n = ap (λ b. cond b (m ∷ filter (is_old k) ms) (filter (is_old k) ms)) (le-ltb (stamp m) k n.0) ∙ none-old k ms n.1
 

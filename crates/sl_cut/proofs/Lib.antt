@@ -13,3 +13,4 @@ pub mod Reported
 pub mod Floors
 pub mod Bounds
 pub mod Near
+pub mod Collected

@@ -20,3 +20,4 @@ pub mod Runs
 pub mod Fit
 pub mod Late
 pub mod Window
+pub mod Collected

@@ -29,6 +29,10 @@ pub each-back : {A : Type 0} (P : A → Type 0) (xs ys : List A) → Each P (xs 
 each-back P [] ys h = h
 each-back P (x ∷ xs) ys h = each-back P xs ys h.1
 
+pub each-both-of : {A : Type 0} (P Q R : A → Type 0) (xs : List A) → ((x : A) → P x → Q x → R x) → Each P xs → Each Q xs → Each R xs
+each-both-of P Q R [] f p q = tt
+each-both-of P Q R (x ∷ xs) f p q = (f x p.0 q.0, each-both-of P Q R xs f p.1 q.1)
+
 -- of the numbers below n that pass
 pub each-member : (P : ℕ → Type 0) (t : ℕ → Bool) (start n i : ℕ) → Each P (filter t (numbers_from start n)) → start ≤ i → i < start + n → t i ≡ true → P i
 each-member P t start zero i e p q h = absurd (omega arith)

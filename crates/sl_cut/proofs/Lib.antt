@@ -8,3 +8,16 @@ pub mod Actions
 pub mod Packets
 pub mod Trails
 pub mod Legal
+pub mod Turns
+pub mod Ran
+pub mod Numbers
+pub mod Said
+pub mod Stamps
+pub mod Prefixes
+pub mod Consistent
+pub mod Begins
+pub mod Reported
+pub mod Floors
+pub mod Bounds
+pub mod Near
+pub mod Collected

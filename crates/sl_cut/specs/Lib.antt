@@ -19,3 +19,7 @@ pub mod Findings
 pub mod Runs
 pub mod Lossless
 pub mod Fuel
+pub mod Fit
+pub mod Late
+pub mod Window
+pub mod Collected

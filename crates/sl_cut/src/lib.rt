@@ -11,6 +11,7 @@ mod follow;
 mod frames;
 mod history;
 mod knowledge;
+mod laws;
 mod message;
 mod route;
 mod schedule;
@@ -26,6 +27,11 @@ pub use ends_laws::finishing_is_legal;
 pub use findings::{Counts, Drops, Finding, FindingList, Findings, Lost, Row, Rows1};
 pub use finish::{finish_histories, finish_histories_after};
 pub use history::{History, World};
+pub use laws::{
+    channel_values_are_late_data, collected_numbers_are_near, cuts_are_consistent,
+    floor_never_falls, histories_only_grow, messages_fit_links, numbers_are_near,
+    worlds_are_in_window, worlds_are_runs,
+};
 pub use message::{Message, Put, Puts, Step};
 pub use total::Total;
 pub use verdict::{Cause, Lag, Verdict};

@@ -13,3 +13,9 @@ pub mod Grouping
 pub mod Ends
 pub mod Placing
 pub mod UnitLists
+pub mod Filters
+pub mod Sorts
+pub mod EndKinds
+pub mod Linked
+pub mod NetWired
+pub mod ReportWays

@@ -14,3 +14,4 @@ pub mod Groups
 pub mod Wires
 pub mod Units
 pub mod Tables
+pub mod Wired

@@ -1,0 +1,90 @@
+// Laws of histories, over all schedules and losses. The functions do nothing: their contracts are
+// the laws, and the proofs are in proofs/. Most call the law that nets are wired.
+ghost use Rattle.std.specs.Prelude.{◌≡◌, ℕ, ◌+◌, ◌<◌, ◌≤◌, List, ◌++◌, length, true, IsTrue};
+ghost use Rattle.sl_net.specs.declared.actor.UnitId.{UnitId};
+ghost use Rattle.sl_net.specs.declared.actor.ActorId.TheVariants.{Unit as OfUnit};
+ghost use Rattle.sl_net.specs.Net.{actor_of, link_of};
+ghost use Rattle.sl_net.specs.Wired.{IsNet};
+ghost use Rattle.sl_cut.specs.Words.{Each};
+ghost use Rattle.sl_cut.specs.History.{Losses, history, id, first, put};
+ghost use Rattle.sl_cut.specs.Setup.{Setup};
+ghost use Rattle.sl_cut.specs.Knowledge.{floor};
+ghost use Rattle.sl_cut.specs.World.{Entry, world, sender};
+ghost use Rattle.sl_cut.specs.Made.{Ran};
+ghost use Rattle.sl_cut.specs.Cut.{cuts};
+ghost use Rattle.sl_cut.specs.Matching.{IsDataChannel, IsConsistentCut};
+ghost use Rattle.sl_cut.specs.Fit.{fits_link, is_stamped};
+ghost use Rattle.sl_cut.specs.Late.{IsLateData};
+ghost use Rattle.sl_cut.specs.Window.{IsInWindow, IsNear};
+
+use sl_net::nets_are_wired;
+
+/// Each world that a schedule reaches is a run: each step is made from the history before it, and
+/// links are first in, first out.
+pub fn worlds_are_runs()
+    ensures { (s : Setup) (lost : Losses) (es : List Entry) → Ran s lost (world s lost es) }
+{}
+
+/// Each message fits the sort of the link that it is put on.
+pub fn messages_fit_links()
+    ensures { (s : Setup) (lost : Losses) (es : List Entry) (l : ℕ)
+        → Each (λ m. fits_link s.net l m ≡ true) (put l (sender s.net (world s lost es) l)) }
+{}
+
+/// In each world that a schedule reaches, whatever is lost, the steps of all actors before their
+/// ids reach k are a consistent cut (Chandy, Lamport 1985).
+pub fn cuts_are_consistent()
+    ensures { (s : Setup) (lost : Losses) (es : List Entry) (k : ℕ) → IsNet s.net
+        → IsConsistentCut s.net lost (world s lost es) (cuts (world s lost es) k) }
+{
+    nets_are_wired()
+}
+
+/// The channel value of k is what the receiver took of data packets with stamps below k in the
+/// steps outside its cut (Chandy, Lamport 1985: the state of a channel).
+pub fn channel_values_are_late_data()
+    ensures { (s : Setup) (lost : Losses) (es : List Entry) (k l : ℕ) → IsNet s.net → IsDataChannel s.net l
+        → IsLateData s.net lost (world s lost es) k l }
+{
+    nets_are_wired()
+}
+
+/// The window law: what is known of each unit never falls on its way to the observer, stamps and
+/// Begin numbers never fall on their links, each number is at most K, and K is at most F + W.
+pub fn worlds_are_in_window()
+    ensures { (s : Setup) (lost : Losses) (es : List Entry) → IsNet s.net → IsInWindow s lost (world s lost es) }
+{
+    nets_are_wired()
+}
+
+/// The observer's floor F never falls.
+pub fn floor_never_falls()
+    ensures { (s : Setup) (lost : Losses) (es fs : List Entry) → IsNet s.net
+        → floor s.net (world s lost es) ≤ floor s.net (world s lost (es ++ fs)) }
+{
+    nets_are_wired()
+}
+
+/// The first steps of a history stay what they are in every longer schedule.
+pub fn histories_only_grow()
+    ensures { (s : Setup) (lost : Losses) (es fs : List Entry) (a n : ℕ) → n ≤ length (history (world s lost es) a)
+        → first n (history (world s lost (es ++ fs)) a) ≡ first n (history (world s lost es) a) }
+{}
+
+/// A unit's id, and each stamp on its way to it, lie at most W above the last-seen number of each
+/// stamped link that leads to it.
+pub fn numbers_are_near()
+    ensures { (s : Setup) (lost : Losses) (es : List Entry) (u l : ℕ) (i : UnitId) → IsNet s.net → actor_of s.net u ≡ OfUnit i
+        → l < length s.net.links → (link_of s.net l).to ≡ u → IsTrue (is_stamped (link_of s.net l).sort) → IsNear s lost (world s lost es) u l }
+{
+    nets_are_wired()
+}
+
+/// An id lies less than W above each number past the floor, so less than the size of a ring of at
+/// least W slots. A number that is collected now lies past the floor.
+pub fn collected_numbers_are_near()
+    ensures { (s : Setup) (lost : Losses) (es : List Entry) (a k ring : ℕ) → IsNet s.net → s.window ≤ ring → floor s.net (world s lost es) < k
+        → id (history (world s lost es) a) < k + ring }
+{
+    nets_are_wired()
+}

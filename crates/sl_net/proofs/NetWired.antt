@@ -1,0 +1,242 @@
+-- The net of valid parts is wired.
+--     into-links      the links into an actor are its incoming ones, in order
+--     wired           the wiring that the laws ask for
+use Rattle.std.proofs.Common.{◌≡◌, ℕ, zero, suc, ◌+◌, ◌<◌, ◌≤◌, List, [], ◌∷◌, ◌++◌, length, refl, sym, ap, subst, ◌∙◌, Option, Some, None, arith, inl, inr, eq-eqb, get_or, append-nil}
+use Rattle.std.specs.Prelude.{◌⊎◌, cond, true, false, Bool, ◌==◌, nat_eq, map, filter, flat_map, slice_get}
+use Rattle.std.proofs.lemmas.Bool.Decides.{eqb_tells}
+use Rattle.sl_net.specs.declared.actor.ActorId.{ActorId}
+use Rattle.sl_net.specs.declared.actor.ActorId.TheVariants.{Observer, Control, Unit as OfUnit, Host as OfHost}
+use Rattle.sl_net.specs.declared.actor.UnitId.{UnitId}
+use Rattle.sl_net.specs.declared.actor.Side.{Side}
+use Rattle.sl_net.specs.declared.actor.Side.TheVariants.{Ingress, Egress}
+use Rattle.sl_net.specs.declared.actor.Sort.{Sort}
+use Rattle.sl_net.specs.declared.actor.Sort.TheVariants.{FromHost, ToHost, Cable, Crossbar, Init, Poll, Notice, Dump, Begin, Done}
+use Rattle.sl_net.specs.declared.actor.LinkPart.{LinkPart}
+use Rattle.sl_net.specs.Parts.{Parts, below, numbers_from, used_ports, ports_of, is_used}
+use Rattle.sl_net.specs.Net.{Net, net_of, link_of, link_numbers, links_into, links_from, links_out, actor_of, no_link, same_sort, ingress, egress, units_of, actors_of, Incoming, incoming, unit_incoming, from_outside, place_of, links_to}
+use Rattle.sl_net.specs.Valid.{IsValid}
+use Rattle.sl_net.specs.Roster.{IsActor}
+use Rattle.sl_net.specs.declared.fault.NetFault.{NetFault}
+use Rattle.sl_net.specs.Fault.{first_of, fault_of, no_device, too_many_devices, wrong_ports, stray_cable, stray_host, reused_port, too_many_hosts, used_host_port, device_namesake, host_namesake}
+use Rattle.sl_net.specs.Wired.{sends, receives, unit_sends, unit_receives, Reports, IsWired, IsNet}
+use Rattle.sl_net.proofs.Checked.{valid_from}
+use Rattle.sl_net.proofs.Lists.{Each, each-map, each-imp, each-of, each-at, Member, member-left, member-right, member-flat, member-from, member-map, member-filter, Distinct, distinct-filter, distinct-from}
+use Rattle.sl_net.proofs.Filters.{only-one}
+use Rattle.sl_net.proofs.Actors.{actor-member, each-actor, actor-at, actors-distinct}
+use Rattle.sl_net.proofs.Sorts.{IsOut, each-out, out-member, is-link, is-into, one-choice}
+use Rattle.sl_net.proofs.EndKinds.{home, notice-receiver, dump-receiver, begin-receiver, done-receiver, poll-sender, begin-sender}
+use Rattle.sl_net.proofs.Linked.{same-place, IsAt, is-at, Joined, reports_of, link_from, Linked, linked, one-link, Ends, ends}
+
+-- The links into an actor.
+
+pub numbers-suc : (s n : ℕ) → numbers_from (suc s) n ≡ map suc (numbers_from s n)
+numbers-suc s zero = refl
+numbers-suc s (suc n) = ap (λ r. suc s ∷ r) (numbers-suc (suc s) n)
+
+pub filter-map : {A B : Type 0} (t : B → Bool) (f : A → B) (xs : List A) → filter t (map f xs) ≡ map f (filter (λ x. t (f x)) xs)
+filter-map t f [] = refl
+filter-map t f (x ∷ xs) = by_bool (t (f x)) (filter-map t f xs)
+  where
+    by_bool : (b : Bool) → filter t (map f xs) ≡ map f (filter (λ x. t (f x)) xs) → cond b (f x ∷ filter t (map f xs)) (filter t (map f xs)) ≡ map f (cond b (x ∷ filter (λ x. t (f x)) xs) (filter (λ x. t (f x)) xs))
+    by_bool true h = ap (λ r. f x ∷ r) h
+    by_bool false h = h
+
+pub map-map : {A B C : Type 0} (g : B → C) (f : A → B) (xs : List A) → map g (map f xs) ≡ map (λ x. g (f x)) xs
+map-map g f [] = refl
+map-map g f (x ∷ xs) = ap (λ r. g (f x) ∷ r) (map-map g f xs)
+
+-- the elements at the numbers of those that pass are those that pass
+pub at-numbers : (t : LinkPart → Bool) (d : LinkPart) (ks : List LinkPart) → map (λ l. get_or ks l d) (filter (λ l. t (get_or ks l d)) (below (length ks))) ≡ filter t ks
+at-numbers t d [] = refl
+at-numbers t d (k ∷ ks) = by_bool (t k) (ap (λ ns. map (λ l. get_or (k ∷ ks) l d) (filter (λ l. t (get_or (k ∷ ks) l d)) ns)) (numbers-suc 0 (length ks))
+    ∙ ap (map (λ l. get_or (k ∷ ks) l d)) (filter-map (λ l. t (get_or (k ∷ ks) l d)) (λ l. suc l) (below (length ks)))
+    ∙ map-map (λ l. get_or (k ∷ ks) l d) (λ l. suc l) (filter (λ l. t (get_or ks l d)) (below (length ks))) ∙ at-numbers t d ks)
+  where
+    by_bool : (b : Bool) → map (λ l. get_or (k ∷ ks) l d) (filter (λ l. t (get_or (k ∷ ks) l d)) (numbers_from 1 (length ks))) ≡ filter t ks
+        → map (λ l. get_or (k ∷ ks) l d) (cond b (0 ∷ filter (λ l. t (get_or (k ∷ ks) l d)) (numbers_from 1 (length ks))) (filter (λ l. t (get_or (k ∷ ks) l d)) (numbers_from 1 (length ks)))) ≡ cond b (k ∷ filter t ks) (filter t ks)
+    by_bool true h = ap (λ r. k ∷ r) h
+    by_bool false h = h
+
+pub filter-append : (t : LinkPart → Bool) (xs ys : List LinkPart) → filter t (xs ++ ys) ≡ filter t xs ++ filter t ys
+filter-append t [] ys = refl
+filter-append t (x ∷ xs) ys = by_bool (t x) (filter-append t xs ys)
+  where
+    by_bool : (b : Bool) → filter t (xs ++ ys) ≡ filter t xs ++ filter t ys → cond b (x ∷ filter t (xs ++ ys)) (filter t (xs ++ ys)) ≡ cond b (x ∷ filter t xs) (filter t xs) ++ filter t ys
+    by_bool true h = ap (λ r. x ∷ r) h
+    by_bool false h = h
+
+filter-all : (t : LinkPart → Bool) (ks : List LinkPart) → Each (λ k. t k ≡ true) ks → filter t ks ≡ ks
+filter-all t [] e = refl
+filter-all t (k ∷ ks) e = ap (λ b. cond b (k ∷ filter t ks) (filter t ks)) e.0 ∙ ap (λ r. k ∷ r) (filter-all t ks e.1)
+
+pub filter-none : (t : LinkPart → Bool) (ks : List LinkPart) → Each (λ k. t k ≡ false) ks → filter t ks ≡ []
+filter-none t [] e = refl
+filter-none t (k ∷ ks) e = ap (λ b. cond b (k ∷ filter t ks) (filter t ks)) e.0 ∙ filter-none t ks e.1
+
+none-of : (t : LinkPart → Bool) (f : ActorId → List LinkPart) (xs : List ActorId) → ((x : ActorId) → Member x xs → filter t (f x) ≡ []) → filter t (flat_map f xs) ≡ []
+none-of t f [] h = refl
+none-of t f (x ∷ xs) h = filter-append t (f x) (flat_map f xs) ∙ ap (λ r. r ++ filter t (flat_map f xs)) (h x (inl refl)) ∙ none-of t f xs (λ y m. h y (inr m))
+
+one-of : (t : LinkPart → Bool) (f : ActorId → List LinkPart) (a : ActorId) (xs : List ActorId) → Distinct xs → Member a xs → filter t (f a) ≡ f a → ((x : ActorId) → Member x xs → (x ≡ a → ⊥) → filter t (f x) ≡ [])
+    → filter t (flat_map f xs) ≡ f a
+one-of t f a [] d m e h = absurd m
+one-of t f a (x ∷ xs) d (inl q) e h = filter-append t (f x) (flat_map f xs) ∙ ap (λ r. filter t (f x) ++ r) (none-of t f xs (λ y m. h y (inr m) (λ z. d.0 (subst (λ y. Member y xs) (z ∙ q) m))))
+    ∙ append-nil (filter t (f x)) ∙ subst (λ x. filter t (f x) ≡ f a) q e
+one-of t f a (x ∷ xs) d (inr m) e h = filter-append t (f x) (flat_map f xs) ∙ ap (λ r. r ++ filter t (flat_map f xs)) (h x (inl refl) (λ z. d.0 (subst (λ y. Member y xs) (sym z) m)))
+    ∙ one-of t f a xs d.1 m e (λ y k. h y (inr k))
+
+-- the links into an actor are its incoming ones, in order
+pub into-links : (parts : Parts) (a : ActorId) → IsActor parts a → map (link_of (net_of parts)) (links_into (net_of parts) (place_of a (actors_of parts))) ≡ links_to parts (actors_of parts) a
+into-links parts a h = let n = place_of a (actors_of parts) in let f = λ (x : ActorId). links_to parts (actors_of parts) x in
+    at-numbers (λ k. k.to == n) no_link (net_of parts).links
+    ∙ one-of (λ k. k.to == n) f a (actors_of parts) (actors-distinct parts) (actor-member parts a h) (filter-all (λ k. k.to == n) (f a) (to_each a true (eq-eqb n n refl)))
+      (λ x m ne. filter-none (λ k. k.to == n) (f x) (to_each x false (by_tells (eqb_tells (place_of x (actors_of parts)) n) (λ z. ne (same x m z)))))
+  where
+    to_each : (x : ActorId) (b : Bool) → (place_of x (actors_of parts) == place_of a (actors_of parts)) ≡ b → Each (λ k. (k.to == place_of a (actors_of parts)) ≡ b) (links_to parts (actors_of parts) x)
+    to_each x b q = each-map (λ k. (k.to == place_of a (actors_of parts)) ≡ b) (λ i. record { from = place_of i.0 (actors_of parts); to = place_of x (actors_of parts); sort = i.1 }) (incoming parts x)
+        (each-of (λ i. (place_of x (actors_of parts) == place_of a (actors_of parts)) ≡ b) (incoming parts x) (λ i m. q))
+    same : (x : ActorId) → Member x (actors_of parts) → place_of x (actors_of parts) ≡ place_of a (actors_of parts) → x ≡ a
+    same x m z = sym (actor-at parts x (each-at (IsActor parts) x (actors_of parts) (each-actor parts) m)) ∙ ap (actor_of (net_of parts)) z ∙ actor-at parts a h
+    by_tells : {x y : ℕ} → ((nat_eq x y ≡ true) × (x ≡ y)) ⊎ ((nat_eq x y ≡ false) × (x ≡ y → ⊥)) → (x ≡ y → ⊥) → nat_eq x y ≡ false
+    by_tells (inl q) ne = absurd (ne q.1)
+    by_tells (inr q) ne = q.0
+
+
+-- One link of a sort.
+
+-- a link of the sort from b to a is the one that there is
+same-link : (parts : Parts) (b a : ActorId) (s : Sort) (k : Linked parts b a s) (l : ℕ) → IsValid parts → l < length (net_of parts).links → (link_of (net_of parts) l).sort ≡ s → (e : Ends parts l) → e.sender ≡ b → e.receiver ≡ a → l ≡ k.link
+same-link parts b a s k l v p q e x y = one-link parts l k.link v p k.is_link
+    (e.is ∙ ap (λ r. link_from parts r (e.sender, (link_of (net_of parts) l).sort)) y ∙ ap (λ r. link_from parts a (r, (link_of (net_of parts) l).sort)) x ∙ ap (λ r. link_from parts a (b, r)) q ∙ sym k.is)
+
+-- where all links of the sort from b lead to a, there is one
+one-out : (parts : Parts) (n : ℕ) (b a : ActorId) (s : Sort) (k : Linked parts b a s) → IsValid parts → IsActor parts b → place_of b (actors_of parts) ≡ n → ((y : ActorId) → Joined y (b, s) → y ≡ a)
+    → links_out (net_of parts) n s ≡ k.link ∷ []
+one-out parts n b a s k v h z only = only-one k.link (links_out (net_of parts) n s)
+    (distinct-filter (λ l. same_sort (link_of (net_of parts) l).sort s) (links_from (net_of parts) n) (distinct-filter (λ l. (link_of (net_of parts) l).from == n) (link_numbers (net_of parts)) (distinct-from 0 (length (net_of parts).links))))
+    (out-member (net_of parts) n s k.link (record { is_link = k.is_link; from = ap (λ x. x.from) k.is ∙ z; sort = ap (λ x. x.sort) k.is }))
+    (each-imp (IsOut (net_of parts) n s) (λ l. l ≡ k.link) (links_out (net_of parts) n s) (λ l o. of_ends l o (ends parts l v o.is_link)) (each-out (net_of parts) n s))
+  where
+    of_ends : (l : ℕ) → IsOut (net_of parts) n s l → Ends parts l → l ≡ k.link
+    of_ends l o e = let x : e.sender ≡ b = same-place parts e.sender b e.is_sender h (sym (ap (λ x. x.from) e.is) ∙ o.from ∙ sym z) in
+        same-link parts b a s k l v o.is_link o.sort e x (only e.receiver (subst (λ t. Joined e.receiver (b, t)) o.sort (subst (λ r. Joined e.receiver (r, (link_of (net_of parts) l).sort)) x e.joined)))
+
+-- Units.
+
+unit-of : (parts : Parts) (i : UnitId) → IsActor parts (OfUnit i) → Member (OfUnit i) (units_of parts i.device)
+unit-of parts i h = of_side i.side refl
+  where
+    of_both : Member (OfUnit i) (ingress i.device i.port ∷ egress i.device i.port ∷ []) → Member (OfUnit i) (units_of parts i.device)
+    of_both m = member-flat (λ p. ingress i.device p ∷ egress i.device p ∷ []) i.port (OfUnit i) (used_ports parts i.device)
+        (member-filter (λ p. is_used parts (record { device = i.device; port = p })) i.port (below (ports_of parts i.device)) (member-from i.port 0 (ports_of parts i.device) (omega arith) (let z : i.port < ports_of parts i.device = h.1 in omega arith)) h.2) m
+    of_side : (x : Side) → i.side ≡ x → Member (OfUnit i) (units_of parts i.device)
+    of_side Ingress q = of_both (inl (ap (λ x. OfUnit (record { device = i.device; port = i.port; side = x })) q))
+    of_side Egress q = of_both (inr (inl (ap (λ x. OfUnit (record { device = i.device; port = i.port; side = x })) q)))
+
+report-member : (parts : Parts) (i : UnitId) (s : Sort) → IsActor parts (OfUnit i) → Member (OfUnit i, s) (reports_of (OfUnit i)) → Member (OfUnit i, s) (incoming parts (Control i.device))
+report-member parts i s h m = inr (member-flat reports_of (OfUnit i) (OfUnit i, s) (units_of parts i.device) (unit-of parts i h) m)
+
+poll-member : (parts : Parts) (i : UnitId) → Member (Control i.device, Poll) (incoming parts (OfUnit i))
+poll-member parts i = of_side i.side
+  where
+    of_side : (s : Side) → Member (Control i.device, Poll) (unit_incoming parts i.device i.port s)
+    of_side Ingress = member-right (Control i.device, Poll) (from_outside parts (record { device = i.device; port = i.port })) ((Control i.device, Init) ∷ (Control i.device, Poll) ∷ []) (inr (inl refl))
+    of_side Egress = member-right (Control i.device, Poll) (map (λ q. (ingress i.device q, Crossbar)) (used_ports parts i.device)) ((Control i.device, Poll) ∷ []) (inl refl)
+
+done-member : (parts : Parts) (d : ℕ) → d < length parts.devices → Member (Control d, Done) (incoming parts Observer)
+done-member parts d h = member-map (λ d. (Control d, Done)) d (below (length parts.devices)) (member-from d 0 (length parts.devices) (omega arith) (omega arith))
+
+reports : (parts : Parts) (u : ℕ) (i : UnitId) → IsValid parts → actor_of (net_of parts) u ≡ OfUnit i → Reports (net_of parts) u
+reports parts u i v q = of_at (is-at parts u (OfUnit i) q (λ e. cc))
+  where
+    of_at : IsAt parts u (OfUnit i) → Reports (net_of parts) u
+    of_at t = let h : IsActor parts (OfUnit i) = t.actor in
+        let c : IsActor parts (Control i.device) = h.0 in
+        let a = place_of (Control i.device) (actors_of parts) in
+        let notice = linked parts (OfUnit i) (Control i.device) Notice c (report-member parts i Notice h (inl refl)) in
+        let dump = linked parts (OfUnit i) (Control i.device) Dump c (report-member parts i Dump h (inr (inl refl))) in
+        let poll = linked parts (Control i.device) (OfUnit i) Poll h (poll-member parts i) in
+        let done = linked parts (Control i.device) Observer Done tt (done-member parts i.device c) in
+        record {
+          control = a;
+          device = i.device;
+          is_control = actor-at parts (Control i.device) c;
+          notice = notice.link;
+          notices = one-out parts u (OfUnit i) (Control i.device) Notice notice v h t.place (λ y j. notice-receiver y j.received ∙ ap Control (sym (j.inner refl)));
+          notice_to = ap (λ k. k.to) notice.is;
+          dump = dump.link;
+          dumps = one-out parts u (OfUnit i) (Control i.device) Dump dump v h t.place (λ y j. dump-receiver y j.received ∙ ap Control (sym (j.inner refl)));
+          dump_to = ap (λ k. k.to) dump.is;
+          poll = poll.link;
+          polled = λ l to s. of_poll poll l to s t (is-link (net_of parts) l (λ z. let w : Poll ≡ ToHost = sym s ∙ z in cc));
+          poll_link = poll.is_link;
+          poll_sort = ap (λ k. k.sort) poll.is;
+          poll_from = ap (λ k. k.from) poll.is;
+          poll_to = ap (λ k. k.to) poll.is ∙ t.place;
+          done = done.link;
+          dones = one-out parts a (Control i.device) Observer Done done v c refl (λ y j. done-receiver y j.received);
+          done_to = ap (λ k. k.to) done.is;
+        }
+      where
+        of_poll : (k : Linked parts (Control i.device) (OfUnit i) Poll) (l : ℕ) → (link_of (net_of parts) l).to ≡ u → (link_of (net_of parts) l).sort ≡ Poll → IsAt parts u (OfUnit i) → l < length (net_of parts).links → l ≡ k.link
+        of_poll k l to s t p = let e = ends parts l v p in
+            let y : e.receiver ≡ OfUnit i = sym e.to ∙ ap (actor_of (net_of parts)) to ∙ q in
+            let j : Joined (OfUnit i) (e.sender, Poll) = subst (λ s. Joined (OfUnit i) (e.sender, s)) s (subst (λ r. Joined r (e.sender, (link_of (net_of parts) l).sort)) y e.joined) in
+            same-link parts (Control i.device) (OfUnit i) Poll k l v p s e (poll-sender e.sender j.sent ∙ ap Control (j.inner refl)) y
+
+-- Begins.
+
+first-link : (f : ℕ → LinkPart) (xs : List ℕ) (k : LinkPart) (ks : List LinkPart) → map f xs ≡ k ∷ ks → (l : ℕ) × (slice_get xs 0 ≡ Some l) × (f l ≡ k)
+first-link f [] k ks h = absurd cc
+first-link f (x ∷ xs) k ks h = (x, refl, cc)
+
+begins : (parts : Parts) (a d : ℕ) → actor_of (net_of parts) a ≡ Control d → (l : ℕ) × (slice_get (links_into (net_of parts) a) 0 ≡ Some l) × ((link_of (net_of parts) l).sort ≡ Begin)
+begins parts a d q = let i = is-at parts a (Control d) q (λ e. cc) in
+    let f = first-link (link_of (net_of parts)) (links_into (net_of parts) (place_of (Control d) (actors_of parts))) _ _ (into-links parts (Control d) i.actor) in
+    (f.0, subst (λ a. slice_get (links_into (net_of parts) a) 0 ≡ Some f.0) i.place f.1, ap (λ k. k.sort) f.2)
+
+begin-first : (parts : Parts) (a c l : ℕ) → IsValid parts → slice_get (links_into (net_of parts) a) c ≡ Some l → (link_of (net_of parts) l).sort ≡ Begin → c ≡ 0
+begin-first parts a c l v k q = let i = is-into (net_of parts) a c l k in let e = ends parts l v i.is_link in
+    let j : receives e.receiver Begin ≡ true = subst (λ s. receives e.receiver s ≡ true) q e.joined.received in
+    let x : actor_of (net_of parts) a ≡ Control (home e.receiver) = ap (actor_of (net_of parts)) (sym i.to) ∙ e.to ∙ begin-receiver e.receiver j in
+    of_first e (begins parts a (home e.receiver) x)
+  where
+    of_first : Ends parts l → ((m : ℕ) × (slice_get (links_into (net_of parts) a) 0 ≡ Some m) × ((link_of (net_of parts) m).sort ≡ Begin)) → c ≡ 0
+    of_first e f = let i = is-into (net_of parts) a c l k in let n = is-into (net_of parts) a 0 f.0 f.1 in let g = ends parts f.0 v n.is_link in
+        let x : e.sender ≡ g.sender = begin-sender e.sender (subst (λ s. sends e.sender s ≡ true) q e.joined.sent) ∙ sym (begin-sender g.sender (subst (λ s. sends g.sender s ≡ true) f.2 g.joined.sent)) in
+        let y : e.receiver ≡ g.receiver = sym e.to ∙ ap (actor_of (net_of parts)) (i.to ∙ sym n.to) ∙ g.to in
+        let z : l ≡ f.0 = one-link parts l f.0 v i.is_link n.is_link (e.is ∙ ap (λ r. link_from parts r (e.sender, (link_of (net_of parts) l).sort)) y ∙ ap (λ r. link_from parts g.receiver (r, (link_of (net_of parts) l).sort)) x
+          ∙ ap (λ s. link_from parts g.receiver (g.sender, s)) (q ∙ sym f.2) ∙ sym g.is) in
+        one-choice (net_of parts) a c 0 l k (subst (λ m. slice_get (links_into (net_of parts) a) 0 ≡ Some m) (sym z) f.1)
+
+-- The net of valid parts is wired.
+pub wired : (parts : Parts) → IsValid parts → IsWired (net_of parts)
+wired parts v = record {
+  observer = refl;
+  one_observer = λ a q. sym (is-at parts a Observer q (λ e. cc)).place;
+  sender = λ l p. let e = ends parts l v p in subst (λ x. sends x (link_of (net_of parts) l).sort ≡ true) (sym e.from) e.joined.sent;
+  receiver = λ l p. let e = ends parts l v p in subst (λ x. receives x (link_of (net_of parts) l).sort ≡ true) (sym e.to) e.joined.received;
+  begins = λ a d q. begins parts a d q;
+  begin_first = λ a c l k q. begin-first parts a c l v k q;
+  reports = λ u i q. reports parts u i v q;
+}
+
+-- Parts without a fault are valid.
+
+none-first : {A : Type 0} (xs : List (Option A)) → first_of xs ≡ None → Each (λ o. o ≡ None) xs
+none-first [] h = tt
+none-first (None ∷ xs) h = (refl, none-first xs h)
+none-first (Some x ∷ xs) h = absurd cc
+
+abbrev reasons : Parts → List (Option NetFault)
+reasons parts = no_device parts ∷ too_many_devices parts ∷ wrong_ports parts ∷ stray_cable parts ∷ stray_host parts ∷ reused_port parts ∷ too_many_hosts parts ∷ used_host_port parts ∷ device_namesake parts ∷ host_namesake parts ∷ []
+
+-- each reason is absent
+pub no-reason : (parts : Parts) → fault_of parts ≡ None → Each (λ o. o ≡ None) (reasons parts)
+no-reason parts h = none-first (reasons parts) h
+
+pub valid : (parts : Parts) → fault_of parts ≡ None → IsValid parts
+valid parts h = let e = no-reason parts h in valid_from parts e.1.0 e.1.1.0 e.1.1.1.0 e.1.1.1.1.0
+
+pub net-wired : (net : Net) → IsNet net → IsWired net
+net-wired net n = subst IsWired (sym n.made) (wired net.parts (valid net.parts n.right))

@@ -1,0 +1,142 @@
+-- The links and choices of an actor, by their sorts.
+--     IsOut net a s l         the link l comes from the actor a and is of the sort s
+--     IsChoice net a s c      the choice c of the actor a takes from a link of the sort s
+use Rattle.std.proofs.Common.{◌≡◌, ℕ, zero, suc, ◌<◌, ◌≤◌, List, [], ◌∷◌, length, refl, sym, ap, subst, ◌∙◌, ◌+◌, Some, arith, inl, inr, eq-eqb}
+use Rattle.std.specs.Prelude.{◌⊎◌, cond, true, false, Bool, ◌==◌, if◌then◌else◌, nat_eq, filter, slice_get, slice_index_or}
+use Rattle.std.proofs.lemmas.Bool.Decides.{eqb_tells}
+use Rattle.std.proofs.lemmas.Bool.{cases_lt}
+use Rattle.std.proofs.lemmas.List.{get_or_past}
+use Rattle.std.proofs.lemmas.Option.{slice_get_within, slice_get-get_or, get_or_from_slice_get}
+use Rattle.sl_net.specs.declared.actor.UnitId.{UnitId}
+use Rattle.sl_net.specs.declared.actor.ActorId.{ActorId}
+use Rattle.sl_net.specs.declared.actor.ActorId.TheVariants.{Observer, Control, Unit as OfUnit, Host as OfHost}
+use Rattle.sl_net.specs.declared.actor.Sort.{Sort}
+use Rattle.sl_net.specs.declared.actor.Sort.TheVariants.{FromHost, ToHost, Cable, Crossbar, Init, Poll, Notice, Dump, Begin, Done}
+use Rattle.sl_net.specs.Parts.{below, numbers_from}
+use Rattle.sl_net.specs.Net.{Net, actor_of, link_of, link_at, link_numbers, links_into, links_from, links_out, no_link, choices_of, sort_number, same_sort, place_in, choice_of}
+use Rattle.sl_net.specs.Wired.{sends, IsWired}
+use Rattle.sl_net.proofs.Lists.{Each, each-imp, each-both, each-below, Member, member-filter, member-from, distinct-filter, distinct-from}
+use Rattle.sl_net.proofs.Filters.{each-member, one-place}
+
+pub told : (x y : ℕ) → nat_eq x y ≡ true → x ≡ y
+told x y h = by_tells (eqb_tells x y)
+  where
+    by_tells : ((nat_eq x y ≡ true) × (x ≡ y)) ⊎ ((nat_eq x y ≡ false) × (x ≡ y → ⊥)) → x ≡ y
+    by_tells (inl q) = q.1
+    by_tells (inr q) = absurd cc
+
+-- Sorts.
+
+-- the sort of a number
+abbrev sort_at : ℕ → Sort
+sort_at n = slice_index_or (FromHost ∷ ToHost ∷ Cable ∷ Crossbar ∷ Init ∷ Poll ∷ Notice ∷ Dump ∷ Begin ∷ Done ∷ []) n Done
+
+at-number : (s : Sort) → sort_at (sort_number s) ≡ s
+at-number FromHost = refl
+at-number ToHost = refl
+at-number Cable = refl
+at-number Crossbar = refl
+at-number Init = refl
+at-number Poll = refl
+at-number Notice = refl
+at-number Dump = refl
+at-number Begin = refl
+at-number Done = refl
+
+pub same-sort-is : (s t : Sort) → same_sort s t ≡ true → s ≡ t
+same-sort-is s t h = sym (at-number s) ∙ ap sort_at (told (sort_number s) (sort_number t) h) ∙ at-number t
+
+-- Links out.
+
+pub record IsOut (net : Net) (a : ℕ) (s : Sort) (l : ℕ) : Type 0 where
+  pub is_link : l < length net.links
+  pub from : (link_of net l).from ≡ a
+  pub sort : (link_of net l).sort ≡ s
+
+pub each-out : (net : Net) (a : ℕ) (s : Sort) → Each (IsOut net a s) (links_out net a s)
+each-out net a s = each-imp (λ l. ((l < length net.links) × (((link_of net l).from == a) ≡ true)) × (same_sort (link_of net l).sort s ≡ true)) (IsOut net a s) (links_out net a s)
+    (λ l h. record { is_link = h.0.0; from = told (link_of net l).from a h.0.1; sort = same-sort-is (link_of net l).sort s h.1 })
+    (each-both (λ l. (l < length net.links) × (((link_of net l).from == a) ≡ true)) (λ l. same_sort (link_of net l).sort s) (links_from net a)
+      (each-both (λ l. l < length net.links) (λ l. (link_of net l).from == a) (link_numbers net) (each-below (λ l. l < length net.links) (length net.links) (λ l p. p))))
+
+pub out-member : (net : Net) (a : ℕ) (s : Sort) (l : ℕ) → IsOut net a s l → Member l (links_out net a s)
+out-member net a s l o = member-filter (λ l. same_sort (link_of net l).sort s) l (links_from net a)
+    (member-filter (λ l. (link_of net l).from == a) l (link_numbers net) (member-from l 0 (length net.links) (omega arith) (let p : l < length net.links = o.is_link in omega arith)) (eq-eqb (link_of net l).from a o.from))
+    (eq-eqb (sort_number (link_of net l).sort) (sort_number s) (ap sort_number o.sort))
+
+-- past the last link there is none
+pub is-link : (net : Net) (l : ℕ) → ((link_of net l).sort ≡ ToHost → ⊥) → l < length net.links
+is-link net l ne = by_cases (cases_lt l (length net.links))
+  where
+    by_cases : (l < length net.links) ⊎ (length net.links ≤ l) → l < length net.links
+    by_cases (inl h) = h
+    by_cases (inr h) = absurd (ne (ap (λ k. k.sort) (get_or_past net.links l no_link h)))
+
+-- Choices.
+
+-- a link that an actor takes from is one that leads to it
+pub record IsInto (net : Net) (a : ℕ) (l : ℕ) : Type 0 where
+  pub is_link : l < length net.links
+  pub to : (link_of net l).to ≡ a
+
+each-into : (net : Net) (a : ℕ) → Each (IsInto net a) (links_into net a)
+each-into net a = each-imp (λ l. (l < length net.links) × (((link_of net l).to == a) ≡ true)) (IsInto net a) (links_into net a) (λ l h. record { is_link = h.0; to = told (link_of net l).to a h.1 })
+    (each-both (λ l. l < length net.links) (λ l. (link_of net l).to == a) (link_numbers net) (each-below (λ l. l < length net.links) (length net.links) (λ l p. p)))
+
+each-got : (P : ℕ → Type 0) (xs : List ℕ) (c l : ℕ) → Each P xs → slice_get xs c ≡ Some l → P l
+each-got P [] c l e q = absurd cc
+each-got P (x ∷ xs) zero l e q = let z : x ≡ l = cc in subst P z e.0
+each-got P (x ∷ xs) (suc c) l e q = each-got P xs c l e.1 q
+
+pub is-into : (net : Net) (a c l : ℕ) → slice_get (links_into net a) c ≡ Some l → IsInto net a l
+is-into net a c l k = each-got (IsInto net a) (links_into net a) c l (each-into net a) k
+
+pub into-to : (net : Net) (a c l : ℕ) → slice_get (links_into net a) c ≡ Some l → (link_of net l).to ≡ a
+into-to net a c l k = (is-into net a c l k).to
+
+-- a link is taken by one choice
+pub one-choice : (net : Net) (a c d l : ℕ) → slice_get (links_into net a) c ≡ Some l → slice_get (links_into net a) d ≡ Some l → c ≡ d
+one-choice net a c d l p q = one-place (links_into net a) c d 0 (distinct-filter (λ l. (link_of net l).to == a) (link_numbers net) (distinct-from 0 (length net.links)))
+    (slice_get_within (links_into net a) c l p) (slice_get_within (links_into net a) d l q) (get_or_from_slice_get (links_into net a) c l 0 p ∙ sym (get_or_from_slice_get (links_into net a) d l 0 q))
+
+pub record IsChoice (net : Net) (a : ℕ) (s : Sort) (c : ℕ) : Type 0 where
+  pub into : slice_get (links_into net a) c ≡ Some (link_at net a c)
+  pub sort : (link_of net (link_at net a c)).sort ≡ s
+
+pub each-choice : (net : Net) (a : ℕ) (s : Sort) → Each (IsChoice net a s) (choices_of net a s)
+each-choice net a s = each-imp (λ c. (c < length (links_into net a)) × (same_sort (link_of net (link_at net a c)).sort s ≡ true)) (IsChoice net a s) (choices_of net a s)
+    (λ c p. record { into = slice_get-get_or (links_into net a) c 0 p.0; sort = same-sort-is (link_of net (link_at net a c)).sort s p.1 })
+    (each-both (λ c. c < length (links_into net a)) (λ c. same_sort (link_of net (link_at net a c)).sort s) (below (length (links_into net a)))
+      (each-below (λ c. c < length (links_into net a)) (length (links_into net a)) (λ i p. p)))
+
+-- what holds of each choice of a sort holds of one that takes from a link of this sort
+pub of-choice : (net : Net) (a : ℕ) (s : Sort) (P : ℕ → Type 0) (c l : ℕ) → Each P (choices_of net a s) → slice_get (links_into net a) c ≡ Some l → (link_of net l).sort ≡ s → P c
+of-choice net a s P c l e k q = each-member P (λ c. same_sort (link_of net (link_at net a c)).sort s) 0 (length (links_into net a)) c e (omega arith) (let x : c < length (links_into net a) = slice_get_within (links_into net a) c l k in omega arith)
+    (eq-eqb (sort_number (link_of net (link_at net a c)).sort) (sort_number s) (ap (λ l. sort_number (link_of net l).sort) (get_or_from_slice_get (links_into net a) c l 0 k) ∙ ap sort_number q))
+
+-- The choice of a link takes from it, and no other does.
+
+pub record Found (n l : ℕ) (xs : List ℕ) : Type 0 where
+  pub place : ℕ
+  pub is_there : place_in n l xs ≡ n + place
+  pub gets : slice_get xs place ≡ Some l
+
+found-in : (t : ℕ → Bool) (l start count n : ℕ) → start ≤ l → l < start + count → t l ≡ true → Found n l (filter t (numbers_from start count))
+found-in t l start zero n p q h = absurd (omega arith)
+found-in t l start (suc count) n p q h = by_tells (λ n r. found-in t l (suc start) count n r (omega (arith, q)) h) (t start) refl (eqb_tells start l)
+  where
+    by_tells : ((n : ℕ) → suc start ≤ l → Found n l (filter t (numbers_from (suc start) count))) → (b : Bool) → t start ≡ b
+        → ((nat_eq start l ≡ true) × (start ≡ l)) ⊎ ((nat_eq start l ≡ false) × (start ≡ l → ⊥))
+        → Found n l (cond b (start ∷ filter t (numbers_from (suc start) count)) (filter t (numbers_from (suc start) count)))
+    by_tells ih true z (inl x) = record { place = 0; is_there = ap (λ b. if b then n else place_in (suc n) l (filter t (numbers_from (suc start) count))) x.0 ∙ (omega arith); gets = ap Some x.1 }
+    by_tells ih true z (inr x) = let k : (start ≡ l → ⊥) = x.1 in let f = ih (suc n) (omega arith) in
+        record { place = suc f.place; is_there = ap (λ b. if b then n else place_in (suc n) l (filter t (numbers_from (suc start) count))) x.0 ∙ (omega (arith, f.is_there)); gets = f.gets }
+    by_tells ih false z (inl x) = absurd (let k : true ≡ false = sym h ∙ ap t (sym x.1) ∙ z in cc)
+    by_tells ih false z (inr x) = ih n (let k : (start ≡ l → ⊥) = x.1 in omega arith)
+
+pub choice-takes : (net : Net) (l : ℕ) → l < length net.links → slice_get (links_into net (link_of net l).to) (choice_of net l) ≡ Some l
+choice-takes net l p = let f : Found 0 l (links_into net (link_of net l).to) = found-in (λ k. (link_of net k).to == (link_of net l).to) l 0 (length net.links) 0 (omega arith) (omega (arith, p)) (eq-eqb (link_of net l).to (link_of net l).to refl) in
+    let e : choice_of net l ≡ f.place = f.is_there ∙ (omega arith) in ap (slice_get (links_into net (link_of net l).to)) e ∙ f.gets
+
+pub choice-is : (net : Net) (a c l : ℕ) → slice_get (links_into net a) c ≡ Some l → choice_of net l ≡ c
+choice-is net a c l k = let i = is-into net a c l k in one-choice net a (choice_of net l) c l (subst (λ b. slice_get (links_into net b) (choice_of net l) ≡ Some l) i.to (choice-takes net l i.is_link)) k

@@ -8,3 +8,6 @@ pub mod Actions
 pub mod Packets
 pub mod Trails
 pub mod Legal
+pub mod Sizes
+pub mod ForwardFindings
+pub mod Walks

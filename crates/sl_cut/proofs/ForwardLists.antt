@@ -46,3 +46,6 @@ flat_map_below_more f n = let z : 0 + n ≡ n = omega arith in
 
 pub place_in_more : (n x : ℕ) (ys : List ℕ) (i : ℕ) → i < length ys → place_in n x (drop i ys) ≡ cond (get_or ys i 0 == x) n (place_in (suc n) x (drop (i + 1) ys))
 place_in_more n x ys i h = at_drop_more (place_in n x) ys i 0 h
+
+pub map_numbers_more : {B : Type 0} (f : ℕ → B) (s n : ℕ) → map f (numbers_from s (n + 1)) ≡ map f (numbers_from s n) ++ f (s + n) ∷ []
+map_numbers_more f s n = ap (λ k. map f (numbers_from s k)) (add-one n) ∙ ap (map f) (numbers-more s n) ∙ map-append f (numbers_from s n) ((s + n) ∷ [])

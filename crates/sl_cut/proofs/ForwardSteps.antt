@@ -65,7 +65,7 @@ first_reverse n xs = by_cases (cases_lt n (length xs))
     by_cases (inr h) = let m : min n (length xs) ≡ length xs = omega (arith, h) in let k : length (reverse xs) ≤ n = omega (arith, h, length-reverse xs) in
         ap (λ i. reverse (take i xs)) m ∙ ap reverse (take-all xs) ∙ sym (first-all n (reverse xs) k)
 
-least_in-snoc : (o : Option ℕ) (xs : List ℕ) (x : ℕ) → least_in o (xs ++ x ∷ []) ≡ Some (min (unwrap_or (least_in o xs) x) x)
+pub least_in-snoc : (o : Option ℕ) (xs : List ℕ) (x : ℕ) → least_in o (xs ++ x ∷ []) ≡ Some (min (unwrap_or (least_in o xs) x) x)
 least_in-snoc o [] x = refl
 least_in-snoc o (y ∷ ys) x = least_in-snoc (Some (min (unwrap_or o y) y)) ys x
 

@@ -21,3 +21,6 @@ pub mod Floors
 pub mod Bounds
 pub mod Near
 pub mod Collected
+pub mod Sizes
+pub mod ForwardFindings
+pub mod Walks

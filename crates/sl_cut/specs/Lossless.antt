@@ -1,9 +1,10 @@
--- Runs that lose nothing, and inputs whose frames can be written.
-use Rattle.std.specs.Prelude.{◌≡◌, ◌^◌, ◌<◌, false, []}
+-- Runs that lose nothing, inputs whose frames can be written, and how many steps a world has.
+use Rattle.std.specs.Prelude.{◌≡◌, ℕ, ◌^◌, ◌<◌, false, [], length}
 use Rattle.std.specs.List.{All}
 use Rattle.sl_net.specs.declared.input.Flow.{Flow}
 use Rattle.sl_net.specs.Input.{LossSpec, Input}
-use Rattle.sl_cut.specs.History.{Losses}
+use Rattle.sl_cut.specs.Words.{weigh}
+use Rattle.sl_cut.specs.History.{World, Losses}
 
 abbrev pub no_loss : Losses
 no_loss l n = false
@@ -24,3 +25,7 @@ pub record HasAddresses (flow : Flow) : Type 0 where
 pub record IsLosslessInput (input : Input) : Type 0 where
   pub lossless : IsLossless input.loss
   pub addresses : All HasAddresses input.flows
+
+-- the steps of all actors
+abbrev pub steps_in : World → ℕ
+steps_in w = weigh length w

@@ -1,6 +1,7 @@
 // Histories of actors, and worlds of histories.
-ghost use Rattle.std.specs.Prelude.{◌≡◌, ◌<◌, ℕ, List, [], ◌∷◌, length, replicate, reverse, slice_set, IfOk, OnOk};
+ghost use Rattle.std.specs.Prelude.{◌≡◌, ◌<◌, ◌≤◌, ℕ, List, [], ◌∷◌, length, replicate, reverse, slice_set, IfOk, OnOk};
 ghost use Rattle.sl_cut.specs.History.{history, first};
+ghost use Rattle.sl_cut.specs.Lossless.{steps_in};
 
 use crate::message::Step;
 use std::alloc::{AllocError, Global};
@@ -85,8 +86,10 @@ impl World {
     }
 
     /// The steps of an actor, the oldest first; none past the last actor.
+    #[tactic(auto, using(crate::proofs::Sizes::history_size, crate::proofs::Sizes::length_steps))]
     pub fn steps(&self, actor: u32) -> &[Step]
-        ensures { reverse result.now ≡ history self.now actor }
+        ensures steps { reverse result.now ≡ history self.now actor }
+        ensures size { length result.now ≤ steps_in self.now }
     {
         match self.items.get(actor as usize) {
             Some(history) => history.steps(),

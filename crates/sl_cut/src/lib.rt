@@ -3,13 +3,16 @@
 #![tactic(auto)]
 
 mod control;
+mod counting;
 mod ends_laws;
 mod findings;
 mod finish;
 mod flow;
 mod follow;
 mod frames;
+mod gather;
 mod history;
+mod judge;
 mod knowledge;
 mod laws;
 mod message;
@@ -20,12 +23,14 @@ mod step;
 mod tell;
 mod total;
 mod units;
+mod values;
 mod verdict;
 mod wires;
 
 pub use ends_laws::finishing_is_legal;
 pub use findings::{Counts, Drops, Finding, FindingList, Findings, Lost, Row, Rows1};
 pub use finish::{finish_histories, finish_histories_after};
+pub use gather::findings_of;
 pub use history::{History, World};
 pub use laws::{
     channel_values_are_late_data, collected_numbers_are_near, cuts_are_consistent,

@@ -1,0 +1,81 @@
+-- Loops that judge and count.
+use Rattle.std.proofs.Common.{◌≡◌, ℕ, zero, suc, ◌+◌, ◌<◌, ◌≤◌, List, [], ◌∷◌, ◌++◌, length, refl, sym, ap, ◌∙◌, Option, Some, None, arith, take, drop, get_or}
+use Rattle.std.specs.Prelude.{min, unwrap_or, slice_index_or}
+use Rattle.std.proofs.lemmas.List.{take_more, at_drop_more}
+use Rattle.sl_net.specs.declared.actor.Sort.{Sort}
+use Rattle.sl_net.specs.Net.{Net}
+use Rattle.sl_cut.specs.declared.total.Total.{Total}
+use Rattle.sl_cut.specs.Words.{weigh, least, least_in, first_from, or_later}
+use Rattle.sl_cut.specs.History.{World}
+use Rattle.sl_cut.specs.Findings.{no_total, eight_totals, lost_on, lost_of}
+use Rattle.sl_cut.specs.Lossless.{no_loss}
+
+-- Sums.
+
+pub weigh-snoc : {A : Type 0} (f : A → ℕ) (xs : List A) (x : A) → weigh f (xs ++ x ∷ []) ≡ weigh f xs + f x
+weigh-snoc f [] x = omega arith
+weigh-snoc f (y ∷ ys) x = let k = weigh-snoc f ys x in omega (arith, k)
+
+pub weigh_more : {A : Type 0} (f : A → ℕ) (xs : List A) (i : ℕ) (d : A) → i < length xs → weigh f (take (i + 1) xs) ≡ weigh f (take i xs) + f (get_or xs i d)
+weigh_more f xs i d h = ap (weigh f) (take_more xs i d h) ∙ weigh-snoc f (take i xs) (get_or xs i d)
+
+pub weigh_take : {A : Type 0} (f : A → ℕ) (xs : List A) (i : ℕ) → weigh f (take i xs) ≤ weigh f xs
+weigh_take f [] zero = omega arith
+weigh_take f [] (suc i) = omega arith
+weigh_take f (x ∷ xs) zero = omega arith
+weigh_take f (x ∷ xs) (suc i) = let k = weigh_take f xs i in omega (arith, k)
+
+weigh-zero : {A : Type 0} (f : A → ℕ) (xs : List A) → ((x : A) → f x ≡ 0) → weigh f xs ≡ 0
+weigh-zero f [] h = refl
+weigh-zero f (x ∷ xs) h = let k = weigh-zero f xs h in let e = h x in omega (arith, k, e)
+
+none-on : (net : Net) (w : World) (l : ℕ) → lost_on net no_loss w l ≡ 0
+none-on net w l = weigh-zero (λ n. 0) _ (λ n. refl)
+
+pub none_lost : (net : Net) (w : World) (sort : Sort) → lost_of net no_loss w sort ≡ 0
+none_lost net w sort = weigh-zero (lost_on net no_loss w) _ (none-on net w)
+
+-- The least of some numbers, with one before them.
+
+least-from : (a : ℕ) (xs : List ℕ) → least_in (Some a) xs ≡ Some (min (unwrap_or (least xs) a) a)
+least-from a [] = let e : a ≡ min a a = omega arith in ap Some e
+least-from a (y ∷ ys) = let e : min y y ≡ y = omega arith in
+    least-from (min a y) ys ∙ both (least ys) ∙ ap (λ o. Some (min (unwrap_or o a) a)) (sym (ap (λ n. least_in (Some n) ys) e ∙ least-from y ys))
+  where
+    both : (o : Option ℕ) → Some (min (unwrap_or o (min a y)) (min a y)) ≡ Some (min (min (unwrap_or o y) y) a)
+    both None = let e : min (min a y) (min a y) ≡ min (min y y) a = omega arith in ap Some e
+    both (Some z) = let e : min z (min a y) ≡ min (min z y) a = omega arith in ap Some e
+
+pub least_cons : (x : ℕ) (xs : List ℕ) → least (x ∷ xs) ≡ Some (min (unwrap_or (least xs) x) x)
+least_cons x xs = let e : min x x ≡ x = omega arith in ap (λ n. least_in (Some n) xs) e ∙ least-from x xs
+
+-- The first element of which something is said.
+
+pub first_next : {A : Type 0} (f : ℕ → Option A) (xs : List ℕ) (i : ℕ) → i < length xs → f (get_or xs i 0) ≡ None
+    → first_from (i + 1) f (drop (i + 1) xs) ≡ first_from i f (drop i xs)
+first_next f xs i h e = let n : i + 1 ≡ suc i = omega arith in
+    sym (at_drop_more (first_from i f) xs i 0 h ∙ ap (λ o. or_later i o (first_from (suc i) f (drop (i + 1) xs))) e ∙ ap (λ k. first_from k f (drop (i + 1) xs)) (sym n))
+
+pub first_here : {A : Type 0} (f : ℕ → Option A) (xs : List ℕ) (i : ℕ) (v : A) → i < length xs → f (get_or xs i 0) ≡ Some v
+    → first_from i f (drop i xs) ≡ Some (i, v)
+first_here f xs i v h e = at_drop_more (first_from i f) xs i 0 h ∙ ap (λ o. or_later i o (first_from (suc i) f (drop (i + 1) xs))) e
+
+-- Eight places.
+
+pub eight_places : (ts : List Total) → eight_totals ts
+    ≡ slice_index_or ts 0 no_total ∷ slice_index_or ts 1 no_total ∷ slice_index_or ts 2 no_total ∷ slice_index_or ts 3 no_total
+    ∷ slice_index_or ts 4 no_total ∷ slice_index_or ts 5 no_total ∷ slice_index_or ts 6 no_total ∷ slice_index_or ts 7 no_total ∷ []
+eight_places [] = refl
+eight_places (a ∷ []) = refl
+eight_places (a ∷ b ∷ []) = refl
+eight_places (a ∷ b ∷ c ∷ []) = refl
+eight_places (a ∷ b ∷ c ∷ d ∷ []) = refl
+eight_places (a ∷ b ∷ c ∷ d ∷ e ∷ []) = refl
+eight_places (a ∷ b ∷ c ∷ d ∷ e ∷ f ∷ []) = refl
+eight_places (a ∷ b ∷ c ∷ d ∷ e ∷ f ∷ g ∷ []) = refl
+eight_places (a ∷ b ∷ c ∷ d ∷ e ∷ f ∷ g ∷ h ∷ ts) = refl
+
+-- Totals.
+
+pub total-same : (t : Total) (p b : ℕ) → t.packets ≡ p → t.bytes ≡ b → t ≡ record { packets = p; bytes = b }
+total-same t p b e f = rw (← e, ← f) refl

@@ -1,0 +1,8 @@
+use Rattle.sl_cut.specs.History.{history}
+use Rattle.sl_cut.specs.Verdict.{cause}
+use Rattle.sl_cut.specs.Words.{first_from}
+use Rattle.std.proofs.Common.{drop, ◌≡◌}
+use Rattle.sl_cut.proofs.judge.first_with_cause.Given as goal
+
+abbrev pub invariant-loop-unit : goal.invariant-loop-unit
+invariant-loop-unit l = record { place : l.place ≡ l.unit-index; rest : first_from l.unit-index (λ u. cause l.snapshot (history l.world u)) (drop l.unit-index l.units) ≡ first_from 0 (λ u. cause l.snapshot (history l.world u)) l.units }

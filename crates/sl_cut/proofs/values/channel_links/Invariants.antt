@@ -1,0 +1,7 @@
+use Rattle.sl_net.specs.Net.{link_at}
+use Rattle.std.proofs.Common.{take, ◌≡◌}
+use Rattle.std.specs.Prelude.{map}
+use Rattle.sl_cut.proofs.values.channel_links.Given as goal
+
+abbrev pub invariant-loop-channel : goal.invariant-loop-channel
+invariant-loop-channel l = l.links.items ≡ map (link_at l.net l.unit) (take l.channel-index l.channel-items)

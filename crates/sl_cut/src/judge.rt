@@ -1,0 +1,198 @@
+// Verdicts on snapshots, from whole histories.
+ghost use Rattle.std.specs.Prelude.{◌≡◌, ℕ, ◌+◌, ◌≤◌, reverse, IfOk, Some, option_map};
+ghost use Rattle.sl_cut.specs.Words.{least, first_told};
+ghost use Rattle.sl_cut.specs.History.{history};
+ghost use Rattle.sl_cut.specs.Knowledge.{floor, unit_floor};
+ghost use Rattle.sl_cut.specs.Verdict.{skipped_to, is_old_data, miscredits, first_cause, cause, channel_lag, lag, lag_at, judged, issued_verdict, holds_floor, floor_holder, place_or_zero, verdict};
+
+use crate::history::World;
+use crate::knowledge::{floor, issued, unit_floor};
+use crate::message::{Message, Step};
+use crate::tell::{id, last, stamp_taken};
+use crate::verdict::{Cause, Lag, Verdict};
+use crate::wires::{data_channels, number_of, units};
+use sl_net::Net;
+use std::alloc::{AllocError, Global};
+
+/// The number to which a unit skipped a snapshot, if it did.
+#[tactic(auto, using(crate::proofs::ForwardSteps::reverse_more))]
+fn skipped_to(snapshot: u64, steps: &[Step]) -> Option<u64>
+    ensures { result ≡ skipped_to snapshot (reverse steps.now) }
+{
+    let mut skipped = None;
+    let mut id = 0;
+    for step in steps {
+        let next = stamp_taken(step).unwrap_or(0).max(id);
+        if id < snapshot && snapshot < next {
+            skipped = Some(next);
+        }
+        id = next;
+    }
+    skipped
+}
+
+fn is_old_data(snapshot: u64, step: &Step) -> bool
+    ensures { result ≡ is_old_data snapshot step.now.taken }
+{
+    match &step.taken {
+        Some(Message::Data(stamp, _)) => *stamp < snapshot,
+        _ => false,
+    }
+}
+
+/// The least number by which a unit miscredited a snapshot, if it did.
+#[tactic(auto, using(crate::proofs::ForwardSteps::reverse_more, crate::proofs::ForwardFindings::least_cons))]
+fn miscredited_by(snapshot: u64, steps: &[Step]) -> Option<u64>
+    ensures { result ≡ least (miscredits snapshot (reverse steps.now)) }
+{
+    let mut by: Option<u64> = None;
+    let mut id = 0;
+    for step in steps {
+        id = stamp_taken(step).unwrap_or(0).max(id);
+        if is_old_data(snapshot, step) && snapshot < id {
+            by = Some(by.unwrap_or(id).min(id));
+        }
+    }
+    by
+}
+
+/// Why a snapshot is inconsistent at a unit, if it is: skipped before miscredited.
+fn cause(snapshot: u64, steps: &[Step]) -> Option<Cause>
+    ensures { result ≡ cause snapshot (reverse steps.now) }
+{
+    match (skipped_to(snapshot, steps), miscredited_by(snapshot, steps)) {
+        (Some(to), _) => Some(Cause::Skipped { to }),
+        (None, Some(by)) => Some(Cause::Miscredited { by }),
+        (None, None) => None,
+    }
+}
+
+/// The first of some channels whose last-seen number is below a snapshot, by its place.
+fn lagging_channel(snapshot: u64, channels: &[u32], steps: &[Step]) -> Option<(usize, u64)>
+    ensures { result ≡ first_told (channel_lag snapshot (reverse steps.now)) channels.now }
+{
+    let mut place = 0;
+    for channel in channels {
+        let seen = last(*channel, steps);
+        if seen < snapshot {
+            return Some((place, seen));
+        }
+        place += 1;
+    }
+    None
+}
+
+/// What of a unit lags behind a snapshot, if something does.
+fn lag(
+    alloc: Global,
+    net: &Net,
+    snapshot: u64,
+    unit: u32,
+    steps: &[Step],
+) -> Result<Option<Lag>, AllocError>
+    ensures { IfOk result (λ answer. answer ≡ lag net.now snapshot unit (reverse steps.now)) }
+{
+    let id = id(steps);
+    if id < snapshot {
+        return Ok(Some(Lag::Id(id)));
+    }
+    match lagging_channel(snapshot, &data_channels(alloc, net, unit)?, steps) {
+        Some((place, seen)) => Ok(Some(Lag::Channel {
+            channel: number_of(place)?,
+            seen,
+        })),
+        None => Ok(None),
+    }
+}
+
+/// The first of some units that lags, by its place.
+fn first_lag(
+    alloc: Global,
+    net: &Net,
+    world: &World,
+    snapshot: u64,
+    units: &[u32],
+) -> Result<Option<(usize, Lag)>, AllocError>
+    ensures { IfOk result (λ first. first ≡ first_told (λ u. lag net.now snapshot u (history world.now u)) units.now) }
+{
+    let mut place = 0;
+    for unit in units {
+        if let Some(lag) = lag(alloc, net, snapshot, *unit, world.steps(*unit))? {
+            return Ok(Some((place, lag)));
+        }
+        place += 1;
+    }
+    Ok(None)
+}
+
+/// The first of some units with a cause, by its place.
+fn first_with_cause(world: &World, snapshot: u64, units: &[u32]) -> Option<(usize, Cause)>
+    ensures { result ≡ first_told (λ u. cause snapshot (history world.now u)) units.now }
+{
+    let mut place = 0;
+    for unit in units {
+        if let Some(cause) = cause(snapshot, world.steps(*unit)) {
+            return Some((place, cause));
+        }
+        place += 1;
+    }
+    None
+}
+
+fn issued_verdict(
+    alloc: Global,
+    net: &Net,
+    world: &World,
+    snapshot: u64,
+) -> Result<Verdict, AllocError>
+    ensures { IfOk result (λ answer. answer ≡ issued_verdict net.now world.now snapshot) }
+{
+    let units = units(alloc, net)?;
+    if let Some((place, lag)) = first_lag(alloc, net, world, snapshot, &units)? {
+        return Ok(Verdict::Pending {
+            unit: number_of(place)?,
+            lag,
+        });
+    }
+    match first_with_cause(world, snapshot, &units) {
+        Some((place, cause)) => Ok(Verdict::Inconsistent {
+            unit: number_of(place)?,
+            cause,
+        }),
+        None => Ok(Verdict::Consistent),
+    }
+}
+
+/// The first of some units at a floor, by its place, 0 where there is none.
+fn holder_of(alloc: Global, net: &Net, world: &World, units: &[u32]) -> Result<usize, AllocError>
+    ensures { IfOk result (λ place. place ≡ place_or_zero (first_told (holds_floor net.now world.now) units.now)) }
+{
+    let floor = floor(alloc, net, world)?;
+    let mut place = 0;
+    for unit in units {
+        if unit_floor(alloc, net, world, *unit)? == floor {
+            return Ok(place);
+        }
+        place += 1;
+    }
+    Ok(0)
+}
+
+/// The verdict on a snapshot.
+pub fn verdict(
+    alloc: Global,
+    net: &Net,
+    world: &World,
+    snapshot: u64,
+) -> Result<Verdict, AllocError>
+    ensures { IfOk result (λ answer. answer ≡ verdict net.now world.now snapshot) }
+{
+    if snapshot <= issued(alloc, net, world.steps(0))? {
+        return issued_verdict(alloc, net, world, snapshot);
+    }
+    let holder = holder_of(alloc, net, world, &units(alloc, net)?)?;
+    Ok(Verdict::NotIssued {
+        unit: number_of(holder)?,
+        floor: floor(alloc, net, world)?,
+    })
+}

@@ -1,0 +1,196 @@
+// The values of a snapshot: what units counted before their cuts, and what was in flight.
+ghost use Rattle.std.specs.Prelude.{◌≡◌, ℕ, ◌≤◌, ◌<◌, ◌^◌, length, map, reverse, take, drop, IfOk, slice_index_or};
+ghost use Rattle.sl_net.specs.Net.{choice_of, link_at};
+ghost use Rattle.sl_cut.specs.Words.{weigh};
+ghost use Rattle.sl_cut.specs.Cut.{before, crossing, data_count, data_bytes, channel_value};
+ghost use Rattle.sl_cut.specs.Findings.{channel_links, no_total, eight_totals, row};
+ghost use Rattle.sl_cut.specs.Lossless.{no_loss, steps_in};
+
+use crate::counting::{bytes, packets};
+use crate::findings::Row;
+use crate::history::World;
+use crate::message::{Message, Step};
+use crate::tell::{put, stamp_taken, taken};
+use crate::total::Total;
+use crate::wires::{data_channels, link_of, links_into, number_at, place_in};
+use sl_net::Net;
+use std::alloc::{AllocError, Global};
+
+/// The steps after which the id of a unit is below a snapshot.
+#[tactic(auto, using(crate::proofs::ForwardSteps::reverse_more))]
+fn before(snapshot: u64, steps: &[Step]) -> &[Step]
+    ensures value { reverse result.now ≡ before snapshot (reverse steps.now) }
+    ensures bound { length result.now ≤ length steps.now }
+{
+    let mut id = 0;
+    let mut count = 0;
+    for (place, step) in steps.iter().enumerate() {
+        id = stamp_taken(step).unwrap_or(0).max(id);
+        if id < snapshot {
+            count = place + 1;
+        }
+    }
+    &steps[..count]
+}
+
+fn first_of(messages: &[Message], count: usize) -> &[Message]
+    ensures value { result.now ≡ take count messages.now }
+    ensures bound { length result.now ≤ count }
+{
+    &messages[..count.min(messages.len())]
+}
+
+fn rest_of(messages: &[Message], count: usize) -> &[Message]
+    ensures value { result.now ≡ drop count messages.now }
+    ensures bound { length result.now ≤ length messages.now }
+{
+    &messages[count.min(messages.len())..]
+}
+
+/// The choice by which a link is taken.
+fn choice_of(alloc: Global, net: &Net, link: u32) -> Result<usize, AllocError>
+    ensures { IfOk result (λ choice. choice ≡ choice_of net.now link) }
+{
+    Ok(place_in(link, &links_into(alloc, net, link_of(net, link).to)?))
+}
+
+fn count_data(message: &Message) -> u64
+    ensures value { result ≡ data_count message.now }
+    ensures bound { result ≤ 1 }
+{
+    match message {
+        Message::Data(_, _) => 1,
+        _ => 0,
+    }
+}
+
+fn data_bytes(message: &Message) -> u64
+    ensures value { result ≡ data_bytes message.now }
+    ensures bound { result ≤ 65535 }
+{
+    match message {
+        Message::Data(_, packet) => packet.len as u64,
+        _ => 0,
+    }
+}
+
+/// The data packets among some messages.
+fn total_of(messages: &[Message]) -> Total
+    requires { length messages.now < 2 ^ 40 }
+    ensures packets { result.packets ≡ weigh data_count messages.now }
+    ensures bytes { result.bytes ≡ weigh data_bytes messages.now }
+{
+    let mut total = Total {
+        packets: 0,
+        bytes: 0,
+    };
+    for message in messages {
+        total.packets += count_data(message);
+        total.bytes += data_bytes(message);
+    }
+    total
+}
+
+/// The value of a channel: the data packets that were put before the sender's cut and taken
+/// after the receiver's.
+fn channel_value(
+    alloc: Global,
+    net: &Net,
+    world: &World,
+    snapshot: u64,
+    link: u32,
+) -> Result<Total, AllocError>
+    requires { steps_in world.now < 2 ^ 40 }
+    ensures { IfOk result (λ total. total ≡ channel_value net.now no_loss world.now snapshot link) }
+{
+    let ends = link_of(net, link);
+    let choice = choice_of(alloc, net, link)?;
+    let messages = put(alloc, link, before(snapshot, world.steps(ends.from)))?;
+    let receiver = world.steps(ends.to);
+    let matched = first_of(&messages, taken(choice, receiver));
+    Ok(total_of(rest_of(matched, taken(choice, before(snapshot, receiver)))))
+}
+
+fn channel_values(
+    alloc: Global,
+    net: &Net,
+    world: &World,
+    snapshot: u64,
+    links: &[u32],
+) -> Result<Vec<Total>, AllocError>
+    requires { steps_in world.now < 2 ^ 40 }
+    ensures { IfOk result (λ totals. totals.items ≡ map (channel_value net.now no_loss world.now snapshot) links.now) }
+{
+    let mut totals = Vec::new(alloc);
+    for link in links {
+        totals.push(channel_value(alloc, net, world, snapshot, *link)?)?;
+    }
+    Ok(totals)
+}
+
+/// The data channels of a unit, as links.
+fn channel_links(alloc: Global, net: &Net, unit: u32) -> Result<Vec<u32>, AllocError>
+    ensures { IfOk result (λ links. links.items ≡ channel_links net.now unit) }
+{
+    let into = links_into(alloc, net, unit)?;
+    let channels = data_channels(alloc, net, unit)?;
+    let mut links = Vec::new(alloc);
+    for channel in &channels {
+        links.push(number_at(&into, *channel as usize))?;
+    }
+    Ok(links)
+}
+
+fn total_at(totals: &[Total], place: usize) -> Total
+    ensures { result ≡ slice_index_or totals.now place no_total }
+{
+    match totals.get(place) {
+        Some(total) => *total,
+        None => Total {
+            packets: 0,
+            bytes: 0,
+        },
+    }
+}
+
+#[tactic(auto, using(crate::proofs::ForwardFindings::eight_places))]
+fn eight_totals(totals: &[Total]) -> [Total; 8]
+    ensures { result ≡ eight_totals totals.now }
+{
+    [
+        total_at(totals, 0),
+        total_at(totals, 1),
+        total_at(totals, 2),
+        total_at(totals, 3),
+        total_at(totals, 4),
+        total_at(totals, 5),
+        total_at(totals, 6),
+        total_at(totals, 7),
+    ]
+}
+
+/// What a unit saved for a snapshot.
+pub fn row(
+    alloc: Global,
+    net: &Net,
+    world: &World,
+    snapshot: u64,
+    unit: u32,
+) -> Result<Row, AllocError>
+    requires { steps_in world.now < 2 ^ 40 }
+    ensures { IfOk result (λ one. one ≡ row net.now no_loss world.now snapshot unit) }
+{
+    let steps = before(snapshot, world.steps(unit));
+    let totals = channel_values(
+        alloc,
+        net,
+        world,
+        snapshot,
+        &channel_links(alloc, net, unit)?,
+    )?;
+    Ok(Row {
+        packets: packets(steps),
+        bytes: bytes(steps),
+        inflight: eight_totals(&totals),
+    })
+}

@@ -87,17 +87,19 @@ pub begin-link : (s : Setup) (lost : Losses) (w : World) (a c l : ℕ) → IsWir
     → Ordered begin_of c (history w a) (r.fifo a c l k).rest (issued s.net (observer w))
 begin-link s lost w a c l n r k q = let h = history w (link_of s.net l).from in
     ordered begin_of (lost l) c (history w a) (put l h) (issued s.net (observer w))
-      (subst (λ b. Rises 0 (numbers begin_of (put l (history w b))) (issued s.net (observer w))) (sym q)
-        (put-rises begin_of (issued s.net) l (history w 0) (observer-begins s (history w 0) n.observer (r.made 0))))
-      (r.fifo a c l k)
+    (subst (λ b. Rises 0 (numbers begin_of (put l (history w b))) (issued s.net (observer w))) (sym q)
+    (put-rises begin_of (issued s.net) l (history w 0) (observer-begins s (history w 0) n.observer (r.made 0))))
+    (r.fifo a c l k)
 
 -- Controls: each initiation is the last Begin number after its step.
 
 control-step : (s : Setup) (a d : ℕ) (h : History) (step : Step) → IsWired s.net → actor_of s.net a ≡ Control d → TakesFit s a (step ∷ h) → Took s a h step ⊎ Acted s a h step
     → (n : ℕ) × Each (PutBy s.net (begun (step ∷ h)) n) step.puts
-control-step s a d h step n q f (inl x) = let j = unwrap_or (dump_of x.message) 0 in
-    (j, subst (Each (PutBy s.net (begun (step ∷ h)) j)) (sym (took-by s a h step (Control d) q x))
-      (control-said s.net a h step.choice x.message (begun (step ∷ h)) j (says (begin_of x.message) refl) (says-itself (dump_of x.message))))
+control-step s a d h step n q f (inl x) = let j = unwrap_or (dump_of x.message) 0 in (
+  j,
+  subst (Each (PutBy s.net (begun (step ∷ h)) j)) (sym (took-by s a h step (Control d) q x))
+      (control-said s.net a h step.choice x.message (begun (step ∷ h)) j (says (begin_of x.message) refl) (says-itself (dump_of x.message))),
+)
   where
     says : (o : Option ℕ) → begin_of x.message ≡ o → Says (begun (step ∷ h)) (begin_of x.message)
     says None e = inl e
@@ -120,7 +122,7 @@ pub init-link : (s : Setup) (lost : Losses) (w : World) (a c l d : ℕ) → IsWi
     → Ordered stamp_of c (history w a) (r.fifo a c l k).rest (begun (history w (link_of s.net l).from))
 init-link s lost w a c l d n r k q = let b = (link_of s.net l).from in let h = history w b in
     ordered stamp_of (lost l) c (history w a) (put l h) (begun h)
-      (put-rises stamp_of begun l h (control-stamps s b d h n q (r.made b) (fit-taken s lost w b r) (begun-falls s lost w b d n r q))) (r.fifo a c l k)
+    (put-rises stamp_of begun l h (control-stamps s b d h n q (r.made b) (fit-taken s lost w b r) (begun-falls s lost w b d n r q))) (r.fifo a c l k)
 
 -- The last stamp of a channel never falls.
 pub last-never-falls : (s : Setup) (lost : Losses) (w : World) (a c l : ℕ) → IsWired s.net → Ran s lost w → slice_get (links_into s.net a) c ≡ Some l → IsTrue (is_stamped (link_of s.net l).sort) → NeverFalls (last c) (history w a)
@@ -128,10 +130,13 @@ last-never-falls s lost w a c l n r k i = by_sort (link_of s.net l).sort refl i
   where
     p : l < length s.net.links
     p = (is-into s.net a c l k).is_link
+
     of_unit : ((i : UnitId) × (actor_of s.net (link_of s.net l).from ≡ OfUnit i)) → NeverFalls (last c) (history w a)
     of_unit u = (unit-link s lost w a c l u.0 r k u.1).climbs
+
     of_control : ((d : ℕ) × (actor_of s.net (link_of s.net l).from ≡ Control d)) → NeverFalls (last c) (history w a)
     of_control d = (init-link s lost w a c l d.0 n r k d.1).climbs
+
     by_sort : (t : Sort) → (link_of s.net l).sort ≡ t → IsTrue (is_stamped t) → NeverFalls (last c) (history w a)
     by_sort Cable q i = of_unit (data-from s.net l n p (inl q))
     by_sort Crossbar q i = of_unit (data-from s.net l n p (inr q))

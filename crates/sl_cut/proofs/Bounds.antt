@@ -82,11 +82,14 @@ step-below s lost w a step k n r b i o t = by_kind (actor_of s.net a) refl t
   where
     acts : (x : ActorId) → actor_of s.net a ≡ x → (x ≡ Observer → ⊥) → Acts s w a step → Each (λ p. IsBelow k p.message) step.puts
     acts x q ne z = puts-below s 0 0 k step.puts (omega arith) (action-said s z.acted.floor a (step.choice - action_choice s.net a) x (history w a) step.puts 0 0 ne (acted-by s a (history w a) step x q z.acted))
+
     puts : (x : ActorId) → actor_of s.net a ≡ x → (z : Takes s lost w a step) → step.puts ≡ puts_of s a x (history w a) step.choice z.took.link z.took.message
     puts x q z = took-by s a (history w a) step x q z.took
+
     id-after : Takes s lost w a step ⊎ Acts s w a step → unwrap_or (option_and_then stamp_of step.taken) 0 ≤ issued s.net (observer w)
     id-after (inl z) = subst (λ o. unwrap_or (option_and_then stamp_of o) 0 ≤ issued s.net (observer w)) (sym z.took.taken) (found-below s lost w a step b z).stamp
     id-after (inr z) = subst (λ o. unwrap_or (option_and_then stamp_of o) 0 ≤ issued s.net (observer w)) (sym z.acted.taken) (omega arith)
+
     by_kind : (x : ActorId) → actor_of s.net a ≡ x → Takes s lost w a step ⊎ Acts s w a step → Each (λ p. IsBelow k p.message) step.puts
     by_kind Observer q z = let e = o q in puts-below s k 0 k step.puts (omega arith) (subst (λ k. Each (PutBy s.net k 0) step.puts) e.1
         (observer-step s (observer w) step n.observer (made-of s lost w 0 step (subst (λ a. Takes s lost w a step ⊎ Acts s w a step) e.0 z))))
@@ -104,16 +107,18 @@ below-step s lost w v e n r t b l = by_actor (eqb_tells (link_of s.net l).from e
   where
     more : issued s.net (observer w) ≤ issued s.net (observer v)
     more = grown-le (issued s.net) w v e.0 t.step 0 t.grows (taken-never-falls (action_choice s.net 0) (observer v))
+
     observed : (link_of s.net l).from ≡ e.0 → actor_of s.net e.0 ≡ Observer → (e.0 ≡ 0) × (issued s.net (t.step ∷ observer w) ≡ issued s.net (observer v))
     observed q o = let z : e.0 ≡ 0 = n.one_observer e.0 o in
         (z, ap (λ b. issued s.net (t.step ∷ history w b)) (sym z) ∙ ap (issued s.net) (sym t.grows.same) ∙ ap (λ b. issued s.net (history v b)) z)
+
     by_actor : ((nat_eq (link_of s.net l).from e.0 ≡ true) × ((link_of s.net l).from ≡ e.0)) ⊎ ((nat_eq (link_of s.net l).from e.0 ≡ false) × ((link_of s.net l).from ≡ e.0 → ⊥))
         → Each (IsBelow (issued s.net (observer v))) (put l (history v (link_of s.net l).from))
     by_actor (inl q) = subst (λ a. Each (IsBelow (issued s.net (observer v))) (put l (history v a))) (sym q.1) (subst (λ h. Each (IsBelow (issued s.net (observer v))) (put l h)) (sym t.grows.same)
         (each-append (IsBelow (issued s.net (observer v))) (put l (history w e.0)) (on_link l t.step.puts)
-          (subst (λ a. Each (IsBelow (issued s.net (observer v))) (put l (history w a))) q.1 (each-more (issued s.net (observer w)) (issued s.net (observer v)) (put l (history w (link_of s.net l).from)) more (b l)))
-          (each-on-link (λ l m. IsBelow (issued s.net (observer v)) m) l t.step.puts
-            (step-below s lost w e.0 t.step (issued s.net (observer v)) n r b more (observed q.1) (next-view s lost w e t.step t.next)))))
+        (subst (λ a. Each (IsBelow (issued s.net (observer v))) (put l (history w a))) q.1 (each-more (issued s.net (observer w)) (issued s.net (observer v)) (put l (history w (link_of s.net l).from)) more (b l)))
+        (each-on-link (λ l m. IsBelow (issued s.net (observer v)) m) l t.step.puts
+        (step-below s lost w e.0 t.step (issued s.net (observer v)) n r b more (observed q.1) (next-view s lost w e t.step t.next)))))
     by_actor (inr q) = subst (λ h. Each (IsBelow (issued s.net (observer v))) (put l h)) (sym (t.grows.other (link_of s.net l).from q.1))
         (each-more (issued s.net (observer w)) (issued s.net (observer v)) (put l (history w (link_of s.net l).from)) more (b l))
 

@@ -72,9 +72,11 @@ reached-of net k u h q = by_cases (cases_lt (id h) k)
         by_last : ((last c h < k) ⊎ (k ≤ last c h)) → k ≤ last c h
         by_last (inl p) = absurd (let z : Some (last c h) ≡ None = sym (ap (λ b. if b then Some (last c h) else None) (lt-ltb (last c h) k p)) ∙ q in cc)
         by_last (inr p) = p
+
     no-channel : (o : Option (ℕ × ℕ)) → lag_at o ≡ None → o ≡ None
     no-channel None e = refl
     no-channel (Some c) e = absurd cc
+
     by_cases : ((id h < k) ⊎ (k ≤ id h)) → Reached net k u h
     by_cases (inl p) = absurd (let z : Some (Id (id h)) ≡ None = sym (ap (λ b. if b then Some (Id (id h)) else lag_at (first_told (channel_lag k h) (data_channels net u))) (lt-ltb (id h) k p)) ∙ q in cc)
     by_cases (inr p) = record {
@@ -158,6 +160,7 @@ late-same s a k c step h f d r t i = ap (λ g. filter (is_old k) (takes c g)) (o
       where
         of_links : {x y : ℕ} → Some x ≡ Some y → x ≡ y
         of_links e = cc
+
     by_tells : ((nat_eq step.choice c ≡ true) × (step.choice ≡ c)) ⊎ ((nat_eq step.choice c ≡ false) × (step.choice ≡ c → ⊥)) → Each (λ m. k ≤ stamp m) (if step.choice == c then listed step.taken else [])
     by_tells (inl q) = subst (λ b. Each (λ m. k ≤ stamp m) (if b then listed step.taken else [])) (sym q.0) (of_step q.1 t)
     by_tells (inr q) = subst (λ b. Each (λ m. k ≤ stamp m) (if b then listed step.taken else [])) (sym q.0) tt
@@ -189,8 +192,10 @@ kept-from s a k n (step ∷ h) m f d q = by_cases (cases_lt (length h) n) (kept-
   where
     whole : length h < n → first n (step ∷ h) ≡ step ∷ h
     whole p = ap (λ b. if b then step ∷ h else first n h) (lt-ltb (length h) n p)
+
     past : n ≤ length h → first n (step ∷ h) ≡ first n h
     past p = ap (λ b. if b then step ∷ h else first n h) (le-ltb (length h) n p)
+
     by_cases : ((length h < n) ⊎ (n ≤ length h)) → (lag s.net k a (first n h) ≡ None → IsKept s.net a k (first n h) h) → IsKept s.net a k (first n (step ∷ h)) (step ∷ h)
     by_cases (inl p) ih = subst (λ g. IsKept s.net a k g (step ∷ h)) (sym (whole p))
         (record { reached = subst (λ g. lag s.net k a g ≡ None) (whole p) q; value = refl; cause = refl; channels = each-of (λ c. late k c (step ∷ h) ≡ late k c (step ∷ h)) (data_channels s.net a) (λ c m. refl) })

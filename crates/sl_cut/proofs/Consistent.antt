@@ -64,7 +64,7 @@ pub sent-split : (s : Setup) (lost : Losses) (w : World) (k l : ℕ) → IsWired
     → SplitsAt k (carried_by lost l (before k (sender s.net w l))) (carried s.net lost w l)
 sent-split s lost w k l n r d = let f = data-from s.net l n d.link (data-sort (link_of s.net l).sort d.data_sort) in
     lost-split k (lost l) (put l (before k (sender s.net w l))) (put l (sender s.net w l))
-      (puts-split s (link_of s.net l).from l k f.0 (sender s.net w l) f.1 (data-stamped (link_of s.net l).sort d.data_sort) (r.made (link_of s.net l).from))
+    (puts-split s (link_of s.net l).from l k f.0 (sender s.net w l) f.1 (data-stamped (link_of s.net l).sort d.data_sort) (r.made (link_of s.net l).from))
 
 -- the first cut(k) steps took as many messages by a choice as they made steps by it
 pub count-before : (c k : ℕ) (h : History) → length (takes c h) ≡ taken c h → length (takes c (before k h)) ≡ taken c (before k h)
@@ -79,9 +79,9 @@ cut-link s lost w k l n r d = of_parts (r.fifo (link_of s.net l).to (choice_of s
         → taken_by s.net l (before k (receiver s.net w l)) ≤ length (carried_by lost l (before k (sender s.net w l)))
     of_parts f x = let h = receiver s.net w l in let c = choice_of s.net l in
         let e : takes c (before k h) ++ (takes c (outside k h) ++ f.rest) ≡ carried_by lost l (before k (sender s.net w l)) ++ x.late =
-            sym (append_assoc (takes c (before k h)) (takes c (outside k h)) f.rest) ∙ ap (λ ms. ms ++ f.rest) (sym (takes-split c k h)) ∙ sym f.split ∙ x.whole in
+        sym (append_assoc (takes c (before k h)) (takes c (outside k h)) f.rest) ∙ ap (λ ms. ms ++ f.rest) (sym (takes-split c k h)) ∙ sym f.split ∙ x.whole in
         let b : length (takes c (before k h)) ≤ length (carried_by lost l (before k (sender s.net w l))) =
-            front-le k (takes c (before k h)) (takes c (outside k h) ++ f.rest) (carried_by lost l (before k (sender s.net w l))) x.late e (takes-before c k h) x.new in
+        front-le k (takes c (before k h)) (takes c (outside k h) ++ f.rest) (carried_by lost l (before k (sender s.net w l))) x.late e (takes-before c k h) x.new in
         let z : length (takes c (before k h)) ≡ taken c (before k h) = count-before c k h f.count in omega (arith, b, z)
 
 -- The prefixes before the id reaches k are a consistent cut, in each world that is a run.

@@ -39,8 +39,10 @@ least-le f g (c ∷ cs) m n i h = least-le f g cs (min m (f c)) (min n (g c)) (l
 
 falls-least : (g : History → ℕ) (cs : List ℕ) (h : History) → NeverFalls g h → Each (λ c. NeverFalls (last c) h) cs → NeverFalls (λ h. least_of (g h) (map (λ c. last c h) cs)) h
 falls-least g cs [] n e = tt
-falls-least g cs (s ∷ h) n e = (least-le (λ c. last c h) (λ c. last c (s ∷ h)) cs (g h) (g (s ∷ h)) n.0 (each-imp (λ c. NeverFalls (last c) (s ∷ h)) (λ c. last c h ≤ last c (s ∷ h)) cs (λ c p. p.0) e)
-    , falls-least g cs h n.1 (each-imp (λ c. NeverFalls (last c) (s ∷ h)) (λ c. NeverFalls (last c) h) cs (λ c p. p.1) e))
+falls-least g cs (s ∷ h) n e = (
+  least-le (λ c. last c h) (λ c. last c (s ∷ h)) cs (g h) (g (s ∷ h)) n.0 (each-imp (λ c. NeverFalls (last c) (s ∷ h)) (λ c. last c h ≤ last c (s ∷ h)) cs (λ c p. p.0) e),
+  falls-least g cs h n.1 (each-imp (λ c. NeverFalls (last c) (s ∷ h)) (λ c. NeverFalls (last c) h) cs (λ c p. p.1) e),
+)
 
 -- The floor of any actor's history never falls as it grows.
 
@@ -51,7 +53,7 @@ choice-falls s lost w a t n r i = each-imp (IsChoice s.net a t) (λ c. NeverFall
 pub floor-of-falls : (s : Setup) (lost : Losses) (w : World) (a : ℕ) → IsWired s.net → Ran s lost w → NeverFalls (floor_of s.net a) (history w a)
 floor-of-falls s lost w a n r = falls-least (upto_of s.net a) (choices_of s.net a Init) (history w a)
     (falls-least id (data_channels s.net a) (history w a) (id-falls (history w a))
-      (each-append (λ c. NeverFalls (last c) (history w a)) (choices_of s.net a Cable) (choices_of s.net a Crossbar) (choice-falls s lost w a Cable n r refl) (choice-falls s lost w a Crossbar n r refl)))
+    (each-append (λ c. NeverFalls (last c) (history w a)) (choices_of s.net a Cable) (choices_of s.net a Crossbar) (choice-falls s lost w a Cable n r refl) (choice-falls s lost w a Crossbar n r refl)))
     (choice-falls s lost w a Init n r refl)
 
 -- F never falls.
@@ -92,7 +94,7 @@ pub floor-le : (s : Setup) (lost : Losses) (w v : World) → IsWired s.net → R
     → issued s.net (observer w) ≤ issued s.net (observer v) → floor s.net w ≤ floor s.net v
 floor-le s lost w v n r t e k j = least-none (unit_floor s.net w) (unit_floor s.net v) (units s.net) (issued s.net (observer w)) (issued s.net (observer v)) j
     (each-imp (λ u. (i : UnitId) × (actor_of s.net u ≡ OfUnit i)) (λ u. unit_floor s.net w u ≤ unit_floor s.net v u) (units s.net)
-      (λ u p. unit-floor-le s lost w v u p.0 n r t p.1 (e u) (k u p.0 p.1)) (each-unit s.net))
+    (λ u p. unit-floor-le s lost w v u p.0 n r t p.1 (e u) (k u p.0 p.1)) (each-unit s.net))
 
 pub taken-never-falls : (c : ℕ) (h : History) → NeverFalls (taken c) h
 taken-never-falls c [] = tt
@@ -104,7 +106,7 @@ known-le s lost w v a step u i n r t g q = let p = n.reports u i q in
     let x = (knows s lost w u i n r p q).told in
     let y = (knows s lost v u i n t p q).told in
     let z : heard (done_of (unit_place s.net u)) (choice_of s.net p.done) (observer w) ≤ heard (done_of (unit_place s.net u)) (choice_of s.net p.done) (observer v) =
-        grown-le (heard (done_of (unit_place s.net u)) (choice_of s.net p.done)) w v a step 0 g (knows s lost v u i n t p q).dones.climbs in
+    grown-le (heard (done_of (unit_place s.net u)) (choice_of s.net p.done)) w v a step 0 g (knows s lost v u i n t p q).dones.climbs in
     omega (arith, x, y, z)
 
 pub floor-step : (s : Setup) (lost : Losses) (w v : World) (a : ℕ) (step : Step) → IsWired s.net → Ran s lost w → Ran s lost v → GrowsAt w v a step → floor s.net w ≤ floor s.net v
@@ -180,12 +182,15 @@ length-turn-le s lost w e u = by_cases (turn-cases s lost w e)
     grows : (h : History) → NeverFalls (λ h. length h) h
     grows [] = tt
     grows (x ∷ h) = (omega arith, grows h)
+
     by_cases : (turn s lost w e ≡ w) ⊎ Steps s lost w e (turn s lost w e) → length (history w u) ≤ length (history (turn s lost w e) u)
     by_cases (inl q) = subst (λ v. length (history w u) ≤ length (history v u)) (sym q) (omega arith)
     by_cases (inr t) = grown-le (λ h. length h) w (turn s lost w e) e.0 t.step u t.grows (grows (history (turn s lost w e) u))
 
 pub extends-run : (s : Setup) (lost : Losses) (w : World) (es : List Entry) (u : ℕ) → Extends w (run s lost w es) u
 extends-run s lost w [] u = record { steps = λ n p. refl }
-extends-run s lost w (e ∷ es) u = record { steps = λ n p.
-    let q : n ≤ length (history (turn s lost w e) u) = omega (arith, p, length-turn-le s lost w e u) in
-    (extends-run s lost (turn s lost w e) es u).steps n q ∙ (extends-turn s lost w e u).steps n p }
+extends-run s lost w (e ∷ es) u = record {
+  steps = λ n p.
+      let q : n ≤ length (history (turn s lost w e) u) = omega (arith, p, length-turn-le s lost w e u) in
+      (extends-run s lost (turn s lost w e) es u).steps n q ∙ (extends-turn s lost w e u).steps n p;
+}

@@ -75,10 +75,13 @@ floor-last net u c l h k i = by_sort (link_of net l).sort refl i
   where
     le_upto : floor_of net u h ≤ upto_of net u h
     le_upto = least-start (map (λ c. last c h) (choices_of net u Init)) (upto_of net u h)
+
     of_upto : (c : ℕ) → upto_of net u h ≤ last c h → floor_of net u h ≤ last c h
     of_upto c q = omega (arith, le_upto, q)
+
     channels : Each (λ c. upto_of net u h ≤ last c h) (choices_of net u Cable ++ choices_of net u Crossbar)
     channels = least-each (λ c. last c h) (data_channels net u) (id h)
+
     by_sort : (t : Sort) → (link_of net l).sort ≡ t → IsTrue (is_stamped t) → floor_of net u h ≤ last c h
     by_sort Cable q i = of_upto c (of-choice net u Cable (λ c. upto_of net u h ≤ last c h) c l (each-front (λ c. upto_of net u h ≤ last c h) (choices_of net u Cable) (choices_of net u Crossbar) channels) k q)
     by_sort Crossbar q i = of_upto c (of-choice net u Crossbar (λ c. upto_of net u h ≤ last c h) c l (each-back (λ c. upto_of net u h ≤ last c h) (choices_of net u Cable) (choices_of net u Crossbar) channels) k q)
@@ -107,20 +110,25 @@ counts-rise s lost w u i n r q p = of_knows (knows s lost w u i n r p q)
     of_knows : Knows s lost w u r p → Rises 0 (known_counts s.net lost w u p) (length (history w u))
     of_knows k =
         let dones : Rises (known (unit_place s.net u) (observer w)) (numbers (done_of (unit_place s.net u)) (on_way s.net lost w p.done)) (dumped (choice_of s.net p.dump) (history w p.control)) =
-            subst (λ ms. Rises (known (unit_place s.net u) (observer w)) (numbers (done_of (unit_place s.net u)) ms) (dumped (choice_of s.net p.dump) (history w p.control)))
-              (sym (on-way-is s.net lost w 0 (choice_of s.net p.done) p.done (dones-into s.net u p) (r.fifo 0 (choice_of s.net p.done) p.done (dones-into s.net u p))))
-              (subst (λ x. Rises x (numbers (done_of (unit_place s.net u)) (r.fifo 0 (choice_of s.net p.done) p.done (dones-into s.net u p)).rest) (dumped (choice_of s.net p.dump) (history w p.control))) (sym k.told) k.dones.rises) in
+        subst (λ ms. Rises (known (unit_place s.net u) (observer w)) (numbers (done_of (unit_place s.net u)) ms) (dumped (choice_of s.net p.dump) (history w p.control)))
+        (sym (on-way-is s.net lost w 0 (choice_of s.net p.done) p.done (dones-into s.net u p) (r.fifo 0 (choice_of s.net p.done) p.done (dones-into s.net u p))))
+        (subst (λ x. Rises x (numbers (done_of (unit_place s.net u)) (r.fifo 0 (choice_of s.net p.done) p.done (dones-into s.net u p)).rest) (dumped (choice_of s.net p.dump) (history w p.control))) (sym k.told) k.dones.rises) in
         let dumps : Rises (dumped (choice_of s.net p.dump) (history w p.control)) (numbers dump_of (on_way s.net lost w p.dump)) (length (history w u)) =
-            subst (λ ms. Rises (dumped (choice_of s.net p.dump) (history w p.control)) (numbers dump_of ms) (length (history w u)))
-              (sym (on-way-is s.net lost w p.control (choice_of s.net p.dump) p.dump (dumps-into s.net u p) (r.fifo p.control (choice_of s.net p.dump) p.dump (dumps-into s.net u p)))) k.dumps.rises in
-        (omega arith, rises-append (known (unit_place s.net u) (observer w)) (numbers (done_of (unit_place s.net u)) (on_way s.net lost w p.done)) (dumped (choice_of s.net p.dump) (history w p.control))
-          (dumped (choice_of s.net p.dump) (history w p.control) ∷ numbers dump_of (on_way s.net lost w p.dump)) (length (history w u)) dones (omega arith, dumps))
+        subst (λ ms. Rises (dumped (choice_of s.net p.dump) (history w p.control)) (numbers dump_of ms) (length (history w u)))
+        (sym (on-way-is s.net lost w p.control (choice_of s.net p.dump) p.dump (dumps-into s.net u p) (r.fifo p.control (choice_of s.net p.dump) p.dump (dumps-into s.net u p)))) k.dumps.rises in (
+          omega arith,
+          rises-append (known (unit_place s.net u) (observer w)) (numbers (done_of (unit_place s.net u)) (on_way s.net lost w p.done)) (dumped (choice_of s.net p.dump) (history w p.control))
+              (dumped (choice_of s.net p.dump) (history w p.control) ∷ numbers dump_of (on_way s.net lost w p.dump)) (length (history w u)) dones (omega arith, dumps),
+        )
 
 followed : (s : Setup) (lost : Losses) (w : World) (u : ℕ) (p : Reports s.net u) (g : History → ℕ) → Rises 0 (known_counts s.net lost w u p) (length (history w u)) → NeverFalls g (history w u)
     → floor s.net w ≤ after_steps g w u (known (unit_place s.net u) (observer w)) → IsFollowed s.net lost w u p g
-followed s lost w u p g c f low = (low, subst (λ h. Rises (after_steps g w u (known (unit_place s.net u) (observer w))) (map (after_steps g w u) (numbers (done_of (unit_place s.net u)) (on_way s.net lost w p.done) ++ dumped (choice_of s.net p.dump) (history w p.control) ∷ numbers dump_of (on_way s.net lost w p.dump))) (g h))
-    (first-all (length (history w u)) (history w u) (omega arith))
-    (rises-map (after_steps g w u) (λ a b j. never-falls g a b (history w u) f j) (known (unit_place s.net u) (observer w)) _ (length (history w u)) c.1))
+followed s lost w u p g c f low = (
+  low,
+  subst (λ h. Rises (after_steps g w u (known (unit_place s.net u) (observer w))) (map (after_steps g w u) (numbers (done_of (unit_place s.net u)) (on_way s.net lost w p.done) ++ dumped (choice_of s.net p.dump) (history w p.control) ∷ numbers dump_of (on_way s.net lost w p.dump))) (g h))
+      (first-all (length (history w u)) (history w u) (omega arith))
+      (rises-map (after_steps g w u) (λ a b j. never-falls g a b (history w u) f j) (known (unit_place s.net u) (observer w)) _ (length (history w u)) c.1),
+)
 
 known-in-order : (s : Setup) (lost : Losses) (w : World) (u : ℕ) (i : UnitId) → IsWired s.net → Ran s lost w → actor_of s.net u ≡ OfUnit i → (p : Reports s.net u) → KnowsInOrder s.net lost w u p
 known-in-order s lost w u i n r q p = let c = counts-rise s lost w u i n r q p in
@@ -130,7 +138,7 @@ known-in-order s lost w u i n r q p = let c = counts-rise s lost w u i n r q p i
       ids = followed s lost w u p id c (id-falls (history w u)) (omega (arith, low, floor-id s.net u (first (known (unit_place s.net u) (observer w)) (history w u))));
       lasts = λ l b t to. let k : slice_get (links_into s.net u) (choice_of s.net l) ≡ Some l = subst (λ a. slice_get (links_into s.net a) (choice_of s.net l) ≡ Some l) to (choice-takes s.net l b) in
           followed s lost w u p (last (choice_of s.net l)) c (last-never-falls s lost w u (choice_of s.net l) l n r k t)
-            (omega (arith, low, floor-last s.net u (choice_of s.net l) l (first (known (unit_place s.net u) (observer w)) (history w u)) k t));
+          (omega (arith, low, floor-last s.net u (choice_of s.net l) l (first (known (unit_place s.net u) (observer w)) (history w u)) k t));
     }
 
 -- Links.
@@ -138,19 +146,19 @@ known-in-order s lost w u i n r q p = let c = counts-rise s lost w u i n r q p i
 data-stamps : (s : Setup) (lost : Losses) (w : World) (l : ℕ) → IsWired s.net → Ran s lost w → IsDataChannel s.net l → StampsRise s.net lost w l (id (sender s.net w l))
 data-stamps s lost w l n r d = let k = choice-takes s.net l d.link in let x = data-from s.net l n d.link (data-sort (link_of s.net l).sort d.data_sort) in
     subst (λ ms. Rises (last (choice_of s.net l) (receiver s.net w l)) (numbers stamp_of ms) (id (sender s.net w l))) (sym (on-way-is s.net lost w (link_of s.net l).to (choice_of s.net l) l k (r.fifo (link_of s.net l).to (choice_of s.net l) l k)))
-      (unit-link s lost w (link_of s.net l).to (choice_of s.net l) l x.0 r k x.1).rises
+    (unit-link s lost w (link_of s.net l).to (choice_of s.net l) l x.0 r k x.1).rises
 
 init-stamps : (s : Setup) (lost : Losses) (w : World) (l : ℕ) → IsWired s.net → Ran s lost w → l < length s.net.links → (link_of s.net l).sort ≡ Init → StampsRise s.net lost w l (begun (sender s.net w l))
 init-stamps s lost w l n r p q = let k = choice-takes s.net l p in let x = init-from s.net l n p q in
     subst (λ ms. Rises (last (choice_of s.net l) (receiver s.net w l)) (numbers stamp_of ms) (begun (sender s.net w l))) (sym (on-way-is s.net lost w (link_of s.net l).to (choice_of s.net l) l k (r.fifo (link_of s.net l).to (choice_of s.net l) l k)))
-      (init-link s lost w (link_of s.net l).to (choice_of s.net l) l x.0 n r k x.1).rises
+    (init-link s lost w (link_of s.net l).to (choice_of s.net l) l x.0 n r k x.1).rises
 
 begins-rise : (s : Setup) (lost : Losses) (w : World) (l : ℕ) → IsWired s.net → Ran s lost w → l < length s.net.links → (link_of s.net l).sort ≡ Begin
     → Rises (begun (receiver s.net w l)) (numbers begin_of (on_way s.net lost w l)) (issued s.net (observer w))
 begins-rise s lost w l n r p q = let k = choice-takes s.net l p in
     subst (λ ms. Rises (begun (receiver s.net w l)) (numbers begin_of ms) (issued s.net (observer w))) (sym (on-way-is s.net lost w (link_of s.net l).to (choice_of s.net l) l k (r.fifo (link_of s.net l).to (choice_of s.net l) l k)))
-      (subst (λ c. Rises (heard begin_of c (receiver s.net w l)) (numbers begin_of (r.fifo (link_of s.net l).to (choice_of s.net l) l k).rest) (issued s.net (observer w))) (n.begin_first (link_of s.net l).to (choice_of s.net l) l k q)
-        (begin-link s lost w (link_of s.net l).to (choice_of s.net l) l n r k (begin-from s.net l n p q)).rises)
+    (subst (λ c. Rises (heard begin_of c (receiver s.net w l)) (numbers begin_of (r.fifo (link_of s.net l).to (choice_of s.net l) l k).rest) (issued s.net (observer w))) (n.begin_first (link_of s.net l).to (choice_of s.net l) l k q)
+    (begin-link s lost w (link_of s.net l).to (choice_of s.net l) l n r k (begin-from s.net l n p q)).rises)
 
 -- The window law.
 
@@ -174,10 +182,11 @@ near s lost w u l i n r x q p to t = record {
   id_near = omega (arith, x.ids u, low);
   stamps_near = each-imp (IsBelow (issued s.net (observer w))) (λ m. stamp m ≤ last (choice_of s.net l) (history w u) + s.window) (on_way s.net lost w l) (λ m b. omega (arith, b.stamp, low))
       (subst (Each (IsBelow (issued s.net (observer w)))) (sym (on-way-is s.net lost w u (choice_of s.net l) l k (r.fifo u (choice_of s.net l) l k)))
-        (each-back (IsBelow (issued s.net (observer w))) (takes (choice_of s.net l) (history w u)) (r.fifo u (choice_of s.net l) l k).rest (subst (Each (IsBelow (issued s.net (observer w)))) (r.fifo u (choice_of s.net l) l k).split (each-lost (IsBelow (issued s.net (observer w))) (lost l) 0 (put l (history w (link_of s.net l).from)) (x.numbers l)))));
+      (each-back (IsBelow (issued s.net (observer w))) (takes (choice_of s.net l) (history w u)) (r.fifo u (choice_of s.net l) l k).rest (subst (Each (IsBelow (issued s.net (observer w)))) (r.fifo u (choice_of s.net l) l k).split (each-lost (IsBelow (issued s.net (observer w))) (lost l) 0 (put l (history w (link_of s.net l).from)) (x.numbers l)))));
 }
   where
     k : slice_get (links_into s.net u) (choice_of s.net l) ≡ Some l
     k = subst (λ a. slice_get (links_into s.net a) (choice_of s.net l) ≡ Some l) to (choice-takes s.net l p)
+
     low : issued s.net (observer w) ≤ last (choice_of s.net l) (history w u) + s.window
     low = omega (arith, x.within, floor-now s lost w u i n r q, floor-last s.net u (choice_of s.net l) l (history w u) k t)

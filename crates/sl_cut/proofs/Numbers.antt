@@ -80,6 +80,7 @@ rises-lost f lost k n (m ∷ ms) b h = by_bool (λ j. rises-lost f lost (suc k) 
         → (o : Option ℕ) → Rises n (listed o ++ numbers f ms) b → Rises n (listed o ++ numbers f (without_lost lost (suc k) ms)) b
     kept ih None h = ih n h
     kept ih (Some x) h = (h.0, ih x h.1)
+
     by_bool : ((j : ℕ) → Rises j (numbers f ms) b → Rises j (numbers f (without_lost lost (suc k) ms)) b)
         → (c : Bool) → Rises n (numbers f (if c then without_lost lost (suc k) ms else m ∷ without_lost lost (suc k) ms)) b
     by_bool ih true = ih n (rises-drop n (listed (f m)) (numbers f ms) b h)
@@ -93,12 +94,15 @@ heard-takes f c (s ∷ h) = by_bool (s.choice == c) (heard-takes f c h)
   where
     xs : List Message
     xs = takes c h
+
     of_number : (o : Option ℕ) → unwrap_or o (last_of 0 (numbers f (takes c h))) ≡ last_of 0 (numbers f (takes c h) ++ (listed o ++ []))
     of_number None = ap (last_of 0) (sym (append-nil (numbers f (takes c h))))
     of_number (Some x) = sym (last-append 0 (numbers f (takes c h)) (x ∷ []))
+
     of_message : (o : Option Message) → unwrap_or (option_and_then f o) (last_of 0 (numbers f (takes c h))) ≡ last_of 0 (numbers f (takes c h) ++ numbers f (listed o))
     of_message None = ap (last_of 0) (sym (append-nil (numbers f (takes c h))))
     of_message (Some m) = of_number (f m)
+
     by_bool : (b : Bool) → heard f c h ≡ last_of 0 (numbers f (takes c h))
         → (if b then unwrap_or (option_and_then f s.taken) (heard f c h) else heard f c h) ≡ last_of 0 (numbers f (takes c h ++ (if b then listed s.taken else [])))
     by_bool true e = ap (unwrap_or (option_and_then f s.taken)) e ∙ of_message s.taken ∙ ap (last_of 0) (sym (numbers-append f (takes c h) (listed s.taken)))
@@ -122,9 +126,11 @@ pub record Ordered (f : Message → Option ℕ) (c : ℕ) (h : History) (rest : 
 pub ordered : (f : Message → Option ℕ) (lost : ℕ → Bool) (c : ℕ) (h : History) (ms : List Message) (b : ℕ) → Rises 0 (numbers f ms) b
     → (t : Fifo c h (without_lost lost 0 ms)) → Ordered f c h t.rest b
 ordered f lost c h ms b r t = let q : Rises 0 (numbers f (takes c h) ++ numbers f t.rest) b =
-      subst (λ xs. Rises 0 xs b) (ap (numbers f) t.split ∙ numbers-append f (takes c h) t.rest) (rises-lost f lost 0 0 ms b r) in
-    record { climbs = climbs-of f c h (last_of 0 (numbers f (takes c h))) (rises-front 0 (numbers f (takes c h)) (numbers f t.rest) b q)
-    ; rises = subst (λ n. Rises n (numbers f t.rest) b) (sym (heard-takes f c h)) (rises-back 0 (numbers f (takes c h)) (numbers f t.rest) b q) }
+    subst (λ xs. Rises 0 xs b) (ap (numbers f) t.split ∙ numbers-append f (takes c h) t.rest) (rises-lost f lost 0 0 ms b r) in
+    record {
+      climbs = climbs-of f c h (last_of 0 (numbers f (takes c h))) (rises-front 0 (numbers f (takes c h)) (numbers f t.rest) b q);
+      rises = subst (λ n. Rises n (numbers f t.rest) b) (sym (heard-takes f c h)) (rises-back 0 (numbers f (takes c h)) (numbers f t.rest) b q);
+    }
 
 -- What is put.
 
@@ -135,6 +141,7 @@ says-rise f j k l (p ∷ ps) i h = by_bool (says-rise f j k l ps i h.1) (says-ri
     by_says : Rises j (numbers f (on_link l ps)) k → Rises k (numbers f (on_link l ps)) k → Says k (f p.message) → Rises j (listed (f p.message) ++ numbers f (on_link l ps)) k
     by_says x y (inl q) = subst (λ o. Rises j (listed o ++ numbers f (on_link l ps)) k) (sym q) x
     by_says x y (inr q) = subst (λ o. Rises j (listed o ++ numbers f (on_link l ps)) k) (sym q) (i, y)
+
     by_bool : Rises j (numbers f (on_link l ps)) k → Rises k (numbers f (on_link l ps)) k → (b : Bool) → Rises j (numbers f (cond b (p.message ∷ on_link l ps) (on_link l ps))) k
     by_bool x y true = by_says x y h.0
     by_bool x y false = x
@@ -162,8 +169,10 @@ never-falls g n m (s ∷ h) r i = by_cases (never-falls g n m h r.1 i) (cases_lt
   where
     all : (k : ℕ) → length h < k → first k (s ∷ h) ≡ s ∷ h
     all k q = ap (λ b. if b then s ∷ h else first k h) (lt-ltb (length h) k q)
+
     past : (k : ℕ) → k ≤ length h → first k (s ∷ h) ≡ first k h
     past k q = ap (λ b. if b then s ∷ h else first k h) (le-ltb (length h) k q)
+
     by_cases : g (first n h) ≤ g (first m h) → ((length h < m) ⊎ (m ≤ length h)) → ((length h < n) ⊎ (n ≤ length h)) → g (first n (s ∷ h)) ≤ g (first m (s ∷ h))
     by_cases ih (inl p) o = subst (λ x. g (first n (s ∷ h)) ≤ g x) (sym (all m p)) (falls-first g n (s ∷ h) r)
     by_cases ih (inr p) o = let q : n ≤ length h = omega arith in
@@ -179,6 +188,7 @@ grown-le g w v a step b x n = by_actor (eqb_tells b a)
   where
     of_step : NeverFalls g (step ∷ history w a) → g (history w a) ≤ g (step ∷ history w a)
     of_step n = n.0
+
     by_actor : ((nat_eq b a ≡ true) × (b ≡ a)) ⊎ ((nat_eq b a ≡ false) × (b ≡ a → ⊥)) → g (history w b) ≤ g (history v b)
     by_actor (inl q) = subst (λ b. g (history w b) ≤ g (history v b)) (sym q.1) (subst (λ h. g (history w a) ≤ g h) (sym x.same)
         (of_step (subst (NeverFalls g) (ap (history v) q.1 ∙ x.same) n)))

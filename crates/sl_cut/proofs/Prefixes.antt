@@ -84,6 +84,7 @@ takes-old c k (s ∷ h) p = each-append (λ m. stamp m < k) (takes c h) (if s.ch
     of_taken : (o : Option Message) → max (unwrap_or (option_and_then stamp_of o) 0) (id h) < k → AllOld k (listed o)
     of_taken None q = tt
     of_taken (Some m) q = (omega (arith, q), tt)
+
     by_bool : (b : Bool) → AllOld k (if b then listed s.taken else [])
     by_bool true = of_taken s.taken p
     by_bool false = tt
@@ -116,6 +117,7 @@ takes-le c (s ∷ h) = by_bool (s.choice == c) (takes-le c h)
     of_taken : (o : Option Message) → length (takes c h) ≤ taken c h → length (takes c h ++ listed o) ≤ suc (taken c h)
     of_taken None p = omega (arith, length-append (takes c h) [], p)
     of_taken (Some m) p = omega (arith, length-append (takes c h) (m ∷ []), p)
+
     by_bool : (b : Bool) → length (takes c h) ≤ taken c h → length (takes c h ++ (if b then listed s.taken else [])) ≤ (if b then suc (taken c h) else taken c h)
     by_bool true p = of_taken s.taken p
     by_bool false p = omega (arith, length-append (takes c h) [], p)
@@ -126,6 +128,7 @@ count-less c s h q = by_bool (s.choice == c) q
     of_taken : (o : Option Message) → length (takes c h ++ listed o) ≡ suc (taken c h) → length (takes c h) ≡ taken c h
     of_taken None p = omega (arith, length-append (takes c h) [], p, takes-le c h)
     of_taken (Some m) p = omega (arith, length-append (takes c h) (m ∷ []), p)
+
     by_bool : (b : Bool) → length (takes c h ++ (if b then listed s.taken else [])) ≡ (if b then suc (taken c h) else taken c h) → length (takes c h) ≡ taken c h
     by_bool true p = of_taken s.taken p
     by_bool false p = omega (arith, length-append (takes c h) [], p)
@@ -167,8 +170,12 @@ puts-split s a l k i (step ∷ h) q t m = by_place (cases_lt (id (step ∷ h)) k
     by_place (inl p) ih = subst (λ g. SplitsAt k (put l g) (put l (step ∷ h))) (sym (before-all k (step ∷ h) p))
         (record { late = []; whole = sym (append-nil (put l (step ∷ h))); old = puts-old s a l k i (step ∷ h) q t m p; new = tt })
     by_place (inr p) ih = subst (λ g. SplitsAt k (put l g) (put l (step ∷ h))) (sym (before-same k step h p))
-        (record { late = ih.late ++ on_link l step.puts; whole = ap (λ ms. ms ++ on_link l step.puts) ih.whole ∙ append_assoc (put l (before k h)) ih.late (on_link l step.puts); old = ih.old
-        ; new = each-append (λ m. k ≤ stamp m) ih.late (on_link l step.puts) ih.new (each-imp (λ m. stamp m ≡ id (step ∷ h)) (λ m. k ≤ stamp m) (on_link l step.puts) (λ m e. omega (arith, e, p)) (step-stamps s a l i step h q t m)) })
+        (record {
+          late = ih.late ++ on_link l step.puts;
+          whole = ap (λ ms. ms ++ on_link l step.puts) ih.whole ∙ append_assoc (put l (before k h)) ih.late (on_link l step.puts);
+          old = ih.old;
+          new = each-append (λ m. k ≤ stamp m) ih.late (on_link l step.puts) ih.new (each-imp (λ m. stamp m ≡ id (step ∷ h)) (λ m. k ≤ stamp m) (on_link l step.puts) (λ m e. omega (arith, e, p)) (step-stamps s a l i step h q t m));
+        })
 
 -- What is carried is split as what is put.
 

@@ -38,12 +38,14 @@ next-view s lost w e step n = let t = stepped s lost w e step n in
     of_message l k None q h = absurd cc
     of_message l k (Some m) q h = let x : taking e.1 m (puts_of s e.0 (actor_of s.net e.0) (history w e.0) e.1 l m) ≡ step = cc in
         subst (λ st. Takes s lost w e.0 st ⊎ Acts s w e.0 st) x
-          (inl (record { took = record { link = l; message = m; into = k; taken = refl; puts = refl }; found = q }))
+        (inl (record { took = record { link = l; message = m; into = k; taken = refl; puts = refl }; found = q }))
+
     of_action : slice_get (links_into s.net e.0) e.1 ≡ None → (o : Option (List Put)) → action s (floor_for s.net w (actor_of s.net e.0)) e.0 (actor_of s.net e.0) (history w e.0) (e.1 - action_choice s.net e.0) ≡ o
         → option_map (acting e.1) o ≡ Some step → Takes s lost w e.0 step ⊎ Acts s w e.0 step
     of_action k None q h = absurd cc
     of_action k (Some ps) q h = let x : acting e.1 ps ≡ step = cc in
         subst (λ st. Takes s lost w e.0 st ⊎ Acts s w e.0 st) x (inr (record { acted = record { past = k; taken = refl; floor = floor_for s.net w (actor_of s.net e.0); puts = q }; now = refl }))
+
     of_link : (o : Option ℕ) → slice_get (links_into s.net e.0) e.1 ≡ o → step_by s lost w e.0 e.1 o (actor_of s.net e.0) ≡ Some step → Takes s lost w e.0 step ⊎ Acts s w e.0 step
     of_link (Some l) k h = of_message l k (front s.net lost w e.0 e.1 l) refl h
     of_link None k h = of_action k (action s (floor_for s.net w (actor_of s.net e.0)) e.0 (actor_of s.net e.0) (history w e.0) (e.1 - action_choice s.net e.0)) refl h
@@ -61,6 +63,7 @@ made-turn s lost w e h = by_cases (turn-cases s lost w e)
     by_actor v t a (inl q) = subst (λ b. IsMade s b (history v b)) (sym q.1) (subst (IsMade s e.0) (sym t.grows.same)
         (made-of s lost w e.0 t.step (next-view s lost w e t.step t.next), h e.0))
     by_actor v t a (inr q) = subst (IsMade s a) (sym (t.grows.other a q.1)) (h a)
+
     by_cases : (turn s lost w e ≡ w) ⊎ Steps s lost w e (turn s lost w e) → AllMade s (turn s lost w e)
     by_cases (inl q) = subst (AllMade s) (sym q) h
     by_cases (inr t) = λ a. by_actor (turn s lost w e) t a (eqb_tells a e.0)
@@ -87,7 +90,7 @@ carried-more net lost w v a step l g = by_sender (link_of net l).from (eqb_tells
         → (more : List Message) × (without_lost (lost l) 0 (put l (history v k)) ≡ without_lost (lost l) 0 (put l (history w k)) ++ more)
     by_sender k (inl q) = subst (λ k. (more : List Message) × (without_lost (lost l) 0 (put l (history v k)) ≡ without_lost (lost l) 0 (put l (history w k)) ++ more)) (sym q.1)
         (subst (λ h. (more : List Message) × (without_lost (lost l) 0 (put l h) ≡ without_lost (lost l) 0 (put l (history w a)) ++ more)) (sym g.same)
-          (lost-more (lost l) 0 (put l (history w a)) (on_link l step.puts)))
+        (lost-more (lost l) 0 (put l (history w a)) (on_link l step.puts)))
     by_sender k (inr q) = ([], ap (λ h. without_lost (lost l) 0 (put l h)) (g.other k q.1) ∙ sym (append-nil (without_lost (lost l) 0 (put l (history w k)))))
 
 fifo-more : (c : ℕ) (h : History) (ms more : List Message) → Fifo c h ms → Fifo c h (ms ++ more)
@@ -116,13 +119,16 @@ fifo-this c step h ms m q t g f = by_rest f.rest f.split (sym (get-past (takes c
   where
     k : takes c (step ∷ h) ≡ takes c h ++ m ∷ []
     k = takes-this c step h m q t
+
     by_rest : (rest : List Message) → ms ≡ takes c h ++ rest → slice_get rest 0 ≡ Some m → Fifo c (step ∷ h) ms
     by_rest [] s n = absurd cc
     by_rest (x ∷ rest) s n = let e : x ≡ m = cc in
-        record { rest = rest
-        ; split = s ∙ ap (λ y. takes c h ++ y ∷ rest) e ∙ sym (append_assoc (takes c h) (m ∷ []) rest) ∙ ap (λ r. r ++ rest) (sym k)
-        ; count = let u : length (takes c h ++ m ∷ []) ≡ suc (taken c h) = omega (arith, length-append (takes c h) (m ∷ []), f.count) in
-            ap length k ∙ u ∙ ap (λ b. if b then suc (taken c h) else taken c h) (sym (eq-eqb step.choice c q)) }
+        record {
+          rest = rest;
+          split = s ∙ ap (λ y. takes c h ++ y ∷ rest) e ∙ sym (append_assoc (takes c h) (m ∷ []) rest) ∙ ap (λ r. r ++ rest) (sym k);
+          count = let u : length (takes c h ++ m ∷ []) ≡ suc (taken c h) = omega (arith, length-append (takes c h) (m ∷ []), f.count) in
+              ap length k ∙ u ∙ ap (λ b. if b then suc (taken c h) else taken c h) (sym (eq-eqb step.choice c q));
+        }
 
 fifo-step : (s : Setup) (lost : Losses) (w v : World) (e : Entry) → Steps s lost w e v → AllFifo s.net lost w → AllFifo s.net lost v
 fifo-step s lost w v e t ih a c l k = let m = carried-more s.net lost w v e.0 t.step l t.grows in
@@ -132,14 +138,16 @@ fifo-step s lost w v e t ih a c l k = let m = carried-more s.net lost w v e.0 t.
         → Takes s lost w e.0 t.step ⊎ Acts s w e.0 t.step → Fifo t.step.choice (t.step ∷ history w e.0) (carried s.net lost w l)
     of_view i f (inl x) = let same : x.took.link ≡ l = cc (x.took.into, i) in
         fifo-this t.step.choice t.step (history w e.0) (carried s.net lost w l) x.took.message refl x.took.taken
-          (subst (λ l. front s.net lost w e.0 t.step.choice l ≡ Some x.took.message) same x.found) f
+        (subst (λ l. front s.net lost w e.0 t.step.choice l ≡ Some x.took.message) same x.found) f
     of_view i f (inr x) = absurd (cc (x.acted.past, i))
+
     by_choice : (d : ℕ) → slice_get (links_into s.net e.0) d ≡ Some l → ((nat_eq t.step.choice d ≡ true) × (t.step.choice ≡ d)) ⊎ ((nat_eq t.step.choice d ≡ false) × (t.step.choice ≡ d → ⊥))
         → Fifo d (t.step ∷ history w e.0) (carried s.net lost w l)
     by_choice d i (inl q) = subst (λ d. Fifo d (t.step ∷ history w e.0) (carried s.net lost w l)) q.1
         (let j : slice_get (links_into s.net e.0) t.step.choice ≡ Some l = subst (λ d. slice_get (links_into s.net e.0) d ≡ Some l) (sym q.1) i in
-          of_view j (ih e.0 t.step.choice l j) (next-view s lost w e t.step t.next))
+        of_view j (ih e.0 t.step.choice l j) (next-view s lost w e t.step t.next))
     by_choice d i (inr q) = fifo-other d t.step (history w e.0) (carried s.net lost w l) q.1 (ih e.0 d l i)
+
     by_actor : ((nat_eq a e.0 ≡ true) × (a ≡ e.0)) ⊎ ((nat_eq a e.0 ≡ false) × (a ≡ e.0 → ⊥)) → Fifo c (history v a) (carried s.net lost w l)
     by_actor (inl q) = subst (λ b. Fifo c (history v b) (carried s.net lost w l)) (sym q.1) (subst (λ h. Fifo c h (carried s.net lost w l)) (sym t.grows.same)
         (by_choice c (subst (λ b. slice_get (links_into s.net b) c ≡ Some l) q.1 k) (eqb_tells t.step.choice c)))

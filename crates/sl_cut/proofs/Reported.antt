@@ -36,7 +36,7 @@ pub dump-link : (s : Setup) (lost : Losses) (w : World) (a c l u : ℕ) (i : Uni
     → Ordered dump_of c (history w a) (r.fifo a c l k).rest (length (history w u))
 dump-link s lost w a c l u i r k q j = let h = history w (link_of s.net l).from in
     subst (λ b. Ordered dump_of c (history w a) (r.fifo a c l k).rest (length (history w b))) q
-      (ordered dump_of (lost l) c (history w a) (put l h) (length h) (put-rises dump_of (λ h. length h) l h (unit-dumps s (link_of s.net l).from i h (ap (actor_of s.net) q ∙ j) (r.made (link_of s.net l).from))) (r.fifo a c l k))
+    (ordered dump_of (lost l) c (history w a) (put l h) (length h) (put-rises dump_of (λ h. length h) l h (unit-dumps s (link_of s.net l).from i h (ap (actor_of s.net) q ∙ j) (r.made (link_of s.net l).from))) (r.fifo a c l k))
 
 -- What a control plane says of the unit at a place.
 
@@ -61,6 +61,7 @@ answer-done net a h n place j v k = each-append (SaysOf place j) (send_all (Done
     by_tells : ((nat_eq place (unit_place net v.unit) ≡ true) × (place ≡ unit_place net v.unit)) ⊎ ((nat_eq place (unit_place net v.unit) ≡ false) × (place ≡ unit_place net v.unit → ⊥)) → Says j (if place == unit_place net v.unit then Some n else None)
     by_tells (inl q) = inr (ap (λ b. if b then Some n else None) q.0 ∙ ap Some (k (sym q.1)))
     by_tells (inr q) = inl (ap (λ b. if b then Some n else None) q.0)
+
     by_bool : (b : Bool) → Each (SaysOf place j) (if b then send PollMsg v.poll ∷ [] else [])
     by_bool true = (inl refl, tt)
     by_bool false = tt
@@ -77,7 +78,7 @@ control-done net a h c NoticeMsg place j f = each-flat (SaysOf place j) (λ v. i
     by_bool v false = tt
 control-done net a h c (DumpMsg n) place j f = each-flat (SaysOf place j) (λ v. if c == v.dump then dump_answer net a h n v else []) (served net a)
     (each-imp (λ v. c ≡ v.dump → unit_place net v.unit ≡ place → n ≡ j) (λ v. Each (SaysOf place j) (if c == v.dump then dump_answer net a h n v else [])) (served net a)
-      (λ v g. by_tells v g (eqb_tells c v.dump)) (f n refl))
+    (λ v g. by_tells v g (eqb_tells c v.dump)) (f n refl))
   where
     by_tells : (v : Served) → (c ≡ v.dump → unit_place net v.unit ≡ place → n ≡ j) → ((nat_eq c v.dump ≡ true) × (c ≡ v.dump)) ⊎ ((nat_eq c v.dump ≡ false) × (c ≡ v.dump → ⊥))
         → Each (SaysOf place j) (if c == v.dump then dump_answer net a h n v else [])
@@ -118,6 +119,7 @@ put-none s u b d l i (step ∷ h) z q e m = each-append (λ m. done_of (unit_pla
     of_number : (j : ℕ) → Each (SaysOf (unit_place s.net u) j) step.puts
     of_number j = control-step s b d h step (unit_place s.net u) j q (λ t n k. each-imp (λ v. v.unit ≡ u → ⊥) (λ v. step.choice ≡ v.dump → unit_place s.net v.unit ≡ unit_place s.net u → n ≡ j) (served s.net b)
         (λ v ne x y. absurd (ne (one-unit s.net u v.unit i z y))) e) m.0
+
     both : (ps : List Put) → Each (SaysOf (unit_place s.net u) 0) ps → Each (SaysOf (unit_place s.net u) 1) ps → Each (λ p. done_of (unit_place s.net u) p.message ≡ None) ps
     both [] x y = tt
     both (p ∷ ps) x y = (none-by (done_of (unit_place s.net u) p.message) x.0 y.0, both ps x.1 y.1)
@@ -134,9 +136,11 @@ none-else s lost w u c l i n r z p k ne = each-taken (λ m. done_of (unit_place 
   where
     other : (link_of s.net l).sort ≡ Done → ((link_of s.net l).from ≡ p.control) → ⊥
     other t q = ne (only-out s.net p.control Done p.done l p.dones (record { is_link = (is-into s.net 0 c l k).is_link; from = q; sort = t }))
+
     of_fits : ((link_of s.net l).sort ≡ Done → ⊥) → Each (λ m. done_of (unit_place s.net u) m ≡ None) (put l (history w (link_of s.net l).from))
     of_fits d = each-imp (λ m. fits_link s.net l m ≡ true) (λ m. done_of (unit_place s.net u) m ≡ None) (put l (history w (link_of s.net l).from)) (λ m f. done-fits (link_of s.net l).sort (unit_place s.net u) m f d)
         (put-fits s (link_of s.net l).from l (history w (link_of s.net l).from) (r.made (link_of s.net l).from))
+
     by_sort : (t : Sort) → (link_of s.net l).sort ≡ t → Each (λ m. done_of (unit_place s.net u) m ≡ None) (put l (history w (link_of s.net l).from))
     by_sort Done q = let d = done-from s.net l n (is-into s.net 0 c l k).is_link q in
         put-none s u (link_of s.net l).from d.0 l i (history w (link_of s.net l).from) z d.1 (served-elsewhere s.net u (link_of s.net l).from p (other q)) (r.made (link_of s.net l).from)
@@ -150,6 +154,7 @@ known-is s u (step ∷ h) p m e = by_tells (known-is s u h p m.1 (λ c l k ne. e
     nothing : (step.choice ≡ choice_of s.net p.done → ⊥) → Took s 0 h step ⊎ Acted s 0 h step → option_and_then (done_of (unit_place s.net u)) step.taken ≡ None
     nothing ne (inl t) = ap (option_and_then (done_of (unit_place s.net u))) t.taken ∙ each-last (λ m. done_of (unit_place s.net u) m ≡ None) step h t.message t.taken (e step.choice t.link t.into ne)
     nothing ne (inr t) = ap (option_and_then (done_of (unit_place s.net u))) t.taken
+
     by_tells : known (unit_place s.net u) h ≡ heard (done_of (unit_place s.net u)) (choice_of s.net p.done) h → ((nat_eq step.choice (choice_of s.net p.done) ≡ true) × (step.choice ≡ choice_of s.net p.done)) ⊎ ((nat_eq step.choice (choice_of s.net p.done) ≡ false) × (step.choice ≡ choice_of s.net p.done → ⊥))
         → known (unit_place s.net u) (step ∷ h) ≡ heard (done_of (unit_place s.net u)) (choice_of s.net p.done) (step ∷ h)
     by_tells ih (inl q) = ap (unwrap_or (option_and_then (done_of (unit_place s.net u)) step.taken)) ih
@@ -181,10 +186,12 @@ knows s lost w u i n r p q = record {
   where
     c : Ordered dump_of (choice_of s.net p.dump) (history w p.control) (r.fifo p.control (choice_of s.net p.dump) p.dump (dumps-into s.net u p)).rest (length (history w u))
     c = dump-link s lost w p.control (choice_of s.net p.dump) p.dump u i r (dumps-into s.net u p) (only-is-out s.net u Dump p.dump p.dumps).from q
+
     d : Ordered (done_of (unit_place s.net u)) (choice_of s.net p.done) (observer w) (r.fifo 0 (choice_of s.net p.done) p.done (dones-into s.net u p)).rest (dumped (choice_of s.net p.dump) (history w p.control))
     d = ordered (done_of (unit_place s.net u)) (lost p.done) (choice_of s.net p.done) (observer w) (put p.done (history w (link_of s.net p.done).from)) (dumped (choice_of s.net p.dump) (history w p.control))
         (subst (λ b. Rises 0 (numbers (done_of (unit_place s.net u)) (put p.done (history w b))) (dumped (choice_of s.net p.dump) (history w p.control))) (sym (only-is-out s.net p.control Done p.done p.dones).from)
-          (put-rises (done_of (unit_place s.net u)) (dumped (choice_of s.net p.dump)) p.done (history w p.control) (control-dones s u i (history w p.control) q p (r.made p.control) c.climbs)))
+        (put-rises (done_of (unit_place s.net u)) (dumped (choice_of s.net p.dump)) p.done (history w p.control) (control-dones s u i (history w p.control) q p (r.made p.control) c.climbs)))
         (r.fifo 0 (choice_of s.net p.done) p.done (dones-into s.net u p))
+
     k : known (unit_place s.net u) (observer w) ≡ heard (done_of (unit_place s.net u)) (choice_of s.net p.done) (observer w)
     k = known-is s u (observer w) p (r.made 0) (λ c l k ne. none-else s lost w u c l i n r q p k (λ e. ne (sym (choice-is s.net 0 c l k) ∙ ap (choice_of s.net) e)))

@@ -93,6 +93,7 @@ route-said net u d k n p = by_bool (p.hops == 0)
     by_port q None = tt
     by_port q (Some r) = put-by net u Crossbar k n (Data k q) (crossbar_to net u d r) refl (said-data k n q)
         (each-filter (IsOut net u Crossbar) (λ l. same_actor (actor_of net (link_of net l).to) (egress d r)) (links_out net u Crossbar) (each-out net u Crossbar))
+
     by_bool : (b : Bool) → Each (PutBy net k n) (if b then [] else onward net u d k (record p { hops = p.hops - 1 }) (next_port net.parts d p.dst))
     by_bool true = tt
     by_bool false = by_port (record p { hops = p.hops - 1 }) (next_port net.parts d p.dst)

@@ -54,13 +54,18 @@ step-said s a h step t = by_kind (actor_of s.net a) refl t
   where
     acts : (i : ActorId) → actor_of s.net a ≡ i → (i ≡ Observer → ⊥) → Acted s a h step → StepSaid s step
     acts i q ne x = record { number = 0; count = 0; said = action-said s x.floor a (step.choice - action_choice s.net a) i h step.puts 0 0 ne (acted-by s a h step i q x) }
+
     by_kind : (i : ActorId) → actor_of s.net a ≡ i → Took s a h step ⊎ Acted s a h step → StepSaid s step
     by_kind Observer q (inl x) = record { number = 0; count = 0; said = subst (Each (PutBy s.net 0 0)) (sym (took-by s a h step Observer q x)) tt }
     by_kind Observer q (inr x) = let b : Begins s x.floor h (step.choice - action_choice s.net a) step.puts = observer-acts s x.floor a (step.choice - action_choice s.net a) h step.puts (acted-by s a h step Observer q x) in
         record { number = b.number; count = 0; said = subst (Each (PutBy s.net b.number 0)) (sym b.puts) (begin-said s.net b.number 0) }
-    by_kind (Control d) q (inl x) = record { number = _; count = _; said = subst (Each (PutBy s.net (unwrap_or (begin_of x.message) 0) (unwrap_or (dump_of x.message) 0)))
-        (sym (took-by s a h step (Control d) q x))
-        (control-said s.net a h step.choice x.message (unwrap_or (begin_of x.message) 0) (unwrap_or (dump_of x.message) 0) (says-itself (begin_of x.message)) (says-itself (dump_of x.message))) }
+    by_kind (Control d) q (inl x) = record {
+      number = _;
+      count = _;
+      said = subst (Each (PutBy s.net (unwrap_or (begin_of x.message) 0) (unwrap_or (dump_of x.message) 0)))
+          (sym (took-by s a h step (Control d) q x))
+          (control-said s.net a h step.choice x.message (unwrap_or (begin_of x.message) 0) (unwrap_or (dump_of x.message) 0) (says-itself (begin_of x.message)) (says-itself (dump_of x.message)));
+    }
     by_kind (Control d) q (inr x) = acts (Control d) q (λ e. cc) x
     by_kind (OfUnit i) q x = record { number = id (step ∷ h); count = suc (length h); said = unit-step s a i h step q x }
     by_kind (OfHost i) q (inl x) = record { number = 0; count = 0; said = subst (Each (PutBy s.net 0 0)) (sym (took-by s a h step (OfHost i) q x)) tt }
@@ -92,7 +97,7 @@ pub put-fits : (s : Setup) (a l : ℕ) (h : History) → IsMade s a h → Each (
 put-fits s a l [] m = tt
 put-fits s a l (step ∷ h) m = let d : StepSaid s step = step-said s a h step m.0 in
     each-append (λ m. fits_link s.net l m ≡ true) (put l h) (on_link l step.puts) (put-fits s a l h m.1)
-      (each-on-link (λ l m. fits_link s.net l m ≡ true) l step.puts (each-imp (PutBy s.net d.number d.count) (λ p. fits_link s.net p.link p.message ≡ true) step.puts (λ p b. b.fits) d.said))
+    (each-on-link (λ l m. fits_link s.net l m ≡ true) l step.puts (each-imp (PutBy s.net d.number d.count) (λ p. fits_link s.net p.link p.message ≡ true) step.puts (λ p b. b.fits) d.said))
 
 pub taken-fits : (s : Setup) (lost : Losses) (w : World) (a c l : ℕ) → Ran s lost w → slice_get (links_into s.net a) c ≡ Some l → Each (λ m. fits_link s.net l m ≡ true) (takes c (history w a))
 taken-fits s lost w a c l r k = each-taken (λ m. fits_link s.net l m ≡ true) (lost l) c (history w a) (put l (history w (link_of s.net l).from))
@@ -118,16 +123,20 @@ id-falls (s ∷ h) = (omega arith, id-falls h)
 
 pub unit-stamps : (s : Setup) (a : ℕ) (i : UnitId) (h : History) → actor_of s.net a ≡ OfUnit i → IsMade s a h → Grows stamp_of id h
 unit-stamps s a i [] q m = tt
-unit-stamps s a i (step ∷ h) q m = (omega arith
-    , each-imp (PutBy s.net (id (step ∷ h)) (suc (length h))) (λ p. Says (id (step ∷ h)) (stamp_of p.message)) step.puts (λ p b. b.said.stamp) (unit-step s a i h step q m.0)
-    , unit-stamps s a i h q m.1)
+unit-stamps s a i (step ∷ h) q m = (
+  omega arith,
+  each-imp (PutBy s.net (id (step ∷ h)) (suc (length h))) (λ p. Says (id (step ∷ h)) (stamp_of p.message)) step.puts (λ p b. b.said.stamp) (unit-step s a i h step q m.0),
+  unit-stamps s a i h q m.1,
+)
 
 -- Each count of steps that is put is the length of the history with the step.
 pub unit-dumps : (s : Setup) (a : ℕ) (i : UnitId) (h : History) → actor_of s.net a ≡ OfUnit i → IsMade s a h → Grows dump_of (λ h. length h) h
 unit-dumps s a i [] q m = tt
-unit-dumps s a i (step ∷ h) q m = (omega arith
-    , each-imp (PutBy s.net (id (step ∷ h)) (suc (length h))) (λ p. Says (suc (length h)) (dump_of p.message)) step.puts (λ p b. b.said.dump) (unit-step s a i h step q m.0)
-    , unit-dumps s a i h q m.1)
+unit-dumps s a i (step ∷ h) q m = (
+  omega arith,
+  each-imp (PutBy s.net (id (step ∷ h)) (suc (length h))) (λ p. Says (suc (length h)) (dump_of p.message)) step.puts (λ p b. b.said.dump) (unit-step s a i h step q m.0),
+  unit-dumps s a i h q m.1,
+)
 
 -- On a link from a unit: the stamps heard never fall, and these, then the stamps not yet taken, end at most at the sender's id.
 pub unit-link : (s : Setup) (lost : Losses) (w : World) (a c l : ℕ) (i : UnitId) (r : Ran s lost w) (k : slice_get (links_into s.net a) c ≡ Some l) → actor_of s.net (link_of s.net l).from ≡ OfUnit i

@@ -46,6 +46,7 @@ turn-cases s lost w e = by_next (next_step s lost w e) refl
     by_place : (step : Step) → next_step s lost w e ≡ Some step → ((e.0 < length w) ⊎ (length w ≤ e.0)) → (after w e.0 (Some step) ≡ w) ⊎ Steps s lost w e (after w e.0 (Some step))
     by_place step q (inl h) = inr (record { step = step; next = q; grows = grows-after w e.0 step h })
     by_place step q (inr h) = inl (set-past w e.0 (step ∷ history w e.0) h)
+
     by_next : (o : Option Step) → next_step s lost w e ≡ o → (after w e.0 o ≡ w) ⊎ Steps s lost w e (after w e.0 o)
     by_next None q = inl refl
     by_next (Some step) q = by_place step q (cases_lt e.0 (length w))

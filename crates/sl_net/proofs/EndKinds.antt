@@ -1,5 +1,5 @@
 -- What the actors at the ends of a link are, by its sort.
-use Rattle.std.proofs.Common.{◌≡◌, ℕ, ◌<◌, length, refl, ap, subst, ◌∙◌, inl, inr, Some}
+use Rattle.std.proofs.Common.{◌≡◌, ℕ, ◌<◌, length, refl, subst, inl, inr, Some}
 use Rattle.std.specs.Prelude.{◌⊎◌, true, slice_get}
 use Rattle.sl_net.specs.declared.actor.ActorId.{ActorId}
 use Rattle.sl_net.specs.declared.actor.ActorId.TheVariants.{Observer, Control, Unit as OfUnit, Host as OfHost}
@@ -10,7 +10,7 @@ use Rattle.sl_net.specs.declared.actor.Sort.{Sort}
 use Rattle.sl_net.specs.declared.actor.Sort.TheVariants.{Cable, Crossbar, Init, Poll, Notice, Dump, Begin, Done}
 use Rattle.sl_net.specs.Net.{Net, actor_of, link_of, links_into}
 use Rattle.sl_net.specs.Wired.{sends, receives, unit_sends, unit_receives, IsWired}
-use Rattle.sl_net.proofs.Sorts.{IsInto, is-into}
+use Rattle.sl_net.proofs.Sorts.{is-into}
 
 -- the device of a control plane or a unit
 abbrev pub home : ActorId → ℕ

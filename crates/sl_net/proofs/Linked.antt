@@ -1,17 +1,16 @@
 -- The links of the net of valid parts: no two are one, and each joins two actors of a kind.
 --     Joined x i            what the incoming link i of the actor x is
 --     Linked parts b a s    the net's link of the sort s from the actor b to the actor a
-use Rattle.std.proofs.Common.{◌≡◌, ℕ, zero, suc, ◌+◌, ◌<◌, ◌≤◌, List, [], ◌∷◌, ◌++◌, length, refl, sym, ap, subst, ◌∙◌, Option, Some, None, arith, inl, inr, get_or}
+use Rattle.std.proofs.Common.{◌≡◌, ℕ, ◌<◌, ◌≤◌, List, [], ◌∷◌, ◌++◌, length, refl, sym, ap, subst, ◌∙◌, Option, Some, None, inl, inr}
 use Rattle.std.specs.Prelude.{◌⊎◌, true, false, Bool, map, flat_map, slice_get}
 use Rattle.std.proofs.lemmas.Bool.{cases_lt}
 use Rattle.std.proofs.lemmas.List.{get_or_past}
 use Rattle.sl_net.specs.declared.actor.ActorId.{ActorId}
 use Rattle.sl_net.specs.declared.actor.ActorId.TheVariants.{Observer, Control, Unit as OfUnit, Host as OfHost}
-use Rattle.sl_net.specs.declared.actor.UnitId.{UnitId}
 use Rattle.sl_net.specs.declared.actor.Side.{Side}
 use Rattle.sl_net.specs.declared.actor.Side.TheVariants.{Ingress, Egress}
 use Rattle.sl_net.specs.declared.actor.Sort.{Sort}
-use Rattle.sl_net.specs.declared.actor.Sort.TheVariants.{FromHost, ToHost, Cable, Crossbar, Init, Poll, Notice, Dump, Begin, Done}
+use Rattle.sl_net.specs.declared.actor.Sort.TheVariants.{FromHost, Cable, Crossbar, Init, Poll, Notice, Dump, Begin, Done}
 use Rattle.sl_net.specs.declared.actor.LinkPart.{LinkPart}
 use Rattle.sl_net.specs.declared.parts.PortRef.{PortRef}
 use Rattle.sl_net.specs.Parts.{Parts, below, other_end, host_at, used_ports, ports_of, is_used}
@@ -19,7 +18,7 @@ use Rattle.sl_net.specs.Net.{net_of, link_of, actor_of, nobody, no_link, ingress
 use Rattle.sl_net.specs.Valid.{IsValid}
 use Rattle.sl_net.specs.Roster.{IsActor}
 use Rattle.sl_net.specs.Wired.{sends, receives}
-use Rattle.sl_net.proofs.Lists.{Each, each-append, each-map, each-imp, each-flat, each-below, each-of, each-at, each-index, Member, member-flat, member-map, member-parts, Distinct, distinct-append, distinct-filter, distinct-from, inside}
+use Rattle.sl_net.proofs.Lists.{Each, each-append, each-map, each-imp, each-flat, each-of, each-at, each-index, Member, member-flat, member-map, Distinct, distinct-append, distinct-filter, distinct-from}
 use Rattle.sl_net.proofs.Actors.{actor-member, each-actor, actor-at, actors-distinct, place-at, units-distinct, each-unit-of}
 use Rattle.sl_net.proofs.Senders.{IsSender, IsLink, each-sender, each-link}
 use Rattle.sl_net.proofs.EndKinds.{home}
@@ -83,8 +82,11 @@ reports_of u = (u, Notice) ∷ (u, Dump) ∷ []
 
 pub each-joined : (parts : Parts) (x : ActorId) → Each (Joined x) (incoming parts x)
 each-joined parts Observer = each-map (Joined Observer) (λ d. (Control d, Done)) (below (length parts.devices)) (each-of (λ d. Joined Observer (Control d, Done)) (below (length parts.devices)) (λ d m. record { sent = refl; received = refl; inner = λ q. absurd cc }))
-each-joined parts (Control d) = (record { sent = refl; received = refl; inner = λ q. absurd cc }, each-flat (Joined (Control d)) reports_of (units_of parts d) (each-unit-of parts d (λ u. Each (Joined (Control d)) (reports_of u))
-    (λ p. ((record { sent = refl; received = refl; inner = λ q. refl }, (record { sent = refl; received = refl; inner = λ q. refl }, tt)), (record { sent = refl; received = refl; inner = λ q. refl }, (record { sent = refl; received = refl; inner = λ q. refl }, tt))))))
+each-joined parts (Control d) = (
+  record { sent = refl; received = refl; inner = λ q. absurd cc },
+  each-flat (Joined (Control d)) reports_of (units_of parts d) (each-unit-of parts d (λ u. Each (Joined (Control d)) (reports_of u))
+      (λ p. ((record { sent = refl; received = refl; inner = λ q. refl }, (record { sent = refl; received = refl; inner = λ q. refl }, tt)), (record { sent = refl; received = refl; inner = λ q. refl }, (record { sent = refl; received = refl; inner = λ q. refl }, tt))))),
+)
 each-joined parts (OfUnit u) = unit-joined parts u.device u.port u.side
 each-joined parts (OfHost h) = by_port (slice_get (map (λ part. part.at) parts.hosts) h)
   where
@@ -104,6 +106,7 @@ control-distinct parts d = (
     first u b (inl q) = ap (λ i. i.0) q
     first u b (inr (inl q)) = ap (λ i. i.0) q
     first u b (inr (inr m)) = absurd m
+
     two : (u : ActorId) → Distinct (reports_of u)
     two u = ((λ m. by_member m), ((λ m. m), tt))
       where
@@ -118,12 +121,14 @@ unit-distinct parts d p Ingress = by_ends (host_at parts (record { device = d; p
     none x s n k (inl q) = n (ap (λ i. i.1) q)
     none x s n k (inr (inl q)) = k (ap (λ i. i.1) q)
     none x s n k (inr (inr m)) = m
+
     last : Distinct {A = Incoming} ((Control d, Init) ∷ (Control d, Poll) ∷ [])
     last = ((λ m. by_member m), ((λ m. m), tt))
       where
         by_member : Member {A = Incoming} (Control d, Init) ((Control d, Poll) ∷ []) → ⊥
         by_member (inl q) = let z : Init ≡ Poll = ap (λ i. i.1) q in absurd cc
         by_member (inr m) = m
+
     by_ends : (x : Option ℕ) (y : Option PortRef) → Distinct (from_host_or_cable x y ++ (Control d, Init) ∷ (Control d, Poll) ∷ [])
     by_ends (Some h) y = ((λ m. none (OfHost h) FromHost (λ q. cc) (λ q. cc) m), last)
     by_ends None (Some e) = ((λ m. none (egress e.device e.port) Cable (λ q. cc) (λ q. cc) m), last)
@@ -154,11 +159,11 @@ link_from parts x i = record { from = place_of i.0 (actors_of parts); to = place
 pub links-distinct : (parts : Parts) → IsValid parts → Distinct (net_of parts).links
 links-distinct parts v = distinct-joined (λ x. links_to parts (actors_of parts) x) (actors_of parts)
     (λ x y k m n p q. let a = member-of-map (link_from parts x) k (incoming parts x) p in let b = member-of-map (link_from parts y) k (incoming parts y) q in
-      same-place parts x y (each-at (IsActor parts) x (actors_of parts) (each-actor parts) m) (each-at (IsActor parts) y (actors_of parts) (each-actor parts) n) (ap (λ k. k.to) (sym a.2 ∙ b.2)))
+    same-place parts x y (each-at (IsActor parts) x (actors_of parts) (each-actor parts) m) (each-at (IsActor parts) y (actors_of parts) (each-actor parts) n) (ap (λ k. k.to) (sym a.2 ∙ b.2)))
     (actors-distinct parts)
     (each-imp (IsActor parts) (λ x. Distinct (links_to parts (actors_of parts) x)) (actors_of parts) (λ x h. distinct-map (link_from parts x) (incoming parts x)
-      (λ i j m n q. let z : i.0 ≡ j.0 = same-place parts i.0 j.0 (each-at (IsSender parts) i (incoming parts x) (each-sender parts x v h) m).0 (each-at (IsSender parts) j (incoming parts x) (each-sender parts x v h) n).0 (ap (λ k. k.from) q) in
-        let t : i.1 ≡ j.1 = ap (λ k. k.sort) q in ap (λ a. (a, i.1)) z ∙ ap (λ s. (j.0, s)) t) (incoming-distinct parts x)) (each-actor parts))
+    (λ i j m n q. let z : i.0 ≡ j.0 = same-place parts i.0 j.0 (each-at (IsSender parts) i (incoming parts x) (each-sender parts x v h) m).0 (each-at (IsSender parts) j (incoming parts x) (each-sender parts x v h) n).0 (ap (λ k. k.from) q) in
+    let t : i.1 ≡ j.1 = ap (λ k. k.sort) q in ap (λ a. (a, i.1)) z ∙ ap (λ s. (j.0, s)) t) (incoming-distinct parts x)) (each-actor parts))
 
 -- a link of the net, by its ends
 pub record Linked (parts : Parts) (b a : ActorId) (s : Sort) : Type 0 where
@@ -168,7 +173,7 @@ pub record Linked (parts : Parts) (b a : ActorId) (s : Sort) : Type 0 where
 
 pub linked : (parts : Parts) (b a : ActorId) (s : Sort) → IsActor parts a → Member (b, s) (incoming parts a) → Linked parts b a s
 linked parts b a s h m = let r = place-of-member (link_from parts a (b, s)) (net_of parts).links
-      (member-flat (λ x. links_to parts (actors_of parts) x) a (link_from parts a (b, s)) (actors_of parts) (actor-member parts a h) (member-map (link_from parts a) (b, s) (incoming parts a) m)) in
+    (member-flat (λ x. links_to parts (actors_of parts) x) a (link_from parts a (b, s)) (actors_of parts) (actor-member parts a h) (member-map (link_from parts a) (b, s) (incoming parts a) m)) in
     record { link = r.0; is_link = r.1; is = r.2 no_link }
 
 -- two numbers of one link are one

@@ -1,26 +1,26 @@
 -- The net of valid parts is wired.
 --     into-links      the links into an actor are its incoming ones, in order
 --     wired           the wiring that the laws ask for
-use Rattle.std.proofs.Common.{◌≡◌, ℕ, zero, suc, ◌+◌, ◌<◌, ◌≤◌, List, [], ◌∷◌, ◌++◌, length, refl, sym, ap, subst, ◌∙◌, Option, Some, None, arith, inl, inr, eq-eqb, get_or, append-nil}
+use Rattle.std.proofs.Common.{◌≡◌, ℕ, zero, suc, ◌<◌, List, [], ◌∷◌, ◌++◌, length, refl, sym, ap, subst, ◌∙◌, Option, Some, None, arith, inl, inr, eq-eqb, get_or, append-nil}
 use Rattle.std.specs.Prelude.{◌⊎◌, cond, true, false, Bool, ◌==◌, nat_eq, map, filter, flat_map, slice_get}
 use Rattle.std.proofs.lemmas.Bool.Decides.{eqb_tells}
 use Rattle.sl_net.specs.declared.actor.ActorId.{ActorId}
-use Rattle.sl_net.specs.declared.actor.ActorId.TheVariants.{Observer, Control, Unit as OfUnit, Host as OfHost}
+use Rattle.sl_net.specs.declared.actor.ActorId.TheVariants.{Observer, Control, Unit as OfUnit}
 use Rattle.sl_net.specs.declared.actor.UnitId.{UnitId}
 use Rattle.sl_net.specs.declared.actor.Side.{Side}
 use Rattle.sl_net.specs.declared.actor.Side.TheVariants.{Ingress, Egress}
 use Rattle.sl_net.specs.declared.actor.Sort.{Sort}
-use Rattle.sl_net.specs.declared.actor.Sort.TheVariants.{FromHost, ToHost, Cable, Crossbar, Init, Poll, Notice, Dump, Begin, Done}
+use Rattle.sl_net.specs.declared.actor.Sort.TheVariants.{ToHost, Crossbar, Init, Poll, Notice, Dump, Begin, Done}
 use Rattle.sl_net.specs.declared.actor.LinkPart.{LinkPart}
 use Rattle.sl_net.specs.Parts.{Parts, below, numbers_from, used_ports, ports_of, is_used}
-use Rattle.sl_net.specs.Net.{Net, net_of, link_of, link_numbers, links_into, links_from, links_out, actor_of, no_link, same_sort, ingress, egress, units_of, actors_of, Incoming, incoming, unit_incoming, from_outside, place_of, links_to}
+use Rattle.sl_net.specs.Net.{Net, net_of, link_of, link_numbers, links_into, links_from, links_out, actor_of, no_link, same_sort, ingress, egress, units_of, actors_of, incoming, unit_incoming, from_outside, place_of, links_to}
 use Rattle.sl_net.specs.Valid.{IsValid}
 use Rattle.sl_net.specs.Roster.{IsActor}
 use Rattle.sl_net.specs.declared.fault.NetFault.{NetFault}
 use Rattle.sl_net.specs.Fault.{first_of, fault_of, no_device, too_many_devices, wrong_ports, stray_cable, stray_host, reused_port, too_many_hosts, used_host_port, device_namesake, host_namesake}
-use Rattle.sl_net.specs.Wired.{sends, receives, unit_sends, unit_receives, Reports, IsWired, IsNet}
+use Rattle.sl_net.specs.Wired.{sends, receives, Reports, IsWired, IsNet}
 use Rattle.sl_net.proofs.Checked.{valid_from}
-use Rattle.sl_net.proofs.Lists.{Each, each-map, each-imp, each-of, each-at, Member, member-left, member-right, member-flat, member-from, member-map, member-filter, Distinct, distinct-filter, distinct-from}
+use Rattle.sl_net.proofs.Lists.{Each, each-map, each-imp, each-of, each-at, Member, member-right, member-flat, member-from, member-map, member-filter, Distinct, distinct-filter, distinct-from}
 use Rattle.sl_net.proofs.Filters.{only-one}
 use Rattle.sl_net.proofs.Actors.{actor-member, each-actor, actor-at, actors-distinct}
 use Rattle.sl_net.proofs.Sorts.{IsOut, each-out, out-member, is-link, is-into, one-choice}
@@ -90,17 +90,18 @@ pub into-links : (parts : Parts) (a : ActorId) → IsActor parts a → map (link
 into-links parts a h = let n = place_of a (actors_of parts) in let f = λ (x : ActorId). links_to parts (actors_of parts) x in
     at-numbers (λ k. k.to == n) no_link (net_of parts).links
     ∙ one-of (λ k. k.to == n) f a (actors_of parts) (actors-distinct parts) (actor-member parts a h) (filter-all (λ k. k.to == n) (f a) (to_each a true (eq-eqb n n refl)))
-      (λ x m ne. filter-none (λ k. k.to == n) (f x) (to_each x false (by_tells (eqb_tells (place_of x (actors_of parts)) n) (λ z. ne (same x m z)))))
+    (λ x m ne. filter-none (λ k. k.to == n) (f x) (to_each x false (by_tells (eqb_tells (place_of x (actors_of parts)) n) (λ z. ne (same x m z)))))
   where
     to_each : (x : ActorId) (b : Bool) → (place_of x (actors_of parts) == place_of a (actors_of parts)) ≡ b → Each (λ k. (k.to == place_of a (actors_of parts)) ≡ b) (links_to parts (actors_of parts) x)
     to_each x b q = each-map (λ k. (k.to == place_of a (actors_of parts)) ≡ b) (λ i. record { from = place_of i.0 (actors_of parts); to = place_of x (actors_of parts); sort = i.1 }) (incoming parts x)
         (each-of (λ i. (place_of x (actors_of parts) == place_of a (actors_of parts)) ≡ b) (incoming parts x) (λ i m. q))
+
     same : (x : ActorId) → Member x (actors_of parts) → place_of x (actors_of parts) ≡ place_of a (actors_of parts) → x ≡ a
     same x m z = sym (actor-at parts x (each-at (IsActor parts) x (actors_of parts) (each-actor parts) m)) ∙ ap (actor_of (net_of parts)) z ∙ actor-at parts a h
+
     by_tells : {x y : ℕ} → ((nat_eq x y ≡ true) × (x ≡ y)) ⊎ ((nat_eq x y ≡ false) × (x ≡ y → ⊥)) → (x ≡ y → ⊥) → nat_eq x y ≡ false
     by_tells (inl q) ne = absurd (ne q.1)
     by_tells (inr q) ne = q.0
-
 
 -- One link of a sort.
 
@@ -129,6 +130,7 @@ unit-of parts i h = of_side i.side refl
     of_both : Member (OfUnit i) (ingress i.device i.port ∷ egress i.device i.port ∷ []) → Member (OfUnit i) (units_of parts i.device)
     of_both m = member-flat (λ p. ingress i.device p ∷ egress i.device p ∷ []) i.port (OfUnit i) (used_ports parts i.device)
         (member-filter (λ p. is_used parts (record { device = i.device; port = p })) i.port (below (ports_of parts i.device)) (member-from i.port 0 (ports_of parts i.device) (omega arith) (let z : i.port < ports_of parts i.device = h.1 in omega arith)) h.2) m
+
     of_side : (x : Side) → i.side ≡ x → Member (OfUnit i) (units_of parts i.device)
     of_side Ingress q = of_both (inl (ap (λ x. OfUnit (record { device = i.device; port = i.port; side = x })) q))
     of_side Egress q = of_both (inr (inl (ap (λ x. OfUnit (record { device = i.device; port = i.port; side = x })) q)))
@@ -206,7 +208,7 @@ begin-first parts a c l v k q = let i = is-into (net_of parts) a c l k in let e 
         let x : e.sender ≡ g.sender = begin-sender e.sender (subst (λ s. sends e.sender s ≡ true) q e.joined.sent) ∙ sym (begin-sender g.sender (subst (λ s. sends g.sender s ≡ true) f.2 g.joined.sent)) in
         let y : e.receiver ≡ g.receiver = sym e.to ∙ ap (actor_of (net_of parts)) (i.to ∙ sym n.to) ∙ g.to in
         let z : l ≡ f.0 = one-link parts l f.0 v i.is_link n.is_link (e.is ∙ ap (λ r. link_from parts r (e.sender, (link_of (net_of parts) l).sort)) y ∙ ap (λ r. link_from parts g.receiver (r, (link_of (net_of parts) l).sort)) x
-          ∙ ap (λ s. link_from parts g.receiver (g.sender, s)) (q ∙ sym f.2) ∙ sym g.is) in
+        ∙ ap (λ s. link_from parts g.receiver (g.sender, s)) (q ∙ sym f.2) ∙ sym g.is) in
         one-choice (net_of parts) a c 0 l k (subst (λ m. slice_get (links_into (net_of parts) a) 0 ≡ Some m) (sym z) f.1)
 
 -- The net of valid parts is wired.

@@ -1,5 +1,5 @@
 -- The way of a unit's reports: by which choices its control plane takes its dumps and notices, and the observer the Dones.
-use Rattle.std.proofs.Common.{◌≡◌, ℕ, suc, ◌<◌, ◌≤◌, List, [], ◌∷◌, length, refl, sym, ap, subst, ◌∙◌, Some, None, arith, inl, inr, eq-eqb}
+use Rattle.std.proofs.Common.{◌≡◌, ℕ, suc, ◌<◌, ◌≤◌, List, [], ◌∷◌, length, sym, ap, subst, ◌∙◌, Some, arith, inl, inr, eq-eqb}
 use Rattle.std.specs.Prelude.{◌⊎◌, true, false, Bool, ◌==◌, if◌then◌else◌, nat_eq, filter, slice_get, slice_index_or}
 use Rattle.std.proofs.lemmas.Bool.{cases_lt}
 use Rattle.std.proofs.lemmas.Bool.Decides.{eqb_tells}
@@ -8,10 +8,10 @@ use Rattle.std.proofs.lemmas.Option.{slice_get_within, get_or_from_slice_get}
 use Rattle.sl_net.specs.declared.actor.ActorId.TheVariants.{Unit as OfUnit}
 use Rattle.sl_net.specs.declared.actor.UnitId.{UnitId}
 use Rattle.sl_net.specs.declared.actor.Sort.{Sort}
-use Rattle.sl_net.specs.declared.actor.Sort.TheVariants.{Poll, Notice, Dump, Done}
+use Rattle.sl_net.specs.declared.actor.Sort.TheVariants.{Poll, Dump}
 use Rattle.sl_net.specs.Parts.{below}
 use Rattle.sl_net.specs.Net.{Net, actor_of, nobody, link_of, link_at, links_into, links_out, choices_of, choice_of, sort_number, same_sort, place_in, is_unit, units, unit_place}
-use Rattle.sl_net.specs.Serving.{Served, choice_from, serving, served}
+use Rattle.sl_net.specs.Serving.{choice_from, serving, served}
 use Rattle.sl_net.specs.Wired.{Reports}
 use Rattle.sl_net.proofs.Lists.{Each, each-map, each-imp, each-both, Member, member-filter, member-from}
 use Rattle.sl_net.proofs.Sorts.{told, IsOut, each-out, out-member, IsChoice, each-choice, choice-takes, choice-is, is-into}
@@ -33,8 +33,10 @@ place-same n x u (y ∷ ys) m q = by_tells (λ m. place-same (suc n) x u ys m) (
   where
     first : (z : ℕ) → (y == z) ≡ true → place_in n z (y ∷ ys) ≡ n
     first z h = ap (λ b. if b then n else place_in (suc n) z ys) h
+
     later : (z : ℕ) → (y == z) ≡ false → place_in n z (y ∷ ys) ≡ place_in (suc n) z ys
     later z h = ap (λ b. if b then n else place_in (suc n) z ys) h
+
     by_tells : (Member u ys → place_in (suc n) x ys ≡ place_in (suc n) u ys → x ≡ u) → ((nat_eq y x ≡ true) × (y ≡ x)) ⊎ ((nat_eq y x ≡ false) × (y ≡ x → ⊥)) → ((nat_eq y u ≡ true) × (y ≡ u)) ⊎ ((nat_eq y u ≡ false) × (y ≡ u → ⊥)) → (u ≡ y) ⊎ Member u ys → x ≡ u
     by_tells ih (inl a) (inl b) m = sym a.1 ∙ b.1
     by_tells ih (inl a) (inr b) m = absurd (let z : n ≡ place_in (suc n) u ys = sym (first x a.0) ∙ q ∙ later u b.0 in omega (arith, z, place-ge (suc n) u ys))
@@ -75,24 +77,28 @@ taken-at net a b s x e t = subst (λ b. slice_get (links_into net b) (choice_of 
 pub choice-from-is : (net : Net) (b a : ℕ) (s : Sort) (x : ℕ) → links_out net a s ≡ x ∷ [] → (link_of net x).to ≡ b → choice_from net b a s ≡ choice_of net x
 choice-from-is net b a s x e t = chosen (filter (λ c. (link_of net (link_at net b c)).from == a) (choices_of net b s))
     (each-imp (λ c. IsChoice net b s c × (((link_of net (link_at net b c)).from == a) ≡ true)) (λ c. c ≡ choice_of net x) (filter (λ c. (link_of net (link_at net b c)).from == a) (choices_of net b s)) of_choice
-      (each-both (IsChoice net b s) (λ c. (link_of net (link_at net b c)).from == a) (choices_of net b s) (each-choice net b s)))
+    (each-both (IsChoice net b s) (λ c. (link_of net (link_at net b c)).from == a) (choices_of net b s) (each-choice net b s)))
     (member-filter (λ c. (link_of net (link_at net b c)).from == a) (choice_of net x) (choices_of net b s)
-      (member-filter (λ c. same_sort (link_of net (link_at net b c)).sort s) (choice_of net x) (below (length (links_into net b)))
-        (member-from (choice_of net x) 0 (length (links_into net b)) (omega arith) (let p : choice_of net x < length (links_into net b) = slice_get_within (links_into net b) (choice_of net x) x k in omega arith))
-        (eq-eqb (sort_number (link_of net (link_at net b (choice_of net x))).sort) (sort_number s) (ap (λ l. sort_number (link_of net l).sort) same ∙ ap sort_number o.sort)))
-      (eq-eqb (link_of net (link_at net b (choice_of net x))).from a (ap (λ l. (link_of net l).from) same ∙ o.from)))
+    (member-filter (λ c. same_sort (link_of net (link_at net b c)).sort s) (choice_of net x) (below (length (links_into net b)))
+    (member-from (choice_of net x) 0 (length (links_into net b)) (omega arith) (let p : choice_of net x < length (links_into net b) = slice_get_within (links_into net b) (choice_of net x) x k in omega arith))
+    (eq-eqb (sort_number (link_of net (link_at net b (choice_of net x))).sort) (sort_number s) (ap (λ l. sort_number (link_of net l).sort) same ∙ ap sort_number o.sort)))
+    (eq-eqb (link_of net (link_at net b (choice_of net x))).from a (ap (λ l. (link_of net l).from) same ∙ o.from)))
   where
     o : IsOut net a s x
     o = only-is-out net a s x e
+
     k : slice_get (links_into net b) (choice_of net x) ≡ Some x
     k = taken-at net a b s x e t
+
     same : link_at net b (choice_of net x) ≡ x
     same = get_or_from_slice_get (links_into net b) (choice_of net x) x 0 k
+
     of_choice : (c : ℕ) → IsChoice net b s c × (((link_of net (link_at net b c)).from == a) ≡ true) → c ≡ choice_of net x
     of_choice c h = let n = choice-takes-of c h.0 in sym (choice-is net b c (link_at net b c) h.0.into) ∙ ap (choice_of net) (only-out net a s x (link_at net b c) e (record { is_link = n; from = told (link_of net (link_at net b c)).from a h.1; sort = h.0.sort }))
       where
         choice-takes-of : (c : ℕ) → IsChoice net b s c → link_at net b c < length net.links
         choice-takes-of c i = (is-into net b c (link_at net b c) i.into).is_link
+
     chosen : (xs : List ℕ) → Each (λ c. c ≡ choice_of net x) xs → Member (choice_of net x) xs → slice_index_or xs 0 0 ≡ choice_of net x
     chosen [] d m = absurd m
     chosen (y ∷ ys) d m = d.0
@@ -103,7 +109,7 @@ choice-from-is net b a s x e t = chosen (filter (λ c. (link_of net (link_at net
 pub served-here : (net : Net) (u : ℕ) (r : Reports net u) → Each (λ v. v.unit ≡ u → v.dump ≡ choice_of net r.dump) (served net r.control)
 served-here net u r = each-map (λ v. v.unit ≡ u → v.dump ≡ choice_of net r.dump) (serving net r.control) (links_out net r.control Poll)
     (each-imp (IsOut net r.control Poll) (λ l. (link_of net l).to ≡ u → choice_from net r.control (link_of net l).to Dump ≡ choice_of net r.dump) (links_out net r.control Poll)
-      (λ l o q. ap (λ x. choice_from net r.control x Dump) q ∙ choice-from-is net r.control u Dump r.dump r.dumps r.dump_to) (each-out net r.control Poll))
+    (λ l o q. ap (λ x. choice_from net r.control x Dump) q ∙ choice-from-is net r.control u Dump r.dump r.dumps r.dump_to) (each-out net r.control Poll))
 
 -- and no other one serves it
 pub served-elsewhere : (net : Net) (u b : ℕ) (r : Reports net u) → (b ≡ r.control → ⊥) → Each (λ v. v.unit ≡ u → ⊥) (served net b)

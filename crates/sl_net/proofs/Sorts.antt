@@ -7,14 +7,10 @@ use Rattle.std.proofs.lemmas.Bool.Decides.{eqb_tells}
 use Rattle.std.proofs.lemmas.Bool.{cases_lt}
 use Rattle.std.proofs.lemmas.List.{get_or_past}
 use Rattle.std.proofs.lemmas.Option.{slice_get_within, slice_get-get_or, get_or_from_slice_get}
-use Rattle.sl_net.specs.declared.actor.UnitId.{UnitId}
-use Rattle.sl_net.specs.declared.actor.ActorId.{ActorId}
-use Rattle.sl_net.specs.declared.actor.ActorId.TheVariants.{Observer, Control, Unit as OfUnit, Host as OfHost}
 use Rattle.sl_net.specs.declared.actor.Sort.{Sort}
 use Rattle.sl_net.specs.declared.actor.Sort.TheVariants.{FromHost, ToHost, Cable, Crossbar, Init, Poll, Notice, Dump, Begin, Done}
 use Rattle.sl_net.specs.Parts.{below, numbers_from}
-use Rattle.sl_net.specs.Net.{Net, actor_of, link_of, link_at, link_numbers, links_into, links_from, links_out, no_link, choices_of, sort_number, same_sort, place_in, choice_of}
-use Rattle.sl_net.specs.Wired.{sends, IsWired}
+use Rattle.sl_net.specs.Net.{Net, link_of, link_at, link_numbers, links_into, links_from, links_out, no_link, choices_of, sort_number, same_sort, place_in, choice_of}
 use Rattle.sl_net.proofs.Lists.{Each, each-imp, each-both, each-below, Member, member-filter, member-from, distinct-filter, distinct-from}
 use Rattle.sl_net.proofs.Filters.{each-member, one-place}
 
@@ -57,7 +53,7 @@ pub each-out : (net : Net) (a : ℕ) (s : Sort) → Each (IsOut net a s) (links_
 each-out net a s = each-imp (λ l. ((l < length net.links) × (((link_of net l).from == a) ≡ true)) × (same_sort (link_of net l).sort s ≡ true)) (IsOut net a s) (links_out net a s)
     (λ l h. record { is_link = h.0.0; from = told (link_of net l).from a h.0.1; sort = same-sort-is (link_of net l).sort s h.1 })
     (each-both (λ l. (l < length net.links) × (((link_of net l).from == a) ≡ true)) (λ l. same_sort (link_of net l).sort s) (links_from net a)
-      (each-both (λ l. l < length net.links) (λ l. (link_of net l).from == a) (link_numbers net) (each-below (λ l. l < length net.links) (length net.links) (λ l p. p))))
+    (each-both (λ l. l < length net.links) (λ l. (link_of net l).from == a) (link_numbers net) (each-below (λ l. l < length net.links) (length net.links) (λ l p. p))))
 
 pub out-member : (net : Net) (a : ℕ) (s : Sort) (l : ℕ) → IsOut net a s l → Member l (links_out net a s)
 out-member net a s l o = member-filter (λ l. same_sort (link_of net l).sort s) l (links_from net a)
@@ -107,7 +103,7 @@ pub each-choice : (net : Net) (a : ℕ) (s : Sort) → Each (IsChoice net a s) (
 each-choice net a s = each-imp (λ c. (c < length (links_into net a)) × (same_sort (link_of net (link_at net a c)).sort s ≡ true)) (IsChoice net a s) (choices_of net a s)
     (λ c p. record { into = slice_get-get_or (links_into net a) c 0 p.0; sort = same-sort-is (link_of net (link_at net a c)).sort s p.1 })
     (each-both (λ c. c < length (links_into net a)) (λ c. same_sort (link_of net (link_at net a c)).sort s) (below (length (links_into net a)))
-      (each-below (λ c. c < length (links_into net a)) (length (links_into net a)) (λ i p. p)))
+    (each-below (λ c. c < length (links_into net a)) (length (links_into net a)) (λ i p. p)))
 
 -- what holds of each choice of a sort holds of one that takes from a link of this sort
 pub of-choice : (net : Net) (a : ℕ) (s : Sort) (P : ℕ → Type 0) (c l : ℕ) → Each P (choices_of net a s) → slice_get (links_into net a) c ≡ Some l → (link_of net l).sort ≡ s → P c

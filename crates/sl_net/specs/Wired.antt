@@ -3,7 +3,7 @@
 --     Reports net u        how the unit u reports to its control plane, and this to the observer
 --     IsWired net          the net is wired so
 --     IsNet net            the net is made of parts without a fault; each such net is wired
-use Rattle.std.specs.Prelude.{◌≡◌, ℕ, ◌<◌, Bool, true, false, List, [], ◌∷◌, length, Some, None, slice_get}
+use Rattle.std.specs.Prelude.{◌≡◌, ℕ, ◌<◌, Bool, true, false, [], ◌∷◌, length, Some, None, slice_get}
 use Rattle.sl_net.specs.declared.actor.Side.TheVariants.{Ingress, Egress}
 use Rattle.sl_net.specs.declared.actor.UnitId.{UnitId}
 use Rattle.sl_net.specs.declared.actor.Side.{Side}

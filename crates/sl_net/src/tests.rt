@@ -7,7 +7,11 @@ use std::alloc::Global;
 use std::test::Fail;
 
 fn name(alloc: Global, text: &str) -> Result<Name, Fail> {
-    Ok(Name::new(alloc, text).map_err(|_| "no memory")?.ok_or("no name")?)
+    Ok(
+        Name::new(alloc, text)
+            .map_err(|_| "no memory")?
+            .ok_or("no name")?,
+    )
 }
 
 fn port((device, port): (u32, u32)) -> PortRef {

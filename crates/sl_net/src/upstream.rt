@@ -21,11 +21,7 @@ fn add_senders(
     let wires = listed.wires();
     for link in wires.links_into(unit) {
         let part = wires.link(*link);
-        push_if(
-            senders,
-            part.sort.is(sort),
-            listed.place_of(part.from),
-        )?;
+        push_if(senders, part.sort.is(sort), listed.place_of(part.from))?;
     }
     Ok(())
 }

@@ -1,0 +1,14 @@
+// The top call.
+#![tactic(auto)]
+
+mod ended;
+mod form;
+mod input;
+mod run;
+#[cfg(test)]
+mod tests;
+mod top;
+mod words;
+
+pub use ended::{Ended, Refusal};
+pub use top::speedlight;

@@ -1,7 +1,7 @@
 -- A list of machines where one has changed.
 use Rattle.std.proofs.Common.{◌≡◌, ℕ, ◌<◌, List, length, get_or, set, map, ap, ◌∙◌, Some, slice_get}
 use Rattle.std.specs.Prelude.{option_map}
-use Rattle.std.proofs.lemmas.List.{length-set, get_or-set_same}
+use Rattle.std.proofs.lemmas.List.{length-set, get_or-set_same, map-set}
 use Rattle.std.proofs.lemmas.Option.{slice_get-map, slice_get-get_or}
 use Rattle.std.proofs.Math.Seq.{map-set_same}
 use Rattle.sl_machine.specs.Machine.{Counts}
@@ -25,3 +25,12 @@ pub meaning_set : {A S : Type 0} (f : A → S) (xs : List A) (k : ℕ) (v : A) �
 meaning_set f xs k v low =
     let long : k < length (set xs k v) = rw length-set low in
     slice_get-map f (set xs k v) k ∙ ap (option_map f) (slice_get-get_or (set xs k v) k v long ∙ ap Some (get_or-set_same xs k v v low))
+
+-- the same, of an element that was read there
+pub meaning_is : {A S : Type 0} (f : A → S) (xs : List A) (k : ℕ) (e : A) (s : S) → k < length xs → e ≡ get_or xs k e → slice_get (map f xs) k ≡ Some s → f e ≡ s
+meaning_is f xs k e s low read here = ap f read ∙ meaning_at f xs k e s low here
+
+-- a change of the element is one of its meaning
+pub meaning_changed : {A S : Type 0} (f : A → S) (xs : List A) (k : ℕ) (e v : A) (s : S) (change : S → S) → k < length xs → e ≡ get_or xs k e → slice_get (map f xs) k ≡ Some s → f v ≡ change (f e) → map f (set xs k v) ≡ set (map f xs) k (change s)
+meaning_changed f xs k e v s change low read here changed =
+    map-set f xs k v ∙ ap (set (map f xs) k) (changed ∙ ap change (meaning_is f xs k e s low read here))

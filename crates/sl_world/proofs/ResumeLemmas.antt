@@ -1,6 +1,6 @@
 -- Links with given messages and losses.
-use Rattle.std.proofs.Common.{◌≡◌, ◌≢◌, ℕ, ◌+◌, ◌<◌, ◌≤◌, List, [], ◌∷◌, ◌++◌, length, get_or, set, take, refl, ap, ◌∙◌, arith, Option, None}
-use Rattle.std.proofs.lemmas.List.{length-take, take_more, map-append, get_or-set_other}
+use Rattle.std.proofs.Common.{◌≡◌, ◌≢◌, ℕ, ◌+◌, ◌<◌, ◌≤◌, List, [], ◌∷◌, ◌++◌, length, get_or, set, take, refl, ap, sym, ◌∙◌, arith, Option, None}
+use Rattle.std.proofs.lemmas.List.{length-take, length-map, take_more, map-append, get_or-set_other}
 use Rattle.sl_loss.specs.Loss.{Loss}
 use Rattle.sl_world.specs.Scene.{lines_with}
 use Rattle.sl_world.specs.LineView.{LineView}
@@ -41,3 +41,7 @@ pub left_more : {X : Type 0} (now first : List X) (i : ℕ) (new d : X) → ((j 
 left_more now first i new d left j h =
     let other : j ≢ i = omega arith in
     get_or-set_other now i j new d other ∙ left j (omega arith)
+
+pub lines_counted : {M : Type 0} (views : List (LineView M)) (losses : List (Option Loss)) (lost : List ℕ) (rests : List (List M)) → lines_of views ≡ lines_with losses lost rests → length lost ≡ length losses → length rests ≡ length losses → length views ≡ length losses
+lines_counted views losses lost rests made e f =
+    sym (length-map views (λ v. v.line)) ∙ (ap length made ∙ length-lines_with losses lost rests e f)

@@ -1,11 +1,14 @@
 -- What holds of each link, or of each message on the links, is kept by takes and puts.
-use Rattle.std.specs.Prelude.{◌≡◌, ◌<◌, ℕ, List, [], ◌∷◌, ◌++◌, length, All, Bool, true, false, if◌then◌else◌, Some, slice_get, refl}
+use Rattle.std.specs.Prelude.{◌≡◌, ◌<◌, ℕ, List, [], ◌∷◌, ◌++◌, length, All, Bool, true, false, if◌then◌else◌, Some, slice_get, slice_set, refl}
 use Rattle.std.proofs.Common.{inl, inr, sym, ◌∙◌, subst, arith, zero, suc, get_or}
 use Rattle.std.proofs.lemmas.Bool.{cases_eq}
 use Rattle.std.proofs.lemmas.List.{length-set, get_or-set_same, get_or-set_other}
 use Rattle.std.proofs.lemmas.List.Elements.{All-head, All-tail, All-push}
+use Rattle.sl_machine.specs.Machine.{Rules}
+use Rattle.sl_machine.specs.Plan.{link_in, link_out}
 use Rattle.sl_loss.specs.Loss.{loses_next}
-use Rattle.sl_world.specs.Scene.{Line, empty_line, line_at, line_put, put_at, put_each, without_first}
+use Rattle.sl_world.specs.Scene.{Line, empty_line, line_at, line_put, put_at, put_each, without_first, Scene, after_all}
+use Rattle.sl_world.specs.Laws.{KeptByTurns, all_kept}
 
 -- what is found in a list has what each element has
 pub All-slice_get : {X : Type 0} (P : X → Type 0) (xs : List X) (k : ℕ) (x : X) → All P xs → slice_get xs k ≡ Some x → P x
@@ -49,3 +52,31 @@ queue-without_first Q line m rest queue all = All-tail Q m rest (subst (All Q) q
 pub length-put_each : {M : Type 0} (place : ℕ → ℕ) (ps : List (ℕ × M)) (lines : List (Line M)) → length (put_each place ps lines) ≡ length lines
 length-put_each place [] lines = refl
 length-put_each place (p ∷ ps) lines = length-put_each place ps (put_at lines (place p.0) p.1) ∙ length-set lines (place p.0) (line_put (line_at lines (place p.0)) p.1)
+
+-- the same wiring, and as many machines and links
+pub record SameShape {S M : Type 0} (w v : Scene S M) : Type 0 where
+  pub plan : v.plan ≡ w.plan
+  pub states : length v.states ≡ length w.states
+  pub lines : length v.lines ≡ length w.lines
+
+-- every schedule keeps the shape
+pub shape_kept : {S M : Type 0} (rules : Rules S M) (w : Scene S M) → KeptByTurns rules (SameShape w)
+shape_kept rules w =
+    record {
+      by_take = λ v actor choice t shape.
+          record {
+            plan = shape.plan;
+            states = length-set v.states actor (rules.take t.state choice t.message).state ∙ shape.states;
+            lines = length-put_each (link_out v.plan.links actor) (rules.take t.state choice t.message).puts (slice_set v.lines (link_in v.plan.links actor choice) (without_first t.line t.rest))
+                ∙ (length-set v.lines (link_in v.plan.links actor choice) (without_first t.line t.rest) ∙ shape.lines);
+          };
+      by_act = λ v actor choice t shape.
+          record {
+            plan = shape.plan;
+            states = length-set v.states actor t.after.state ∙ shape.states;
+            lines = length-put_each (link_out v.plan.links actor) t.after.puts v.lines ∙ shape.lines;
+          };
+    }
+
+pub same_shape : {S M : Type 0} (rules : Rules S M) (w : Scene S M) (es : List (ℕ × ℕ)) → SameShape w (after_all rules w es)
+same_shape rules w es = all_kept rules (SameShape w) (shape_kept rules w) w es (record { plan = refl; states = refl; lines = refl })

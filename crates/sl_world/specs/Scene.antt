@@ -1,6 +1,6 @@
 -- The world of any machines, as data: what a turn does, and what a schedule does. The processes, channels and events
 -- are those of Chandy and Lamport, "Distributed Snapshots: Determining Global States of Distributed Systems", 1985.
-use Rattle.std.specs.Prelude.{◌≡◌, ◌+◌, ◌-◌, ◌≤◌, take, map, nat_lt, ℕ, List, [], ◌∷◌, ◌++◌, length, Option, Some, None, if◌then◌else◌, slice_get, slice_set, slice_index_or, option_map, unwrap_or, is_some}
+use Rattle.std.specs.Prelude.{◌≡◌, ◌+◌, ◌-◌, ◌<◌, ◌≤◌, take, map, nat_lt, ℕ, List, [], ◌∷◌, ◌++◌, length, Option, Some, None, if◌then◌else◌, slice_get, slice_set, slice_index_or, option_map, unwrap_or, is_some}
 use Rattle.std.specs.Option.{option_and_then}
 use Rattle.sl_machine.specs.Machine.{After, Rules}
 use Rattle.sl_machine.specs.Plan.{Plan, link_in, link_out}
@@ -103,6 +103,11 @@ turn_of rules w actor choice =
     if nat_lt (link_in w.plan.links actor choice) (length w.plan.links)
     then take_turn rules w actor choice (link_in w.plan.links actor choice) (slice_get w.states actor) (slice_get w.lines (link_in w.plan.links actor choice))
     else act_turn rules w actor choice (slice_get w.states actor)
+
+-- this choice of the actor is a link, and nothing is on it
+pub record FindsNothing {S M : Type 0} (w : Scene S M) (actor choice : ℕ) : Type 0 where
+  pub linked : link_in w.plan.links actor choice < length w.plan.links
+  pub empty : (line_at w.lines (link_in w.plan.links actor choice)).queue ≡ []
 
 -- an entry of a schedule, which may be idle
 abbrev pub after_turn : {S M : Type 0} → Rules S M → Scene S M → ℕ × ℕ → Scene S M

@@ -10,7 +10,7 @@ mod make;
 mod places;
 mod world;
 
-pub use laws::books_are_runs;
+pub use laws::every_schedule;
 pub use world::{Turn, World};
 
 #[cfg(test)]

@@ -1,6 +1,5 @@
 // One link: the messages on it and its losses.
-ghost use Rattle.std.specs.Prelude.{◌≡◌, ◌+◌, ◌<◌, ◌≤◌, ◌↔◌, ◌≢◌, ◌∷◌, [], IsTrue, OnOk, drop};
-ghost use Rattle.sl_loss.specs.Loss.{loses_next, one_more};
+ghost use Rattle.std.specs.Prelude.{◌≡◌, ◌<◌, ◌≤◌, ◌↔◌, ◌≢◌, ◌∷◌, [], IsTrue, OnOk};
 ghost use Rattle.sl_world.specs.Scene.{line_put, without_first, new_line};
 
 use sl_loss::Loss;

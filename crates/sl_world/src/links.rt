@@ -1,10 +1,10 @@
 // All links of a net: where each goes, and what is on it.
-ghost use Rattle.std.specs.Prelude.{◌≡◌, ◌≢◌, ◌+◌, ◌<◌, ◌≤◌, ◌↔◌, ◌∷◌, [], ℕ, true, false, length, drop, slice_index, slice_get, slice_set, slice_index_or, IsTrue, IfOk, IfSome, IfNone, OnOk, Some, All};
+ghost use Rattle.std.specs.Prelude.{◌≡◌, ◌≢◌, ◌+◌, ◌<◌, ◌≤◌, ◌↔◌, ◌∷◌, [], ℕ, true, false, length, drop, slice_index, slice_set, slice_index_or, IsTrue, IfOk, IfSome, IfNone, OnOk, Some, All};
 ghost use Rattle.sl_machine.specs.Machine.{is_fitting};
-ghost use Rattle.sl_machine.specs.Plan.{IsSound, link_in, link_out, link_at};
+ghost use Rattle.sl_machine.specs.Plan.{IsSound, link_in};
 ghost use Rattle.sl_world.specs.Scene.{line_at, without_first, put_all, put_each};
 ghost use Rattle.sl_world.specs.Mesh.{lines_of, room_at, KeepsRoom, HasRoomFor, IsElsewhere};
-ghost use Rattle.sl_world.specs.Places.{place_of, IsLaidOut};
+ghost use Rattle.sl_world.specs.Places.{place_of};
 
 use crate::line::Line;
 use crate::make::{copy_wiring, incoming_places, outgoing_places};

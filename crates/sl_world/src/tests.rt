@@ -1,5 +1,5 @@
 // Two machines in a ring.
-ghost use Rattle.std.specs.Prelude.{◌≡◌, ◌+◌, ◌-◌, ◌==◌, ◌∷◌, [], ℕ, List, Option, Some, None, length, if◌then◌else◌, IfOk, All, ◌≤◌};
+ghost use Rattle.std.specs.Prelude.{◌≡◌, ◌-◌, ◌==◌, ◌∷◌, [], ℕ, Option, Some, None, length, if◌then◌else◌, IfOk, All, ◌≤◌};
 ghost use Rattle.sl_world.specs.World.{scene};
 
 use crate::{Turn, World};

@@ -1,5 +1,5 @@
 // The world: machines, the links between them, and the book of the turns that did something.
-ghost use Rattle.std.specs.Prelude.{◌≡◌, ◌+◌, ◌<◌, ◌≤◌, ◌^◌, ℕ, Some, None, Ok, length, map, slice_get, slice_index, slice_index_or, IfOk, OnOk, OnErr, All, true, false};
+ghost use Rattle.std.specs.Prelude.{◌≡◌, ◌+◌, ◌<◌, ◌≤◌, ◌^◌, ℕ, [], Some, None, Ok, length, map, slice_get, slice_index, slice_index_or, IfOk, OnOk, OnErr, All, true, false};
 ghost use Rattle.sl_machine.specs.Plan.{HasChoice, IsSound, link_in};
 ghost use Rattle.sl_machine.specs.Fit.{ins_of, actions_of, HasCounts, Fits};
 ghost use Rattle.sl_loss.specs.Loss.{IsFresh};
@@ -38,7 +38,7 @@ pub struct World<A: Machine> {
 
 impl<A: Machine> World<A> {
     ghost use Rattle.sl_world.specs.World.{scene};
-    ghost use Rattle.sl_world.specs.Scene.{turn_of, after_turn, after_all, IsFront, first_scene};
+    ghost use Rattle.sl_world.specs.Scene.{turn_of, after_turn, after_all, IsFront, FindsNothing, first_scene};
 
     /// A world where nothing has happened: nothing is on the links, and the book is empty. After
     /// want of memory the machines and losses are given up.
@@ -135,7 +135,8 @@ impl<A: Machine> World<A> {
         (self.machines, self.book)
     }
 
-    /// One turn of an actor. A turn that is refused for memory has changed nothing.
+    /// One turn of an actor. A turn that is refused for memory has changed nothing, and a turn on
+    /// an empty link is never refused.
     pub fn turn(&mut self, actor: u32, choice: u32) -> Result<Turn, Memory>
         requires choice { HasChoice (scene self.old).plan actor choice }
         requires book { length (scene self.old).book < 2 ^ 40 }
@@ -143,6 +144,7 @@ impl<A: Machine> World<A> {
         ensures did { result ≡ Ok Turn.Did → turn_of A.rules (scene self.old) actor choice ≡ Some (scene self.new) }
         ensures idle { result ≡ Ok Turn.Idle → turn_of A.rules (scene self.old) actor choice ≡ None }
         ensures same { result ≡ Ok Turn.Idle → scene self.new ≡ scene self.old }
+        ensures empty { FindsNothing (scene self.old) actor choice → result ≡ Ok Turn.Idle }
         ensures err { OnErr result (scene self.new ≡ scene self.old) }
 
         // for callers who take many turns
@@ -180,6 +182,7 @@ impl<A: Machine> World<A> {
         ensures did { result ≡ Ok Turn.Did → turn_of A.rules (scene self.old) actor choice ≡ Some (scene self.new) }
         ensures idle { result ≡ Ok Turn.Idle → turn_of A.rules (scene self.old) actor choice ≡ None }
         ensures same { result ≡ Ok Turn.Idle → scene self.new ≡ scene self.old }
+        ensures empty { (line_at (scene self.old).lines link).queue ≡ [] → result ≡ Ok Turn.Idle }
         ensures err { OnErr result (scene self.new ≡ scene self.old) }
     {
         if self.links.is_empty(link) {

@@ -2,7 +2,7 @@ use Rattle.std.proofs.Common.{◌∙◌, ap, sym, Some, ◌≡◌, subst, Bool, 
 use Rattle.std.proofs.lemmas.List.{map-set}
 use Rattle.std.proofs.Math.Seq.{map-set_same}
 use Rattle.std.specs.Bool.{OnTrue, OnFalse}
-use Rattle.sl_world.proofs.MachineLemmas.{same_counts, meaning_at}
+use Rattle.sl_world.proofs.MachineLemmas.{same_counts, meaning_is}
 use Rattle.sl_world.proofs.machines.act_at.Goals as goal
 
 on_true : {P Q : Type 0} (b : Bool) → (P → Q) → OnTrue b P → OnTrue b Q
@@ -15,12 +15,12 @@ on_false false f h = f h
 
 pub returns-clause-did : goal.returns-clause-did
 returns-clause-did g c s h =
-    let is = ap g.A.Machine.state c.index_mut.ensures.value ∙ meaning_at _ _ _ c.index_mut.result.now _ c.requires.actor h in
-    on_true c.act.result (λ e. (g.A.Machine.state c.act.new.self, map-set _ _ _ _, subst (λ t. g.A.Machine.rules.act t c.args.choice ≡ Some (record { state = g.A.Machine.state c.act.new.self; puts = c.act.new.out.items })) is e)) c.act.ensures.did
+    let is = meaning_is g.A.Machine.state c.args.machines.now.items c.args.actor c.index_mut.result.now s c.requires.actor c.index_mut.ensures.value h in
+    on_true c.act.result (λ e. (g.A.Machine.state c.act.new.self, map-set g.A.Machine.state c.args.machines.now.items c.args.actor c.act.new.self, subst (λ t. g.A.Machine.rules.act t c.args.choice ≡ Some (record { state = g.A.Machine.state c.act.new.self; puts = c.act.new.out.items })) is e)) c.act.ensures.did
 
 pub returns-clause-idle : goal.returns-clause-idle
 returns-clause-idle g c s h =
-    let is = ap g.A.Machine.state c.index_mut.ensures.value ∙ meaning_at _ _ _ c.index_mut.result.now _ c.requires.actor h in
+    let is = meaning_is g.A.Machine.state c.args.machines.now.items c.args.actor c.index_mut.result.now s c.requires.actor c.index_mut.ensures.value h in
     on_false c.act.result (λ e. ap (λ t. g.A.Machine.rules.act t c.args.choice) (sym is) ∙ e) c.act.ensures.idle
 
 pub returns-clause-same : goal.returns-clause-same

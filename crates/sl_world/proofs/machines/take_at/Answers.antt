@@ -1,17 +1,14 @@
-use Rattle.std.proofs.Common.{◌∙◌, ap, set}
-use Rattle.std.proofs.lemmas.List.{map-set}
-use Rattle.sl_world.proofs.MachineLemmas.{same_counts, meaning_at}
+use Rattle.std.proofs.Common.{◌∙◌, ap}
+use Rattle.sl_world.proofs.MachineLemmas.{same_counts, meaning_is, meaning_changed}
 use Rattle.sl_world.proofs.machines.take_at.Goals as goal
 
 pub returns-clause-states : goal.returns-clause-states
 returns-clause-states g c s h =
-    let is = ap g.A.Machine.state c.index_mut.ensures.value ∙ meaning_at _ _ _ c.index_mut.result.now _ c.requires.actor h in
-    map-set _ _ _ _ ∙ ap (set _ _) (c.take.ensures.state ∙ ap (λ t. (g.A.Machine.rules.take t c.args.choice c.args.m).state) is)
+    meaning_changed g.A.Machine.state c.args.machines.now.items c.args.actor c.index_mut.result.now c.take.new.self s (λ t. (g.A.Machine.rules.take t c.args.choice c.args.m).state) c.requires.actor c.index_mut.ensures.value h c.take.ensures.state
 
 pub returns-clause-puts : goal.returns-clause-puts
 returns-clause-puts g c s h =
-    let is = ap g.A.Machine.state c.index_mut.ensures.value ∙ meaning_at _ _ _ c.index_mut.result.now _ c.requires.actor h in
-    c.take.ensures.puts ∙ ap (λ t. (g.A.Machine.rules.take t c.args.choice c.args.m).puts) is
+    c.take.ensures.puts ∙ ap (λ t. (g.A.Machine.rules.take t c.args.choice c.args.m).puts) (meaning_is g.A.Machine.state c.args.machines.now.items c.args.actor c.index_mut.result.now s c.requires.actor c.index_mut.ensures.value h)
 
 pub returns-clause-counts : goal.returns-clause-counts
 returns-clause-counts g c = same_counts _ _ _ c.index_mut.result.now _ (c.take.ensures.counts ∙ ap g.A.Machine.counts c.index_mut.ensures.value)

@@ -1,0 +1,11 @@
+use Rattle.sl_world.specs.Legal.{run_of-kept, book-after_all}
+use Rattle.sl_world.specs.Keeping.{same_shape}
+use Rattle.sl_world.proofs.laws.every_schedule.Goals as goal
+
+pub returns : goal.returns
+returns g c =
+    record {
+      legal = λ w es. run_of-kept g.A.Machine.rules w es;
+      book = λ w es. book-after_all g.A.Machine.rules w es;
+      shape = λ w es. same_shape g.A.Machine.rules w es;
+    }

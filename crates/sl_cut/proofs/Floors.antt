@@ -50,11 +50,12 @@ choice-falls : (s : Setup) (lost : Losses) (w : World) (a : ℕ) (t : Sort) → 
 choice-falls s lost w a t n r i = each-imp (IsChoice s.net a t) (λ c. NeverFalls (last c) (history w a)) (choices_of s.net a t)
     (λ c p. last-never-falls s lost w a c (link_at s.net a c) n r p.into (subst (λ x. IsTrue (is_stamped x)) (sym p.sort) i)) (each-choice s.net a t)
 
+pub upto-falls : (s : Setup) (lost : Losses) (w : World) (a : ℕ) → IsWired s.net → Ran s lost w → NeverFalls (upto_of s.net a) (history w a)
+upto-falls s lost w a n r = falls-least id (data_channels s.net a) (history w a) (id-falls (history w a))
+    (each-append (λ c. NeverFalls (last c) (history w a)) (choices_of s.net a Cable) (choices_of s.net a Crossbar) (choice-falls s lost w a Cable n r refl) (choice-falls s lost w a Crossbar n r refl))
+
 pub floor-of-falls : (s : Setup) (lost : Losses) (w : World) (a : ℕ) → IsWired s.net → Ran s lost w → NeverFalls (floor_of s.net a) (history w a)
-floor-of-falls s lost w a n r = falls-least (upto_of s.net a) (choices_of s.net a Init) (history w a)
-    (falls-least id (data_channels s.net a) (history w a) (id-falls (history w a))
-    (each-append (λ c. NeverFalls (last c) (history w a)) (choices_of s.net a Cable) (choices_of s.net a Crossbar) (choice-falls s lost w a Cable n r refl) (choice-falls s lost w a Crossbar n r refl)))
-    (choice-falls s lost w a Init n r refl)
+floor-of-falls s lost w a n r = falls-least (upto_of s.net a) (choices_of s.net a Init) (history w a) (upto-falls s lost w a n r) (choice-falls s lost w a Init n r refl)
 
 -- F never falls.
 
@@ -123,6 +124,19 @@ floor-turn s lost w e n r = by_cases (turn-cases s lost w e)
 pub floor-run : (s : Setup) (lost : Losses) (w : World) (es : List Entry) → IsWired s.net → Ran s lost w → floor s.net w ≤ floor s.net (run s lost w es)
 floor-run s lost w [] n r = omega arith
 floor-run s lost w (e ∷ es) n r = omega (arith, floor-turn s lost w e n r, floor-run s lost (turn s lost w e) es n (ran-turn s lost w e r))
+
+-- K never falls.
+
+issued-turn : (s : Setup) (lost : Losses) (w : World) (e : Entry) → issued s.net (observer w) ≤ issued s.net (observer (turn s lost w e))
+issued-turn s lost w e = by_cases (turn-cases s lost w e)
+  where
+    by_cases : (turn s lost w e ≡ w) ⊎ Steps s lost w e (turn s lost w e) → issued s.net (observer w) ≤ issued s.net (observer (turn s lost w e))
+    by_cases (inl q) = subst (λ v. issued s.net (observer w) ≤ issued s.net (observer v)) (sym q) (omega arith)
+    by_cases (inr t) = grown-le (issued s.net) w (turn s lost w e) e.0 t.step 0 t.grows (taken-never-falls (action_choice s.net 0) (observer (turn s lost w e)))
+
+pub issued-run : (s : Setup) (lost : Losses) (w : World) (es : List Entry) → issued s.net (observer w) ≤ issued s.net (observer (run s lost w es))
+issued-run s lost w [] = omega arith
+issued-run s lost w (e ∷ es) = omega (arith, issued-turn s lost w e, issued-run s lost (turn s lost w e) es)
 
 -- K is at most F + W.
 

@@ -3,30 +3,31 @@ use Rattle.std.proofs.Common.{◌≡◌, ℕ, zero, suc, ◌+◌, ◌<◌, ◌�
 use Rattle.std.specs.Prelude.{◌⊎◌, true, false, Bool, min, map, unwrap_or, slice_get, IsTrue}
 use Rattle.sl_cut.specs.declared.message.Message.{Message}
 use Rattle.sl_net.specs.declared.actor.Sort.{Sort}
-use Rattle.sl_net.specs.declared.actor.Sort.TheVariants.{Cable, Crossbar, Init, Begin}
+use Rattle.sl_net.specs.declared.actor.Sort.TheVariants.{Cable, Crossbar, Init, Poll, Dump, Begin}
 use Rattle.sl_net.specs.declared.actor.ActorId.TheVariants.{Unit as OfUnit}
 use Rattle.sl_net.specs.declared.actor.UnitId.{UnitId}
-use Rattle.sl_net.specs.Net.{Net, link_of, links_into, actor_of, choices_of, choice_of, data_channels, is_unit, units, unit_place}
+use Rattle.sl_net.specs.Serving.{choice_from, serving, served}
+use Rattle.sl_net.specs.Net.{Net, link_of, links_into, links_out, actor_of, choices_of, choice_of, data_channels, is_unit, units, unit_place}
 use Rattle.sl_net.specs.Wired.{Reports, IsWired}
 use Rattle.sl_cut.specs.Words.{Each, Rises, numbers, least_of, least_in}
 use Rattle.sl_cut.specs.History.{History, World, Losses, history, stamp_of, begin_of, dump_of, done_of, id, heard, last, first, taken, takes, put, NeverFalls}
 use Rattle.sl_cut.specs.Setup.{Setup}
-use Rattle.sl_cut.specs.Knowledge.{observer, dumped, known, issued, upto_of, floor_of, unit_floor, floor}
+use Rattle.sl_cut.specs.Knowledge.{observer, told_of, dumped, known, issued, upto_of, floor_of, unit_floor, floor}
 use Rattle.sl_cut.specs.World.{Entry, world, sender, receiver, carried}
 use Rattle.sl_cut.specs.Made.{Fifo, Ran}
 use Rattle.sl_cut.specs.Matching.{IsDataChannel}
 use Rattle.sl_cut.specs.Fit.{is_stamped, stamp}
 use Rattle.sl_cut.specs.Window.{on_way, begun, known_counts, after_steps, IsFollowed, KnowsInOrder, StampsRise, IsBelow, IsInWindow, IsNear}
-use Rattle.sl_net.proofs.Lists.{Member, each-imp, each-at}
+use Rattle.sl_net.proofs.Lists.{each-map, each-imp, each-at}
 use Rattle.sl_net.proofs.Filters.{each-front, each-back}
-use Rattle.sl_net.proofs.Sorts.{of-choice, choice-takes, choice-is, into-to}
-use Rattle.sl_net.proofs.EndKinds.{data-from, init-from, begin-from}
-use Rattle.sl_net.proofs.ReportWays.{unit-listed}
+use Rattle.sl_net.proofs.Sorts.{IsOut, each-out, of-choice, choice-takes, choice-is, into-to}
+use Rattle.sl_net.proofs.EndKinds.{data-from, init-from, begin-from, poll-to}
+use Rattle.sl_net.proofs.ReportWays.{unit-listed, choice-from-is}
 use Rattle.sl_cut.proofs.Numbers.{Ordered, rises-le, rises-append, falls-first, never-falls}
 use Rattle.sl_cut.proofs.Stamps.{each-lost, id-falls, unit-link}
 use Rattle.sl_cut.proofs.Begins.{begin-link, init-link, last-never-falls}
 use Rattle.sl_cut.proofs.Reported.{Knows, knows, dumps-into, dones-into}
-use Rattle.sl_cut.proofs.Floors.{floor-of-falls, within}
+use Rattle.sl_cut.proofs.Floors.{upto-falls, floor-of-falls, within}
 use Rattle.sl_cut.proofs.Bounds.{AllBelow, all-below, ids-below}
 use Rattle.sl_cut.proofs.Prefixes.{first-all}
 use Rattle.sl_cut.proofs.Consistent.{data-sort}
@@ -190,3 +191,38 @@ near s lost w u l i n r x q p to t = record {
 
     low : issued s.net (observer w) ≤ last (choice_of s.net l) (history w u) + s.window
     low = omega (arith, x.within, floor-now s lost w u i n r q, floor-last s.net u (choice_of s.net l) l (history w u) k t)
+
+-- What a control plane has not collected of a unit lies near the unit's id.
+
+floor-told : (s : Setup) (lost : Losses) (w : World) (u : ℕ) (i : UnitId) → IsWired s.net → Ran s lost w → actor_of s.net u ≡ OfUnit i → (p : Reports s.net u)
+    → floor s.net w ≤ upto_of s.net u (first (dumped (choice_of s.net p.dump) (history w p.control)) (history w u))
+floor-told s lost w u i n r q p = of_knows (knows s lost w u i n r p q)
+  where
+    of_knows : Knows s lost w u r p → floor s.net w ≤ upto_of s.net u (first (dumped (choice_of s.net p.dump) (history w p.control)) (history w u))
+    of_knows k = let a : floor s.net w ≤ unit_floor s.net w u = floor-unit s.net w u i q in
+        let b : unit_floor s.net w u ≤ upto_of s.net u (first (known (unit_place s.net u) (observer w)) (history w u)) =
+            least-start (map (λ c. last c (first (known (unit_place s.net u) (observer w)) (history w u))) (choices_of s.net u Init)) (upto_of s.net u (first (known (unit_place s.net u) (observer w)) (history w u))) in
+        let c : known (unit_place s.net u) (observer w) ≤ dumped (choice_of s.net p.dump) (history w p.control) =
+            subst (λ x. x ≤ dumped (choice_of s.net p.dump) (history w p.control)) (sym k.told) (rises-le _ _ _ k.dones.rises) in
+        let d : upto_of s.net u (first (known (unit_place s.net u) (observer w)) (history w u)) ≤ upto_of s.net u (first (dumped (choice_of s.net p.dump) (history w p.control)) (history w u)) =
+            never-falls (upto_of s.net u) (known (unit_place s.net u) (observer w)) (dumped (choice_of s.net p.dump) (history w p.control)) (history w u) (upto-falls s lost w u n r) c in
+        omega (arith, a, b, d)
+
+pub uncollected-near : (s : Setup) (lost : Losses) (w : World) (a : ℕ) → IsWired s.net → Ran s lost w → IsInWindow s lost w
+    → Each (λ v. (k : ℕ) → upto_of s.net v.unit (told_of (history w) v (history w a)) < k → id (history w v.unit) < k + s.window) (served s.net a)
+uncollected-near s lost w a n r x = each-map (λ v. (k : ℕ) → upto_of s.net v.unit (told_of (history w) v (history w a)) < k → id (history w v.unit) < k + s.window) (serving s.net a) (links_out s.net a Poll)
+    (each-imp (IsOut s.net a Poll) (λ l. (k : ℕ) → upto_of s.net (link_of s.net l).to (told_of (history w) (serving s.net a l) (history w a)) < k → id (history w (link_of s.net l).to) < k + s.window) (links_out s.net a Poll)
+      (λ l o. of_unit l o (poll-to s.net l n o.is_link o.sort)) (each-out s.net a Poll))
+  where
+    of_unit : (l : ℕ) → IsOut s.net a Poll l → ((i : UnitId) × (actor_of s.net (link_of s.net l).to ≡ OfUnit i)) → (k : ℕ) → upto_of s.net (link_of s.net l).to (told_of (history w) (serving s.net a l) (history w a)) < k
+        → id (history w (link_of s.net l).to) < k + s.window
+    of_unit l o i k q = of_reports (n.reports (link_of s.net l).to i.0 i.1)
+      where
+        of_reports : Reports s.net (link_of s.net l).to → id (history w (link_of s.net l).to) < k + s.window
+        of_reports p = let u = (link_of s.net l).to in
+            let c : a ≡ p.control = sym o.from ∙ ap (λ l. (link_of s.net l).from) (p.polled l refl o.sort) ∙ p.poll_from in
+            let d : dumped (choice_from s.net a u Dump) (history w a) ≡ dumped (choice_of s.net p.dump) (history w p.control) =
+                ap (λ b. dumped (choice_from s.net b u Dump) (history w b)) c ∙ ap (λ e. dumped e (history w p.control)) (choice-from-is s.net p.control u Dump p.dump p.dumps p.dump_to) in
+            let f : floor s.net w ≤ upto_of s.net u (first (dumped (choice_from s.net a u Dump) (history w a)) (history w u)) =
+                subst (λ m. floor s.net w ≤ upto_of s.net u (first m (history w u))) (sym d) (floor-told s lost w u i.0 n r i.1 p) in
+            omega (arith, f, q, x.ids u, x.within)

@@ -1,14 +1,15 @@
 // Laws of histories, over all schedules and losses. The functions do nothing: their contracts are
 // the laws, and the proofs are in proofs/. Most call the law that nets are wired.
-ghost use Rattle.std.specs.Prelude.{◌≡◌, ℕ, ◌+◌, ◌<◌, ◌≤◌, List, ◌++◌, length, true, IsTrue};
+ghost use Rattle.std.specs.Prelude.{◌≡◌, ℕ, ◌+◌, ◌<◌, ◌≤◌, List, ◌++◌, length, true, None, IsTrue};
 ghost use Rattle.sl_net.specs.declared.actor.UnitId.{UnitId};
 ghost use Rattle.sl_net.specs.declared.actor.ActorId.TheVariants.{Unit as OfUnit};
 ghost use Rattle.sl_net.specs.Net.{actor_of, link_of};
+ghost use Rattle.sl_net.specs.Serving.{served};
 ghost use Rattle.sl_net.specs.Wired.{IsNet};
 ghost use Rattle.sl_cut.specs.Words.{Each};
 ghost use Rattle.sl_cut.specs.History.{Losses, history, id, first, put};
 ghost use Rattle.sl_cut.specs.Setup.{Setup};
-ghost use Rattle.sl_cut.specs.Knowledge.{floor};
+ghost use Rattle.sl_cut.specs.Knowledge.{observer, told_of, issued, upto_of, floor};
 ghost use Rattle.sl_cut.specs.World.{Entry, world, sender};
 ghost use Rattle.sl_cut.specs.Made.{Ran};
 ghost use Rattle.sl_cut.specs.Cut.{cuts};
@@ -16,6 +17,9 @@ ghost use Rattle.sl_cut.specs.Matching.{IsDataChannel, IsConsistentCut};
 ghost use Rattle.sl_cut.specs.Fit.{fits_link, is_stamped};
 ghost use Rattle.sl_cut.specs.Late.{IsLateData};
 ghost use Rattle.sl_cut.specs.Window.{IsInWindow, IsNear};
+ghost use Rattle.sl_cut.specs.Verdict.{lag, verdict};
+ghost use Rattle.sl_cut.specs.Collected.{IsKept, known_verdict};
+ghost use Rattle.sl_cut.specs.End.{IsFinished};
 
 use sl_net::nets_are_wired;
 
@@ -81,10 +85,55 @@ pub fn numbers_are_near()
 }
 
 /// An id lies less than W above each number past the floor, so less than the size of a ring of at
-/// least W slots. A number that is collected now lies past the floor.
-pub fn collected_numbers_are_near()
+/// least W slots.
+pub fn numbers_past_floor_are_near()
     ensures { (s : Setup) (lost : Losses) (es : List Entry) (a k ring : ℕ) → IsNet s.net → s.window ≤ ring → floor s.net (world s lost es) < k
         → id (history (world s lost es) a) < k + ring }
+{
+    nets_are_wired()
+}
+
+/// A unit's id lies less than W above each number that its control plane has not collected of it,
+/// so less than the size of a ring of at least W slots.
+pub fn uncollected_numbers_are_near()
+    ensures { (s : Setup) (lost : Losses) (es : List Entry) (a ring : ℕ) → IsNet s.net → s.window ≤ ring
+        → Each (λ v. (k : ℕ) → upto_of s.net v.unit (told_of (history (world s lost es)) v (history (world s lost es) a)) < k
+            → id (history (world s lost es) v.unit) < k + ring) (served s.net a) }
+{
+    nets_are_wired()
+}
+
+/// Once the id and the data last-seen numbers of a unit have reached k, what its history tells of
+/// k stays what it is in every longer schedule.
+pub fn collected_rows_stay()
+    ensures { (s : Setup) (lost : Losses) (es fs : List Entry) (u k n : ℕ) → IsNet s.net → n ≤ length (history (world s lost es) u)
+        → lag s.net k u (first n (history (world s lost es) u)) ≡ None
+        → IsKept s.net u k (first n (history (world s lost es) u)) (history (world s lost (es ++ fs)) u) }
+{
+    nets_are_wired()
+}
+
+/// The verdict on a number up to the floor is the one from what the observer knows of the units.
+pub fn collected_verdicts_are_known()
+    ensures { (s : Setup) (lost : Losses) (es : List Entry) (k : ℕ) → IsNet s.net → k ≤ floor s.net (world s lost es)
+        → known_verdict s.net (world s lost es) k ≡ verdict s.net (world s lost es) k }
+{
+    nets_are_wired()
+}
+
+/// The verdict on a number up to the floor stays what it is in every longer schedule.
+pub fn collected_verdicts_stay()
+    ensures { (s : Setup) (lost : Losses) (es fs : List Entry) (k : ℕ) → IsNet s.net → k ≤ floor s.net (world s lost es)
+        → verdict s.net (world s lost (es ++ fs)) k ≡ verdict s.net (world s lost es) k }
+{
+    nets_are_wired()
+}
+
+/// In a finished world the verdict on each number that was issued is the one from what the
+/// observer knows of the units.
+pub fn finished_verdicts_are_known()
+    ensures { (s : Setup) (lost : Losses) (es : List Entry) (k : ℕ) → IsNet s.net → IsFinished s lost (world s lost es)
+        → k ≤ issued s.net (observer (world s lost es)) → known_verdict s.net (world s lost es) k ≡ verdict s.net (world s lost es) k }
 {
     nets_are_wired()
 }

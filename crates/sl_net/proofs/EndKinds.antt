@@ -78,6 +78,12 @@ begin-sender (OfUnit u) h = absurd (of_side u.side h)
     of_side Egress h = cc
 begin-sender (OfHost i) h = absurd cc
 
+pub poll-receiver : (y : ActorId) → receives y Poll ≡ true → (i : UnitId) × (y ≡ OfUnit i)
+poll-receiver (OfUnit i) h = (i, refl)
+poll-receiver Observer h = absurd cc
+poll-receiver (Control d) h = absurd cc
+poll-receiver (OfHost i) h = absurd cc
+
 pub init-sender : (x : ActorId) → sends x Init ≡ true → x ≡ Control (home x)
 init-sender (Control d) h = refl
 init-sender Observer h = absurd cc
@@ -125,3 +131,7 @@ begin-from net l n p q = let x = actor_of net (link_of net l).from in n.one_obse
 -- the first choice of a control plane takes from the observer
 pub begins-from : (net : Net) (a d : ℕ) → IsWired net → actor_of net a ≡ Control d → (l : ℕ) × (slice_get (links_into net a) 0 ≡ Some l) × ((link_of net l).from ≡ 0)
 begins-from net a d n q = let b = n.begins a d q in (b.0, b.1, begin-from net b.0 n (is-into net a 0 b.0 b.1).is_link b.2)
+
+-- polls go to units
+pub poll-to : (net : Net) (l : ℕ) → IsWired net → l < length net.links → (link_of net l).sort ≡ Poll → (i : UnitId) × (actor_of net (link_of net l).to ≡ OfUnit i)
+poll-to net l n p q = let x = actor_of net (link_of net l).to in poll-receiver x (subst (λ s. receives x s ≡ true) q (n.receiver l p))

@@ -1,5 +1,5 @@
 use Rattle.std.proofs.Common.{arith}
-use Rattle.sl_cut.proofs.laws.collected_numbers_are_near.Goals as goal
+use Rattle.sl_cut.proofs.laws.numbers_past_floor_are_near.Goals as goal
 use Rattle.sl_cut.proofs.Near.{in-window}
 
 pub returns : goal.returns

@@ -1,7 +1,7 @@
 -- Begin numbers and initiations never fall.
 --     TakesFit s a h      each message that h took fits the link that it came from
 use Rattle.std.proofs.Common.{◌≡◌, ℕ, zero, suc, ◌-◌, ◌<◌, ◌≤◌, List, [], ◌∷◌, length, refl, sym, ap, subst, ◌∙◌, Option, Some, None, arith, inl, inr, eq-eqb}
-use Rattle.std.specs.Prelude.{◌⊎◌, true, false, Bool, if◌then◌else◌, ◌==◌, unwrap_or, option_and_then, slice_get, IsTrue}
+use Rattle.std.specs.Prelude.{◌⊎◌, true, if◌then◌else◌, ◌==◌, unwrap_or, option_and_then, slice_get, IsTrue}
 use Rattle.sl_cut.specs.declared.message.Step.{Step}
 use Rattle.sl_cut.specs.declared.message.Message.{Message}
 use Rattle.sl_cut.specs.declared.message.Message.TheVariants.{Begin as BeginMsg}
@@ -12,10 +12,9 @@ use Rattle.sl_net.specs.declared.actor.UnitId.{UnitId}
 use Rattle.sl_net.specs.Net.{link_of, links_into, actor_of, action_choice}
 use Rattle.sl_net.specs.Wired.{IsWired}
 use Rattle.sl_cut.specs.Words.{Each, Rises, listed, numbers}
-use Rattle.sl_cut.specs.History.{History, World, Losses, history, stamp_of, begin_of, dump_of, heard, last, NeverFalls, taken, takes, put}
+use Rattle.sl_cut.specs.History.{History, World, Losses, history, stamp_of, begin_of, dump_of, heard, last, NeverFalls, takes, put}
 use Rattle.sl_cut.specs.Setup.{Setup}
 use Rattle.sl_cut.specs.Knowledge.{observer, issued, can_issue, can_resend}
-use Rattle.sl_cut.specs.Puts.{puts_of}
 use Rattle.sl_cut.specs.Made.{Took, Acted, IsMade, Ran}
 use Rattle.sl_cut.specs.Fit.{fits, fits_link, is_stamped}
 use Rattle.sl_cut.specs.Window.{begun}

@@ -1,26 +1,24 @@
 -- What is collected of a snapshot never changes: where nothing of a unit lags behind k, no later step takes a message with a stamp below k.
-use Rattle.std.proofs.Common.{◌≡◌, ℕ, suc, ◌<◌, ◌≤◌, List, [], ◌∷◌, ◌++◌, length, refl, sym, ap, subst, ◌∙◌, Option, Some, None, arith, inl, inr, eq-eqb, append-nil}
-use Rattle.std.specs.Prelude.{◌⊎◌, cond, true, false, Bool, ◌&&◌, ◌==◌, if◌then◌else◌, nat_eq, nat_lt, filter, unwrap_or, option_and_then, slice_get, IsTrue}
+use Rattle.std.proofs.Common.{◌≡◌, ℕ, suc, ◌<◌, ◌≤◌, List, [], ◌∷◌, ◌++◌, length, refl, sym, ap, subst, ◌∙◌, Option, Some, None, arith, inl, inr}
+use Rattle.std.specs.Prelude.{◌⊎◌, cond, true, false, Bool, ◌==◌, if◌then◌else◌, nat_eq, nat_lt, filter, unwrap_or, slice_get, IsTrue}
 use Rattle.std.proofs.lemmas.Bool.{lt-ltb, le-ltb, cases_lt, and_left}
 use Rattle.std.proofs.lemmas.Bool.Decides.{eqb_tells}
 use Rattle.sl_cut.specs.declared.message.Message.{Message}
 use Rattle.sl_cut.specs.declared.message.Message.TheVariants.{Data}
 use Rattle.sl_cut.specs.declared.message.Step.{Step}
-use Rattle.sl_cut.specs.declared.verdict.Lag.{Lag}
-use Rattle.sl_cut.specs.declared.verdict.Lag.TheVariants.{Id, Channel}
+use Rattle.sl_cut.specs.declared.verdict.Lag.TheVariants.{Id}
 use Rattle.sl_net.specs.declared.actor.Sort.{Sort}
 use Rattle.sl_net.specs.declared.actor.Sort.TheVariants.{Cable, Crossbar}
 use Rattle.sl_net.specs.declared.input.Packet.{Packet}
 use Rattle.sl_net.specs.Net.{Net, link_of, link_at, links_into, choices_of, data_channels}
 use Rattle.sl_net.specs.Wired.{IsWired}
 use Rattle.sl_cut.specs.Words.{Each, listed, least, first_from, first_told, or_later}
-use Rattle.sl_cut.specs.History.{History, World, Losses, history, id, heard, last, first, takes, stamp_of, NeverFalls}
+use Rattle.sl_cut.specs.History.{History, World, Losses, history, id, last, first, takes, stamp_of, NeverFalls}
 use Rattle.sl_cut.specs.Setup.{Setup}
 use Rattle.sl_cut.specs.World.{Entry, run}
 use Rattle.sl_cut.specs.Made.{Took, Acted, IsMade, Ran}
-use Rattle.sl_cut.specs.Matching.{is_data}
-use Rattle.sl_cut.specs.Cut.{before, outside, value}
-use Rattle.sl_cut.specs.Verdict.{skipped_to, is_old_data, miscredits, first_cause, cause, channel_lag, lag_at, lag}
+use Rattle.sl_cut.specs.Cut.{outside}
+use Rattle.sl_cut.specs.Verdict.{skipped_to, is_old_data, miscredits, first_cause, channel_lag, lag_at, lag}
 use Rattle.sl_cut.specs.declared.total.Total.{Total}
 use Rattle.sl_cut.specs.Counting.{packets, bytes}
 use Rattle.sl_cut.specs.Fit.{fits, fits_link, is_stamped, stamp}
@@ -31,8 +29,7 @@ use Rattle.sl_net.proofs.Filters.{each-front, each-back, each-both-of}
 use Rattle.sl_net.proofs.Sorts.{IsChoice, each-choice, of-choice}
 use Rattle.sl_cut.proofs.Turns.{kept_by_run}
 use Rattle.sl_cut.proofs.Ran.{ran-turn}
-use Rattle.sl_cut.proofs.Numbers.{falls-first}
-use Rattle.sl_cut.proofs.Stamps.{id-falls, is-stamped}
+use Rattle.sl_cut.proofs.Stamps.{is-stamped}
 use Rattle.sl_cut.proofs.Begins.{TakesFit, fit-taken, fit-before, fit-last, last-never-falls, heard-this}
 use Rattle.sl_cut.proofs.Floors.{extends-run}
 use Rattle.sl_cut.proofs.Prefixes.{id-le, before-same, outside-more}

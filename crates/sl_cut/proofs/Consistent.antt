@@ -1,18 +1,18 @@
 -- Cuts are always consistent, and a channel's value is the old data that its receiver took outside its cut.
-use Rattle.std.proofs.Common.{◌≡◌, ℕ, zero, suc, ◌+◌, ◌<◌, ◌≤◌, List, [], ◌∷◌, ◌++◌, length, refl, sym, ap, subst, ◌∙◌, arith, take, drop, append_assoc, inl, inr}
-use Rattle.std.specs.Prelude.{◌⊎◌, cond, true, false, Bool, filter, IsTrue}
+use Rattle.std.proofs.Common.{◌≡◌, ℕ, suc, ◌<◌, ◌≤◌, List, [], ◌∷◌, ◌++◌, length, refl, sym, ap, subst, ◌∙◌, arith, take, drop, append_assoc, inl, inr}
+use Rattle.std.specs.Prelude.{◌⊎◌, cond, filter, IsTrue}
 use Rattle.std.proofs.lemmas.Bool.{lt-ltb, le-ltb}
 use Rattle.sl_net.specs.declared.actor.Sort.{Sort}
 use Rattle.sl_net.specs.declared.actor.Sort.TheVariants.{Cable, Crossbar}
-use Rattle.sl_net.specs.Net.{Net, link_of, links_into, choice_of}
+use Rattle.sl_net.specs.Net.{link_of, choice_of}
 use Rattle.sl_net.specs.Wired.{IsWired}
 use Rattle.sl_cut.specs.declared.message.Message.{Message}
 use Rattle.sl_cut.specs.Words.{weigh}
 use Rattle.sl_cut.specs.History.{History, World, Losses, history, first, put, taken, takes, carried_by}
 use Rattle.sl_cut.specs.Setup.{Setup}
-use Rattle.sl_cut.specs.World.{Entry, carried, run, start, world, sender, receiver, taken_by}
+use Rattle.sl_cut.specs.World.{Entry, carried, world, sender, receiver, taken_by}
 use Rattle.sl_cut.specs.Made.{Ran, Fifo}
-use Rattle.sl_cut.specs.Cut.{cut, cuts, before, outside, crossing, channel_value, data_count, data_bytes}
+use Rattle.sl_cut.specs.Cut.{cut, cuts, before, outside, crossing, data_count, data_bytes}
 use Rattle.sl_cut.specs.Matching.{is_data, IsDataChannel, IsConsistentCut}
 use Rattle.sl_cut.specs.Fit.{is_stamped, stamp}
 use Rattle.sl_cut.specs.Late.{is_old, IsLateData}

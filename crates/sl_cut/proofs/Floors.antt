@@ -1,6 +1,6 @@
 -- The floor never falls, and the number issued lies within the window above it.
-use Rattle.std.proofs.Common.{◌≡◌, ℕ, suc, ◌+◌, ◌-◌, ◌<◌, ◌≤◌, List, [], ◌∷◌, length, refl, sym, ap, subst, ◌∙◌, Option, Some, None, arith, inl, inr}
-use Rattle.std.specs.Prelude.{◌⊎◌, true, false, nat_eq, nat_lt, nat_le, min, map, unwrap_or, slice_get, IsTrue}
+use Rattle.std.proofs.Common.{◌≡◌, ℕ, suc, ◌+◌, ◌-◌, ◌<◌, ◌≤◌, List, [], ◌∷◌, length, refl, sym, ap, subst, ◌∙◌, Some, None, arith, inl, inr}
+use Rattle.std.specs.Prelude.{◌⊎◌, true, false, nat_eq, nat_lt, nat_le, min, map, unwrap_or, IsTrue}
 use Rattle.std.proofs.lemmas.Bool.{and_parts, leb-true}
 use Rattle.std.proofs.lemmas.Bool.Decides.{eqb_tells}
 use Rattle.std.proofs.lemmas.Option.{slice_get_within}
@@ -11,7 +11,7 @@ use Rattle.sl_net.specs.declared.actor.ActorId.{ActorId}
 use Rattle.sl_net.specs.declared.actor.ActorId.TheVariants.{Observer, Unit as OfUnit}
 use Rattle.sl_net.specs.declared.actor.UnitId.{UnitId}
 use Rattle.sl_net.specs.Parts.{below}
-use Rattle.sl_net.specs.Net.{Net, link_of, links_into, link_at, actor_of, choices_of, choice_of, action_choice, data_channels, is_unit, units, unit_place}
+use Rattle.sl_net.specs.Net.{Net, links_into, link_at, actor_of, choices_of, choice_of, action_choice, data_channels, is_unit, units, unit_place}
 use Rattle.sl_net.specs.Wired.{IsWired}
 use Rattle.sl_cut.specs.Words.{Each, least_of, least_in}
 use Rattle.sl_cut.specs.History.{History, World, Losses, history, done_of, id, last, heard, first, taken, NeverFalls}

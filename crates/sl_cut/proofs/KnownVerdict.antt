@@ -1,6 +1,6 @@
 -- The verdict from what the observer knows of the units is that of the world, wherever F has reached the number, and in a finished world.
-use Rattle.std.proofs.Common.{◌≡◌, ℕ, suc, ◌+◌, ◌<◌, ◌≤◌, List, [], ◌∷◌, ◌++◌, length, refl, sym, ap, subst, ◌∙◌, Option, Some, None, arith, inl, inr}
-use Rattle.std.specs.Prelude.{◌⊎◌, true, false, Bool, ◌==◌, if◌then◌else◌, map, nat_le, unwrap_or}
+use Rattle.std.proofs.Common.{◌≡◌, ℕ, ◌≤◌, List, [], ◌∷◌, length, sym, ap, ◌∙◌, None, arith, inl, inr}
+use Rattle.std.specs.Prelude.{◌⊎◌, true, ◌==◌, if◌then◌else◌, map, unwrap_or}
 use Rattle.std.proofs.lemmas.Bool.{le-leb, eqb-true, and_parts}
 use Rattle.sl_cut.specs.declared.verdict.Verdict.TheVariants.{NotIssued}
 use Rattle.sl_net.specs.declared.actor.ActorId.TheVariants.{Unit as OfUnit}
@@ -8,10 +8,10 @@ use Rattle.sl_net.specs.declared.actor.UnitId.{UnitId}
 use Rattle.sl_net.specs.declared.actor.Sort.TheVariants.{Init}
 use Rattle.sl_net.specs.Net.{Net, actor_of, choices_of, data_channels, units, unit_place}
 use Rattle.sl_net.specs.Wired.{IsWired}
-use Rattle.sl_cut.specs.Words.{Each, least_of, least_in, first_told}
-use Rattle.sl_cut.specs.History.{History, World, Losses, history, id, last, first}
+use Rattle.sl_cut.specs.Words.{Each, least_in, first_told}
+use Rattle.sl_cut.specs.History.{History, World, Losses, history, id, last}
 use Rattle.sl_cut.specs.Setup.{Setup}
-use Rattle.sl_cut.specs.Knowledge.{observer, known, issued, collected, upto_of, floor_of, unit_floor, floors, floor}
+use Rattle.sl_cut.specs.Knowledge.{observer, known, issued, collected, upto_of, floor_of, unit_floor, floor}
 use Rattle.sl_cut.specs.World.{Entry, run}
 use Rattle.sl_cut.specs.Made.{Ran}
 use Rattle.sl_cut.specs.Verdict.{cause, lag, judged, issued_verdict, floor_holder, verdict}
@@ -19,16 +19,14 @@ use Rattle.sl_cut.specs.End.{IsFinished, IsSpent, is_collected, KnowsAll}
 use Rattle.sl_cut.specs.Collected.{IsKept, known_verdict}
 use Rattle.sl_net.proofs.Lists.{each-imp}
 use Rattle.sl_net.proofs.Filters.{each-both-of}
-use Rattle.sl_cut.proofs.Turns.{kept_by_run}
-use Rattle.sl_cut.proofs.Ran.{ran-turn}
 use Rattle.sl_cut.proofs.Numbers.{falls-first}
 use Rattle.sl_cut.proofs.Stamps.{id-falls}
-use Rattle.sl_cut.proofs.Floors.{floor-of-falls, floor-run, each-unit, issued-run}
+use Rattle.sl_cut.proofs.Floors.{each-unit, issued-run}
 use Rattle.sl_cut.proofs.Bounds.{AllBelow, ids-below}
 use Rattle.sl_cut.proofs.Prefixes.{first-all}
 use Rattle.sl_cut.proofs.Near.{least-start, least-each, each-least, floor-id}
 use Rattle.sl_cut.proofs.Reported.{knows}
-use Rattle.sl_cut.proofs.Collected.{Reached, lag-of, reached-of, none-first, first-same, kept, kept-ahead}
+use Rattle.sl_cut.proofs.Collected.{Reached, lag-of, none-first, first-same, kept, kept-ahead}
 
 -- A number up to the floor of a history has been reached by it.
 pub floor-reached : (net : Net) (u k : ℕ) (h : History) → k ≤ floor_of net u h → Reached net k u h
@@ -70,7 +68,7 @@ pub known-verdict-is : (s : Setup) (lost : Losses) (w : World) (k : ℕ) → IsW
 known-verdict-is s lost w k t r p = let e = all-kept s lost w k t r p in
     ap (λ o. judged o (first_told (λ u. cause k (collected s.net w u)) (units s.net))) (none-first 0 (λ u. lag s.net k u (collected s.net w u)) (units s.net) (all-reached s.net w k p) ∙ sym (no-lag-now s w k e))
     ∙ ap (judged (first_told (λ u. lag s.net k u (history w u)) (units s.net))) (first-same 0 (λ u. cause k (collected s.net w u)) (λ u. cause k (history w u)) (units s.net)
-        (each-imp (λ u. IsKept s.net u k (collected s.net w u) (history w u)) (λ u. cause k (collected s.net w u) ≡ cause k (history w u)) (units s.net) (λ u i. sym i.cause) e))
+    (each-imp (λ u. IsKept s.net u k (collected s.net w u) (history w u)) (λ u. cause k (collected s.net w u) ≡ cause k (history w u)) (units s.net) (λ u i. sym i.cause) e))
 
 pub known-verdict-now : (s : Setup) (lost : Losses) (w : World) (k : ℕ) → IsWired s.net → Ran s lost w → AllBelow s.net w → k ≤ floor s.net w → known_verdict s.net w k ≡ verdict s.net w k
 known-verdict-now s lost w k t r b p = known-verdict-is s lost w k t r p ∙ sym (verdict-by s.net w k (let f : floor s.net w ≤ issued s.net (observer w) = floor-up s lost w r b in omega (arith, f, p)))
@@ -86,21 +84,22 @@ verdict-stays s lost w es k t r b p = let v = run s lost w es in
     ahead : Each (λ u. IsKept s.net u k (collected s.net w u) (history (run s lost w es) u)) (units s.net)
     ahead = each-both-of (λ u. lag s.net k u (collected s.net w u) ≡ None) (λ u. (i : UnitId) × (actor_of s.net u ≡ OfUnit i)) (λ u. IsKept s.net u k (collected s.net w u) (history (run s lost w es) u)) (units s.net)
         (λ u q x. kept-ahead s lost w es u k (known (unit_place s.net u) (observer w)) t r (knows s lost w u x.0 t r (t.reports u x.0 x.1) x.1).at_most q) (all-reached s.net w k p) (each-unit s.net)
+
     of_kept : Each (λ u. IsKept s.net u k (collected s.net w u) (history (run s lost w es) u)) (units s.net) → known_verdict s.net w k ≡ issued_verdict s.net (run s lost w es) k
     of_kept e = ap (λ o. judged o (first_told (λ u. cause k (collected s.net w u)) (units s.net))) (none-first 0 (λ u. lag s.net k u (collected s.net w u)) (units s.net) (all-reached s.net w k p)
-            ∙ sym (none-first 0 (λ u. lag s.net k u (history (run s lost w es) u)) (units s.net) (each-imp (λ u. IsKept s.net u k (collected s.net w u) (history (run s lost w es) u)) (λ u. lag s.net k u (history (run s lost w es) u) ≡ None) (units s.net) (λ u i. i.reached) e)))
+        ∙ sym (none-first 0 (λ u. lag s.net k u (history (run s lost w es) u)) (units s.net) (each-imp (λ u. IsKept s.net u k (collected s.net w u) (history (run s lost w es) u)) (λ u. lag s.net k u (history (run s lost w es) u) ≡ None) (units s.net) (λ u i. i.reached) e)))
         ∙ ap (judged (first_told (λ u. lag s.net k u (history (run s lost w es) u)) (units s.net))) (first-same 0 (λ u. cause k (collected s.net w u)) (λ u. cause k (history (run s lost w es) u)) (units s.net)
-            (each-imp (λ u. IsKept s.net u k (collected s.net w u) (history (run s lost w es) u)) (λ u. cause k (collected s.net w u) ≡ cause k (history (run s lost w es) u)) (units s.net) (λ u i. sym i.cause) e))
+        (each-imp (λ u. IsKept s.net u k (collected s.net w u) (history (run s lost w es) u)) (λ u. cause k (collected s.net w u) ≡ cause k (history (run s lost w es) u)) (units s.net) (λ u i. sym i.cause) e))
 
 -- Where the observer knows all, what it knows is the world's.
 
 all-known : (net : Net) (w : World) (k : ℕ) → KnowsAll net w → known_verdict net w k ≡ issued_verdict net w k
 all-known net w k e = let whole = each-imp (λ u. known (unit_place net u) (observer w) ≡ length (history w u)) (λ u. collected net w u ≡ history w u) (units net)
-      (λ u q. first-all (known (unit_place net u) (observer w)) (history w u) (omega (arith, q))) e in
+    (λ u q. first-all (known (unit_place net u) (observer w)) (history w u) (omega (arith, q))) e in
     ap (λ o. judged o (first_told (λ u. cause k (collected net w u)) (units net))) (first-same 0 (λ u. lag net k u (collected net w u)) (λ u. lag net k u (history w u)) (units net)
-      (each-imp (λ u. collected net w u ≡ history w u) (λ u. lag net k u (collected net w u) ≡ lag net k u (history w u)) (units net) (λ u q. ap (lag net k u) q) whole))
+    (each-imp (λ u. collected net w u ≡ history w u) (λ u. lag net k u (collected net w u) ≡ lag net k u (history w u)) (units net) (λ u q. ap (lag net k u) q) whole))
     ∙ ap (judged (first_told (λ u. lag net k u (history w u)) (units net))) (first-same 0 (λ u. cause k (collected net w u)) (λ u. cause k (history w u)) (units net)
-      (each-imp (λ u. collected net w u ≡ history w u) (λ u. cause k (collected net w u) ≡ cause k (history w u)) (units net) (λ u q. ap (cause k) q) whole))
+    (each-imp (λ u. collected net w u ≡ history w u) (λ u. cause k (collected net w u) ≡ cause k (history w u)) (units net) (λ u q. ap (cause k) q) whole))
 
 -- In a finished world the verdict on each number that was issued is that from what the observer knows.
 pub finished-verdict : (s : Setup) (lost : Losses) (w : World) (k : ℕ) → IsWired s.net → Ran s lost w → IsFinished s lost w → k ≤ issued s.net (observer w) → known_verdict s.net w k ≡ verdict s.net w k

@@ -1,13 +1,13 @@
 -- The window law: what is known, what is on its way, and the bounds of all numbers.
-use Rattle.std.proofs.Common.{◌≡◌, ℕ, zero, suc, ◌+◌, ◌<◌, ◌≤◌, List, [], ◌∷◌, ◌++◌, length, refl, sym, ap, subst, ◌∙◌, Option, Some, None, arith, drop, inl, inr}
-use Rattle.std.specs.Prelude.{◌⊎◌, true, false, Bool, min, map, unwrap_or, slice_get, IsTrue}
+use Rattle.std.proofs.Common.{◌≡◌, ℕ, ◌+◌, ◌<◌, ◌≤◌, List, [], ◌∷◌, ◌++◌, length, refl, sym, ap, subst, ◌∙◌, Option, Some, None, arith, drop}
+use Rattle.std.specs.Prelude.{min, map, unwrap_or, slice_get, IsTrue}
 use Rattle.sl_cut.specs.declared.message.Message.{Message}
 use Rattle.sl_net.specs.declared.actor.Sort.{Sort}
 use Rattle.sl_net.specs.declared.actor.Sort.TheVariants.{Cable, Crossbar, Init, Poll, Dump, Begin}
 use Rattle.sl_net.specs.declared.actor.ActorId.TheVariants.{Unit as OfUnit}
 use Rattle.sl_net.specs.declared.actor.UnitId.{UnitId}
 use Rattle.sl_net.specs.Serving.{choice_from, serving, served}
-use Rattle.sl_net.specs.Net.{Net, link_of, links_into, links_out, actor_of, choices_of, choice_of, data_channels, is_unit, units, unit_place}
+use Rattle.sl_net.specs.Net.{Net, link_of, links_into, links_out, actor_of, choices_of, choice_of, data_channels, units, unit_place}
 use Rattle.sl_net.specs.Wired.{Reports, IsWired}
 use Rattle.sl_cut.specs.Words.{Each, Rises, numbers, least_of, least_in}
 use Rattle.sl_cut.specs.History.{History, World, Losses, history, stamp_of, begin_of, dump_of, done_of, id, heard, last, first, taken, takes, put, NeverFalls}
@@ -23,7 +23,7 @@ use Rattle.sl_net.proofs.Filters.{each-front, each-back}
 use Rattle.sl_net.proofs.Sorts.{IsOut, each-out, of-choice, choice-takes, choice-is, into-to}
 use Rattle.sl_net.proofs.EndKinds.{data-from, init-from, begin-from, poll-to}
 use Rattle.sl_net.proofs.ReportWays.{unit-listed, choice-from-is}
-use Rattle.sl_cut.proofs.Numbers.{Ordered, rises-le, rises-append, falls-first, never-falls}
+use Rattle.sl_cut.proofs.Numbers.{rises-le, rises-append, falls-first, never-falls}
 use Rattle.sl_cut.proofs.Stamps.{each-lost, id-falls, unit-link}
 use Rattle.sl_cut.proofs.Begins.{begin-link, init-link, last-never-falls}
 use Rattle.sl_cut.proofs.Reported.{Knows, knows, dumps-into, dones-into}
@@ -201,18 +201,18 @@ floor-told s lost w u i n r q p = of_knows (knows s lost w u i n r p q)
     of_knows : Knows s lost w u r p → floor s.net w ≤ upto_of s.net u (first (dumped (choice_of s.net p.dump) (history w p.control)) (history w u))
     of_knows k = let a : floor s.net w ≤ unit_floor s.net w u = floor-unit s.net w u i q in
         let b : unit_floor s.net w u ≤ upto_of s.net u (first (known (unit_place s.net u) (observer w)) (history w u)) =
-            least-start (map (λ c. last c (first (known (unit_place s.net u) (observer w)) (history w u))) (choices_of s.net u Init)) (upto_of s.net u (first (known (unit_place s.net u) (observer w)) (history w u))) in
+        least-start (map (λ c. last c (first (known (unit_place s.net u) (observer w)) (history w u))) (choices_of s.net u Init)) (upto_of s.net u (first (known (unit_place s.net u) (observer w)) (history w u))) in
         let c : known (unit_place s.net u) (observer w) ≤ dumped (choice_of s.net p.dump) (history w p.control) =
-            subst (λ x. x ≤ dumped (choice_of s.net p.dump) (history w p.control)) (sym k.told) (rises-le _ _ _ k.dones.rises) in
+        subst (λ x. x ≤ dumped (choice_of s.net p.dump) (history w p.control)) (sym k.told) (rises-le _ _ _ k.dones.rises) in
         let d : upto_of s.net u (first (known (unit_place s.net u) (observer w)) (history w u)) ≤ upto_of s.net u (first (dumped (choice_of s.net p.dump) (history w p.control)) (history w u)) =
-            never-falls (upto_of s.net u) (known (unit_place s.net u) (observer w)) (dumped (choice_of s.net p.dump) (history w p.control)) (history w u) (upto-falls s lost w u n r) c in
+        never-falls (upto_of s.net u) (known (unit_place s.net u) (observer w)) (dumped (choice_of s.net p.dump) (history w p.control)) (history w u) (upto-falls s lost w u n r) c in
         omega (arith, a, b, d)
 
 pub uncollected-near : (s : Setup) (lost : Losses) (w : World) (a : ℕ) → IsWired s.net → Ran s lost w → IsInWindow s lost w
     → Each (λ v. (k : ℕ) → upto_of s.net v.unit (told_of (history w) v (history w a)) < k → id (history w v.unit) < k + s.window) (served s.net a)
 uncollected-near s lost w a n r x = each-map (λ v. (k : ℕ) → upto_of s.net v.unit (told_of (history w) v (history w a)) < k → id (history w v.unit) < k + s.window) (serving s.net a) (links_out s.net a Poll)
     (each-imp (IsOut s.net a Poll) (λ l. (k : ℕ) → upto_of s.net (link_of s.net l).to (told_of (history w) (serving s.net a l) (history w a)) < k → id (history w (link_of s.net l).to) < k + s.window) (links_out s.net a Poll)
-      (λ l o. of_unit l o (poll-to s.net l n o.is_link o.sort)) (each-out s.net a Poll))
+    (λ l o. of_unit l o (poll-to s.net l n o.is_link o.sort)) (each-out s.net a Poll))
   where
     of_unit : (l : ℕ) → IsOut s.net a Poll l → ((i : UnitId) × (actor_of s.net (link_of s.net l).to ≡ OfUnit i)) → (k : ℕ) → upto_of s.net (link_of s.net l).to (told_of (history w) (serving s.net a l) (history w a)) < k
         → id (history w (link_of s.net l).to) < k + s.window
@@ -222,7 +222,7 @@ uncollected-near s lost w a n r x = each-map (λ v. (k : ℕ) → upto_of s.net 
         of_reports p = let u = (link_of s.net l).to in
             let c : a ≡ p.control = sym o.from ∙ ap (λ l. (link_of s.net l).from) (p.polled l refl o.sort) ∙ p.poll_from in
             let d : dumped (choice_from s.net a u Dump) (history w a) ≡ dumped (choice_of s.net p.dump) (history w p.control) =
-                ap (λ b. dumped (choice_from s.net b u Dump) (history w b)) c ∙ ap (λ e. dumped e (history w p.control)) (choice-from-is s.net p.control u Dump p.dump p.dumps p.dump_to) in
+            ap (λ b. dumped (choice_from s.net b u Dump) (history w b)) c ∙ ap (λ e. dumped e (history w p.control)) (choice-from-is s.net p.control u Dump p.dump p.dumps p.dump_to) in
             let f : floor s.net w ≤ upto_of s.net u (first (dumped (choice_from s.net a u Dump) (history w a)) (history w u)) =
-                subst (λ m. floor s.net w ≤ upto_of s.net u (first m (history w u))) (sym d) (floor-told s lost w u i.0 n r i.1 p) in
+            subst (λ m. floor s.net w ≤ upto_of s.net u (first m (history w u))) (sym d) (floor-told s lost w u i.0 n r i.1 p) in
             omega (arith, f, q, x.ids u, x.within)

@@ -5,7 +5,6 @@ use Rattle.std.proofs.Common.{◌≡◌, ℕ, suc, ◌-◌, List, [], ◌∷◌,
 use Rattle.std.specs.Prelude.{◌⊎◌, true, false, Bool, slice_get, option_map, if◌then◌else◌, nat_eq}
 use Rattle.std.proofs.lemmas.Bool.Decides.{eqb_tells}
 use Rattle.std.proofs.lemmas.Option.{get_or_from_slice_get}
-use Rattle.sl_net.specs.declared.actor.ActorId.{ActorId}
 use Rattle.sl_net.specs.Net.{Net, links_into, link_of, actor_of, action_choice, nobody}
 use Rattle.sl_cut.specs.declared.message.Step.{Step}
 use Rattle.sl_cut.specs.declared.message.Message.{Message}
@@ -16,7 +15,7 @@ use Rattle.sl_cut.specs.Setup.{Setup}
 use Rattle.sl_cut.specs.Puts.{puts_of, action}
 use Rattle.sl_cut.specs.World.{Entry, run, start, next_step, step_by, turn, carried, front, taking, acting, floor_for}
 use Rattle.sl_cut.specs.Made.{Took, Acted, IsMade, AllMade, Fifo, AllFifo, Ran}
-use Rattle.sl_cut.proofs.Turns.{kept_by_run, GrowsAt, Steps, Stepped, stepped, turn-cases, taken-other, start-empty}
+use Rattle.sl_cut.proofs.Turns.{kept_by_run, GrowsAt, Steps, stepped, turn-cases, taken-other, start-empty}
 
 -- a step that takes what the link has next
 pub record Takes (s : Setup) (lost : Losses) (w : World) (a : ℕ) (step : Step) : Type 0 where

@@ -1,6 +1,6 @@
 -- What the observer knows of a unit, what its control plane knows, and the unit's own steps.
 --     Knows s lost w u r p     these never fall, nor what is on its way between them
-use Rattle.std.proofs.Common.{◌≡◌, ℕ, suc, ◌-◌, ◌<◌, ◌≤◌, List, [], ◌∷◌, length, refl, sym, ap, subst, ◌∙◌, Option, Some, None, arith, inl, inr}
+use Rattle.std.proofs.Common.{◌≡◌, ℕ, ◌-◌, ◌≤◌, List, [], ◌∷◌, length, refl, sym, ap, subst, ◌∙◌, Option, Some, None, arith, inl, inr}
 use Rattle.std.specs.Prelude.{◌⊎◌, true, false, Bool, if◌then◌else◌, ◌==◌, nat_eq, unwrap_or, option_and_then, slice_get}
 use Rattle.std.proofs.lemmas.Bool.Decides.{eqb_tells}
 use Rattle.sl_cut.specs.declared.message.Step.{Step}
@@ -18,12 +18,12 @@ use Rattle.sl_cut.specs.Words.{Each, Rises, listed, numbers}
 use Rattle.sl_cut.specs.History.{History, World, Losses, history, dump_of, done_of, heard, NeverFalls, takes, put, on_link}
 use Rattle.sl_cut.specs.Setup.{Setup}
 use Rattle.sl_cut.specs.Knowledge.{observer, dumped, known, is_outstanding, is_again}
-use Rattle.sl_cut.specs.Puts.{puts_of, control_puts, send, send_all, poll_puts, dump_answer}
+use Rattle.sl_cut.specs.Puts.{control_puts, send, send_all, poll_puts, dump_answer}
 use Rattle.sl_cut.specs.Made.{Took, Acted, IsMade, Ran}
 use Rattle.sl_cut.specs.Fit.{fits, fits_link}
 use Rattle.sl_net.proofs.Lists.{each-append, each-imp, each-flat, each-of}
 use Rattle.sl_net.proofs.Filters.{each-front}
-use Rattle.sl_net.proofs.Sorts.{IsOut, is-into, choice-is}
+use Rattle.sl_net.proofs.Sorts.{is-into, choice-is}
 use Rattle.sl_net.proofs.EndKinds.{done-from}
 use Rattle.sl_net.proofs.ReportWays.{one-unit, only-is-out, only-out, taken-at, served-here, served-elsewhere}
 use Rattle.sl_cut.proofs.Numbers.{Says, Grows, Ordered, ordered, put-rises, rises-le}

@@ -3,7 +3,7 @@
 --     PutBy net k n p    so of a put, whose message fits its link
 --     Begins             what the observer begins
 use Rattle.std.proofs.Common.{◌≡◌, ℕ, zero, suc, ◌-◌, List, [], ◌∷◌, ◌++◌, length, refl, sym, ap, subst, ◌∙◌, Option, Some, None, inl, inr}
-use Rattle.std.specs.Prelude.{◌⊎◌, true, false, Bool, if◌then◌else◌, ◌==◌, map, flat_map, option_map, slice_get, not}
+use Rattle.std.specs.Prelude.{◌⊎◌, true, false, Bool, if◌then◌else◌, ◌==◌, flat_map, option_map, slice_get, not}
 use Rattle.sl_net.specs.declared.input.Packet.{Packet}
 use Rattle.sl_cut.specs.declared.message.Message.{Message}
 use Rattle.sl_cut.specs.declared.message.Message.TheVariants.{Host as HostMsg, Data, Probe as ProbeMsg, Init as InitMsg, Poll as PollMsg, Notice as NoticeMsg, Dump as DumpMsg, Begin as BeginMsg, Done as DoneMsg}
@@ -18,7 +18,7 @@ use Rattle.sl_net.specs.declared.actor.Side.TheVariants.{Ingress, Egress}
 use Rattle.sl_net.specs.Net.{Net, link_of, links_out, actor_of, egress, same_actor, action_choice, unit_place}
 use Rattle.sl_net.specs.Serving.{Served, served, serving}
 use Rattle.sl_cut.specs.Words.{Each}
-use Rattle.sl_cut.specs.History.{History, stamp_of, begin_of, dump_of, done_of, id, last, taken}
+use Rattle.sl_cut.specs.History.{History, stamp_of, begin_of, dump_of, done_of, last, taken}
 use Rattle.sl_cut.specs.Frame.{plain_frame, packet_of}
 use Rattle.sl_cut.specs.Route.{next_port}
 use Rattle.sl_cut.specs.Setup.{Setup, frames_of}

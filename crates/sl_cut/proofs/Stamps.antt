@@ -1,6 +1,6 @@
 -- Messages fit their links, and what a unit puts on a link never falls.
-use Rattle.std.proofs.Common.{◌≡◌, ℕ, suc, ◌-◌, ◌≤◌, List, [], ◌∷◌, ◌++◌, length, refl, sym, ap, subst, ◌∙◌, Option, Some, None, arith, inl, inr}
-use Rattle.std.specs.Prelude.{◌⊎◌, cond, true, false, Bool, if◌then◌else◌, ◌==◌, nat_eq, max, unwrap_or, option_and_then, slice_get, IsTrue}
+use Rattle.std.proofs.Common.{◌≡◌, ℕ, suc, ◌-◌, List, [], ◌∷◌, length, refl, sym, ap, subst, ◌∙◌, Option, Some, None, arith, inl, inr}
+use Rattle.std.specs.Prelude.{◌⊎◌, cond, true, false, Bool, if◌then◌else◌, nat_eq, max, unwrap_or, option_and_then, slice_get, IsTrue}
 use Rattle.std.proofs.lemmas.Bool.Decides.{eqb_tells}
 use Rattle.sl_cut.specs.declared.message.Step.{Step}
 use Rattle.sl_cut.specs.declared.message.Message.{Message}

@@ -1,12 +1,12 @@
 -- What is collected of snapshots.
 --     IsKept net u k g h       what the history g of the unit u tells of k, the history h tells
 --     known_verdict net w k    the verdict from what the observer knows of the units
-use Rattle.std.specs.Prelude.{◌≡◌, ℕ, length, None}
+use Rattle.std.specs.Prelude.{◌≡◌, ℕ, None}
 use Rattle.sl_net.specs.Net.{Net, units, data_channels}
 use Rattle.sl_cut.specs.declared.verdict.Verdict.{Verdict}
 use Rattle.sl_cut.specs.Words.{Each, first_told}
 use Rattle.sl_cut.specs.History.{History, World}
-use Rattle.sl_cut.specs.Cut.{before, value}
+use Rattle.sl_cut.specs.Cut.{value}
 use Rattle.sl_cut.specs.Verdict.{cause, lag, judged}
 use Rattle.sl_cut.specs.Knowledge.{collected}
 use Rattle.sl_cut.specs.Late.{late}

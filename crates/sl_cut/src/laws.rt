@@ -98,7 +98,7 @@ pub fn numbers_past_floor_are_near()
 pub fn uncollected_numbers_are_near()
     ensures { (s : Setup) (lost : Losses) (es : List Entry) (a ring : ℕ) → IsNet s.net → s.window ≤ ring
         → Each (λ v. (k : ℕ) → upto_of s.net v.unit (told_of (history (world s lost es)) v (history (world s lost es) a)) < k
-            → id (history (world s lost es) v.unit) < k + ring) (served s.net a) }
+        → id (history (world s lost es) v.unit) < k + ring) (served s.net a) }
 {
     nets_are_wired()
 }

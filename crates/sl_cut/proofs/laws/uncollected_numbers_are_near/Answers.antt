@@ -13,6 +13,6 @@ returns c s lost es a ring n r =
     let w = world s lost es in
     let t = c.nets_are_wired.ensures s.net n in
     each-imp
-      (λ v. (k : ℕ) → upto_of s.net v.unit (told_of (history (world s lost es)) v (history (world s lost es) a)) < k → id (history (world s lost es) v.unit) < k + s.window)
-      (λ v. (k : ℕ) → upto_of s.net v.unit (told_of (history (world s lost es)) v (history (world s lost es) a)) < k → id (history (world s lost es) v.unit) < k + ring)
-      (served s.net a) (λ v h k p. omega (arith, h k p, r)) (uncollected-near s lost w a t (ran s lost es) (in-window s lost es t))
+    (λ v. (k : ℕ) → upto_of s.net v.unit (told_of (history (world s lost es)) v (history (world s lost es) a)) < k → id (history (world s lost es) v.unit) < k + s.window)
+    (λ v. (k : ℕ) → upto_of s.net v.unit (told_of (history (world s lost es)) v (history (world s lost es) a)) < k → id (history (world s lost es) v.unit) < k + ring)
+    (served s.net a) (λ v h k p. omega (arith, h k p, r)) (uncollected-near s lost w a t (ran s lost es) (in-window s lost es t))

@@ -9,6 +9,7 @@ mod input;
 mod laws;
 mod layout;
 mod links;
+mod matching;
 mod name;
 mod net;
 mod number;

@@ -17,6 +17,7 @@ mod numbers;
 mod parts;
 mod ports;
 mod roster;
+mod spelling;
 mod table;
 #[cfg(test)]
 mod tests;
@@ -25,6 +26,7 @@ mod units;
 mod upstream;
 mod wires;
 mod wiring;
+mod wording;
 
 pub use actor::{ActorId, LinkKind, LinkPart, Side, Sort, UnitId};
 pub use fault::{NetFault, Place};
@@ -33,4 +35,6 @@ pub use laws::nets_are_wired;
 pub use net::Net;
 pub use number::{plain_number, plain_numbers};
 pub use parts::{CablePart, DevicePart, HostPart, Parts, PortRef};
+pub use spelling::find_choice;
 pub use text::{Bytes, Line, Name};
+pub use wording::choice_text;

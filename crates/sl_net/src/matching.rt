@@ -59,15 +59,22 @@ fn skip_host(text: &[u8], parts: &Parts, host: u32, at: usize) -> Option<usize>
     skip(text, name.as_str().as_bytes(), at)
 }
 
+/// How a side is spelled.
+pub fn side_word(side: Side) -> &'static [u8]
+    ensures { result.now ≡ side_text side }
+{
+    match side {
+        Side::Ingress => b"in",
+        Side::Egress => b"out",
+    }
+}
+
 fn skip_side(text: &[u8], side: Side, at: usize) -> Option<usize>
     requires { at ≤ length text.now }
     ensures next { result ≡ skip text.now (side_text side) at }
     ensures within { IfSome result (λ next. next ≤ length text.now) }
 {
-    match side {
-        Side::Ingress => skip(text, b"in", at),
-        Side::Egress => skip(text, b"out", at),
-    }
+    skip(text, side_word(side), at)
 }
 
 #[tactic(auto, using(crate::proofs::Skips::skip_append))]
@@ -163,7 +170,7 @@ fn skip_number(text: &[u8], parts: &Parts, sender: ActorId, at: usize) -> Option
     }
 }
 
-fn link_word(sort: Sort) -> &'static [u8]
+pub fn link_word(sort: Sort) -> &'static [u8]
     ensures { result.now ≡ link_word sort }
 {
     match sort {
@@ -182,7 +189,13 @@ fn link_word(sort: Sort) -> &'static [u8]
 
 /// Where the text goes on past a link, named among those of its receiver.
 #[tactic(auto, using(crate::proofs::Skips::skip_append))]
-pub fn skip_link(text: &[u8], parts: &Parts, sender: ActorId, sort: Sort, at: usize) -> Option<usize>
+pub fn skip_link(
+    text: &[u8],
+    parts: &Parts,
+    sender: ActorId,
+    sort: Sort,
+    at: usize,
+) -> Option<usize>
     requires valid { IsValid parts.now }
     requires sender { IsActor parts.now sender }
     requires at { at ≤ length text.now }

@@ -5,4 +5,5 @@ use Rattle.sl_net.proofs.matching.skip.Given as goal
 abbrev pub invariant-loop-byte : goal.invariant-loop-byte
 invariant-loop-byte l = record {
   within : l.next ≤ length l.text;
-  rest : skip l.text (drop l.byte-index l.piece) l.next ≡ skip l.text l.piece l.at }
+  rest : skip l.text (drop l.byte-index l.piece) l.next ≡ skip l.text l.piece l.at;
+}

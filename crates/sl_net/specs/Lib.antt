@@ -14,8 +14,5 @@ pub mod Groups
 pub mod Wires
 pub mod Units
 pub mod Tables
-<<<<<<< HEAD
 pub mod Wired
-=======
 pub mod Spelling
->>>>>>> 159e30c (Match the pieces of spellings in a text)

@@ -19,3 +19,4 @@ pub mod EndKinds
 pub mod Linked
 pub mod NetWired
 pub mod ReportWays
+pub mod Skips

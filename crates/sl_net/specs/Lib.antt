@@ -15,3 +15,4 @@ pub mod Wires
 pub mod Units
 pub mod Tables
 pub mod Wired
+pub mod Spelling

@@ -3,8 +3,10 @@ ghost use Rattle.std.specs.Prelude.{◌≡◌, ◌≢◌, ◌<◌, ◌≤◌, No
 ghost use Rattle.std.specs.List.{All};
 ghost use Rattle.sl_net.specs.Fault.{fault_of};
 ghost use Rattle.sl_net.specs.Valid.{IsValid};
-ghost use Rattle.sl_net.specs.Net.{net_of, link_of, links_into, links_from, units, unit_place};
+ghost use Rattle.sl_net.specs.Net.{net_of, actor_of, link_of, links_into, links_from, units, unit_place};
+ghost use Rattle.sl_net.specs.Roster.{IsActor};
 ghost use Rattle.sl_net.specs.Wires.{HasEnds};
+ghost use Rattle.sl_net.specs.Spelling.{choice_count};
 ghost use Rattle.sl_net.specs.Units.{AreUnits};
 ghost use Rattle.sl_net.specs.Wiring.{kind_of, upstream_of, plan_of};
 
@@ -17,7 +19,7 @@ use crate::roster::Roster;
 use crate::units::Units;
 use crate::upstream::list_upstream;
 use crate::wires::Wires;
-use crate::wiring::make_wiring;
+use crate::wiring::{actions_of, make_wiring};
 use sl_machine::Wiring;
 use std::alloc::{AllocError, Global};
 use std::marker::Model;
@@ -94,8 +96,27 @@ impl Net {
     pub fn actors(&self) -> &[ActorId]
         ensures now { result.now ≡ self.now.actors }
         ensures few { length result.now ≤ 1217 }
+        ensures each { All (IsActor self.now.parts) result.now }
     {
         self.units.wires().roster().actors()
+    }
+
+    /// The actor of a number.
+    pub fn actor(&self, actor: u32) -> ActorId
+        requires { actor < length self.now.actors }
+        ensures actor { result ≡ actor_of self.now actor }
+        ensures part { IsActor self.now.parts result }
+    {
+        self.actors()[actor as usize]
+    }
+
+    /// How many choices an actor has: its incoming links and its actions.
+    pub fn choice_count(&self, actor: u32) -> u32
+        requires { actor < length self.now.actors }
+        ensures count { result ≡ choice_count self.now actor }
+        ensures few { result ≤ 77890 }
+    {
+        self.links_into(actor).len() as u32 + actions_of(self.actor(actor))
     }
 
     /// The links in order.
@@ -120,6 +141,7 @@ impl Net {
         requires { actor < length self.now.actors }
         ensures links { result.now ≡ links_into self.now actor }
         ensures each { All (λ l. l < length self.now.links) result.now }
+        ensures few { length result.now ≤ 77888 }
     {
         self.units.wires().links_into(actor)
     }
@@ -129,6 +151,7 @@ impl Net {
         requires { actor < length self.now.actors }
         ensures links { result.now ≡ links_from self.now actor }
         ensures each { All (λ l. l < length self.now.links) result.now }
+        ensures few { length result.now ≤ 77888 }
     {
         self.units.wires().links_from(actor)
     }

@@ -1,7 +1,7 @@
 // Worked nets, and parts that are refused.
 use crate::{
-    ActorId, CablePart, DevicePart, HostPart, LinkKind, Name, Net, NetFault, Parts, Place, PortRef,
-    Sort,
+    ActorId, CablePart, DevicePart, HostPart, Line, LinkKind, Name, Net, NetFault, Parts, Place,
+    PortRef, Sort, choice_text, find_choice,
 };
 use std::alloc::Global;
 use std::test::Fail;
@@ -203,4 +203,50 @@ fn loop_cable(rt: HostRuntime) -> Result<(), Fail> {
     assert_eq!(rt; net.kind(10), LinkKind::Cable);
     assert_eq!(rt; net.wiring().links.len(), net.links().len());
     Ok(())
+}
+
+/// Each choice of the example, spelled, is found again, and other texts are no spelling.
+#[test]
+fn spellings(rt: HostRuntime) -> Result<(), Fail> {
+    let alloc = rt.alloc();
+    let made = parts(alloc, &[("a", 2)], &[], &[("h0", (0, 0)), ("h1", (0, 1))])?;
+    let net = Net::build(alloc, made).map_err(|_| "refused")?;
+    for (text, choice) in [
+        ("observer done:a", (0, 0)),
+        ("observer issue", (0, 1)),
+        ("observer resend", (0, 2)),
+        ("control a begin", (1, 0)),
+        ("control a notice:in.0", (1, 1)),
+        ("control a dump:out.1", (1, 8)),
+        ("control a sweep", (1, 9)),
+        ("in a.0 host", (2, 0)),
+        ("in a.1 poll", (4, 2)),
+        ("out a.0 x1", (3, 1)),
+        ("host h1 net", (7, 0)),
+        ("host h1 inject", (7, 1)),
+    ] {
+        assert_eq!(rt; find_choice(&net, text), Some(choice));
+    }
+    for text in [
+        "",
+        "in a.00 host",
+        "in  a.0 host",
+        "in a.0 cable",
+        "out a.0 x2",
+        "host h1",
+        "host h1 net ",
+    ] {
+        assert_eq!(rt; find_choice(&net, text), None);
+    }
+    let line = spelled(alloc, &net, 1, 8)?;
+    assert_eq!(rt; line.items.as_slice(), b"control a dump:out.1".as_slice());
+    Ok(())
+}
+
+fn spelled(alloc: Global, net: &Net, actor: u32, choice: u32) -> Result<Line, Fail> {
+    if (actor as usize) < net.actors().len() && choice < net.choice_count(actor) {
+        Ok(choice_text(alloc, net, actor, choice).map_err(|_| "no memory")?)
+    } else {
+        Err("no choice")?
+    }
 }

@@ -1,5 +1,5 @@
 // How the actors of a net are joined, for the world that runs them.
-ghost use Rattle.std.specs.Prelude.{◌≡◌, IfOk, map};
+ghost use Rattle.std.specs.Prelude.{◌≡◌, ◌≤◌, IfOk, map};
 ghost use Rattle.sl_net.specs.Wiring.{actions_of, wired_links, in_counts, out_counts, action_counts, plan_of};
 
 use crate::actor::ActorId;
@@ -9,8 +9,9 @@ use std::alloc::{AllocError, Global};
 
 /// How many actions of its own an actor has: the observer issues and resends, a control plane
 /// sweeps, a host injects.
-fn actions_of(actor: ActorId) -> u32
-    ensures { result ≡ actions_of actor }
+pub fn actions_of(actor: ActorId) -> u32
+    ensures actions { result ≡ actions_of actor }
+    ensures few { result ≤ 2 }
 {
     match actor {
         ActorId::Observer => 2,

@@ -24,3 +24,4 @@ pub mod Collected
 pub mod Sizes
 pub mod ForwardFindings
 pub mod Walks
+pub mod NoActor

@@ -25,3 +25,4 @@ pub mod Sizes
 pub mod ForwardFindings
 pub mod Walks
 pub mod KnownVerdict
+pub mod NoActor

@@ -100,7 +100,7 @@ fn is_waiting(
 pub fn is_swept(alloc: Global, net: &Net, actor: u32, steps: &[Step]) -> Result<bool, AllocError>
     ensures { IfOk result (λ yes. yes ≡ is_swept net.now actor (reverse steps.now)) }
 {
-    let sweep = action_choice(alloc, net, actor)?;
+    let sweep = action_choice(net, actor);
     for one in &served(alloc, net, actor)? {
         if !is_waiting(alloc, sweep, one, steps)? {
             return Ok(false);
@@ -163,7 +163,7 @@ fn add_done(
 ) -> Result<(), AllocError>
     ensures { OnOk result (puts.new.items ≡ puts.old.items ++ send_all (Message.Done (unit_place net.now unit) count) (links_out net.now actor Sort.Done)) }
 {
-    let place = number_of(unit_place(alloc, net, unit)?)?;
+    let place = number_of(unit_place(net, unit))?;
     add_out(
         alloc,
         net,
@@ -186,7 +186,7 @@ fn add_dump_answer(
     ensures { OnOk result (puts.new.items ≡ puts.old.items ++ dump_answer net.now actor (reverse steps.now) count one.now) }
 {
     add_done(alloc, net, puts, actor, one.unit, count)?;
-    let sweep = action_choice(alloc, net, actor)?;
+    let sweep = action_choice(net, actor);
     add_poll(puts, is_again(sweep, one, steps), one.poll)
 }
 

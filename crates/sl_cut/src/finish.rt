@@ -55,7 +55,7 @@ fn is_collected(alloc: Global, input: &Input, world: &World) -> Result<bool, All
     ensures { IfOk result (λ yes. yes ≡ is_collected (setup_of input.now) world.now) }
 {
     let floor = floor(alloc, &input.net, world)?;
-    let issued = issued(alloc, &input.net, world.steps(0))?;
+    let issued = issued(&input.net, world.steps(0));
     Ok(floor == issued && issued == input.snapshot.count)
 }
 
@@ -70,7 +70,7 @@ fn rose(
     ensures { IfOk result (λ yes. yes ≡ (nat_lt floor_before (floor net.now world.now) || nat_lt issued_before (issued net.now (observer world.now)))) }
 {
     let floor = floor(alloc, net, world)?;
-    let issued = issued(alloc, net, world.steps(0))?;
+    let issued = issued(net, world.steps(0));
     Ok(floor_before < floor || issued_before < issued)
 }
 
@@ -108,7 +108,7 @@ fn take_round(
         return Ok(Round::Ended);
     }
     let floor_before = floor(alloc, &input.net, run.world())?;
-    let issued_before = issued(alloc, &input.net, run.world().steps(0))?;
+    let issued_before = issued(&input.net, run.world().steps(0));
     follow(alloc, input, run, &all_sweeps(alloc, &input.net)?)?;
     if !settle(alloc, input, run, pass, fuel)? {
         return Ok(Round::Short);

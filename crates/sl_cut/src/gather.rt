@@ -18,7 +18,7 @@ use crate::knowledge::{floor, issued, resent};
 use crate::tell::taken;
 use crate::values::row;
 use crate::verdict::Verdict;
-use crate::wires::{action_choice, hosts, push_if, units};
+use crate::wires::{action_choice, hosts, push_if};
 use sl_machine::Memory;
 use sl_net::{ActorId, Input, Net, Parts, Side};
 use std::alloc::{AllocError, Global};
@@ -51,7 +51,7 @@ fn rows_for(
     ensures { IfOk result (λ rows. rows ≡ rows_for net.now no_loss world.now snapshot verdict) }
 {
     match verdict {
-        Verdict::Consistent => rows(alloc, net, world, snapshot, &units(alloc, net)?),
+        Verdict::Consistent => rows(alloc, net, world, snapshot, net.unit_actors()),
         _ => Ok(Rows1 {
             items: Vec::new(alloc),
         }),
@@ -103,9 +103,8 @@ fn ingress_device(net: &Net, actor: u32) -> Option<u32>
 fn ingress_units(alloc: Global, net: &Net) -> Result<Vec<u32>, AllocError>
     ensures { IfOk result (λ list. list.items ≡ ingress_units net.now) }
 {
-    let all = units(alloc, net)?;
     let mut list = Vec::new(alloc);
-    for unit in &all {
+    for unit in net.unit_actors() {
         push_if(&mut list, ingress_device(net, *unit).is_some(), *unit)?;
     }
     Ok(list)
@@ -177,7 +176,7 @@ fn sent_by(alloc: Global, net: &Net, world: &World, hosts: &[u32]) -> Result<Cou
 {
     let mut items = Vec::new(alloc);
     for host in hosts {
-        items.push(taken(action_choice(alloc, net, *host)?, world.steps(*host)) as u64)?;
+        items.push(taken(action_choice(net, *host), world.steps(*host)) as u64)?;
     }
     Ok(Counts { items })
 }
@@ -212,9 +211,9 @@ fn findings_in(alloc: Global, input: &Input, world: &World) -> Result<Findings, 
     let net = &input.net;
     let hosts = hosts(alloc, net)?;
     Ok(Findings {
-        issued: issued(alloc, net, world.steps(0))?,
+        issued: issued(net, world.steps(0)),
         floor: floor(alloc, net, world)?,
-        resent: resent(alloc, net, world.steps(0))?,
+        resent: resent(net, world.steps(0)),
         list: finding_list(alloc, net, world, input.snapshot.count)?,
         sent: sent_by(alloc, net, world, &hosts)?,
         delivered: delivered_to(alloc, world, &hosts)?,

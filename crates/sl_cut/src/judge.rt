@@ -10,7 +10,7 @@ use crate::knowledge::{floor, issued, unit_floor};
 use crate::message::{Message, Step};
 use crate::tell::{id, last, stamp_taken};
 use crate::verdict::{Cause, Lag, Verdict};
-use crate::wires::{data_channels, number_of, units};
+use crate::wires::{data_channels, number_of};
 use sl_net::Net;
 use std::alloc::{AllocError, Global};
 
@@ -147,14 +147,14 @@ fn issued_verdict(
 ) -> Result<Verdict, AllocError>
     ensures { IfOk result (λ answer. answer ≡ issued_verdict net.now world.now snapshot) }
 {
-    let units = units(alloc, net)?;
-    if let Some((place, lag)) = first_lag(alloc, net, world, snapshot, &units)? {
+    let units = net.unit_actors();
+    if let Some((place, lag)) = first_lag(alloc, net, world, snapshot, units)? {
         return Ok(Verdict::Pending {
             unit: number_of(place)?,
             lag,
         });
     }
-    match first_with_cause(world, snapshot, &units) {
+    match first_with_cause(world, snapshot, units) {
         Some((place, cause)) => Ok(Verdict::Inconsistent {
             unit: number_of(place)?,
             cause,
@@ -187,10 +187,10 @@ pub fn verdict(
 ) -> Result<Verdict, AllocError>
     ensures { IfOk result (λ answer. answer ≡ verdict net.now world.now snapshot) }
 {
-    if snapshot <= issued(alloc, net, world.steps(0))? {
+    if snapshot <= issued(net, world.steps(0)) {
         return issued_verdict(alloc, net, world, snapshot);
     }
-    let holder = holder_of(alloc, net, world, &units(alloc, net)?)?;
+    let holder = holder_of(alloc, net, world, net.unit_actors())?;
     Ok(Verdict::NotIssued {
         unit: number_of(holder)?,
         floor: floor(alloc, net, world)?,

@@ -7,7 +7,7 @@ ghost use Rattle.sl_cut.specs.Knowledge.{floor_of, unit_floor, floor, observer, 
 use crate::history::{World, first_steps};
 use crate::message::Step;
 use crate::tell::{id, known, least_last, taken};
-use crate::wires::{action_choice, choices_of, data_channels, unit_place, units};
+use crate::wires::{action_choice, choices_of, data_channels, unit_place};
 use sl_net::{Input, Net, Sort};
 use std::alloc::{AllocError, Global};
 
@@ -25,7 +25,7 @@ pub fn floor_of(alloc: Global, net: &Net, unit: u32, steps: &[Step]) -> Result<u
 pub fn unit_floor(alloc: Global, net: &Net, world: &World, unit: u32) -> Result<u64, AllocError>
     ensures { IfOk result (λ number. number ≡ unit_floor net.now world.now unit) }
 {
-    let count = known(unit_place(alloc, net, unit)?, world.steps(0));
+    let count = known(unit_place(net, unit), world.steps(0));
     floor_of(alloc, net, unit, first_steps(world.steps(unit), count))
 }
 
@@ -47,55 +47,42 @@ fn least_floor(
 }
 
 /// How many snapshots the observer issued, by its steps.
-pub fn issued(alloc: Global, net: &Net, steps: &[Step]) -> Result<u64, AllocError>
-    ensures value { IfOk result (λ number. number ≡ issued net.now (reverse steps.now)) }
-    ensures bound { IfOk result (λ number. number < 2 ^ 63) }
+pub fn issued(net: &Net, steps: &[Step]) -> u64
+    ensures value { result ≡ issued net.now (reverse steps.now) }
+    ensures bound { result < 2 ^ 63 }
 {
-    Ok(taken(action_choice(alloc, net, 0)?, steps) as u64)
+    taken(action_choice(net, 0), steps) as u64
 }
 
 /// How often the observer resent, by its steps.
-pub fn resent(alloc: Global, net: &Net, steps: &[Step]) -> Result<u64, AllocError>
-    ensures { IfOk result (λ number. number ≡ resent net.now (reverse steps.now)) }
+pub fn resent(net: &Net, steps: &[Step]) -> u64
+    ensures { result ≡ resent net.now (reverse steps.now) }
 {
-    Ok(taken(action_choice(alloc, net, 0)? + 1, steps) as u64)
+    taken(action_choice(net, 0) + 1, steps) as u64
 }
 
 /// The number up to which all units are collected.
 pub fn floor(alloc: Global, net: &Net, world: &World) -> Result<u64, AllocError>
     ensures { IfOk result (λ number. number ≡ floor net.now world.now) }
 {
-    let list = units(alloc, net)?;
-    let least = least_floor(alloc, net, world, &list)?;
-    Ok(least.unwrap_or(issued(alloc, net, world.steps(0))?))
+    let least = least_floor(alloc, net, world, net.unit_actors())?;
+    Ok(least.unwrap_or(issued(net, world.steps(0))))
 }
 
 /// The guard of issue at a floor.
-pub fn can_issue(
-    alloc: Global,
-    input: &Input,
-    floor: u64,
-    steps: &[Step],
-) -> Result<bool, AllocError>
-    ensures { IfOk result (λ yes. yes ≡ can_issue (setup_of input.now) floor (reverse steps.now)) }
+pub fn can_issue(input: &Input, floor: u64, steps: &[Step]) -> bool
+    ensures { result ≡ can_issue (setup_of input.now) floor (reverse steps.now) }
 {
-    let number = issued(alloc, &input.net, steps)?;
-    Ok(
-        number < input.snapshot.count
-            && number as u128 + 1 <= floor as u128 + input.snapshot.window as u128,
-    )
+    let number = issued(&input.net, steps);
+    number < input.snapshot.count
+        && number as u128 + 1 <= floor as u128 + input.snapshot.window as u128
 }
 
 /// The guard of resend at a floor.
-pub fn can_resend(
-    alloc: Global,
-    input: &Input,
-    floor: u64,
-    steps: &[Step],
-) -> Result<bool, AllocError>
-    ensures { IfOk result (λ yes. yes ≡ can_resend (setup_of input.now) floor (reverse steps.now)) }
+pub fn can_resend(input: &Input, floor: u64, steps: &[Step]) -> bool
+    ensures { result ≡ can_resend (setup_of input.now) floor (reverse steps.now) }
 {
-    let retries = resent(alloc, &input.net, steps)?;
-    let number = issued(alloc, &input.net, steps)?;
-    Ok(retries < input.snapshot.retries && floor < number)
+    let retries = resent(&input.net, steps);
+    let number = issued(&input.net, steps);
+    retries < input.snapshot.retries && floor < number
 }

@@ -21,6 +21,8 @@ mod schedule;
 mod sends;
 mod step;
 mod tell;
+#[cfg(test)]
+mod tests;
 mod total;
 mod units;
 mod values;

@@ -16,7 +16,7 @@ fn add_links(
 ) -> Result<(), AllocError>
     ensures { OnOk result (entries.new.items ≡ entries.old.items ++ link_entries net.now actor) }
 {
-    for choice in 0..number_of(links_into(alloc, net, actor)?.len())? {
+    for choice in 0..number_of(links_into(net, actor).len())? {
         entries.push((actor, choice))?;
     }
     Ok(())
@@ -33,7 +33,7 @@ fn add_action(
     ensures { OnOk result (entries.new.items ≡ entries.old.items ++ (if passes then first_action net.now actor else [])) }
 {
     if passes {
-        let choice = number_of(action_choice(alloc, net, actor)?)?;
+        let choice = number_of(action_choice(net, actor))?;
         entries.push((actor, choice))?;
     }
     Ok(())
@@ -87,5 +87,5 @@ pub fn all_sweeps(alloc: Global, net: &Net) -> Result<Vec<(u32, u32)>, AllocErro
 pub fn resend_entry(alloc: Global, net: &Net) -> Result<(u32, u32), AllocError>
     ensures { IfOk result (λ entry. entry ≡ resend_entry net.now) }
 {
-    Ok((0, number_of(action_choice(alloc, net, 0)? + 1)?))
+    Ok((0, number_of(action_choice(net, 0) + 1)?))
 }

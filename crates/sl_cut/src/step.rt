@@ -116,10 +116,10 @@ fn issue(
 ) -> Result<Option<Puts>, AllocError>
     ensures { IfOk result (λ puts. puts ≡ guarded (can_issue (setup_of input.now) floor (reverse steps.now)) (begin_all input.now.net (suc (issued input.now.net (reverse steps.now))))) }
 {
-    if !can_issue(alloc, input, floor, steps)? {
+    if !can_issue(input, floor, steps) {
         return Ok(None);
     }
-    let number = issued(alloc, &input.net, steps)? + 1;
+    let number = issued(&input.net, steps) + 1;
     Ok(Some(begin_all(alloc, &input.net, number)?))
 }
 
@@ -131,10 +131,10 @@ fn resend(
 ) -> Result<Option<Puts>, AllocError>
     ensures { IfOk result (λ puts. puts ≡ guarded (can_resend (setup_of input.now) floor (reverse steps.now)) (begin_all input.now.net (issued input.now.net (reverse steps.now)))) }
 {
-    if !can_resend(alloc, input, floor, steps)? {
+    if !can_resend(input, floor, steps) {
         return Ok(None);
     }
-    let number = issued(alloc, &input.net, steps)?;
+    let number = issued(&input.net, steps);
     Ok(Some(begin_all(alloc, &input.net, number)?))
 }
 
@@ -167,7 +167,7 @@ fn inject(
     requires { All HasAddresses input.now.flows }
     ensures { IfOk result (λ puts. puts ≡ action (setup_of input.now) 0 actor (ActorId.Host host) (reverse steps.now) zero) }
 {
-    let place = taken(action_choice(alloc, &input.net, actor)?, steps);
+    let place = taken(action_choice(&input.net, actor), steps);
     match frame_at(alloc, input, host, place)? {
         Some(frame) => Ok(Some(send_frame(alloc, &input.net, actor, &Message::Host(frame))?)),
         None => Ok(None),
@@ -254,7 +254,7 @@ fn step_of_action(
     requires { All HasAddresses input.now.flows }
     ensures { IfOk result (λ step. step ≡ step_by (setup_of input.now) no_loss world.now actor choice None of) }
 {
-    let first = action_choice(alloc, &input.net, actor)?;
+    let first = action_choice(&input.net, actor);
     match action(
         alloc,
         input,
@@ -286,8 +286,8 @@ pub fn next_step(
     let Some(of) = actor_at(&input.net, actor) else {
         return Ok(None);
     };
-    let links = links_into(alloc, &input.net, actor)?;
-    match number_found(&links, choice) {
+    let links = links_into(&input.net, actor);
+    match number_found(links, choice) {
         Some(link) => step_of_link(alloc, input, world, actor, of, choice, link),
         None => step_of_action(alloc, input, world, actor, of, choice),
     }

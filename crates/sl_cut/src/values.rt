@@ -48,10 +48,10 @@ fn rest_of(messages: &[Message], count: usize) -> &[Message]
 }
 
 /// The choice by which a link is taken.
-fn choice_of(alloc: Global, net: &Net, link: u32) -> Result<usize, AllocError>
-    ensures { IfOk result (λ choice. choice ≡ choice_of net.now link) }
+fn choice_of(net: &Net, link: u32) -> usize
+    ensures { result ≡ choice_of net.now link }
 {
-    Ok(place_in(link, &links_into(alloc, net, link_of(net, link).to)?))
+    place_in(link, links_into(net, link_of(net, link).to))
 }
 
 fn count_data(message: &Message) -> u64
@@ -104,7 +104,7 @@ fn channel_value(
     ensures { IfOk result (λ total. total ≡ channel_value net.now no_loss world.now snapshot link) }
 {
     let ends = link_of(net, link);
-    let choice = choice_of(alloc, net, link)?;
+    let choice = choice_of(net, link);
     let messages = put(alloc, link, before(snapshot, world.steps(ends.from)))?;
     let receiver = world.steps(ends.to);
     let matched = first_of(&messages, taken(choice, receiver));
@@ -132,11 +132,11 @@ fn channel_values(
 fn channel_links(alloc: Global, net: &Net, unit: u32) -> Result<Vec<u32>, AllocError>
     ensures { IfOk result (λ links. links.items ≡ channel_links net.now unit) }
 {
-    let into = links_into(alloc, net, unit)?;
+    let into = links_into(net, unit);
     let channels = data_channels(alloc, net, unit)?;
     let mut links = Vec::new(alloc);
     for channel in &channels {
-        links.push(number_at(&into, *channel as usize))?;
+        links.push(number_at(into, *channel as usize))?;
     }
     Ok(links)
 }

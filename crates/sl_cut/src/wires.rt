@@ -1,34 +1,11 @@
 // The links and choices of actors, by their numbers.
-ghost use Rattle.std.specs.Prelude.{◌≡◌, ℕ, ◌≤◌, ◌<◌, ◌^◌, slice_get, [], ◌∷◌, ◌++◌, ◌==◌, ◌&&◌, length, slice_index_or, IfOk, OnOk, cond};
+ghost use Rattle.std.specs.Prelude.{◌≡◌, ℕ, ◌≤◌, ◌<◌, ◌^◌, slice_get, [], ◌∷◌, ◌++◌, length, slice_index_or, IfOk, OnOk, cond};
 ghost use Rattle.sl_net.specs.declared.actor.ActorId.{ActorId};
-ghost use Rattle.sl_net.specs.Net.{same_side, same_actor, sort_number, same_sort, is_unit, is_host, actor_of, link_of, links_into, links_out, choices_of, link_at, units, hosts, unit_place, place_in, data_channels, action_choice};
+ghost use Rattle.sl_net.specs.Net.{same_side, same_actor, is_host, actor_of, link_of, links_into, links_from, links_out, choices_of, hosts, unit_place, place_in, data_channels, action_choice};
 ghost use Rattle.sl_net.specs.Serving.{choice_from};
 
 use sl_net::{ActorId, LinkPart, Net, Side, Sort, UnitId};
 use std::alloc::{AllocError, Global};
-
-fn sort_number(sort: Sort) -> u8
-    ensures { result ≡ sort_number sort }
-{
-    match sort {
-        Sort::FromHost => 0,
-        Sort::ToHost => 1,
-        Sort::Cable => 2,
-        Sort::Crossbar => 3,
-        Sort::Init => 4,
-        Sort::Poll => 5,
-        Sort::Notice => 6,
-        Sort::Dump => 7,
-        Sort::Begin => 8,
-        Sort::Done => 9,
-    }
-}
-
-pub fn same_sort(a: Sort, b: Sort) -> bool
-    ensures { result ≡ same_sort a b }
-{
-    sort_number(a) == sort_number(b)
-}
 
 pub fn same_side(a: Side, b: Side) -> bool
     ensures { result ≡ same_side a b }
@@ -48,15 +25,6 @@ pub fn is_unit_id(net: &Net, actor: u32, unit: UnitId) -> bool
         Some(ActorId::Unit(id)) => id.device == unit.device
             && id.port == unit.port
             && same_side(id.side, unit.side),
-        _ => false,
-    }
-}
-
-pub fn is_unit(actor: ActorId) -> bool
-    ensures { result ≡ is_unit actor }
-{
-    match actor {
-        ActorId::Unit(_) => true,
         _ => false,
     }
 }
@@ -98,7 +66,7 @@ pub fn link_of(net: &Net, link: u32) -> LinkPart
     }
 }
 
-/// A count as a number of 32 bits. The numbers of a net's actors and links fit.
+/// A count as a number of 32 bits. All numbers of a net fit.
 pub fn number_of(count: usize) -> Result<u32, AllocError>
     ensures { IfOk result (λ number. number ≡ count) }
 {
@@ -128,21 +96,32 @@ pub fn number_at(numbers: &[u32], place: usize) -> u32
     }
 }
 
-/// The links that an actor takes from, in the order of its choices.
-pub fn links_into(alloc: Global, net: &Net, actor: u32) -> Result<Vec<u32>, AllocError>
-    ensures { IfOk result (λ links. links.items ≡ links_into net.now actor) }
+/// The links that an actor takes from, in the order of its choices; none past the last actor.
+pub fn links_into(net: &Net, actor: u32) -> &[u32]
+    ensures { result.now ≡ links_into net.now actor }
 {
-    let mut links = Vec::new(alloc);
-    for link in 0..number_of(net.links().len())? {
-        push_if(&mut links, link_of(net, link).to == actor, link)?;
+    let links = net.links();
+    if links.is_empty() {
+        return &[];
     }
-    Ok(links)
+    if actor as usize >= net.actors().len() {
+        return &[];
+    }
+    net.links_into(actor)
 }
 
-fn goes_out(net: &Net, link: u32, actor: u32, sort: Sort) -> bool
-    ensures { result ≡ (((link_of net.now link).from == actor) && same_sort (link_of net.now link).sort sort) }
+/// The links on which an actor puts, ascending; none past the last actor.
+fn links_from(net: &Net, actor: u32) -> &[u32]
+    ensures { result.now ≡ links_from net.now actor }
 {
-    link_of(net, link).from == actor && same_sort(link_of(net, link).sort, sort)
+    let links = net.links();
+    if links.is_empty() {
+        return &[];
+    }
+    if actor as usize >= net.actors().len() {
+        return &[];
+    }
+    net.links_from(actor)
 }
 
 /// The links of a sort on which an actor puts.
@@ -150,8 +129,8 @@ pub fn links_out(alloc: Global, net: &Net, actor: u32, sort: Sort) -> Result<Vec
     ensures { IfOk result (λ links. links.items ≡ links_out net.now actor sort) }
 {
     let mut links = Vec::new(alloc);
-    for link in 0..number_of(net.links().len())? {
-        push_if(&mut links, goes_out(net, link, actor, sort), link)?;
+    for link in links_from(net, actor) {
+        push_if(&mut links, link_of(net, *link).sort.is(sort), *link)?;
     }
     Ok(links)
 }
@@ -160,12 +139,14 @@ pub fn links_out(alloc: Global, net: &Net, actor: u32, sort: Sort) -> Result<Vec
 pub fn choices_of(alloc: Global, net: &Net, actor: u32, sort: Sort) -> Result<Vec<u32>, AllocError>
     ensures { IfOk result (λ choices. choices.items ≡ choices_of net.now actor sort) }
 {
-    let links = links_into(alloc, net, actor)?;
+    let links = links_into(net, actor);
     let mut choices = Vec::new(alloc);
     for choice in 0..number_of(links.len())? {
         push_if(
             &mut choices,
-            same_sort(link_of(net, number_at(&links, choice as usize)).sort, sort),
+            link_of(net, number_at(links, choice as usize))
+                .sort
+                .is(sort),
             choice,
         )?;
     }
@@ -191,13 +172,13 @@ pub fn choice_from(
 ) -> Result<u32, AllocError>
     ensures { IfOk result (λ choice. choice ≡ choice_from net.now actor unit sort) }
 {
-    let links = links_into(alloc, net, actor)?;
+    let links = links_into(net, actor);
     let choices = choices_of(alloc, net, actor, sort)?;
     let mut found = Vec::new(alloc);
     for choice in &choices {
         push_if(
             &mut found,
-            link_of(net, number_at(&links, *choice as usize)).from == unit,
+            link_of(net, number_at(links, *choice as usize)).from == unit,
             *choice,
         )?;
     }
@@ -205,31 +186,11 @@ pub fn choice_from(
 }
 
 /// The choice of an actor's first own action.
-pub fn action_choice(alloc: Global, net: &Net, actor: u32) -> Result<usize, AllocError>
-    ensures value { IfOk result (λ choice. choice ≡ action_choice net.now actor) }
-    ensures bound { IfOk result (λ choice. choice < 2 ^ 63) }
+pub fn action_choice(net: &Net, actor: u32) -> usize
+    ensures value { result ≡ action_choice net.now actor }
+    ensures bound { result < 2 ^ 62 }
 {
-    Ok(links_into(alloc, net, actor)?.len())
-}
-
-fn is_unit_at(net: &Net, actor: u32) -> bool
-    ensures { result ≡ is_unit (actor_of net.now actor) }
-{
-    match net.actors().get(actor as usize) {
-        Some(id) => is_unit(*id),
-        None => false,
-    }
-}
-
-/// The units, in order.
-pub fn units(alloc: Global, net: &Net) -> Result<Vec<u32>, AllocError>
-    ensures { IfOk result (λ list. list.items ≡ units net.now) }
-{
-    let mut units = Vec::new(alloc);
-    for actor in 0..number_of(net.actors().len())? {
-        push_if(&mut units, is_unit_at(net, actor), actor)?;
-    }
-    Ok(units)
+    links_into(net, actor).len()
 }
 
 fn is_host_at(net: &Net, actor: u32) -> bool
@@ -269,8 +230,8 @@ pub fn place_in(number: u32, list: &[u32]) -> usize
 }
 
 /// The place of a unit among the units.
-pub fn unit_place(alloc: Global, net: &Net, unit: u32) -> Result<usize, AllocError>
-    ensures { IfOk result (λ place. place ≡ unit_place net.now unit) }
+pub fn unit_place(net: &Net, unit: u32) -> usize
+    ensures { result ≡ unit_place net.now unit }
 {
-    Ok(place_in(unit, &units(alloc, net)?))
+    place_in(unit, net.unit_actors())
 }

@@ -23,7 +23,7 @@ returns-then-branch-2-clause-round c = let n : c.input.inside.net ≡ c.args.inp
     let q : is_collected (setup_of c.args.input.now) c.args.run.now.world ≡ false = rw (← c.world.ensures) (sym c.in_ok-is_collected.ensures ∙ c.if-branch.false) in
     let f : Follows (setup_of c.args.input.now) no_loss c.args.run.now (sweeps c.args.input.now.net) c.follow.new.run = subst (λ es. Follows (setup_of c.args.input.now) no_loss c.args.run.now es c.follow.new.run) (c.deref.ensures.value ∙ c.in_ok-all_sweeps.ensures ∙ ap sweeps n) c.in_ok-follow.ensures.followed in
     let b : c.in_ok-settle.field-0 ≡ true = search rules in let m : EndsBy (setup_of c.args.input.now) no_loss c.follow.new.run (settle c.args.fuel (setup_of c.args.input.now) no_loss c.follow.new.run.world) c.settle.new.run true = subst (λ b. EndsBy (setup_of c.args.input.now) no_loss c.follow.new.run (settle c.args.fuel (setup_of c.args.input.now) no_loss c.follow.new.run.world) c.settle.new.run b) b c.in_ok-settle.ensures.ends in
-    let r : rose c.args.input.now.net c.args.run.now.world c.settle.new.run.world ≡ c.in_ok-rose.field-0 = sym (rw (c.world-4.ensures, c.in_ok-floor_before.ensures, c.world-2.ensures, c.in_ok-issued_before.ensures.value, c.steps.ensures.steps, c.world-3.ensures, n) at c.in_ok-rose.ensures) in
+    let r : rose c.args.input.now.net c.args.run.now.world c.settle.new.run.world ≡ c.in_ok-rose.field-0 = sym (rw (c.world-4.ensures, c.in_ok-floor_before.ensures, c.world-2.ensures, c.issued-issued_before.ensures.value, c.steps.ensures.steps, c.world-3.ensures, n) at c.in_ok-rose.ensures) in
     round-rose (setup_of c.args.input.now) no_loss c.args.fuel c.args.run.now c.follow.new.run c.settle.new.run q f m (r ∙ c.if-branch-2.true)
 
 pub returns-clause-round : goal.returns-clause-round
@@ -31,5 +31,5 @@ returns-clause-round c = let n : c.input.inside.net ≡ c.args.input.now.net = a
     let q : is_collected (setup_of c.args.input.now) c.args.run.now.world ≡ false = rw (← c.world.ensures) (sym c.in_ok-is_collected.ensures ∙ c.if-branch.false) in
     let f : Follows (setup_of c.args.input.now) no_loss c.args.run.now (sweeps c.args.input.now.net) c.follow.new.run = subst (λ es. Follows (setup_of c.args.input.now) no_loss c.args.run.now es c.follow.new.run) (c.deref.ensures.value ∙ c.in_ok-all_sweeps.ensures ∙ ap sweeps n) c.in_ok-follow.ensures.followed in
     let b : c.in_ok-settle.field-0 ≡ true = search rules in let m : EndsBy (setup_of c.args.input.now) no_loss c.follow.new.run (settle c.args.fuel (setup_of c.args.input.now) no_loss c.follow.new.run.world) c.settle.new.run true = subst (λ b. EndsBy (setup_of c.args.input.now) no_loss c.follow.new.run (settle c.args.fuel (setup_of c.args.input.now) no_loss c.follow.new.run.world) c.settle.new.run b) b c.in_ok-settle.ensures.ends in
-    let r : rose c.args.input.now.net c.args.run.now.world c.settle.new.run.world ≡ c.in_ok-rose.field-0 = sym (rw (c.world-4.ensures, c.in_ok-floor_before.ensures, c.world-2.ensures, c.in_ok-issued_before.ensures.value, c.steps.ensures.steps, c.world-3.ensures, n) at c.in_ok-rose.ensures) in
+    let r : rose c.args.input.now.net c.args.run.now.world c.settle.new.run.world ≡ c.in_ok-rose.field-0 = sym (rw (c.world-4.ensures, c.in_ok-floor_before.ensures, c.world-2.ensures, c.issued-issued_before.ensures.value, c.steps.ensures.steps, c.world-3.ensures, n) at c.in_ok-rose.ensures) in
     IfOk-weaker c.resend.result _ _ (λ round h. round-resent (setup_of c.args.input.now) no_loss c.args.fuel c.args.run.now c.follow.new.run c.settle.new.run c.resend.new.run round q f m (r ∙ c.if-branch-2.false) h) c.resend.ensures.round

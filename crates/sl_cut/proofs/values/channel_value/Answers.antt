@@ -15,8 +15,8 @@ returns c = let l = c.args.link in let net = c.args.net.now in let w = c.args.wo
     let sent : c.in_ok-messages.messages.items ≡ carried_by no_loss l (before k (sender net w l)) = c.in_ok-messages.ensures
     ∙ ap (put l) (c.before-2.ensures.value ∙ ap (before k) (c.steps.ensures.steps ∙ ap (λ e. history w e.from) c.link_of-ends.ensures)) ∙ sym (nothing_lost 0 (put l (before k (sender net w l)))) in
     let taker : reverse c.steps-receiver.result.now ≡ receiver net w l = c.steps-receiver.ensures.steps ∙ ap (λ e. history w e.to) c.link_of-ends.ensures in
-    let all : c.taken.result ≡ taken_by net l (receiver net w l) = c.taken.ensures.value ∙ ap (λ ch. taken ch (reverse c.steps-receiver.result.now)) c.in_ok-choice.ensures ∙ ap (taken (choice_of net l)) taker in
-    let inside : c.taken-2.result ≡ taken_by net l (before k (receiver net w l)) = c.taken-2.ensures.value ∙ ap (λ ch. taken ch (reverse c.before-3.result.now)) c.in_ok-choice.ensures
+    let all : c.taken.result ≡ taken_by net l (receiver net w l) = c.taken.ensures.value ∙ ap (λ ch. taken ch (reverse c.steps-receiver.result.now)) c.choice_of-choice.ensures ∙ ap (taken (choice_of net l)) taker in
+    let inside : c.taken-2.result ≡ taken_by net l (before k (receiver net w l)) = c.taken-2.ensures.value ∙ ap (λ ch. taken ch (reverse c.before-3.result.now)) c.choice_of-choice.ensures
     ∙ ap (taken (choice_of net l)) (c.before-3.ensures.value ∙ ap (before k) taker) in
     let x : c.rest_of.result.now ≡ crossing net no_loss w k l = c.rest_of.ensures.value
     ∙ ap (drop c.taken-2.result) (c.first_of-matched.ensures.value ∙ ap (take c.taken.result) (c.deref.ensures.value ∙ sent) ∙ ap (λ n. take n (carried_by no_loss l (before k (sender net w l)))) all)

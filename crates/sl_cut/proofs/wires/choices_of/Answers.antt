@@ -6,4 +6,4 @@ use Rattle.std.specs.Prelude.{slice_index_or}
 use Rattle.sl_cut.proofs.wires.choices_of.Goals as goal
 
 pub loop-choice-preserved : goal.loop-choice-preserved
-loop-choice-preserved c = rw (filter_below_more (λ k. same_sort (link_of c.args.net.now (slice_index_or c.in_ok-links.links.items k 0)).sort c.args.sort) c.loop-choice.choice) (grind (arith, common_steps))
+loop-choice-preserved c = rw (filter_below_more (λ k. same_sort (link_of c.args.net.now (slice_index_or c.links_into-links.result.now k 0)).sort c.args.sort) c.loop-choice.choice) (grind (arith, common_steps))

@@ -1,11 +1,11 @@
 -- Loops that judge and count.
-use Rattle.std.proofs.Common.{◌≡◌, ℕ, zero, suc, ◌+◌, ◌<◌, ◌≤◌, List, [], ◌∷◌, ◌++◌, length, refl, sym, ap, ◌∙◌, Option, Some, None, arith, take, drop, get_or}
+use Rattle.std.proofs.Common.{◌≡◌, ℕ, zero, suc, ◌+◌, ◌<◌, ◌≤◌, List, [], ◌∷◌, ◌++◌, length, refl, sym, ap, ◌∙◌, Option, Some, None, arith, take, get_or}
 use Rattle.std.specs.Prelude.{min, unwrap_or, slice_index_or}
-use Rattle.std.proofs.lemmas.List.{take_more, at_drop_more}
+use Rattle.std.proofs.lemmas.List.{take_more}
 use Rattle.sl_net.specs.declared.actor.Sort.{Sort}
 use Rattle.sl_net.specs.Net.{Net}
 use Rattle.sl_cut.specs.declared.total.Total.{Total}
-use Rattle.sl_cut.specs.Words.{weigh, least, least_in, first_from, or_later}
+use Rattle.sl_cut.specs.Words.{weigh, least, least_in}
 use Rattle.sl_cut.specs.History.{World}
 use Rattle.sl_cut.specs.Findings.{no_total, eight_totals, lost_on, lost_of}
 use Rattle.sl_cut.specs.Lossless.{no_loss}
@@ -50,15 +50,6 @@ pub least_cons : (x : ℕ) (xs : List ℕ) → least (x ∷ xs) ≡ Some (min (u
 least_cons x xs = let e : min x x ≡ x = omega arith in ap (λ n. least_in (Some n) xs) e ∙ least-from x xs
 
 -- The first element of which something is said.
-
-pub first_next : {A : Type 0} (f : ℕ → Option A) (xs : List ℕ) (i : ℕ) → i < length xs → f (get_or xs i 0) ≡ None
-    → first_from (i + 1) f (drop (i + 1) xs) ≡ first_from i f (drop i xs)
-first_next f xs i h e = let n : i + 1 ≡ suc i = omega arith in
-    sym (at_drop_more (first_from i f) xs i 0 h ∙ ap (λ o. or_later i o (first_from (suc i) f (drop (i + 1) xs))) e ∙ ap (λ k. first_from k f (drop (i + 1) xs)) (sym n))
-
-pub first_here : {A : Type 0} (f : ℕ → Option A) (xs : List ℕ) (i : ℕ) (v : A) → i < length xs → f (get_or xs i 0) ≡ Some v
-    → first_from i f (drop i xs) ≡ Some (i, v)
-first_here f xs i v h e = at_drop_more (first_from i f) xs i 0 h ∙ ap (λ o. or_later i o (first_from (suc i) f (drop (i + 1) xs))) e
 
 -- Eight places.
 

@@ -30,15 +30,9 @@ filter-and p q (x ∷ xs) = elim (p x) as (λ b. filter q (cond b (x ∷ filter 
 pub map_below_more : {B : Type 0} (f : ℕ → B) (n : ℕ) → map f (below (n + 1)) ≡ map f (below n) ++ f n ∷ []
 map_below_more f n = let z : 0 + n ≡ n = omega arith in ap (λ k. map f (below k)) (add-one n) ∙ ap (map f) (numbers-more 0 n) ∙ ap (λ k. map f (below n ++ k ∷ [])) z ∙ map-append f (below n) (n ∷ [])
 
-pub map_more : {A B : Type 0} (f : A → B) (xs : List A) (i : ℕ) (d : A) → i < length xs → map f (take (i + 1) xs) ≡ map f (take i xs) ++ f (get_or xs i d) ∷ []
-map_more f xs i d h = ap (map f) (take_more xs i d h) ∙ map-append f (take i xs) (get_or xs i d ∷ [])
-
 pub flat_map-snoc : {A B : Type 0} (f : A → List B) (xs : List A) (x : A) → flat_map f (xs ++ x ∷ []) ≡ flat_map f xs ++ f x
 flat_map-snoc f [] x = append-nil (f x)
 flat_map-snoc f (y ∷ ys) x = ap (λ r. f y ++ r) (flat_map-snoc f ys x) ∙ sym (append_assoc (f y) (flat_map f ys) (f x))
-
-pub flat_map_more : {A B : Type 0} (f : A → List B) (xs : List A) (i : ℕ) (d : A) → i < length xs → flat_map f (take (i + 1) xs) ≡ flat_map f (take i xs) ++ f (get_or xs i d)
-flat_map_more f xs i d h = ap (flat_map f) (take_more xs i d h) ∙ flat_map-snoc f (take i xs) (get_or xs i d)
 
 pub flat_map_below_more : {B : Type 0} (f : ℕ → List B) (n : ℕ) → flat_map f (below (n + 1)) ≡ flat_map f (below n) ++ f n
 flat_map_below_more f n = let z : 0 + n ≡ n = omega arith in

@@ -1,12 +1,11 @@
 -- Laws of runs for the loops that follow schedules, settle and finish.
 use Rattle.std.proofs.Common.{◌≡◌, ℕ, zero, suc, ◌+◌, ◌-◌, ◌<◌, List, [], ◌∷◌, ◌++◌, length, refl, sym, ap, subst, ◌∙◌, Option, Some, None, arith, append_assoc, append-nil, length-append, length-take, get_or, take}
-use Rattle.std.specs.Prelude.{◌≢◌, cond, is_some, true, false, Bool, slice_get, replicate, map}
+use Rattle.std.specs.Prelude.{◌≢◌, cond, is_some, true, false, Bool, replicate, map}
 use Rattle.std.proofs.lemmas.List.{take_more}
-use Rattle.std.proofs.lemmas.Option.{slice_get_within}
 use Rattle.sl_machine.specs.Book.{Book}
 use Rattle.sl_net.specs.Parts.{numbers_from}
-use Rattle.sl_net.specs.declared.actor.ActorId.{ActorId}
 use Rattle.sl_net.specs.Net.{Net}
+use Rattle.sl_cut.proofs.Turns.{run-append}
 use Rattle.sl_cut.specs.declared.message.Step.{Step}
 use Rattle.sl_cut.specs.History.{World, Losses}
 use Rattle.sl_cut.specs.Setup.{Setup}
@@ -14,7 +13,7 @@ use Rattle.sl_cut.specs.World.{Entry, start, next_step, after, turn, run, kept_f
 use Rattle.sl_cut.specs.Schedule.{settling_pass, sweeps, resend_entry}
 use Rattle.sl_cut.specs.Runs.{Run, Follows, Goes}
 use Rattle.sl_cut.specs.End.{settle, finish, append_to, then_from, again_from, sweep_round, after_sweeps, is_collected, rose}
-use Rattle.sl_cut.specs.Fuel.{EndsBy, Rounds, numbered, schedule_of, numbers_of, IsBookOf, AreBookOf}
+use Rattle.sl_cut.specs.Fuel.{EndsBy, Rounds, numbered, schedule_of, numbers_of, IsBookOf}
 use Rattle.sl_cut.specs.declared.finish.Round.{Round}
 use Rattle.sl_cut.specs.declared.finish.Round.TheVariants.{Ended, Again, Short}
 
@@ -24,14 +23,6 @@ replicate-map y (x ∷ xs) = ap (λ r. y ∷ r) (replicate-map y xs)
 
 pub start_replicate : (net : Net) → replicate (length net.actors) [] ≡ start net
 start_replicate net = replicate-map [] net.actors
-
--- a step belongs to an actor of the net
-pub step_in_net : (s : Setup) (lost : Losses) (w : World) (e : Entry) (step : Step) → next_step s lost w e ≡ Some step → e.0 < length s.net.actors
-step_in_net s lost w e step = by_actor (slice_get s.net.actors e.0) refl
-  where
-    by_actor : (o : Option ActorId) → slice_get s.net.actors e.0 ≡ o → next_step s lost w e ≡ Some step → e.0 < length s.net.actors
-    by_actor (Some actor) q h = slice_get_within s.net.actors e.0 actor q
-    by_actor None q h = absurd (let n : next_step s lost w e ≡ None = rw q refl in cc)
 
 numbered-snoc : (n : ℕ) (xs : List Entry) (e : Entry) → numbered n (xs ++ e ∷ []) ≡ numbered n xs ++ record { number = n + length xs; actor = e.0; choice = e.1 } ∷ []
 numbered-snoc n [] e = let z : n ≡ n + 0 = omega arith in ap (λ k. record { number = k; actor = e.0; choice = e.1 } ∷ []) z
@@ -61,10 +52,6 @@ run-kept s lost w [] = refl
 run-kept s lost w (e ∷ es) = run-step s lost w e es (is_some (next_step s lost w e)) refl (λ u. run-kept s lost u es)
 
 -- One schedule after another.
-
-pub run-append : (s : Setup) (lost : Losses) (w : World) (xs ys : List Entry) → run s lost w (xs ++ ys) ≡ run s lost (run s lost w xs) ys
-run-append s lost w [] ys = refl
-run-append s lost w (e ∷ xs) ys = run-append s lost (turn s lost w e) xs ys
 
 kept-append-step : (s : Setup) (lost : Losses) (w v : World) (e : Entry) (b : Bool) (xs ys : List Entry)
     → ((u : World) → kept_from s lost u (xs ++ ys) ≡ kept_from s lost u xs ++ kept_from s lost (run s lost u xs) ys)
@@ -145,11 +132,6 @@ ends-again s lost old mid new go (e ∷ es) ended g h k = ends-append s lost old
 abbrev pub IsSettlingOn : Setup → Losses → ℕ → Run → ℕ → Run → Type 0
 IsSettlingOn s lost fuel old left now = (new : Run) (ended : Bool) → EndsBy s lost now (settle left s lost now.world) new ended → EndsBy s lost old (settle fuel s lost old.world) new ended
 
-pub settles-out : (s : Setup) (lost : Losses) (fuel : ℕ) (old : Run) (left : ℕ) (now : Run) → IsSettlingOn s lost fuel old left now → left ≡ 0
-    → EndsBy s lost old (settle fuel s lost old.world) now false
-settles-out s lost fuel old zero now h e = h now false refl
-settles-out s lost fuel old (suc left) now h e = absurd (omega arith)
-
 pub settles-end : (s : Setup) (lost : Losses) (fuel : ℕ) (old : Run) (left : ℕ) (now new : Run) → IsSettlingOn s lost fuel old left now → 0 < left
     → Follows s lost now (settling_pass s.net) new → length new.book ≡ length now.book → EndsBy s lost old (settle fuel s lost old.world) new true
 settles-end s lost fuel old zero now new h l f k = absurd (omega arith)
@@ -205,11 +187,6 @@ pub round-resent : (s : Setup) (lost : Losses) (fuel : ℕ) (old swept mid new :
 round-resent s lost fuel old swept mid new round q f m r h = rounds-after s lost fuel old swept mid new round q f m
     (subst (λ b. Rounds s lost mid (λ go. after_sweeps go s lost mid.world b) new round) (sym r) h)
 
-pub resend-ended : (s : Setup) (lost : Losses) (old new : Run) → Follows s lost old (resend_entry s.net ∷ []) new → length new.book ≡ length old.book
-    → Rounds s lost old (λ go. again_from s lost old.world go (kept_from s lost old.world (resend_entry s.net ∷ []))) new Ended
-resend-ended s lost old new f k = let g = follows-goes s lost old new (resend_entry s.net ∷ []) f in
-    λ go. ends-nothing s lost old new go (kept_from s lost old.world (resend_entry s.net ∷ [])) g (goes-nothing s lost old new _ g k)
-
 pub resend-again : (s : Setup) (lost : Losses) (old new : Run) → Follows s lost old (resend_entry s.net ∷ []) new → length new.book ≢ length old.book
     → Rounds s lost old (λ go. again_from s lost old.world go (kept_from s lost old.world (resend_entry s.net ∷ []))) new Again
 resend-again s lost old new f k = let g = follows-goes s lost old new (resend_entry s.net ∷ []) f in
@@ -223,20 +200,10 @@ IsFinishingOn s lost fuel old left now = (new : Run) (ended : Bool) → EndsBy s
 abbrev pub RoundFrom : Setup → Losses → ℕ → Run → Run → Round → Type 0
 RoundFrom s lost fuel old new round = Rounds s lost old (λ go. sweep_round fuel go s lost old.world (is_collected s old.world)) new round
 
-pub finishes-out : (s : Setup) (lost : Losses) (fuel : ℕ) (old : Run) (left : ℕ) (now : Run) → IsFinishingOn s lost fuel old left now → left ≡ 0
-    → EndsBy s lost old (finish fuel s lost old.world) now false
-finishes-out s lost fuel old zero now h e = h now false refl
-finishes-out s lost fuel old (suc left) now h e = absurd (omega arith)
-
 finish-through : (s : Setup) (lost : Losses) (left : ℕ) (now mid new : Run) (ended : Bool) → EndsBy s lost now (settle (suc left) s lost now.world) mid true
     → EndsBy s lost mid (sweep_round (suc left) (λ v. finish left s lost v) s lost mid.world (is_collected s mid.world)) new ended
     → EndsBy s lost now (finish (suc left) s lost now.world) new ended
 finish-through s lost left now mid new ended m k = ends-then s lost now mid new (λ v. sweep_round (suc left) (λ u. finish left s lost u) s lost v (is_collected s v)) (settle (suc left) s lost now.world) ended m k
-
-pub finishes-short : (s : Setup) (lost : Losses) (fuel : ℕ) (old : Run) (left : ℕ) (now mid : Run) → IsFinishingOn s lost fuel old left now → 0 < left
-    → EndsBy s lost now (settle left s lost now.world) mid false → EndsBy s lost old (finish fuel s lost old.world) mid false
-finishes-short s lost fuel old zero now mid h l m = absurd (omega arith)
-finishes-short s lost fuel old (suc left) now mid h l m = h mid false (ends-then-short s lost now mid (λ v. sweep_round (suc left) (λ u. finish left s lost u) s lost v (is_collected s v)) (settle (suc left) s lost now.world) m)
 
 pub finishes-ended : (s : Setup) (lost : Losses) (fuel : ℕ) (old : Run) (left : ℕ) (now mid new : Run) → IsFinishingOn s lost fuel old left now → 0 < left
     → EndsBy s lost now (settle left s lost now.world) mid true → RoundFrom s lost left mid new Ended → EndsBy s lost old (finish fuel s lost old.world) new true
@@ -270,15 +237,6 @@ numbered_book b es h = record {
   schedule = ap schedule_of h ∙ schedule-numbered 1 es;
   numbers = ap numbers_of h ∙ numbers-numbered 1 es ∙ ap (λ xs. numbers_from 1 (length xs)) (sym h);
 }
-
-pub book-ended : (s : Setup) (lost : Losses) (old new : Run) (o : Option (List Entry)) (b : Book) → EndsBy s lost old o new true → IsBookOf b new.book
-    → AreBookOf (Some b) (append_to old.book o)
-book-ended s lost old new None b h k = absurd cc
-book-ended s lost old new (Some es) b h k = subst (λ fs. IsBookOf b fs) h.1.book k
-
-pub book-short : (s : Setup) (lost : Losses) (old new : Run) (fs : List Entry) (o : Option (List Entry)) → EndsBy s lost old o new false → AreBookOf None (append_to fs o)
-book-short s lost old new fs None h = tt
-book-short s lost old new fs (Some es) h = absurd (let e = h.0 in cc)
 
 pub append_nothing : (o : Option (List Entry)) → append_to [] o ≡ o
 append_nothing None = refl

@@ -4,7 +4,7 @@
 use Rattle.std.proofs.Common.{◌≡◌, ℕ, zero, suc, ◌+◌, ◌-◌, ◌<◌, List, [], ◌∷◌, ◌++◌, length, refl, sym, ap, subst, ◌∙◌, arith, take, get_or, inl, inr}
 use Rattle.std.specs.Prelude.{◌≢◌, ◌⊎◌, Bool, true, false, cond, ◌&&◌, ◌||◌, ◌==◌, map, filter, flat_map, Option, Some, None, min, unwrap_or}
 use Rattle.std.specs.List.{list_any}
-use Rattle.std.proofs.lemmas.Bool.{eq-eqb, ne_eqb}
+use Rattle.std.proofs.lemmas.Bool.{ne_eqb}
 use Rattle.std.proofs.lemmas.Bool.Decides.{eqb_tells}
 use Rattle.std.proofs.lemmas.List.{take_more, map-append}
 use Rattle.sl_net.specs.declared.parts.CablePart.{CablePart}
@@ -186,18 +186,3 @@ walks-begin parts d e h = go (length parts.devices)
     go zero = refl
     go (suc n) = let m : suc n - 1 - 0 ≡ n = omega arith in
         ap (λ k. walks_from_length parts d e 1 k) m ∙ ap (λ b. first_nonempty (cond b ([] ∷ []) [] ∷ map (walks_between parts d e) (numbers_from 1 n))) (sym (ne_eqb d e h))
-
-pub walks-end : (parts : Parts) (own d e n left : ℕ) → left ≡ 0 → walks_from_length parts d e n left ≡ least_walks parts d e → None ≡ least (map (first_port own) (least_walks parts d e))
-walks-end parts own d e n zero l h = ap (λ ws. least (map (first_port own) ws)) h
-walks-end parts own d e n (suc left) l h = absurd (omega arith)
-
-pub own-port : (parts : Parts) (own d e : ℕ) → d ≡ e → length parts.devices ≢ 0 → Some own ≡ least (map (first_port own) (least_walks parts d e))
-own-port parts own d e h k = go (length parts.devices) k
-  where
-    go : (n : ℕ) → n ≢ 0 → Some own ≡ least (map (first_port own) (first_nonempty (map (walks_between parts d e) (below n))))
-    go zero k = absurd (k refl)
-    go (suc n) k = let m : own ≡ min own own = omega arith in
-        ap Some m ∙ ap (λ b. least (map (first_port own) (first_nonempty (cond b ([] ∷ []) [] ∷ map (walks_between parts d e) (numbers_from 1 n))))) (sym (eq-eqb d e h))
-
-pub no-device : (parts : Parts) (own d e : ℕ) → length parts.devices ≡ 0 → None ≡ least (map (first_port own) (least_walks parts d e))
-no-device parts own d e h = ap (λ n. least (map (first_port own) (first_nonempty (map (walks_between parts d e) (below n))))) (sym h)

@@ -20,3 +20,4 @@ pub mod Linked
 pub mod NetWired
 pub mod ReportWays
 pub mod Skips
+pub mod Sound

@@ -19,6 +19,7 @@ pub record HasEnds (net : Net) (k : LinkPart) : Type 0 where
 pub record IsWired (parts : Parts) (links : List LinkPart) (into from : Sorted) : Type 0 where
   pub links_are : links ≡ (net_of parts).links
   pub few : length links ≤ 77888
+  pub few_actors : length (net_of parts).actors ≤ 1217
   pub ends : All (HasEnds (net_of parts)) links
   pub into_are : into.lists ≡ map (links_into (net_of parts)) (below (length (net_of parts).actors))
   pub choices_are : into.places ≡ map (choice_of (net_of parts)) (link_numbers (net_of parts))

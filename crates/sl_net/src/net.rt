@@ -1,6 +1,7 @@
 // A net: its parts with the actors and links that they give.
 ghost use Rattle.std.specs.Prelude.{◌≡◌, ◌≢◌, ◌<◌, ◌≤◌, None, Some, IfOk, IfErr, OnOk, length, slice_index};
 ghost use Rattle.std.specs.List.{All};
+ghost use Rattle.sl_machine.specs.Plan.{IsSound};
 ghost use Rattle.sl_net.specs.Fault.{fault_of};
 ghost use Rattle.sl_net.specs.Valid.{IsValid};
 ghost use Rattle.sl_net.specs.Net.{net_of, actor_of, link_of, links_into, links_from, units, unit_place};
@@ -197,9 +198,11 @@ impl Net {
         self.units.place_of(actor)
     }
 
-    /// How the actors are joined.
+    /// How the actors are joined. Each link has a place of its own at both its ends, and none is
+    /// left out.
     pub fn wiring(&self) -> &Wiring
-        ensures { result.now ≡ plan_of self.now }
+        ensures now { result.now ≡ plan_of self.now }
+        ensures sound { IsSound result.now }
     {
         &self.wiring
     }

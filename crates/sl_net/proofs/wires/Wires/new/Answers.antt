@@ -14,6 +14,7 @@ invariant_of-result c =
     record {
       links_are = c.in_ok-links.ensures;
       few = omega (arith, ap length c.in_ok-links.ensures, few_links parts valid few);
+      few_actors = few;
       ends = subst (All (HasEnds (net_of parts))) (sym c.in_ok-links.ensures) (all_ends parts valid);
       into_are = c.in_ok-into.ensures.lists;
       choices_are = c.in_ok-into.ensures.places;

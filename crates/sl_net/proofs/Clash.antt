@@ -1,7 +1,7 @@
 -- Walks that look for the first element that clashes with those before it.
-use Rattle.std.proofs.Common.{◌≡◌, ℕ, ◌+◌, ◌<◌, ◌≤◌, List, [], ◌∷◌, ◌++◌, length, get_or, take, drop, refl, sym, ap, ◌∙◌, arith, Bool, true, false, Some, None, add-one, drop-cons}
+use Rattle.std.proofs.Common.{◌≡◌, ℕ, ◌+◌, ◌<◌, List, [], ◌∷◌, ◌++◌, length, get_or, take, drop, refl, sym, ap, ◌∙◌, arith, Bool, true, false, Some, add-one, drop-cons}
 use Rattle.std.specs.Prelude.{if◌then◌else◌}
-use Rattle.std.proofs.lemmas.List.{take_more, drop_all}
+use Rattle.std.proofs.lemmas.List.{take_more}
 use Rattle.std.proofs.Common.{length-take}
 use Rattle.sl_net.specs.Fault.{first_clash}
 
@@ -19,6 +19,3 @@ clash_here t xs i d h q = one_more t xs i d h ∙ ap (λ b. if b then Some i els
 pub clash_later : {A : Type 0} (t : List A → A → Bool) (xs : List A) (i : ℕ) (d : A) → i < length xs → t (take i xs) (get_or xs i d) ≡ false
     → first_clash t (take (i + 1) xs) (drop (i + 1) xs) ≡ first_clash t (take i xs) (drop i xs)
 clash_later t xs i d h q = sym (one_more t xs i d h ∙ ap (λ b. if b then Some i else first_clash t (take (i + 1) xs) (drop (i + 1) xs)) q)
-
-pub clash_none : {A : Type 0} (t : List A → A → Bool) (xs before : List A) (i : ℕ) → length xs ≤ i → first_clash t before (drop i xs) ≡ None
-clash_none t xs before i h = ap (first_clash t before) (drop_all i xs h)

@@ -1,6 +1,6 @@
 -- The links of a net: where they come from.
 use Rattle.std.proofs.Common.{◌≡◌, ℕ, zero, suc, ◌+◌, ◌<◌, ◌≤◌, List, [], ◌∷◌, length, refl, subst, Option, Some, None, arith, inl, inr, eq-eqb, map}
-use Rattle.std.specs.Prelude.{◌⊎◌, true, false, Bool, ◌||◌, ◌==◌, if◌then◌else◌, flat_map, slice_get, slice_index_or, IfSome}
+use Rattle.std.specs.Prelude.{true, false, Bool, ◌||◌, ◌==◌, if◌then◌else◌, flat_map, slice_get, IfSome}
 use Rattle.std.specs.List.{list_any}
 use Rattle.std.proofs.lemmas.Bool.{or_left, or_right, and_from}
 use Rattle.sl_net.specs.declared.actor.ActorId.{ActorId}
@@ -13,7 +13,7 @@ use Rattle.sl_net.specs.declared.parts.PortRef.{PortRef}
 use Rattle.sl_net.specs.declared.parts.CablePart.{CablePart}
 use Rattle.sl_net.specs.declared.parts.HostPart.{HostPart}
 use Rattle.sl_net.specs.Parts.{Parts, below, same_port, other_end, host_from, host_at, is_used, used_ports, ports_of}
-use Rattle.sl_net.specs.Net.{net_of, link_of, no_link, sort_number, ingress, egress, units_of, actors_of, Incoming, incoming, unit_incoming, from_outside, from_host_or_cable, to_host, place_of, links_to}
+use Rattle.sl_net.specs.Net.{net_of, sort_number, ingress, egress, units_of, actors_of, Incoming, incoming, unit_incoming, from_outside, from_host_or_cable, to_host, place_of, links_to}
 use Rattle.sl_net.specs.Valid.{IsPort, IsValid}
 use Rattle.sl_net.specs.Roster.{IsActor}
 use Rattle.sl_net.specs.Ports.{IsNear}
@@ -137,12 +137,3 @@ each-link parts v = each-flat (IsLink parts) (λ a. links_to parts (actors_of pa
         (each-of (λ i. IsLink parts (record { from = place_of i.0 (actors_of parts); to = place_of a (actors_of parts); sort = i.1 })) (incoming parts a)
         (λ i m. let s : IsSender parts i = each-at (IsSender parts) i (incoming parts a) (each-sender parts a v h) m in
         record { sender = i.0; receiver = a; sends = s.1; is_sender = s.0; is_receiver = h; listed = m; from = refl; to = refl }))
-
--- a number of a link names a link of the net, or none
-pub link-at : (parts : Parts) (l : ℕ) → IsValid parts → IsLink parts (link_of (net_of parts) l) ⊎ (link_of (net_of parts) l ≡ no_link)
-link-at parts l v = of_list (net_of parts).links l (each-link parts v)
-  where
-    of_list : (ks : List LinkPart) (l : ℕ) → Each (IsLink parts) ks → IsLink parts (slice_index_or ks l no_link) ⊎ (slice_index_or ks l no_link ≡ no_link)
-    of_list [] l e = inr refl
-    of_list (k ∷ ks) zero e = inl e.0
-    of_list (k ∷ ks) (suc l) e = of_list ks l e.1

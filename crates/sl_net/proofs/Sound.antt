@@ -10,7 +10,7 @@ use Rattle.sl_net.specs.declared.actor.ActorId.{ActorId}
 use Rattle.sl_net.specs.declared.actor.ActorId.TheVariants.{Observer, Control, Unit as OfUnit, Host as OfHost}
 use Rattle.sl_net.specs.declared.actor.LinkPart.{LinkPart}
 use Rattle.sl_net.specs.Net.{Net, net_of, nobody, link_of, no_link, links_into, links_from, place_in, choice_of}
-use Rattle.sl_net.specs.Wires.{HasEnds, IsWired, out_of}
+use Rattle.sl_net.specs.Wires.{HasEnds, AreWires, out_of}
 use Rattle.sl_net.specs.Groups.{Sorted}
 use Rattle.std.specs.List.{All}
 use Rattle.sl_net.specs.Wiring.{actions_of, wired_link, plan_of}
@@ -166,5 +166,5 @@ sound net actors_few links_few ends = record {
     wire : (l : ℕ) → l < length net.links → wired_at (plan_of net).links l ≡ wired_link net l
     wire l h = at_below (wired_link net) (length net.links) l _ h
 
-pub sound_wires : (parts : Parts) (links : List LinkPart) (into from : Sorted) → IsWired parts links into from → IsSound (plan_of (net_of parts))
+pub sound_wires : (parts : Parts) (links : List LinkPart) (into from : Sorted) → AreWires parts links into from → IsSound (plan_of (net_of parts))
 sound_wires parts links into from w = sound (net_of parts) w.few_actors (subst (λ ks. length ks ≤ 77888) w.links_are w.few) (λ l h. subst (All (HasEnds (net_of parts))) w.links_are w.ends l no_link h)

@@ -16,7 +16,7 @@ pub record HasEnds (net : Net) (k : LinkPart) : Type 0 where
   pub to : k.to < length net.actors
 
 -- the links of the parts' net, sorted by receivers and by senders
-pub record IsWired (parts : Parts) (links : List LinkPart) (into from : Sorted) : Type 0 where
+pub record AreWires (parts : Parts) (links : List LinkPart) (into from : Sorted) : Type 0 where
   pub links_are : links ≡ (net_of parts).links
   pub few : length links ≤ 77888
   pub few_actors : length (net_of parts).actors ≤ 1217

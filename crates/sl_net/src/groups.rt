@@ -33,6 +33,7 @@ impl Groups {
         row(self.lists.as_slice(), key as usize)
     }
 
+    /// The place of each element in the list that it stands in.
     pub fn places(&self) -> &[u32]
         ensures { result.now ≡ self.now.places }
     {

@@ -95,6 +95,7 @@ impl Layout {
         Ok(Layout { parts, table, used })
     }
 
+    /// The parts as they were given.
     pub fn parts(&self) -> &Parts
         ensures now { result.now ≡ self.now }
         ensures right { fault_of self.now ≡ None }

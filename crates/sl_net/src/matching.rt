@@ -170,6 +170,7 @@ fn skip_number(text: &[u8], parts: &Parts, sender: ActorId, at: usize) -> Option
     }
 }
 
+/// The word that a link of the sort is spelled with, before its sender.
 pub fn link_word(sort: Sort) -> &'static [u8]
     ensures { result.now ≡ link_word sort }
 {

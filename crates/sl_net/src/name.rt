@@ -57,6 +57,7 @@ impl Name {
         }
     }
 
+    /// The name as a text.
     pub fn as_str(&self) -> &str
         ensures text { result.now ≡ self.now }
         ensures name { IsName self.now }

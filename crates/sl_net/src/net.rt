@@ -84,6 +84,7 @@ impl Net {
         Ok(assemble(alloc, layout)?)
     }
 
+    /// The parts that the net was built from.
     pub fn parts(&self) -> &Parts
         ensures now { result.now ≡ self.now.parts }
         ensures net { self.now ≡ net_of self.now.parts }
@@ -129,6 +130,7 @@ impl Net {
         self.units.wires().links()
     }
 
+    /// The link of a number.
     pub fn link(&self, link: u32) -> LinkPart
         requires { link < length self.now.links }
         ensures link { result ≡ link_of self.now link }

@@ -13,6 +13,7 @@ use crate::table::filled;
 use std::alloc::{AllocError, Global};
 use std::marker::Model;
 
+/// The ingress unit of a port.
 pub fn ingress(device: u32, port: u32) -> ActorId
     ensures { result ≡ ingress device port }
 {
@@ -23,6 +24,7 @@ pub fn ingress(device: u32, port: u32) -> ActorId
     })
 }
 
+/// The egress unit of a port.
 pub fn egress(device: u32, port: u32) -> ActorId
     ensures { result ≡ egress device port }
 {
@@ -67,15 +69,29 @@ fn add_units(actors: &mut Vec<ActorId>, device: u32, port: u32) -> Result<(), Al
     Ok(())
 }
 
-fn add_device(actors: &mut Vec<ActorId>, layout: &Layout, device: u32) -> Result<(), AllocError>
+fn add_ports(actors: &mut Vec<ActorId>, layout: &Layout, device: u32) -> Result<(), AllocError>
     requires { device < length layout.now.devices }
-    ensures { OnOk result (actors.new.items ≡ actors.old.items ++ ActorId.Control device ∷ units_of layout.now device) }
+    ensures { OnOk result (actors.new.items ≡ actors.old.items ++ units_of layout.now device) }
 {
-    actors.push(ActorId::Control(device))?;
     for port in layout.used_ports(device) {
         add_units(actors, device, *port)?;
     }
     Ok(())
+}
+
+fn add_control(actors: &mut Vec<ActorId>, device: u32) -> Result<(), AllocError>
+    ensures { OnOk result (actors.new.items ≡ actors.old.items ++ ActorId.Control device ∷ []) }
+{
+    actors.push(ActorId::Control(device))?;
+    Ok(())
+}
+
+fn add_device(actors: &mut Vec<ActorId>, layout: &Layout, device: u32) -> Result<(), AllocError>
+    requires { device < length layout.now.devices }
+    ensures { OnOk result (actors.new.items ≡ actors.old.items ++ ActorId.Control device ∷ units_of layout.now device) }
+{
+    add_control(actors, device)?;
+    add_ports(actors, layout, device)
 }
 
 /// The actors in order: the observer, each device's control plane and units, the hosts.
@@ -130,6 +146,7 @@ impl Model for Roster {
 }
 
 impl Roster {
+    /// Lists and numbers the actors of the layout.
     pub fn new(alloc: Global, layout: Layout) -> Result<Roster, AllocError>
         ensures { IfOk result (λ roster. roster ≡ layout) }
     {
@@ -142,12 +159,14 @@ impl Roster {
         })
     }
 
+    /// The layout that the actors are of.
     pub fn layout(&self) -> &Layout
         ensures { result.now ≡ self.now }
     {
         &self.layout
     }
 
+    /// The actors in order.
     pub fn actors(&self) -> &[ActorId]
         ensures now { result.now ≡ actors_of self.now }
         ensures few { length result.now ≤ 1217 }

@@ -79,6 +79,7 @@ fn list_units(alloc: Global, actors: &[ActorId]) -> Result<(Vec<UnitId>, Vec<u32
 }
 
 impl Units {
+    /// Lists and numbers the units among the actors.
     pub fn new(alloc: Global, wires: Wires) -> Result<Units, AllocError>
         ensures { IfOk result (λ units. units ≡ wires) }
     {
@@ -93,12 +94,14 @@ impl Units {
         })
     }
 
+    /// The links, with their tables.
     pub fn wires(&self) -> &Wires
         ensures { result.now ≡ self.now }
     {
         &self.wires
     }
 
+    /// The units in order.
     pub fn ids(&self) -> &[UnitId]
         ensures units { AreUnits self.now (units self.now) result.now }
         ensures len { length result.now ≡ length (units self.now) }

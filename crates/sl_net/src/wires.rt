@@ -26,11 +26,11 @@ impl Model for Wires {
 
     ghost Value = { Net };
 
-    ghost use Rattle.sl_net.specs.Wires.{IsWired};
+    ghost use Rattle.sl_net.specs.Wires.{AreWires};
 
     ghost view = { λ w. net_of w.roster };
 
-    ghost invariant = { λ w. IsWired w.roster w.links.items w.into w.from };
+    ghost invariant = { λ w. AreWires w.roster w.links.items w.into w.from };
 }
 
 fn receivers(alloc: Global, links: &[LinkPart]) -> Result<Vec<u32>, AllocError>
@@ -66,6 +66,7 @@ fn by_senders(alloc: Global, roster: &Roster, links: &[LinkPart]) -> Result<Grou
 }
 
 impl Wires {
+    /// Lists the links, and sorts them by receivers and by senders.
     pub fn new(alloc: Global, roster: Roster) -> Result<Wires, AllocError>
         ensures { IfOk result (λ wires. wires ≡ net_of roster) }
     {
@@ -80,6 +81,7 @@ impl Wires {
         })
     }
 
+    /// The actors, with their numbers.
     pub fn roster(&self) -> &Roster
         ensures { self.now ≡ net_of result.now }
     {
@@ -93,6 +95,7 @@ impl Wires {
         self.roster.actors().len() as u32
     }
 
+    /// The links in order.
     pub fn links(&self) -> &[LinkPart]
         ensures now { result.now ≡ self.now.links }
         ensures few { length result.now ≤ 77888 }
@@ -101,6 +104,7 @@ impl Wires {
         self.links.as_slice()
     }
 
+    /// The link of a number.
     pub fn link(&self, link: u32) -> LinkPart
         requires { link < length self.now.links }
         ensures link { result ≡ link_of self.now link }

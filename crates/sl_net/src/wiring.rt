@@ -65,6 +65,7 @@ fn count_actions(alloc: Global, actors: &[ActorId]) -> Result<Vec<u32>, AllocErr
     actors.iter().map(|actor| actions_of(*actor)).collect(alloc)
 }
 
+/// The wiring of the net, as machines ask for it.
 pub fn make_wiring(alloc: Global, wires: &Wires) -> Result<Wiring, AllocError>
     ensures { IfOk result (λ wiring. wiring ≡ plan_of wires.now) }
 {

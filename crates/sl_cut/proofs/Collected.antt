@@ -19,7 +19,7 @@ use Rattle.sl_cut.specs.World.{Entry, run}
 use Rattle.sl_cut.specs.Made.{Took, Acted, IsMade, Ran}
 use Rattle.sl_cut.specs.Cut.{outside}
 use Rattle.sl_cut.specs.Verdict.{skipped_to, is_old_data, miscredits, first_cause, channel_lag, lag_at, lag}
-use Rattle.sl_cut.specs.declared.total.Total.{Total}
+use Rattle.sl_saves.specs.declared.entry.Total.{Total}
 use Rattle.sl_cut.specs.Counting.{packets, bytes}
 use Rattle.sl_cut.specs.Fit.{fits, fits_link, is_stamped, stamp}
 use Rattle.sl_cut.specs.Late.{is_old, late}

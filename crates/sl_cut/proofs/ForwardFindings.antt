@@ -1,14 +1,12 @@
 -- Loops that judge and count.
 use Rattle.std.proofs.Common.{◌≡◌, ℕ, zero, suc, ◌+◌, ◌<◌, ◌≤◌, List, [], ◌∷◌, ◌++◌, length, refl, sym, ap, ◌∙◌, Option, Some, None, arith, take, get_or}
-use Rattle.std.specs.Prelude.{min, unwrap_or, slice_index_or}
+use Rattle.std.specs.Prelude.{Bool, min, unwrap_or, slice_index_or, filter, cond}
 use Rattle.std.proofs.lemmas.List.{take_more}
-use Rattle.sl_net.specs.declared.actor.Sort.{Sort}
-use Rattle.sl_net.specs.Net.{Net}
-use Rattle.sl_cut.specs.declared.total.Total.{Total}
+use Rattle.sl_saves.specs.declared.entry.Total.{Total}
 use Rattle.sl_cut.specs.Words.{weigh, least, least_in}
-use Rattle.sl_cut.specs.History.{World}
-use Rattle.sl_cut.specs.Findings.{no_total, eight_totals, lost_on, lost_of}
-use Rattle.sl_cut.specs.Lossless.{no_loss}
+use Rattle.sl_cut.specs.Findings.{no_total, eight_totals}
+use Rattle.sl_net.specs.Parts.{below}
+use Rattle.sl_cut.proofs.ForwardLists.{filter_below_more}
 
 -- Sums.
 
@@ -25,15 +23,13 @@ weigh_take f [] (suc i) = omega arith
 weigh_take f (x ∷ xs) zero = omega arith
 weigh_take f (x ∷ xs) (suc i) = let k = weigh_take f xs i in omega (arith, k)
 
-weigh-zero : {A : Type 0} (f : A → ℕ) (xs : List A) → ((x : A) → f x ≡ 0) → weigh f xs ≡ 0
-weigh-zero f [] h = refl
-weigh-zero f (x ∷ xs) h = let k = weigh-zero f xs h in let e = h x in omega (arith, k, e)
+weigh-append : {A : Type 0} (f : A → ℕ) (xs ys : List A) → weigh f (xs ++ ys) ≡ weigh f xs + weigh f ys
+weigh-append f [] ys = omega arith
+weigh-append f (x ∷ xs) ys = let k = weigh-append f xs ys in omega (arith, k)
 
-none-on : (net : Net) (w : World) (l : ℕ) → lost_on net no_loss w l ≡ 0
-none-on net w l = weigh-zero (λ n. 0) _ (λ n. refl)
-
-pub none_lost : (net : Net) (w : World) (sort : Sort) → lost_of net no_loss w sort ≡ 0
-none_lost net w sort = weigh-zero (lost_on net no_loss w) _ (none-on net w)
+-- of the numbers below another, those that pass a test
+pub weigh_below_more : (f : ℕ → ℕ) (test : ℕ → Bool) (n : ℕ) → weigh f (filter test (below (n + 1))) ≡ weigh f (filter test (below n)) + weigh f (cond (test n) (n ∷ []) [])
+weigh_below_more f test n = ap (weigh f) (filter_below_more test n) ∙ weigh-append f (filter test (below n)) (cond (test n) (n ∷ []) [])
 
 -- The least of some numbers, with one before them.
 

@@ -1,7 +1,7 @@
 pub mod Nets
 pub mod Rows
-pub mod Ends
 pub mod ForwardLists
+pub mod ForwardLosses
 pub mod ForwardSteps
 pub mod ForwardPuts
 pub mod Actions
@@ -26,3 +26,4 @@ pub mod ForwardFindings
 pub mod Walks
 pub mod KnownVerdict
 pub mod NoActor
+pub mod Finished

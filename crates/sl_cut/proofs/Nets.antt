@@ -1,7 +1,7 @@
 -- The nets of the worked rows, and how a row's run goes.
 --     net_a    one device with two hosts          net_b    one device with one host
 --     net_c    two devices joined by a cable      net_d    three devices in a line
-use Rattle.std.specs.Prelude.{ℕ, false, ◌&&◌, List, [], ◌∷◌, ◌++◌, codes, ◌==◌, unwrap_or}
+use Rattle.std.specs.Prelude.{ℕ, ◌&&◌, List, [], ◌∷◌, ◌++◌, codes, ◌==◌, unwrap_or}
 use Rattle.sl_net.specs.declared.parts.PortRef.{PortRef}
 use Rattle.sl_net.specs.declared.parts.DevicePart.{DevicePart}
 use Rattle.sl_net.specs.declared.parts.CablePart.{CablePart}
@@ -54,9 +54,6 @@ setup net window count retries flows = record { net = net; window = window; coun
 -- one snapshot of the first net with one flow of packets from the first host to the second
 abbrev pub form : ℕ → ℕ → Setup
 form count bytes = setup net_a 3 1 0 (flow 0 1 count bytes 8 ∷ [])
-
-abbrev pub no_loss : Losses
-no_loss l n = false
 
 -- the n-th put on the link l is lost
 abbrev pub drop_one : ℕ → ℕ → Losses

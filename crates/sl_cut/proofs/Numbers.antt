@@ -33,10 +33,6 @@ pub rises-from : (m n : ℕ) (xs : List ℕ) (b : ℕ) → m ≤ n → Rises n x
 rises-from m n [] b l h = omega arith
 rises-from m n (x ∷ xs) b l h = (omega arith, h.1)
 
-pub rises-to : (n : ℕ) (xs : List ℕ) (b c : ℕ) → Rises n xs b → b ≤ c → Rises n xs c
-rises-to n [] b c h l = omega arith
-rises-to n (x ∷ xs) b c h l = (h.0, rises-to x xs b c h.1 l)
-
 pub rises-append : (a : ℕ) (xs : List ℕ) (b : ℕ) (ys : List ℕ) (c : ℕ) → Rises a xs b → Rises b ys c → Rises a (xs ++ ys) c
 rises-append a [] b ys c h k = rises-from a b ys c h k
 rises-append a (x ∷ xs) b ys c h k = (h.0, rises-append x xs b ys c h.1 k)

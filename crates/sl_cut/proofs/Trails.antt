@@ -4,13 +4,15 @@ use Rattle.std.specs.Prelude.{◌≢◌, cond, is_some, true, false, Bool, repli
 use Rattle.std.proofs.lemmas.List.{take_more}
 use Rattle.sl_machine.specs.Book.{Book}
 use Rattle.sl_net.specs.Parts.{numbers_from}
+use Rattle.sl_net.specs.declared.input.Script1.{Script1}
 use Rattle.sl_net.specs.Net.{Net}
+use Rattle.sl_cut.proofs.ForwardLists.{flat_map-snoc, flat_map_below_more}
 use Rattle.sl_cut.proofs.Turns.{run-append}
 use Rattle.sl_cut.specs.declared.message.Step.{Step}
 use Rattle.sl_cut.specs.History.{World, Losses}
 use Rattle.sl_cut.specs.Setup.{Setup}
 use Rattle.sl_cut.specs.World.{Entry, start, next_step, after, turn, run, kept_from}
-use Rattle.sl_cut.specs.Schedule.{settling_pass, sweeps, resend_entry}
+use Rattle.sl_cut.specs.Schedule.{settling_pass, sweeps, resend_entry, passes_of, expand_one, expand}
 use Rattle.sl_cut.specs.Runs.{Run, Follows, Goes}
 use Rattle.sl_cut.specs.End.{settle, finish, append_to, then_from, again_from, sweep_round, after_sweeps, is_collected, rose}
 use Rattle.sl_cut.specs.Fuel.{EndsBy, Rounds, numbered, schedule_of, numbers_of, IsBookOf}
@@ -80,6 +82,25 @@ follows-more s lost old mid new es i e d h q f reached book = let t : take (i + 
     }
 
 -- What follows goes by the entries that it keeps.
+
+pub follows-append : (s : Setup) (lost : Losses) (old mid new : Run) (es fs : List Entry) → Follows s lost old es mid → Follows s lost mid fs new → Follows s lost old (es ++ fs) new
+follows-append s lost old mid new es fs f g = record {
+  reached = g.reached ∙ ap (λ w. run s lost w fs) f.reached ∙ sym (run-append s lost old.world es fs);
+  book = g.book ∙ ap (λ b. b ++ kept_from s lost mid.world fs) f.book
+      ∙ append_assoc old.book (kept_from s lost old.world es) (kept_from s lost mid.world fs)
+      ∙ ap (λ w. old.book ++ (kept_from s lost old.world es ++ kept_from s lost w fs)) f.reached
+      ∙ ap (λ b. old.book ++ b) (sym (kept-append s lost old.world es fs));
+}
+
+pub follows-passes : (s : Setup) (lost : Losses) (old mid new : Run) (es : List Entry) (n : ℕ) → Follows s lost old (passes_of es n) mid → Follows s lost mid es new
+    → Follows s lost old (passes_of es (n + 1)) new
+follows-passes s lost old mid new es n f g = subst (λ xs. Follows s lost old xs new) (sym (flat_map_below_more (λ i. es) n)) (follows-append s lost old mid new (passes_of es n) es f g)
+
+pub follows-script : (s : Setup) (lost : Losses) (old mid new : Run) (net : Net) (script : List Script1) (i : ℕ) (d : Script1) → i < length script → Follows s lost old (expand net (take i script)) mid
+    → Follows s lost mid (expand_one net (get_or script i d)) new → Follows s lost old (expand net (take (i + 1) script)) new
+follows-script s lost old mid new net script i d h f g = subst (λ xs. Follows s lost old xs new)
+    (sym (ap (expand net) (take_more script i d h) ∙ flat_map-snoc (expand_one net) (take i script) (get_or script i d)))
+    (follows-append s lost old mid new (expand net (take i script)) (expand_one net (get_or script i d)) f g)
 
 pub follows-goes : (s : Setup) (lost : Losses) (old new : Run) (es : List Entry) → Follows s lost old es new → Goes s lost old (kept_from s lost old.world es) new
 follows-goes s lost old new es f = record { reached = f.reached ∙ sym (run-kept s lost old.world es); book = f.book }
@@ -237,7 +258,3 @@ numbered_book b es h = record {
   schedule = ap schedule_of h ∙ schedule-numbered 1 es;
   numbers = ap numbers_of h ∙ numbers-numbered 1 es ∙ ap (λ xs. numbers_from 1 (length xs)) (sym h);
 }
-
-pub append_nothing : (o : Option (List Entry)) → append_to [] o ≡ o
-append_nothing None = refl
-append_nothing (Some es) = refl

@@ -4,7 +4,7 @@
 --     channel_value net lost w k l  the data packets that were put before the sender's cut and taken after the receiver's
 use Rattle.std.specs.Prelude.{ℕ, List, [], ◌∷◌, length, nat_lt, if◌then◌else◌, take, drop}
 use Rattle.sl_net.specs.Net.{Net}
-use Rattle.sl_cut.specs.declared.total.Total.{Total}
+use Rattle.sl_saves.specs.declared.entry.Total.{Total}
 use Rattle.sl_cut.specs.declared.message.Message.{Message}
 use Rattle.sl_cut.specs.declared.message.Message.TheVariants.{Data}
 use Rattle.sl_cut.specs.declared.message.Step.{Step}

@@ -7,7 +7,7 @@ use Rattle.sl_net.specs.declared.actor.Sort.{Sort}
 use Rattle.sl_net.specs.declared.actor.Sort.TheVariants.{Cable, Crossbar, Init, Notice}
 use Rattle.sl_net.specs.Parts.{numbers_from}
 use Rattle.sl_net.specs.Net.{Net, same_side, same_sort, actor_of, link_of, link_at, link_numbers, action_choice, units, hosts, data_channels}
-use Rattle.sl_cut.specs.declared.total.Total.{Total}
+use Rattle.sl_saves.specs.declared.entry.Total.{Total}
 use Rattle.sl_cut.specs.declared.verdict.Verdict.{Verdict}
 use Rattle.sl_cut.specs.declared.verdict.Verdict.TheVariants.{Consistent}
 use Rattle.sl_cut.specs.declared.findings.Row.{Row}

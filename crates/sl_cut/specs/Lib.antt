@@ -15,10 +15,12 @@ pub mod Verdict
 pub mod Schedule
 pub mod End
 pub mod Bound
+pub mod Losses
 pub mod Findings
 pub mod Runs
 pub mod Lossless
 pub mod Fuel
+pub mod Finished
 pub mod Fit
 pub mod Late
 pub mod Window

@@ -1,5 +1,5 @@
 // Findings: what a run showed, as the report prints it.
-use crate::total::Total;
+use sl_saves::Total;
 use crate::verdict::Verdict;
 use std::marker::Model;
 

@@ -1,18 +1,20 @@
 // Settling and finishing.
-ghost use Rattle.std.specs.Prelude.{◌≡◌, [], ◌∷◌, length, OnOk, IfOk, nat_lt, ◌||◌};
+ghost use Rattle.std.specs.Prelude.{◌≡◌, [], ◌∷◌, length, OnOk, IfOk, IfSome, option_map, nat_lt, ◌||◌};
 ghost use Rattle.std.specs.List.{All};
 ghost use Rattle.sl_cut.specs.Setup.{setup_of};
-ghost use Rattle.sl_cut.specs.World.{start, world, kept, kept_from};
+ghost use Rattle.sl_cut.specs.World.{world, kept, kept_from};
 ghost use Rattle.sl_cut.specs.Knowledge.{floor, issued, observer};
-ghost use Rattle.sl_cut.specs.Schedule.{settling_pass, resend_entry};
+ghost use Rattle.sl_cut.specs.Schedule.{settling_pass, resend_entry, expand};
 ghost use Rattle.sl_cut.specs.End.{settle, finish, is_collected, sweep_round, again_from, append_to};
 ghost use Rattle.sl_cut.specs.Fuel.{EndsBy, Rounds, AreBookOf};
-ghost use Rattle.sl_cut.specs.Lossless.{no_loss, HasAddresses, IsLosslessInput};
+ghost use Rattle.sl_cut.specs.Finished.{IsBookOfRun};
+ghost use Rattle.sl_cut.specs.Losses.{losses};
+ghost use Rattle.sl_cut.specs.Lossless.{HasAddresses};
 
-use crate::follow::{Run, follow};
+use crate::follow::{Run, follow, follow_script};
 use crate::history::World;
 use crate::knowledge::{floor, issued};
-use crate::schedule::{all_sweeps, resend_entry, settling_pass};
+use crate::schedule::{all_sweeps, pass_of, resend_entry};
 use sl_machine::{Book, Memory};
 use sl_net::{Input, Net};
 use std::alloc::{AllocError, Global};
@@ -36,7 +38,7 @@ fn settle(
     requires pass { pass.now ≡ settling_pass input.now.net }
     requires addresses { All HasAddresses input.now.flows }
     requires actors { length run.old.world ≡ length input.now.net.actors }
-    ensures ends { IfOk result (λ ended. EndsBy (setup_of input.now) no_loss run.old (settle fuel (setup_of input.now) no_loss run.old.world) run.new ended) }
+    ensures ends { IfOk result (λ ended. EndsBy (setup_of input.now) (losses input.now) run.old (settle fuel (setup_of input.now) (losses input.now) run.old.world) run.new ended) }
     ensures actors { OnOk result (length run.new.world ≡ length input.now.net.actors) }
 {
     let mut left = fuel;
@@ -78,7 +80,7 @@ fn rose(
 fn resend(alloc: Global, input: &Input, run: &mut Run) -> Result<Round, AllocError>
     requires addresses { All HasAddresses input.now.flows }
     requires actors { length run.old.world ≡ length input.now.net.actors }
-    ensures round { IfOk result (λ round. Rounds (setup_of input.now) no_loss run.old (λ go. again_from (setup_of input.now) no_loss run.old.world go (kept_from (setup_of input.now) no_loss run.old.world (resend_entry input.now.net ∷ []))) run.new round) }
+    ensures round { IfOk result (λ round. Rounds (setup_of input.now) (losses input.now) run.old (λ go. again_from (setup_of input.now) (losses input.now) run.old.world go (kept_from (setup_of input.now) (losses input.now) run.old.world (resend_entry input.now.net ∷ []))) run.new round) }
     ensures actors { OnOk result (length run.new.world ≡ length input.now.net.actors) }
 {
     let before = run.book_len();
@@ -101,7 +103,7 @@ fn take_round(
     requires pass { pass.now ≡ settling_pass input.now.net }
     requires addresses { All HasAddresses input.now.flows }
     requires actors { length run.old.world ≡ length input.now.net.actors }
-    ensures round { IfOk result (λ round. Rounds (setup_of input.now) no_loss run.old (λ go. sweep_round fuel go (setup_of input.now) no_loss run.old.world (is_collected (setup_of input.now) run.old.world)) run.new round) }
+    ensures round { IfOk result (λ round. Rounds (setup_of input.now) (losses input.now) run.old (λ go. sweep_round fuel go (setup_of input.now) (losses input.now) run.old.world (is_collected (setup_of input.now) run.old.world)) run.new round) }
     ensures actors { OnOk result (length run.new.world ≡ length input.now.net.actors) }
 {
     if is_collected(alloc, input, run.world())? {
@@ -123,10 +125,10 @@ fn take_round(
 fn finish(alloc: Global, input: &Input, run: &mut Run, fuel: u64) -> Result<bool, AllocError>
     requires addresses { All HasAddresses input.now.flows }
     requires actors { length run.old.world ≡ length input.now.net.actors }
-    ensures ends { IfOk result (λ ended. EndsBy (setup_of input.now) no_loss run.old (finish fuel (setup_of input.now) no_loss run.old.world) run.new ended) }
+    ensures ends { IfOk result (λ ended. EndsBy (setup_of input.now) (losses input.now) run.old (finish fuel (setup_of input.now) (losses input.now) run.old.world) run.new ended) }
     ensures actors { OnOk result (length run.new.world ≡ length input.now.net.actors) }
 {
-    let pass = settling_pass(alloc, &input.net)?;
+    let pass = pass_of(alloc, &input.net, true)?;
     let mut left = fuel;
     while left > 0 {
         if !settle(alloc, input, run, &pass, left)? {
@@ -141,48 +143,46 @@ fn finish(alloc: Global, input: &Input, run: &mut Run, fuel: u64) -> Result<bool
     Ok(false)
 }
 
-fn finish_after(
-    alloc: Global,
-    input: &Input,
-    front: &[(u32, u32)],
-    fuel: u64,
-) -> Result<Option<Book>, AllocError>
+/// The book of a run, and how many of its entries come before finishing.
+#[derive(Drop)]
+pub struct RunBook {
+    pub book: Book,
+    pub front: u64,
+}
+
+fn run_script(alloc: Global, input: &Input, fuel: u64) -> Result<Option<RunBook>, AllocError>
     requires { All HasAddresses input.now.flows }
-    ensures { IfOk result (λ book. AreBookOf book (append_to (kept (setup_of input.now) no_loss front.now) (finish fuel (setup_of input.now) no_loss (world (setup_of input.now) no_loss front.now)))) }
+    ensures book { IfOk result (λ found. AreBookOf (option_map (λ r. r.book) found) (append_to (kept (setup_of input.now) (losses input.now) (expand input.now.net input.now.script)) (finish fuel (setup_of input.now) (losses input.now) (world (setup_of input.now) (losses input.now) (expand input.now.net input.now.script))))) }
+    ensures front { IfOk result (λ found. IfSome found (λ r. r.front ≡ length (kept (setup_of input.now) (losses input.now) (expand input.now.net input.now.script)))) }
 {
     let mut run = Run::new(alloc, input)?;
-    follow(alloc, input, &mut run, front)?;
+    follow_script(alloc, input, &mut run)?;
+    let front = run.book_len() as u64;
     if finish(alloc, input, &mut run, fuel)? {
-        Ok(Some(run.book(alloc)?))
+        let book = run.book(alloc)?;
+        Ok(Some(RunBook { book, front }))
     } else {
         Ok(None)
     }
 }
 
-/// Follows the front of a run on whole histories and then finishes, with so much fuel, and answers
-/// the book of both, or none where the fuel is too small. An entry of the front that is idle is
-/// left out.
-pub fn finish_histories_after(
-    alloc: Global,
-    input: &Input,
-    front: &[(u32, u32)],
-    fuel: u64,
-) -> Result<Option<Book>, Memory>
-    requires { IsLosslessInput input.now }
-    ensures book { IfOk result (λ book. AreBookOf book (append_to (kept (setup_of input.now) no_loss front.now) (finish fuel (setup_of input.now) no_loss (world (setup_of input.now) no_loss front.now)))) }
+/// Runs an input with so much fuel. More rounds and passes than a u64 counts, each of which did
+/// something, would fill any memory, and are answered so.
+fn run_with(alloc: Global, input: &Input, fuel: u64) -> Result<RunBook, Memory>
+    requires { All HasAddresses input.now.flows }
+    ensures { IfOk result (λ run. IsBookOfRun input.now (losses input.now) run.book.entries run.front) }
 {
-    match finish_after(alloc, input, front, fuel) {
-        Ok(book) => Ok(book),
-        Err(_) => Err(Memory),
+    match run_script(alloc, input, fuel) {
+        Ok(Some(run)) => Ok(run),
+        _ => Err(Memory),
     }
 }
 
-/// Finishes on whole histories from the start, with so much fuel, and answers the book, or none
-/// where the fuel is too small.
-#[tactic(auto, using(crate::proofs::Trails::append_nothing))]
-pub fn finish_histories(alloc: Global, input: &Input, fuel: u64) -> Result<Option<Book>, Memory>
-    requires { IsLosslessInput input.now }
-    ensures book { IfOk result (λ book. AreBookOf book (finish fuel (setup_of input.now) no_loss (start input.now.net))) }
+/// The book of the run of an input on whole histories: it follows the script, leaving out the
+/// entries that are idle, and then finishes.
+pub fn run_histories(alloc: Global, input: &Input) -> Result<RunBook, Memory>
+    requires { All HasAddresses input.now.flows }
+    ensures { IfOk result (λ run. IsBookOfRun input.now (losses input.now) run.book.entries run.front) }
 {
-    finish_histories_after(alloc, input, &[], fuel)
+    run_with(alloc, input, u64::MAX)
 }

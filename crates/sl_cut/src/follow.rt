@@ -4,13 +4,16 @@ ghost use Rattle.std.specs.List.{All};
 ghost use Rattle.sl_cut.specs.Setup.{setup_of};
 ghost use Rattle.sl_cut.specs.World.{start, next_step, turn, kept_from};
 ghost use Rattle.sl_cut.specs.Runs.{Follows};
+ghost use Rattle.sl_cut.specs.Schedule.{pass, passes_of, expand_one, expand};
 ghost use Rattle.sl_cut.specs.Fuel.{numbered, IsBookOf};
-ghost use Rattle.sl_cut.specs.Lossless.{no_loss, HasAddresses};
+ghost use Rattle.sl_cut.specs.Losses.{losses};
+ghost use Rattle.sl_cut.specs.Lossless.{HasAddresses};
 
 use crate::history::World;
+use crate::schedule::pass_of;
 use crate::step::next_step;
 use sl_machine::{Book, Entry};
-use sl_net::Input;
+use sl_net::{Input, Script1};
 use std::alloc::{AllocError, Global};
 use std::marker::Model;
 
@@ -90,8 +93,8 @@ fn take_turn(
 ) -> Result<bool, AllocError>
     requires addresses { All HasAddresses input.now.flows }
     requires actors { length run.old.world ≡ length input.now.net.actors }
-    ensures after { OnOk result (run.new.world ≡ turn (setup_of input.now) no_loss run.old.world (actor, choice)) }
-    ensures kept { OnOk result (run.new.book ≡ run.old.book ++ kept_from (setup_of input.now) no_loss run.old.world ((actor, choice) ∷ [])) }
+    ensures after { OnOk result (run.new.world ≡ turn (setup_of input.now) (losses input.now) run.old.world (actor, choice)) }
+    ensures kept { OnOk result (run.new.book ≡ run.old.book ++ kept_from (setup_of input.now) (losses input.now) run.old.world ((actor, choice) ∷ [])) }
     ensures actors { OnOk result (length run.new.world ≡ length input.now.net.actors) }
 {
     match next_step(alloc, input, &run.world, actor, choice)? {
@@ -113,11 +116,80 @@ pub fn follow(
 ) -> Result<(), AllocError>
     requires addresses { All HasAddresses input.now.flows }
     requires actors { length run.old.world ≡ length input.now.net.actors }
-    ensures followed { OnOk result (Follows (setup_of input.now) no_loss run.old schedule.now run.new) }
+    ensures followed { OnOk result (Follows (setup_of input.now) (losses input.now) run.old schedule.now run.new) }
     ensures actors { OnOk result (length run.new.world ≡ length input.now.net.actors) }
 {
     for (actor, choice) in schedule {
         take_turn(alloc, input, run, *actor, *choice)?;
     }
     Ok(())
+}
+
+/// Follows a pass so many times.
+fn follow_passes(
+    alloc: Global,
+    input: &Input,
+    run: &mut Run,
+    entries: &[(u32, u32)],
+    count: u32,
+) -> Result<(), AllocError>
+    requires addresses { All HasAddresses input.now.flows }
+    requires actors { length run.old.world ≡ length input.now.net.actors }
+    ensures followed { OnOk result (Follows (setup_of input.now) (losses input.now) run.old (passes_of entries.now count) run.new) }
+    ensures actors { OnOk result (length run.new.world ≡ length input.now.net.actors) }
+{
+    for _done in 0..count {
+        follow(alloc, input, run, entries)?;
+    }
+    Ok(())
+}
+
+/// Follows an entry of a script.
+fn follow_entry(
+    alloc: Global,
+    input: &Input,
+    run: &mut Run,
+    entries: &[(u32, u32)],
+    entry: Script1,
+) -> Result<(), AllocError>
+    requires pass { entries.now ≡ pass input.now.net }
+    requires addresses { All HasAddresses input.now.flows }
+    requires actors { length run.old.world ≡ length input.now.net.actors }
+    ensures followed { OnOk result (Follows (setup_of input.now) (losses input.now) run.old (expand_one input.now.net entry) run.new) }
+    ensures actors { OnOk result (length run.new.world ≡ length input.now.net.actors) }
+{
+    match entry {
+        Script1::Pass(count) => follow_passes(alloc, input, run, entries, count),
+        Script1::Choice { actor, choice } => follow(alloc, input, run, &[(actor, choice)]),
+    }
+}
+
+fn follow_entries(
+    alloc: Global,
+    input: &Input,
+    run: &mut Run,
+    entries: &[(u32, u32)],
+    script: &[Script1],
+) -> Result<(), AllocError>
+    requires pass { entries.now ≡ pass input.now.net }
+    requires addresses { All HasAddresses input.now.flows }
+    requires actors { length run.old.world ≡ length input.now.net.actors }
+    ensures followed { OnOk result (Follows (setup_of input.now) (losses input.now) run.old (expand input.now.net script.now) run.new) }
+    ensures actors { OnOk result (length run.new.world ≡ length input.now.net.actors) }
+{
+    for entry in script {
+        follow_entry(alloc, input, run, entries, *entry)?;
+    }
+    Ok(())
+}
+
+/// Follows the script of an input.
+pub fn follow_script(alloc: Global, input: &Input, run: &mut Run) -> Result<(), AllocError>
+    requires addresses { All HasAddresses input.now.flows }
+    requires actors { length run.old.world ≡ length input.now.net.actors }
+    ensures followed { OnOk result (Follows (setup_of input.now) (losses input.now) run.old (expand input.now.net input.now.script) run.new) }
+    ensures actors { OnOk result (length run.new.world ≡ length input.now.net.actors) }
+{
+    let pass = pass_of(alloc, &input.net, false)?;
+    follow_entries(alloc, input, run, pass.as_slice(), input.script.as_slice())
 }

@@ -6,15 +6,18 @@ ghost use Rattle.sl_cut.specs.Words.{weigh};
 ghost use Rattle.sl_cut.specs.History.{history};
 ghost use Rattle.sl_cut.specs.Counting.{bad, expired, noroute};
 ghost use Rattle.sl_cut.specs.Setup.{setup_of};
-ghost use Rattle.sl_cut.specs.Findings.{row, rows_for, finding, is_ingress, device_of, ingress_units, over_ingress, drops_of, losses_of, sent_by, delivered_to, findings_in, findings};
-ghost use Rattle.sl_cut.specs.Lossless.{no_loss, steps_in, IsLosslessInput};
+ghost use Rattle.sl_cut.specs.Findings.{row, rows_for, finding, is_ingress, device_of, ingress_units, over_ingress, drops_of, sent_by, delivered_to, findings_in, findings};
+ghost use Rattle.std.specs.List.{All};
+ghost use Rattle.sl_cut.specs.Losses.{losses};
+ghost use Rattle.sl_cut.specs.Lossless.{steps_in, HasAddresses};
 
 use crate::counting::{bad, expired, noroute};
-use crate::findings::{Counts, Drops, Finding, FindingList, Findings, Lost, Row, Rows1};
+use crate::findings::{Counts, Drops, Finding, FindingList, Findings, Rows1};
 use crate::follow::{Run, follow};
 use crate::history::World;
 use crate::judge::verdict;
 use crate::knowledge::{floor, issued, resent};
+use crate::losses::losses_of;
 use crate::tell::taken;
 use crate::values::row;
 use crate::verdict::Verdict;
@@ -25,63 +28,63 @@ use std::alloc::{AllocError, Global};
 
 fn rows(
     alloc: Global,
-    net: &Net,
+    input: &Input,
     world: &World,
     snapshot: u64,
     units: &[u32],
 ) -> Result<Rows1, AllocError>
     requires { steps_in world.now < 2 ^ 40 }
-    ensures { IfOk result (λ rows. rows ≡ map (row net.now no_loss world.now snapshot) units.now) }
+    ensures { IfOk result (λ rows. rows ≡ map (row input.now.net (losses input.now) world.now snapshot) units.now) }
 {
     let mut items = Vec::new(alloc);
     for unit in units {
-        items.push(row(alloc, net, world, snapshot, *unit)?)?;
+        items.push(row(alloc, input, world, snapshot, *unit)?)?;
     }
     Ok(Rows1 { items })
 }
 
 fn rows_for(
     alloc: Global,
-    net: &Net,
+    input: &Input,
     world: &World,
     snapshot: u64,
     verdict: Verdict,
 ) -> Result<Rows1, AllocError>
     requires { steps_in world.now < 2 ^ 40 }
-    ensures { IfOk result (λ rows. rows ≡ rows_for net.now no_loss world.now snapshot verdict) }
+    ensures { IfOk result (λ rows. rows ≡ rows_for input.now.net (losses input.now) world.now snapshot verdict) }
 {
     match verdict {
-        Verdict::Consistent => rows(alloc, net, world, snapshot, net.unit_actors()),
+        Verdict::Consistent => rows(alloc, input, world, snapshot, input.net.unit_actors()),
         _ => Ok(Rows1 {
             items: Vec::new(alloc),
         }),
     }
 }
 
-fn finding(alloc: Global, net: &Net, world: &World, snapshot: u64) -> Result<Finding, AllocError>
+fn finding(alloc: Global, input: &Input, world: &World, snapshot: u64) -> Result<Finding, AllocError>
     requires { steps_in world.now < 2 ^ 40 }
-    ensures { IfOk result (λ one. one ≡ finding net.now no_loss world.now snapshot) }
+    ensures { IfOk result (λ one. one ≡ finding input.now.net (losses input.now) world.now snapshot) }
 {
-    let verdict = verdict(alloc, net, world, snapshot)?;
+    let verdict = verdict(alloc, &input.net, world, snapshot)?;
     Ok(Finding {
         k: snapshot,
         verdict,
-        rows: rows_for(alloc, net, world, snapshot, verdict)?,
+        rows: rows_for(alloc, input, world, snapshot, verdict)?,
     })
 }
 
 fn finding_list(
     alloc: Global,
-    net: &Net,
+    input: &Input,
     world: &World,
     count: u64,
 ) -> Result<FindingList, AllocError>
     requires { steps_in world.now < 2 ^ 40 }
-    ensures { IfOk result (λ list. list ≡ map (finding net.now no_loss world.now) (numbers_from 1 count)) }
+    ensures { IfOk result (λ list. list ≡ map (finding input.now.net (losses input.now) world.now) (numbers_from 1 count)) }
 {
     let mut items = Vec::new(alloc);
     for done in 0..count {
-        items.push(finding(alloc, net, world, done + 1)?)?;
+        items.push(finding(alloc, input, world, done + 1)?)?;
     }
     Ok(FindingList { items })
 }
@@ -191,22 +194,10 @@ fn delivered_to(alloc: Global, world: &World, hosts: &[u32]) -> Result<Counts, A
     Ok(Counts { items })
 }
 
-#[tactic(auto, using(crate::proofs::ForwardFindings::none_lost))]
-fn no_losses(net: &Net, world: &World) -> Lost
-    ensures { result ≡ losses_of net.now no_loss world.now }
-{
-    Lost {
-        cable: 0,
-        crossbar: 0,
-        init: 0,
-        notice: 0,
-    }
-}
-
 fn findings_in(alloc: Global, input: &Input, world: &World) -> Result<Findings, AllocError>
     requires small { steps_in world.now < 2 ^ 40 }
     requires actors { length world.now ≡ length input.now.net.actors }
-    ensures { IfOk result (λ all. all ≡ findings_in (setup_of input.now) no_loss world.now) }
+    ensures { IfOk result (λ all. all ≡ findings_in (setup_of input.now) (losses input.now) world.now) }
 {
     let net = &input.net;
     let hosts = hosts(alloc, net)?;
@@ -214,11 +205,11 @@ fn findings_in(alloc: Global, input: &Input, world: &World) -> Result<Findings, 
         issued: issued(net, world.steps(0)),
         floor: floor(alloc, net, world)?,
         resent: resent(net, world.steps(0)),
-        list: finding_list(alloc, net, world, input.snapshot.count)?,
+        list: finding_list(alloc, input, world, input.snapshot.count)?,
         sent: sent_by(alloc, net, world, &hosts)?,
         delivered: delivered_to(alloc, world, &hosts)?,
         drops: drops_of(alloc, net, world)?,
-        lost: no_losses(net, world),
+        lost: losses_of(alloc, input, world)?,
     })
 }
 
@@ -227,9 +218,9 @@ fn findings_after(
     input: &Input,
     schedule: &[(u32, u32)],
 ) -> Result<Findings, AllocError>
-    requires lossless { IsLosslessInput input.now }
+    requires addresses { All HasAddresses input.now.flows }
     requires small { length schedule.now < 2 ^ 40 }
-    ensures { IfOk result (λ all. all ≡ findings (setup_of input.now) no_loss schedule.now) }
+    ensures { IfOk result (λ all. all ≡ findings (setup_of input.now) (losses input.now) schedule.now) }
 {
     let mut run = Run::new(alloc, input)?;
     follow(alloc, input, &mut run, schedule)?;
@@ -243,9 +234,9 @@ pub fn findings_of(
     input: &Input,
     schedule: &[(u32, u32)],
 ) -> Result<Findings, Memory>
-    requires lossless { IsLosslessInput input.now }
+    requires addresses { All HasAddresses input.now.flows }
     requires small { length schedule.now < 2 ^ 40 }
-    ensures findings { IfOk result (λ all. all ≡ findings (setup_of input.now) no_loss schedule.now) }
+    ensures findings { IfOk result (λ all. all ≡ findings (setup_of input.now) (losses input.now) schedule.now) }
 {
     match findings_after(alloc, input, schedule) {
         Ok(findings) => Ok(findings),

@@ -15,6 +15,7 @@ mod history;
 mod judge;
 mod knowledge;
 mod laws;
+mod losses;
 mod message;
 mod route;
 mod schedule;
@@ -23,7 +24,6 @@ mod step;
 mod tell;
 #[cfg(test)]
 mod tests;
-mod total;
 mod units;
 mod values;
 mod verdict;
@@ -31,7 +31,7 @@ mod wires;
 
 pub use ends_laws::finishing_is_legal;
 pub use findings::{Counts, Drops, Finding, FindingList, Findings, Lost, Row, Rows1};
-pub use finish::{finish_histories, finish_histories_after};
+pub use finish::{RunBook, run_histories};
 pub use gather::findings_of;
 pub use history::{History, World};
 pub use laws::{
@@ -41,5 +41,5 @@ pub use laws::{
     uncollected_numbers_are_near, worlds_are_in_window, worlds_are_runs,
 };
 pub use message::{Message, Put, Puts, Step};
-pub use total::Total;
+pub use sl_saves::Total;
 pub use verdict::{Cause, Lag, Verdict};

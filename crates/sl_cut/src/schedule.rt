@@ -1,7 +1,7 @@
 // The schedules that finishing follows.
-ghost use Rattle.std.specs.Prelude.{◌≡◌, ℕ, [], ◌∷◌, ◌++◌, true, OnOk, IfOk, if◌then◌else◌};
+ghost use Rattle.std.specs.Prelude.{◌≡◌, ℕ, [], ◌∷◌, ◌++◌, OnOk, IfOk, if◌then◌else◌};
 ghost use Rattle.sl_net.specs.Net.{actor_of};
-ghost use Rattle.sl_cut.specs.Schedule.{link_entries, first_action, pass_actions, sweep_of, settling_pass, sweeps, resend_entry};
+ghost use Rattle.sl_cut.specs.Schedule.{link_entries, first_action, pass_actions, sweep_of, pass_of, sweeps, resend_entry};
 
 use crate::wires::{action_choice, actor_at, links_into, number_of};
 use sl_net::{ActorId, Net};
@@ -39,11 +39,12 @@ fn add_action(
     Ok(())
 }
 
-/// Whether an actor acts in a settling pass: the observer and the hosts do.
-fn acts_in_pass(net: &Net, actor: u32) -> bool
-    ensures { pass_actions net.now true actor (actor_of net.now actor) ≡ (if result then first_action net.now actor else []) }
+/// Whether an actor acts in a pass: the hosts do, and in a settling pass the observer.
+fn acts_in_pass(net: &Net, settling: bool, actor: u32) -> bool
+    ensures { pass_actions net.now settling actor (actor_of net.now actor) ≡ (if result then first_action net.now actor else []) }
 {
     match net.actors().get(actor as usize) {
+        Some(ActorId::Observer) => settling,
         Some(ActorId::Control(_)) => false,
         Some(ActorId::Unit(_)) => false,
         _ => true,
@@ -60,14 +61,15 @@ fn sweeps(net: &Net, actor: u32) -> bool
     }
 }
 
-/// A settling pass.
-pub fn settling_pass(alloc: Global, net: &Net) -> Result<Vec<(u32, u32)>, AllocError>
-    ensures { IfOk result (λ entries. entries.items ≡ settling_pass net.now) }
+/// A pass, or a settling pass.
+pub fn pass_of(alloc: Global, net: &Net, settling: bool) -> Result<Vec<(u32, u32)>, AllocError>
+    ensures { IfOk result (λ entries. entries.items ≡ pass_of net.now settling) }
 {
     let mut entries = Vec::new(alloc);
     for actor in 0..number_of(net.actors().len())? {
         add_links(alloc, net, &mut entries, actor)?;
-        add_action(alloc, net, &mut entries, actor, acts_in_pass(net, actor))?;
+        let acts = acts_in_pass(net, settling, actor);
+        add_action(alloc, net, &mut entries, actor, acts)?;
     }
     Ok(entries)
 }

@@ -9,15 +9,17 @@ ghost use Rattle.sl_cut.specs.Knowledge.{can_issue, can_resend, issued, is_swept
 ghost use Rattle.sl_net.specs.Net.{links_out};
 ghost use Rattle.sl_cut.specs.Puts.{puts_of, action, guarded, begin_all, poll_puts, send_all};
 ghost use Rattle.sl_cut.specs.World.{front, step_by, next_step, floor_for};
-ghost use Rattle.sl_cut.specs.Lossless.{no_loss, HasAddresses};
+ghost use Rattle.sl_cut.specs.Lossless.{HasAddresses};
+ghost use Rattle.sl_cut.specs.Losses.{losses};
 
 use crate::control::{add_control, add_sweep, is_swept};
 use crate::flow::frame_at;
 use crate::history::World;
 use crate::knowledge::{can_issue, can_resend, floor, issued};
+use crate::losses::carried;
 use crate::message::{Message, Put, Puts, Step};
 use crate::sends::add_out;
-use crate::tell::{put, taken};
+use crate::tell::taken;
 use crate::units::add_unit;
 use crate::wires::{action_choice, actor_at, link_of, links_into, number_found};
 use sl_net::{ActorId, Input, Net, Sort};
@@ -39,15 +41,16 @@ fn message_at(
 /// The message that an actor would take next from a link.
 fn front(
     alloc: Global,
-    net: &Net,
+    input: &Input,
     world: &World,
     actor: u32,
     choice: u32,
     link: u32,
 ) -> Result<Option<Message>, AllocError>
-    ensures { IfOk result (λ message. message ≡ front net.now no_loss world.now actor choice link) }
+    ensures { IfOk result (λ message. message ≡ front input.now.net (losses input.now) world.now actor choice link) }
 {
-    let messages = put(alloc, link, world.steps(link_of(net, link).from))?;
+    let sender = world.steps(link_of(&input.net, link).from);
+    let messages = carried(alloc, input, link, sender)?;
     message_at(alloc, &messages, taken(choice as usize, world.steps(actor)))
 }
 
@@ -221,9 +224,9 @@ fn step_of_link(
     choice: u32,
     link: u32,
 ) -> Result<Option<Step>, AllocError>
-    ensures { IfOk result (λ step. step ≡ step_by (setup_of input.now) no_loss world.now actor choice (Some link) of) }
+    ensures { IfOk result (λ step. step ≡ step_by (setup_of input.now) (losses input.now) world.now actor choice (Some link) of) }
 {
-    let Some(message) = front(alloc, &input.net, world, actor, choice, link)? else {
+    let Some(message) = front(alloc, input, world, actor, choice, link)? else {
         return Ok(None);
     };
     let puts = puts_of(
@@ -252,7 +255,7 @@ fn step_of_action(
     choice: u32,
 ) -> Result<Option<Step>, AllocError>
     requires { All HasAddresses input.now.flows }
-    ensures { IfOk result (λ step. step ≡ step_by (setup_of input.now) no_loss world.now actor choice None of) }
+    ensures { IfOk result (λ step. step ≡ step_by (setup_of input.now) (losses input.now) world.now actor choice None of) }
 {
     let first = action_choice(&input.net, actor);
     match action(
@@ -281,7 +284,7 @@ pub fn next_step(
     choice: u32,
 ) -> Result<Option<Step>, AllocError>
     requires { All HasAddresses input.now.flows }
-    ensures { IfOk result (λ step. step ≡ next_step (setup_of input.now) no_loss world.now (actor, choice)) }
+    ensures { IfOk result (λ step. step ≡ next_step (setup_of input.now) (losses input.now) world.now (actor, choice)) }
 {
     let Some(of) = actor_at(&input.net, actor) else {
         return Ok(None);

@@ -1,10 +1,11 @@
 // Worked runs on one device with two hosts and one flow between them.
 ghost use Rattle.std.specs.Prelude.{IfOk};
-ghost use Rattle.sl_cut.specs.Lossless.{IsLosslessInput};
+ghost use Rattle.std.specs.List.{All};
+ghost use Rattle.sl_cut.specs.Lossless.{HasAddresses};
 
-use crate::{Findings, Total, findings_of, finish_histories, finish_histories_after};
+use crate::{Findings, Total, findings_of, run_histories};
 use sl_machine::Book;
-use sl_net::{DevicePart, Flow, HostPart, Input, LossSpec, Name, Net, Parts, PortRef, Snapshot};
+use sl_net::{DevicePart, Drop1, Flow, HostPart, Input, LossSpec, Name, Net, Parts, PortRef, Script1, Snapshot};
 use std::alloc::Global;
 use std::test::Fail;
 
@@ -38,10 +39,17 @@ fn one_device(alloc: Global) -> Result<Net, Fail> {
     )?)
 }
 
-/// One snapshot, and a flow of so many packets of 100 bytes.
-fn one_flow(alloc: Global, count: u32) -> Result<Input, Fail>
-    ensures { IfOk result (λ input. IsLosslessInput input) }
+/// One snapshot, a flow of so many packets of 100 bytes, and a script of choices.
+fn one_flow(alloc: Global, count: u32, script: &[(u32, u32)]) -> Result<Input, Fail>
+    ensures { IfOk result (λ input. All HasAddresses input.flows) }
 {
+    let mut entries = Vec::new(alloc);
+    for (actor, choice) in script {
+        entries.push(Script1::Choice {
+            actor: *actor,
+            choice: *choice,
+        })?;
+    }
     Ok(Input {
         net: one_device(alloc)?,
         snapshot: Snapshot {
@@ -70,7 +78,7 @@ fn one_flow(alloc: Global, count: u32) -> Result<Input, Fail>
             }],
         )?,
         raws: Vec::new(alloc),
-        script: Vec::new(alloc),
+        script: entries,
     })
 }
 
@@ -82,26 +90,27 @@ fn turns(alloc: Global, book: &Book) -> Result<Vec<(u32, u32)>, Fail> {
     Ok(turns)
 }
 
-fn gather(alloc: Global, input: &Input, book: &Book) -> Result<Findings, Fail>
-    requires { IsLosslessInput input.now }
-{
-    let schedule = turns(alloc, book)?;
-    if schedule.len() > 100 {
-        return Err(Fail::from("too many turns"));
-    }
-    Ok(findings_of(alloc, input, &schedule)?)
+/// The findings of a run, how many of its entries come before finishing, and how many there are.
+#[derive(Drop)]
+struct Outcome {
+    findings: Findings,
+    front: u64,
+    count: usize,
 }
 
-fn findings_after(
-    alloc: Global,
-    input: &Input,
-    front: &[(u32, u32)],
-    fuel: u64,
-) -> Result<Findings, Fail>
-    requires { IsLosslessInput input.now }
+fn run(alloc: Global, input: &Input) -> Result<Outcome, Fail>
+    requires { All HasAddresses input.now.flows }
 {
-    let book = finish_histories_after(alloc, input, front, fuel)?.ok_or("too little fuel")?;
-    gather(alloc, input, &book)
+    let run = run_histories(alloc, input)?;
+    let schedule = turns(alloc, &run.book)?;
+    if schedule.len() > 200 {
+        return Err(Fail::from("too many turns"));
+    }
+    Ok(Outcome {
+        findings: findings_of(alloc, input, &schedule)?,
+        front: run.front,
+        count: schedule.len(),
+    })
 }
 
 /// What the last unit saved for its first channel, in the first finding.
@@ -110,45 +119,58 @@ fn last_unit(findings: &Findings) -> Option<Total> {
     Some(row.inflight[0])
 }
 
-fn count_turns(alloc: Global, input: &Input, fuel: u64) -> Result<usize, Fail>
-    requires { IsLosslessInput input.now }
-{
-    match finish_histories(alloc, input, fuel)? {
-        Some(book) => Ok(book.entries.len()),
-        None => Ok(0),
-    }
-}
+static TWO_IN_FLIGHT: [(u32, u32); 10] = [
+    (6, 1),
+    (6, 1),
+    (2, 0),
+    (2, 0),
+    (0, 1),
+    (1, 0),
+    (4, 1),
+    (5, 1),
+    (5, 0),
+    (5, 0),
+];
+
+static IDLE: [(u32, u32); 3] = [(0, 2), (2, 0), (3, 0)];
 
 #[test]
 fn two_in_flight(rt: HostRuntime) -> Result<(), Fail> {
     let alloc = rt.alloc();
-    let input = one_flow(alloc, 3)?;
-    let front = [
-        (6, 1),
-        (6, 1),
-        (2, 0),
-        (2, 0),
-        (0, 1),
-        (1, 0),
-        (4, 1),
-        (5, 1),
-        (5, 0),
-        (5, 0),
-    ];
-    let findings = findings_after(alloc, &input, &front, 30)?;
+    let input = one_flow(alloc, 3, &TWO_IN_FLIGHT)?;
+    let outcome = run(alloc, &input)?;
     let crossed = Total {
         packets: 2,
         bytes: 200,
     };
-    assert_eq!(rt; last_unit(&findings), Some(crossed));
+    assert_eq!(rt; last_unit(&outcome.findings), Some(crossed));
+    assert_eq!(rt; outcome.front, 10);
     Ok(())
 }
 
 #[test]
-fn three_packets_end(rt: HostRuntime) -> Result<(), Fail> {
+fn three_packets(rt: HostRuntime) -> Result<(), Fail> {
     let alloc = rt.alloc();
-    let input = one_flow(alloc, 3)?;
-    assert_eq!(rt; count_turns(alloc, &input, 30)?, 44);
-    assert_eq!(rt; count_turns(alloc, &input, 1)?, 0);
+    let input = one_flow(alloc, 3, &IDLE)?;
+    let outcome = run(alloc, &input)?;
+    assert_eq!(rt; outcome.count, 44);
+    assert_eq!(rt; outcome.front, 0);
+    Ok(())
+}
+
+/// The initiation of the first unit is lost, by name or by its rate.
+#[test]
+fn lost_initiation(rt: HostRuntime) -> Result<(), Fail> {
+    let alloc = rt.alloc();
+    let mut input = one_flow(alloc, 0, &[])?;
+    input.loss.drops.push(Drop1 { link: 11, n: 1 })?;
+    let outcome = run(alloc, &input)?;
+    assert_eq!(rt; outcome.findings.lost.init, 1);
+    assert_eq!(rt; outcome.findings.lost.notice, 0);
+    assert_eq!(rt; outcome.findings.floor, 0);
+    let mut input = one_flow(alloc, 0, &[])?;
+    input.loss.init = 1000;
+    let outcome = run(alloc, &input)?;
+    assert_eq!(rt; outcome.findings.lost.init, 2);
     Ok(())
 }

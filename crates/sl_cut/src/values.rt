@@ -4,16 +4,18 @@ ghost use Rattle.sl_net.specs.Net.{choice_of, link_at};
 ghost use Rattle.sl_cut.specs.Words.{weigh};
 ghost use Rattle.sl_cut.specs.Cut.{before, crossing, data_count, data_bytes, channel_value};
 ghost use Rattle.sl_cut.specs.Findings.{channel_links, no_total, eight_totals, row};
-ghost use Rattle.sl_cut.specs.Lossless.{no_loss, steps_in};
+ghost use Rattle.sl_cut.specs.Losses.{losses};
+ghost use Rattle.sl_cut.specs.Lossless.{steps_in};
 
 use crate::counting::{bytes, packets};
 use crate::findings::Row;
 use crate::history::World;
+use crate::losses::carried;
 use crate::message::{Message, Step};
-use crate::tell::{put, stamp_taken, taken};
-use crate::total::Total;
+use crate::tell::{stamp_taken, taken};
+use sl_saves::Total;
 use crate::wires::{data_channels, link_of, links_into, number_at, place_in};
-use sl_net::Net;
+use sl_net::{Input, Net};
 use std::alloc::{AllocError, Global};
 
 /// The steps after which the id of a unit is below a snapshot.
@@ -95,17 +97,18 @@ fn total_of(messages: &[Message]) -> Total
 /// after the receiver's.
 fn channel_value(
     alloc: Global,
-    net: &Net,
+    input: &Input,
     world: &World,
     snapshot: u64,
     link: u32,
 ) -> Result<Total, AllocError>
     requires { steps_in world.now < 2 ^ 40 }
-    ensures { IfOk result (λ total. total ≡ channel_value net.now no_loss world.now snapshot link) }
+    ensures { IfOk result (λ total. total ≡ channel_value input.now.net (losses input.now) world.now snapshot link) }
 {
-    let ends = link_of(net, link);
-    let choice = choice_of(net, link);
-    let messages = put(alloc, link, before(snapshot, world.steps(ends.from)))?;
+    let ends = link_of(&input.net, link);
+    let choice = choice_of(&input.net, link);
+    let sender = before(snapshot, world.steps(ends.from));
+    let messages = carried(alloc, input, link, sender)?;
     let receiver = world.steps(ends.to);
     let matched = first_of(&messages, taken(choice, receiver));
     Ok(total_of(rest_of(matched, taken(choice, before(snapshot, receiver)))))
@@ -113,17 +116,17 @@ fn channel_value(
 
 fn channel_values(
     alloc: Global,
-    net: &Net,
+    input: &Input,
     world: &World,
     snapshot: u64,
     links: &[u32],
 ) -> Result<Vec<Total>, AllocError>
     requires { steps_in world.now < 2 ^ 40 }
-    ensures { IfOk result (λ totals. totals.items ≡ map (channel_value net.now no_loss world.now snapshot) links.now) }
+    ensures { IfOk result (λ totals. totals.items ≡ map (channel_value input.now.net (losses input.now) world.now snapshot) links.now) }
 {
     let mut totals = Vec::new(alloc);
     for link in links {
-        totals.push(channel_value(alloc, net, world, snapshot, *link)?)?;
+        totals.push(channel_value(alloc, input, world, snapshot, *link)?)?;
     }
     Ok(totals)
 }
@@ -172,21 +175,21 @@ fn eight_totals(totals: &[Total]) -> [Total; 8]
 /// What a unit saved for a snapshot.
 pub fn row(
     alloc: Global,
-    net: &Net,
+    input: &Input,
     world: &World,
     snapshot: u64,
     unit: u32,
 ) -> Result<Row, AllocError>
     requires { steps_in world.now < 2 ^ 40 }
-    ensures { IfOk result (λ one. one ≡ row net.now no_loss world.now snapshot unit) }
+    ensures { IfOk result (λ one. one ≡ row input.now.net (losses input.now) world.now snapshot unit) }
 {
     let steps = before(snapshot, world.steps(unit));
     let totals = channel_values(
         alloc,
-        net,
+        input,
         world,
         snapshot,
-        &channel_links(alloc, net, unit)?,
+        &channel_links(alloc, &input.net, unit)?,
     )?;
     Ok(Row {
         packets: packets(steps),

@@ -10,7 +10,7 @@ use Rattle.sl_net.specs.declared.actor.Sort.TheVariants.{Cable, Crossbar}
 use Rattle.sl_net.specs.Parts.{numbers_from}
 use Rattle.sl_cut.specs.Findings.{channel_links}
 use Rattle.sl_net.specs.Net.{Net, net_of, units, link_of, link_at, links_into, choices_of, same_sort}
-use Rattle.sl_cut.specs.declared.total.Total.{Total}
+use Rattle.sl_saves.specs.declared.entry.Total.{Total}
 use Rattle.sl_cut.specs.declared.findings.Row.{Row}
 use Rattle.sl_cut.specs.declared.findings.Finding.{Finding}
 use Rattle.sl_report.specs.Report.{network_line, channel_text, totals_text, row_line, rows_text, finding_text, hosts_text, host_line}

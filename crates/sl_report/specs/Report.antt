@@ -1,7 +1,5 @@
 -- The text of the report. Each line ends with a newline; numbers are decimal.
 use Rattle.std.specs.Prelude.{ℕ, List, [], ◌∷◌, ◌++◌, map, flat_map, length, slice_index_or, codes, decimal}
-use Rattle.sl_net.specs.declared.actor.Side.{Side}
-use Rattle.sl_net.specs.declared.actor.Side.TheVariants.{Ingress, Egress}
 use Rattle.sl_net.specs.declared.actor.Sort.{Sort}
 use Rattle.sl_net.specs.declared.actor.Sort.TheVariants.{Cable}
 use Rattle.sl_net.specs.declared.actor.UnitId.{UnitId}
@@ -9,7 +7,8 @@ use Rattle.sl_net.specs.declared.actor.ActorId.{ActorId}
 use Rattle.sl_net.specs.declared.actor.ActorId.TheVariants.{Unit as OfUnit}
 use Rattle.sl_net.specs.Parts.{Parts}
 use Rattle.sl_net.specs.Net.{Net, actor_of, link_of, units}
-use Rattle.sl_cut.specs.declared.total.Total.{Total}
+use Rattle.sl_net.specs.Spelling.{actor_text, port_of}
+use Rattle.sl_saves.specs.declared.entry.Total.{Total}
 use Rattle.sl_cut.specs.declared.verdict.Cause.{Cause}
 use Rattle.sl_cut.specs.declared.verdict.Cause.TheVariants.{Skipped, Miscredited}
 use Rattle.sl_cut.specs.declared.verdict.Lag.{Lag}
@@ -25,32 +24,21 @@ use Rattle.sl_cut.specs.Findings.{channel_links}
 
 -- Units and channels.
 
-abbrev pub side_text : Side → List ℕ
-side_text Ingress = codes "in"
-side_text Egress = codes "out"
-
-abbrev pub device_name : Parts → ℕ → List ℕ
-device_name parts d = slice_index_or (map (λ part. part.name) parts.devices) d []
-
 -- in D.p, out D.p
 unfoldable pub port_text : Parts → UnitId → List ℕ
-port_text parts u = side_text u.side ++ (codes " " ++ (device_name parts u.device ++ (codes "." ++ decimal u.port)))
+port_text parts u = actor_text parts (OfUnit u)
 
-abbrev pub actor_text : Parts → ActorId → List ℕ
-actor_text parts (OfUnit u) = port_text parts u
-actor_text parts _ = []
+abbrev pub unit_or_none : Parts → ActorId → List ℕ
+unit_or_none parts (OfUnit u) = port_text parts u
+unit_or_none parts _ = []
 
 -- the unit with this actor's number
 abbrev pub unit_text : Net → ℕ → List ℕ
-unit_text net u = actor_text net.parts (actor_of net u)
+unit_text net u = unit_or_none net.parts (actor_of net u)
 
 -- the unit at a place among the units, by its actor's number
 abbrev pub unit_at : Net → ℕ → ℕ
 unit_at net place = slice_index_or (units net) place 0
-
-abbrev pub port_of : ActorId → ℕ
-port_of (OfUnit u) = u.port
-port_of _ = 0
 
 -- cable, or the crossbar from the port q as xq
 abbrev pub sort_text : Sort → ℕ → List ℕ

@@ -1,7 +1,8 @@
 // Units and channels as text.
 ghost use Rattle.std.specs.Prelude.{◌≡◌, ◌++◌, OnOk, string_bytes};
 ghost use Rattle.sl_net.specs.Net.{actor_of, link_of};
-ghost use Rattle.sl_report.specs.Report.{side_text, port_text, unit_text, channel_text, port_of};
+ghost use Rattle.sl_net.specs.Spelling.{side_text, port_of};
+ghost use Rattle.sl_report.specs.Report.{port_text, unit_text, channel_text};
 
 use sl_net::{ActorId, LinkPart, Net, Parts, Side, Sort, UnitId};
 use std::alloc::AllocError;

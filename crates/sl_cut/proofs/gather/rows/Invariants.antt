@@ -1,8 +1,8 @@
 use Rattle.sl_cut.specs.Findings.{row}
-use Rattle.sl_cut.specs.Lossless.{no_loss}
+use Rattle.sl_cut.specs.Losses.{losses}
 use Rattle.std.proofs.Common.{take, ◌≡◌}
 use Rattle.std.specs.Prelude.{map}
 use Rattle.sl_cut.proofs.gather.rows.Given as goal
 
 abbrev pub invariant-loop-unit : goal.invariant-loop-unit
-invariant-loop-unit l = l.items.items ≡ map (row l.net no_loss l.world l.snapshot) (take l.unit-index l.units)
+invariant-loop-unit l = l.items.items ≡ map (row l.input.net (losses l.input) l.world l.snapshot) (take l.unit-index l.units)

@@ -1,7 +1,7 @@
-use Rattle.sl_cut.proofs.ForwardPuts.{nothing_lost}
-use Rattle.sl_cut.specs.History.{history, put}
-use Rattle.sl_net.specs.Net.{link_of}
+use Rattle.std.proofs.Common.{◌≡◌, ap}
+use Rattle.sl_net.specs.Input.{Input}
 use Rattle.sl_cut.proofs.step.front.Goals as goal
 
 pub returns : goal.returns
-returns c = rw (nothing_lost 0 (put c.args.link (history c.args.world.now (link_of c.args.net.now c.args.link).from))) (rw (c.deref.ensures.value, c.in_ok-messages.ensures, c.steps.ensures.steps, c.link_of.ensures, c.taken.ensures.value, c.steps-2.ensures.steps) at c.message_at.ensures)
+returns c = let n : c.input.inside.net ≡ c.args.input.now.net = ap (λ (i : Input). i.net) c.input.view_is in
+    rw (c.deref.ensures.value, c.in_ok-messages.ensures, c.steps-sender.ensures.steps, c.link_of.ensures, n, c.taken.ensures.value, c.steps.ensures.steps) at c.message_at.ensures

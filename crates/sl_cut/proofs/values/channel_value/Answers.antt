@@ -1,24 +1,25 @@
 use Rattle.sl_cut.proofs.ForwardFindings.{total-same}
-use Rattle.sl_cut.proofs.ForwardPuts.{nothing_lost}
 use Rattle.sl_cut.specs.Cut.{before, crossing, data_bytes, data_count}
-use Rattle.sl_cut.specs.History.{carried_by, history, put, taken}
-use Rattle.sl_cut.specs.Lossless.{no_loss}
+use Rattle.sl_cut.specs.History.{carried_by, history, taken}
+use Rattle.sl_cut.specs.Losses.{losses}
 use Rattle.sl_cut.specs.Words.{weigh}
 use Rattle.sl_cut.specs.World.{receiver, sender, taken_by}
-use Rattle.sl_net.specs.Net.{choice_of}
-use Rattle.std.proofs.Common.{ap, drop, sym, take, ◌∙◌, ◌≡◌}
+use Rattle.sl_net.specs.Net.{link_of, choice_of}
+use Rattle.sl_net.specs.Input.{Input}
+use Rattle.std.proofs.Common.{ap, drop, take, ◌∙◌, ◌≡◌}
 use Rattle.std.specs.Prelude.{reverse}
 use Rattle.sl_cut.proofs.values.channel_value.Goals as goal
 
 pub returns : goal.returns
-returns c = let l = c.args.link in let net = c.args.net.now in let w = c.args.world.now in let k = c.args.snapshot in
-    let sent : c.in_ok-messages.messages.items ≡ carried_by no_loss l (before k (sender net w l)) = c.in_ok-messages.ensures
-    ∙ ap (put l) (c.before-2.ensures.value ∙ ap (before k) (c.steps.ensures.steps ∙ ap (λ e. history w e.from) c.link_of-ends.ensures)) ∙ sym (nothing_lost 0 (put l (before k (sender net w l)))) in
-    let taker : reverse c.steps-receiver.result.now ≡ receiver net w l = c.steps-receiver.ensures.steps ∙ ap (λ e. history w e.to) c.link_of-ends.ensures in
-    let all : c.taken.result ≡ taken_by net l (receiver net w l) = c.taken.ensures.value ∙ ap (λ ch. taken ch (reverse c.steps-receiver.result.now)) c.choice_of-choice.ensures ∙ ap (taken (choice_of net l)) taker in
-    let inside : c.taken-2.result ≡ taken_by net l (before k (receiver net w l)) = c.taken-2.ensures.value ∙ ap (λ ch. taken ch (reverse c.before-3.result.now)) c.choice_of-choice.ensures
-    ∙ ap (taken (choice_of net l)) (c.before-3.ensures.value ∙ ap (before k) taker) in
-    let x : c.rest_of.result.now ≡ crossing net no_loss w k l = c.rest_of.ensures.value
-    ∙ ap (drop c.taken-2.result) (c.first_of-matched.ensures.value ∙ ap (take c.taken.result) (c.deref.ensures.value ∙ sent) ∙ ap (λ n. take n (carried_by no_loss l (before k (sender net w l)))) all)
-    ∙ ap (λ n. drop n (take (taken_by net l (receiver net w l)) (carried_by no_loss l (before k (sender net w l))))) inside in
+returns c = let l = c.args.link in let net = c.args.input.now.net in let w = c.args.world.now in let k = c.args.snapshot in let n : c.input.inside.net ≡ net = ap (λ (i : Input). i.net) c.input.view_is in
+    let ends = c.link_of-ends.ensures ∙ ap (λ m. link_of m l) n in let choice = c.choice_of-choice.ensures ∙ ap (λ m. choice_of m l) n in
+    let sent : c.in_ok-messages.messages.items ≡ carried_by (losses c.args.input.now) l (before k (sender net w l)) = c.in_ok-messages.ensures
+    ∙ ap (carried_by (losses c.args.input.now) l) (c.before-sender.ensures.value ∙ ap (before k) (c.steps.ensures.steps ∙ ap (λ e. history w e.from) ends)) in
+    let taker : reverse c.steps-receiver.result.now ≡ receiver net w l = c.steps-receiver.ensures.steps ∙ ap (λ e. history w e.to) ends in
+    let all : c.taken.result ≡ taken_by net l (receiver net w l) = c.taken.ensures.value ∙ ap (λ ch. taken ch (reverse c.steps-receiver.result.now)) choice ∙ ap (taken (choice_of net l)) taker in
+    let inside : c.taken-2.result ≡ taken_by net l (before k (receiver net w l)) = c.taken-2.ensures.value ∙ ap (λ ch. taken ch (reverse c.before-2.result.now)) choice
+    ∙ ap (taken (choice_of net l)) (c.before-2.ensures.value ∙ ap (before k) taker) in
+    let x : c.rest_of.result.now ≡ crossing net (losses c.args.input.now) w k l = c.rest_of.ensures.value
+    ∙ ap (drop c.taken-2.result) (c.first_of-matched.ensures.value ∙ ap (take c.taken.result) (c.deref.ensures.value ∙ sent) ∙ ap (λ n. take n (carried_by (losses c.args.input.now) l (before k (sender net w l)))) all)
+    ∙ ap (λ n. drop n (take (taken_by net l (receiver net w l)) (carried_by (losses c.args.input.now) l (before k (sender net w l))))) inside in
     total-same c.total_of.result _ _ (c.total_of.ensures.packets ∙ ap (weigh data_count) x) (c.total_of.ensures.bytes ∙ ap (weigh data_bytes) x)

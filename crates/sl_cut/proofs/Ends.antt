@@ -3,7 +3,7 @@ use Rattle.std.specs.Prelude.{◌≡◌, ℕ, ◌+◌, ◌*◌, Bool, true, fals
 use Rattle.std.specs.List.{list_all}
 use Rattle.sl_net.specs.Parts.{below, numbers_from}
 use Rattle.sl_cut.specs.Frame.{plain_frame, packet_of}
-use Rattle.sl_cut.specs.Route.{next_port}
+use Rattle.sl_route.specs.Route.{next_port}
 use Rattle.sl_cut.specs.World.{Entry, start}
 use Rattle.sl_cut.specs.End.{finish}
 use Rattle.sl_cut.proofs.Nets.{net_a, form, no_loss}

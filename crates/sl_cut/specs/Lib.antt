@@ -1,9 +1,7 @@
 pub mod Words
 pub mod History
 pub mod Frame
-pub mod Route
 pub mod Counting
-pub mod Flow
 pub mod Setup
 pub mod Knowledge
 pub mod Puts

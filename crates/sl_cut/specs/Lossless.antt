@@ -1,7 +1,7 @@
 -- Runs that lose nothing, inputs whose frames can be written, and how many steps a world has.
-use Rattle.std.specs.Prelude.{◌≡◌, ℕ, ◌^◌, ◌<◌, false, [], length}
+use Rattle.std.specs.Prelude.{◌≡◌, ℕ, false, [], length}
 use Rattle.std.specs.List.{All}
-use Rattle.sl_net.specs.declared.input.Flow.{Flow}
+pub use Rattle.sl_flow.specs.Flow.{HasAddresses}
 use Rattle.sl_net.specs.Input.{LossSpec, Input}
 use Rattle.sl_cut.specs.Words.{weigh}
 use Rattle.sl_cut.specs.History.{World, Losses}
@@ -16,11 +16,6 @@ pub record IsLossless (loss : LossSpec) : Type 0 where
   pub init : loss.init ≡ 0
   pub notice : loss.notice ≡ 0
   pub drops : loss.drops ≡ []
-
--- a packet has 16 bits for each of its hosts
-pub record HasAddresses (flow : Flow) : Type 0 where
-  pub from : flow.from < 2 ^ 16
-  pub to : flow.to < 2 ^ 16
 
 pub record IsLosslessInput (input : Input) : Type 0 where
   pub lossless : IsLossless input.loss

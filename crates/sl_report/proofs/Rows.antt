@@ -6,7 +6,7 @@ use Rattle.sl_net.specs.declared.actor.Sort.TheVariants.{Cable, Notice}
 use Rattle.sl_net.specs.Net.{link_of, same_sort}
 use Rattle.sl_cut.specs.History.{Losses}
 use Rattle.sl_cut.specs.Frame.{plain_frame, packet_of}
-use Rattle.sl_cut.specs.Route.{next_port}
+use Rattle.sl_route.specs.Route.{next_port}
 use Rattle.sl_cut.specs.Setup.{Setup}
 use Rattle.sl_cut.specs.World.{Entry}
 use Rattle.sl_cut.specs.Schedule.{expand}

@@ -4,6 +4,8 @@
 mod neighbours;
 mod routes;
 mod search;
+#[cfg(test)]
+mod tests;
 mod ways;
 
 pub use routes::Routes;

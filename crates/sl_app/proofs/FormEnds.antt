@@ -9,7 +9,7 @@ use Rattle.sl_net.specs.Parts.{below, numbers_from}
 use Rattle.sl_net.specs.Net.{action_choice, link_numbers}
 use Rattle.sl_cut.specs.History.{World, Losses, history, taken}
 use Rattle.sl_cut.specs.Frame.{plain_frame, packet_of}
-use Rattle.sl_cut.specs.Route.{next_port}
+use Rattle.sl_route.specs.Route.{next_port}
 use Rattle.sl_cut.specs.Setup.{Setup, setup_of, frames_of}
 use Rattle.sl_cut.specs.Knowledge.{observer, floor, can_issue}
 use Rattle.sl_cut.specs.World.{Entry, start, receiver, carried, taken_by, run, world, IsLegal, IsLegalFrom}
@@ -18,7 +18,7 @@ use Rattle.sl_cut.specs.Bound.{input_bound}
 use Rattle.sl_cut.specs.Cut.{cuts}
 use Rattle.sl_cut.specs.Matching.{IsConsistentCut}
 use Rattle.sl_net.specs.Wired.{IsNet}
-use Rattle.sl_cut.specs.Lossless.{no_loss}
+use Rattle.sl_cut.specs.Losses.{no_loss}
 use Rattle.sl_cut.specs.Fuel.{schedule_of, IsBookOf, AreBookOf}
 use Rattle.sl_cut.specs.Findings.{findings}
 use Rattle.sl_report.specs.Report.{report_text}

@@ -12,7 +12,7 @@ use Rattle.sl_app.specs.declared.ended.Ended.{Ended}
 use Rattle.sl_app.specs.Words.{asked}
 use Rattle.sl_app.specs.Form.{IsForm, HasNoForm, form_input}
 use Rattle.sl_app.specs.Texts.{status_of, refusal_text, write_fault_text}
-use Rattle.sl_cut.specs.Lossless.{no_loss}
+use Rattle.sl_cut.specs.Losses.{no_loss}
 use Rattle.sl_app.specs.Served.{IsRun}
 
 -- the words, and the source before and after: the bytes left, where it tells them, and its count of faults

@@ -1,6 +1,7 @@
 // The run of an input of the form.
 ghost use Rattle.std.specs.Prelude.{◌≡◌, ◌≤◌, ◌<◌, ◌^◌, IfOk, length};
-ghost use Rattle.sl_cut.specs.Lossless.{no_loss, IsLosslessInput};
+ghost use Rattle.sl_cut.specs.Losses.{no_loss};
+ghost use Rattle.sl_cut.specs.Lossless.{IsLosslessInput};
 ghost use Rattle.sl_cut.specs.Setup.{setup_of};
 ghost use Rattle.sl_cut.specs.Fuel.{schedule_of};
 ghost use Rattle.sl_cut.specs.Findings.{findings};

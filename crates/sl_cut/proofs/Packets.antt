@@ -1,13 +1,12 @@
 -- The packets of a host, flow by flow.
-use Rattle.std.proofs.Common.{◌≡◌, ℕ, zero, suc, ◌+◌, ◌-◌, ◌<◌, ◌≤◌, List, [], ◌∷◌, ◌++◌, length, refl, ap, sym, ◌∙◌, arith, length-append, take, drop, get_or, append-nil}
-use Rattle.std.specs.Prelude.{filter, flat_map, ◌==◌, if◌then◌else◌, true, false, cond, Some, slice_get, option_map}
+use Rattle.std.proofs.Common.{◌≡◌, ℕ, zero, suc, ◌+◌, ◌-◌, ◌<◌, ◌≤◌, List, [], ◌∷◌, ◌++◌, length, refl, ap, sym, ◌∙◌, arith, length-append, take, drop, get_or}
+use Rattle.std.specs.Prelude.{◌==◌, if◌then◌else◌, true, false, cond, Some, slice_get, option_map}
 use Rattle.std.proofs.lemmas.Option.{slice_get-map}
 use Rattle.std.proofs.lemmas.List.{length-map, take_more, at_drop_more}
 use Rattle.sl_net.specs.declared.input.Flow.{Flow}
-use Rattle.sl_net.specs.declared.input.Packet.{Packet}
 use Rattle.sl_net.specs.Parts.{below, numbers_from}
-use Rattle.sl_cut.proofs.ForwardLists.{filter-snoc, flat_map-snoc}
-use Rattle.sl_cut.specs.Flow.{packet_in, flow_packets, packets_of}
+use Rattle.sl_flow.specs.Flow.{packet_in, flow_packets, packets_of}
+use Rattle.sl_flow.proofs.Shares.{share_packets, packets-cons, packets-snoc}
 
 abbrev pub share : Flow → ℕ → ℕ
 share f h = if f.from == h then f.count else 0
@@ -30,36 +29,16 @@ pub slice_get-rest : {A : Type 0} (xs ys : List A) (n : ℕ) → slice_get (xs +
 slice_get-rest [] ys n = let e : 0 + n ≡ n = omega arith in ap (λ k. slice_get ys k) e
 slice_get-rest (x ∷ xs) ys n = let e : suc (length xs) + n ≡ suc (length xs + n) = omega arith in ap (λ k. slice_get (x ∷ (xs ++ ys)) k) e ∙ slice_get-rest xs ys n
 
--- what a host sends of a flow
-pub share_packets : Flow → ℕ → List Packet
-share_packets f h = cond (f.from == h) (flow_packets f) []
-
 length-share : (f : Flow) (h : ℕ) → length (share_packets f h) ≡ share f h
-unfolding share_packets
 length-share f h = elim (f.from == h) as (λ b. length (cond b (flow_packets f) []) ≡ cond b f.count 0)
     [ true ↦ length-map (below f.count) (packet_in f) ∙ length-numbers 0 f.count | false ↦ refl ]
 
 share-found : (f : Flow) (h n : ℕ) → n < share f h → slice_get (share_packets f h) n ≡ Some (packet_in f n)
-unfolding share_packets
 share-found f h n = elim (f.from == h) as (λ b. n < cond b f.count 0 → slice_get (cond b (flow_packets f) []) n ≡ Some (packet_in f n)) [
   | true ↦ (λ k. slice_get-map (packet_in f) (below f.count) n ∙ ap (option_map (packet_in f)) (number-found 0 f.count n k)
       ∙ (let e : 0 + n ≡ n = omega arith in ap (λ i. Some (packet_in f i)) e))
   | false ↦ (λ k. absurd (omega (arith, k)))
 ]
-
-packets-cons : (f : Flow) (fs : List Flow) (h : ℕ) → packets_of (f ∷ fs) h ≡ share_packets f h ++ packets_of fs h
-unfolding share_packets
-packets-cons f fs h = elim (f.from == h) as (λ b. flat_map flow_packets (cond b (f ∷ filter (λ g. g.from == h) fs) (filter (λ g. g.from == h) fs)) ≡ cond b (flow_packets f) [] ++ packets_of fs h)
-    [ true ↦ refl | false ↦ refl ]
-
-packets-snoc : (fs : List Flow) (f : Flow) (h : ℕ) → packets_of (fs ++ f ∷ []) h ≡ packets_of fs h ++ share_packets f h
-unfolding share_packets
-packets-snoc fs f h = ap (flat_map flow_packets) (filter-snoc (λ g. g.from == h) fs f)
-    ∙ elim (f.from == h) as (λ b. flat_map flow_packets (filter (λ g. g.from == h) fs ++ cond b (f ∷ []) []) ≡ flat_map flow_packets (filter (λ g. g.from == h) fs) ++ cond b (flow_packets f) [])
-    [ true ↦ flat_map-snoc flow_packets (filter (λ g. g.from == h) fs) f | false ↦ flat_map-nil (filter (λ g. g.from == h) fs) ]
-  where
-    flat_map-nil : (gs : List Flow) → flat_map flow_packets (gs ++ []) ≡ flat_map flow_packets gs ++ []
-    flat_map-nil gs = ap (flat_map flow_packets) (append-nil gs) ∙ sym (append-nil (flat_map flow_packets gs))
 
 pub packet-here : (fs : List Flow) (h i n : ℕ) (d : Flow) → i < length fs → n < share (get_or fs i d) h → slice_get (packets_of (drop i fs) h) n ≡ Some (packet_in (get_or fs i d) n)
 packet-here fs h i n d l k = let f = get_or fs i d in

@@ -20,7 +20,7 @@ use Rattle.sl_net.specs.Serving.{Served, served, serving}
 use Rattle.sl_cut.specs.Words.{Each}
 use Rattle.sl_cut.specs.History.{History, stamp_of, begin_of, dump_of, done_of, last, taken}
 use Rattle.sl_cut.specs.Frame.{plain_frame, packet_of}
-use Rattle.sl_cut.specs.Route.{next_port}
+use Rattle.sl_route.specs.Route.{next_port}
 use Rattle.sl_cut.specs.Setup.{Setup, frames_of}
 use Rattle.sl_cut.specs.Knowledge.{is_outstanding, is_again, is_swept, issued, can_issue, can_resend}
 use Rattle.sl_cut.specs.Puts.{send, send_all, crossbar_to, onward, route, route_frame, ingress_puts, egress_puts, is_own_port, side_puts, notice_puts, dump_puts, id_after, unit_puts, poll_puts, dump_answer, control_puts, guarded, begin_all, action}

@@ -11,7 +11,7 @@ use Rattle.sl_cut.specs.History.{History, World, Losses, history}
 use Rattle.sl_cut.specs.Setup.{Setup}
 use Rattle.sl_cut.specs.World.{Entry, start, next_step, after, turn, run}
 use Rattle.sl_cut.specs.Findings.{ingress_units, is_ingress}
-use Rattle.sl_cut.specs.Lossless.{steps_in}
+use Rattle.sl_cut.specs.History.{steps_in}
 
 pub history_size : (w : World) (a : ℕ) → length (history w a) ≤ steps_in w
 history_size [] a = omega arith

@@ -10,7 +10,7 @@ use Rattle.sl_cut.specs.declared.message.Step.{Step}
 use Rattle.sl_cut.specs.Words.{tally}
 use Rattle.sl_cut.specs.History.{History}
 use Rattle.sl_cut.specs.Frame.{packet_of}
-use Rattle.sl_cut.specs.Route.{next_port}
+use Rattle.sl_route.specs.Route.{next_port}
 
 -- the data packet of a message: that of a plain frame from a host, or one on a data channel; no other link carries either
 abbrev pub counted_in : Message → Option Packet

@@ -9,7 +9,7 @@ use Rattle.sl_cut.specs.declared.message.Message.{Message}
 use Rattle.sl_cut.specs.declared.message.Message.TheVariants.{Data, Probe as ProbeMsg, Init as InitMsg, Dump as DumpMsg, Begin as BeginMsg, Done as DoneMsg}
 use Rattle.sl_cut.specs.declared.message.Put.{Put}
 use Rattle.sl_cut.specs.declared.message.Step.{Step}
-use Rattle.sl_cut.specs.Words.{listed}
+use Rattle.sl_cut.specs.Words.{listed, weigh}
 
 abbrev pub History : Type 0
 History = List Step
@@ -102,3 +102,7 @@ without_lost lost n (m ∷ ms) = if lost (suc n) then without_lost lost (suc n) 
 -- the messages of a link that its sender, with this history, put and that are not lost
 abbrev pub carried_by : Losses → ℕ → History → List Message
 carried_by lost l h = without_lost (lost l) 0 (put l h)
+
+-- the steps of all actors
+abbrev pub steps_in : World → ℕ
+steps_in w = weigh length w

@@ -1,9 +1,7 @@
 pub mod Words
 pub mod History
 pub mod Frame
-pub mod Route
 pub mod Counting
-pub mod Flow
 pub mod Setup
 pub mod Knowledge
 pub mod Puts
@@ -18,7 +16,6 @@ pub mod Bound
 pub mod Losses
 pub mod Findings
 pub mod Runs
-pub mod Lossless
 pub mod Fuel
 pub mod Finished
 pub mod Fit

@@ -46,3 +46,7 @@ loses (Some loss) n = is_lost loss n
 
 abbrev pub losses : Input → Losses
 losses i l n = loses (loss_on i l) n
+
+-- nothing is lost
+abbrev pub no_loss : Losses
+no_loss l n = false

@@ -16,7 +16,7 @@ use Rattle.sl_cut.specs.declared.message.Message.TheVariants.{Host as HostMsg, D
 use Rattle.sl_cut.specs.declared.message.Put.{Put}
 use Rattle.sl_cut.specs.History.{History, stamp_of, id, last, taken}
 use Rattle.sl_cut.specs.Frame.{plain_frame, packet_of}
-use Rattle.sl_cut.specs.Route.{next_port}
+use Rattle.sl_route.specs.Route.{next_port}
 use Rattle.sl_cut.specs.Setup.{Setup, frames_of}
 use Rattle.sl_cut.specs.Knowledge.{is_outstanding, is_again, is_swept, issued, can_issue, can_resend}
 

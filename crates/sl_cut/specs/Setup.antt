@@ -5,7 +5,7 @@ use Rattle.sl_net.specs.declared.input.RawPart.{RawPart}
 use Rattle.sl_net.specs.Net.{Net}
 use Rattle.sl_net.specs.Input.{Input}
 use Rattle.sl_cut.specs.Frame.{plain_frame}
-use Rattle.sl_cut.specs.Flow.{packets_of}
+use Rattle.sl_flow.specs.Flow.{packets_of}
 
 pub record Setup : Type 0 where
   pub net : Net

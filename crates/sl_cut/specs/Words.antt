@@ -2,7 +2,8 @@
 --     Each P xs        P holds of each element
 --     Rises n xs b     n, then the numbers xs, then b, never fall
 --     weigh f xs       a number of each element, added up
-use Rattle.std.specs.Prelude.{ℕ, suc, ◌+◌, ◌≤◌, min, Bool, List, [], ◌∷◌, ◌++◌, if◌then◌else◌, Option, Some, None, unwrap_or}
+use Rattle.std.specs.Prelude.{ℕ, suc, ◌+◌, ◌≤◌, min, Bool, List, [], ◌∷◌, ◌++◌, if◌then◌else◌, Option, Some, None}
+pub use Rattle.sl_route.specs.Least.{least_in, least}
 
 abbrev pub Each : {A : Type 0} → (A → Type 0) → List A → Type 0
 Each P [] = Unit {0}
@@ -33,15 +34,6 @@ numbers f (x ∷ xs) = listed (f x) ++ numbers f xs
 abbrev pub least_of : ℕ → List ℕ → ℕ
 least_of n [] = n
 least_of n (x ∷ xs) = least_of (min n x) xs
-
--- the least of a number, where there is one, and others
-abbrev pub least_in : Option ℕ → List ℕ → Option ℕ
-least_in o [] = o
-least_in o (x ∷ xs) = least_in (Some (min (unwrap_or o x) x)) xs
-
--- the least of some numbers, where there are any
-abbrev pub least : List ℕ → Option ℕ
-least xs = least_in None xs
 
 abbrev pub or_later : {A : Type 0} → ℕ → Option A → Option (ℕ × A) → Option (ℕ × A)
 or_later n (Some a) o = Some (n, a)

@@ -9,7 +9,7 @@ ghost use Rattle.sl_cut.specs.End.{settle, finish, is_collected, sweep_round, ag
 ghost use Rattle.sl_cut.specs.Fuel.{EndsBy, Rounds, AreBookOf};
 ghost use Rattle.sl_cut.specs.Finished.{IsBookOfRun};
 ghost use Rattle.sl_cut.specs.Losses.{losses};
-ghost use Rattle.sl_cut.specs.Lossless.{HasAddresses};
+ghost use Rattle.sl_flow.specs.Flow.{HasAddresses};
 
 use crate::follow::{Run, follow, follow_script};
 use crate::history::World;

@@ -1,9 +1,9 @@
 // What a host sends: the packets of its flows, then its raw frames.
 ghost use Rattle.std.specs.Prelude.{◌≡◌, ◌+◌, ◌<◌, ◌≤◌, length, map, filter, slice_get, Some, IfOk, MatchOption, ◌==◌, if◌then◌else◌};
 ghost use Rattle.std.specs.List.{All};
-ghost use Rattle.sl_cut.specs.Flow.{packet_in, packets_of};
+ghost use Rattle.sl_flow.specs.Flow.{packet_in, packets_of};
 ghost use Rattle.sl_cut.specs.Setup.{setup_of, frames_of};
-ghost use Rattle.sl_cut.specs.Lossless.{HasAddresses};
+ghost use Rattle.sl_flow.specs.Flow.{HasAddresses};
 
 use crate::frames::plain_frame;
 use crate::message::copy_bytes;

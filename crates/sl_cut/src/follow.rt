@@ -7,7 +7,7 @@ ghost use Rattle.sl_cut.specs.Runs.{Follows};
 ghost use Rattle.sl_cut.specs.Schedule.{pass, passes_of, expand_one, expand};
 ghost use Rattle.sl_cut.specs.Fuel.{numbered, IsBookOf};
 ghost use Rattle.sl_cut.specs.Losses.{losses};
-ghost use Rattle.sl_cut.specs.Lossless.{HasAddresses};
+ghost use Rattle.sl_flow.specs.Flow.{HasAddresses};
 
 use crate::history::World;
 use crate::schedule::pass_of;

@@ -9,7 +9,8 @@ ghost use Rattle.sl_cut.specs.Setup.{setup_of};
 ghost use Rattle.sl_cut.specs.Findings.{row, rows_for, finding, is_ingress, device_of, ingress_units, over_ingress, drops_of, sent_by, delivered_to, findings_in, findings};
 ghost use Rattle.std.specs.List.{All};
 ghost use Rattle.sl_cut.specs.Losses.{losses};
-ghost use Rattle.sl_cut.specs.Lossless.{steps_in, HasAddresses};
+ghost use Rattle.sl_cut.specs.History.{steps_in};
+ghost use Rattle.sl_flow.specs.Flow.{HasAddresses};
 
 use crate::counting::{bad, expired, noroute};
 use crate::findings::{Counts, Drops, Finding, FindingList, Findings, Rows1};

@@ -1,7 +1,7 @@
 // Histories of actors, and worlds of histories.
 ghost use Rattle.std.specs.Prelude.{◌≡◌, ◌<◌, ◌≤◌, ℕ, List, [], ◌∷◌, length, replicate, reverse, slice_set, IfOk, OnOk};
 ghost use Rattle.sl_cut.specs.History.{history, first};
-ghost use Rattle.sl_cut.specs.Lossless.{steps_in};
+ghost use Rattle.sl_cut.specs.History.{steps_in};
 
 use crate::message::Step;
 use std::alloc::{AllocError, Global};

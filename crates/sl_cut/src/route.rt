@@ -3,7 +3,7 @@
 ghost use Rattle.std.specs.Prelude.{◌≡◌, ◌≢◌, ◌++◌, ◌&&◌, ◌==◌, map, filter, IfOk};
 ghost use Rattle.std.specs.List.{list_any};
 ghost use Rattle.sl_cut.specs.Words.{least};
-ghost use Rattle.sl_cut.specs.Route.{turned, host_port, first_port, least_walks, next_port};
+ghost use Rattle.sl_route.specs.Route.{turned, host_port, first_port, least_walks, next_port};
 
 use crate::wires::push_if;
 use sl_net::{CablePart, Parts, PortRef};
@@ -139,7 +139,7 @@ fn port_toward(
 
 /// The lowest port by which a least walk from a device to a host begins, or the host's own port
 /// on its own device.
-#[tactic(auto, unfolding(crate::specs::Route::next_port))]
+#[tactic(auto, unfolding(sl_route::specs::Route::next_port))]
 pub fn next_port(
     alloc: Global,
     parts: &Parts,

@@ -9,7 +9,7 @@ ghost use Rattle.sl_cut.specs.Knowledge.{can_issue, can_resend, issued, is_swept
 ghost use Rattle.sl_net.specs.Net.{links_out};
 ghost use Rattle.sl_cut.specs.Puts.{puts_of, action, guarded, begin_all, poll_puts, send_all};
 ghost use Rattle.sl_cut.specs.World.{front, step_by, next_step, floor_for};
-ghost use Rattle.sl_cut.specs.Lossless.{HasAddresses};
+ghost use Rattle.sl_flow.specs.Flow.{HasAddresses};
 ghost use Rattle.sl_cut.specs.Losses.{losses};
 
 use crate::control::{add_control, add_sweep, is_swept};

@@ -1,7 +1,7 @@
 // Worked runs on one device with two hosts and one flow between them.
 ghost use Rattle.std.specs.Prelude.{IfOk};
 ghost use Rattle.std.specs.List.{All};
-ghost use Rattle.sl_cut.specs.Lossless.{HasAddresses};
+ghost use Rattle.sl_flow.specs.Flow.{HasAddresses};
 
 use crate::{Findings, Total, findings_of, run_histories};
 use sl_machine::Book;

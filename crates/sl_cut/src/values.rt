@@ -5,7 +5,7 @@ ghost use Rattle.sl_cut.specs.Words.{weigh};
 ghost use Rattle.sl_cut.specs.Cut.{before, crossing, data_count, data_bytes, channel_value};
 ghost use Rattle.sl_cut.specs.Findings.{channel_links, no_total, eight_totals, row};
 ghost use Rattle.sl_cut.specs.Losses.{losses};
-ghost use Rattle.sl_cut.specs.Lossless.{steps_in};
+ghost use Rattle.sl_cut.specs.History.{steps_in};
 
 use crate::counting::{bytes, packets};
 use crate::findings::Row;

@@ -1,4 +1,4 @@
-use Rattle.sl_cut.specs.Flow.{packets_of}
+use Rattle.sl_flow.specs.Flow.{packets_of}
 use Rattle.std.proofs.Common.{drop, length, take, ◌+◌, ◌≡◌}
 use Rattle.std.specs.Prelude.{slice_get}
 use Rattle.sl_cut.proofs.flow.find_packet.Given as goal

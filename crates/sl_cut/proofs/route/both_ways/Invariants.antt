@@ -1,4 +1,4 @@
-use Rattle.sl_cut.specs.Route.{turned}
+use Rattle.sl_route.specs.Route.{turned}
 use Rattle.std.proofs.Common.{take, ◌++◌, ◌≡◌}
 use Rattle.std.specs.Prelude.{map}
 use Rattle.sl_cut.proofs.route.both_ways.Given as goal

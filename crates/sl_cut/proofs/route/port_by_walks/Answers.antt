@@ -1,5 +1,6 @@
-use Rattle.sl_cut.proofs.Walks.{IsReached, directed, found-port, least-ports, longer-walks, reached-more, reached-none, walks-begin, walks_from_length}
-use Rattle.sl_cut.specs.Route.{first_port, turned, walks_between}
+use Rattle.sl_route.proofs.Walks.{directed}
+use Rattle.sl_cut.proofs.Walks.{IsReached, found-port, least-ports, longer-walks, reached-more, reached-none, walks-begin, walks_from_length}
+use Rattle.sl_route.specs.Route.{first_port, turned, walks_between}
 use Rattle.sl_cut.specs.Words.{least}
 use Rattle.sl_net.specs.Parts.{Parts}
 use Rattle.sl_net.specs.declared.parts.CablePart.{CablePart}

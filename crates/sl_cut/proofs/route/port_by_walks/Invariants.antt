@@ -1,5 +1,5 @@
 use Rattle.sl_cut.proofs.Walks.{IsReached, walks_from_length}
-use Rattle.sl_cut.specs.Route.{least_walks}
+use Rattle.sl_route.specs.Route.{least_walks}
 use Rattle.std.proofs.Common.{◌+◌, ◌-◌, ◌≡◌}
 use Rattle.sl_cut.proofs.route.port_by_walks.Given as goal
 

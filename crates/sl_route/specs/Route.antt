@@ -7,7 +7,7 @@ use Rattle.std.specs.Prelude.{ℕ, suc, zero, List, [], ◌∷◌, ◌++◌, map
 use Rattle.sl_net.specs.declared.parts.PortRef.{PortRef}
 use Rattle.sl_net.specs.declared.parts.CablePart.{CablePart}
 use Rattle.sl_net.specs.Parts.{Parts, below}
-use Rattle.sl_cut.specs.Words.{least}
+use Rattle.sl_route.specs.Least.{least}
 
 abbrev pub Walk : Type 0
 Walk = List CablePart

@@ -1,0 +1,6 @@
+pub mod Walks
+pub mod First
+pub mod Finding
+pub mod Graphs
+pub mod Toward
+pub mod Reading

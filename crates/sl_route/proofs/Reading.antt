@@ -1,0 +1,43 @@
+-- What the kept ways tell.
+use Rattle.std.proofs.Common.{◌≡◌, ℕ, ◌<◌, ◌≤◌, List, length, get_or, map, refl, ap, ◌∙◌, arith}
+use Rattle.std.specs.Prelude.{None, option_and_then}
+use Rattle.std.proofs.lemmas.List.{length-map}
+use Rattle.std.proofs.lemmas.Option.{slice_get_past}
+use Rattle.sl_net.specs.declared.parts.PortRef.{PortRef}
+use Rattle.sl_net.specs.declared.parts.HostPart.{HostPart}
+use Rattle.sl_net.specs.Parts.{Parts, below}
+use Rattle.sl_net.specs.Net.{Net}
+use Rattle.sl_net.proofs.Counting.{at_below, length_below}
+use Rattle.sl_route.specs.Least.{least}
+use Rattle.sl_route.specs.Route.{least_walks, length_of, first_port, host_port, hops, next_port}
+use Rattle.sl_route.specs.Ways.{Ways}
+use Rattle.sl_route.specs.Routes.{ways_of, routes_of}
+
+no-host : (parts : Parts) (h : ℕ) → length parts.hosts ≤ h → host_port parts h ≡ None
+no-host parts h l = slice_get_past (map (λ (host : HostPart). host.at) parts.hosts) h (simp length-map l)
+
+-- there is no such host
+pub no-hops : (parts : Parts) (d h : ℕ) → length parts.hosts ≤ h → hops parts d h ≡ None
+unfolding hops
+no-hops parts d h l = ap (option_and_then (λ (at : PortRef). length_of (least_walks parts d at.device))) (no-host parts h l)
+
+pub no-port : (parts : Parts) (d h : ℕ) → length parts.hosts ≤ h → next_port parts d h ≡ None
+unfolding next_port
+no-port parts d h l = ap (option_and_then (λ (at : PortRef). least (map (first_port at.port) (least_walks parts d at.device)))) (no-host parts h l)
+
+pub length-routes : (net : Net) → length (routes_of net) ≡ length net.parts.hosts
+unfolding routes_of
+length-routes net = length_below (ways_of net.parts) (length net.parts.hosts)
+
+-- the ways to a host
+pub way-is : (net : Net) (routes : List Ways) (h : ℕ) (w : Ways) → routes ≡ routes_of net → h < length routes → ((d : Ways) → w ≡ get_or routes h d) → w ≡ ways_of net.parts h
+unfolding routes_of
+way-is net routes h w r l g = g w ∙ ap (λ rs. get_or rs h w) r ∙ at_below (ways_of net.parts) (length net.parts.hosts) h w (omega (arith, l, ap length r, length_below (ways_of net.parts) (length net.parts.hosts)))
+
+pub hops-kept : (parts : Parts) (h : ℕ) → (ways_of parts h).hops ≡ map (λ d. hops parts d h) (below (length parts.devices))
+unfolding ways_of
+hops-kept parts h = refl
+
+pub ports-kept : (parts : Parts) (h : ℕ) → (ways_of parts h).ports ≡ map (λ d. next_port parts d h) (below (length parts.devices))
+unfolding ways_of
+ports-kept parts h = refl

@@ -1,0 +1,8 @@
+use Rattle.std.proofs.Common.{ap, ◌∙◌, length, map}
+use Rattle.sl_net.specs.Parts.{Parts, below}
+use Rattle.sl_route.specs.Routes.{ways_of, routes_of}
+use Rattle.sl_route.proofs.routes.Routes.make.Goals as goal
+
+pub returns-in-Ok : goal.returns-in-Ok
+unfolding routes_of
+returns-in-Ok c = c.in-Ok.ensures ∙ ap (λ (p : Parts). map (ways_of p) (below (length p.hosts))) c.parts.ensures.now

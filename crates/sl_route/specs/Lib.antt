@@ -1,0 +1,5 @@
+pub mod Least
+pub mod Route
+pub mod Graph
+pub mod Ways
+pub mod Routes

@@ -1,0 +1,5 @@
+pub mod WaitingLemmas
+pub mod GiveLemmas
+pub mod StepLemmas
+pub mod HistoryLemmas
+pub mod FollowLemmas

@@ -1,0 +1,188 @@
+// An actor: a machine with its log, the ends from which it takes and the links on which it puts.
+ghost use Rattle.std.specs.Prelude.{◌≡◌, ◌+◌, ◌<◌, ◌≤◌, ◌++◌, ◌∷◌, [], Some, Ok, length, OnOk, OnErr};
+ghost use Rattle.std.specs.Bool.{OnTrue, OnFalse};
+ghost use Rattle.std.specs.Vec.{vec_capacity, vec_len};
+ghost use Rattle.sl_machine.specs.Machine.{IsChoice};
+ghost use Rattle.sl_actor.specs.Outs.{AreOffered, SomePut};
+ghost use Rattle.sl_actor.specs.Waiting.{AreSpare, views};
+
+use crate::moved::Moved;
+use crate::outs::Outs;
+use crate::part::OutPart;
+use crate::steps::{moved, next_number, note};
+use sl_link::TakeEnd;
+use sl_machine::{Machine, Memory, Outputs};
+use std::sync::Wait;
+
+/// A machine with its log, its incoming links and its outgoing links.
+#[derive(Drop)]
+pub struct Actor<A: Machine> {
+    place: u32,
+    machine: A,
+    number: u64,
+    log: Vec<(u64, u32)>,
+    takes: Vec<TakeEnd<A::Msg>>,
+    outs: Outs<A::Msg>,
+    out: Outputs<A::Msg>,
+    ghost takes_each: { (A.counts machine).ins ≡ length takes.items },
+    ghost outs_each: { (A.counts machine).outs ≡ length outs.parts.items },
+    ghost clear: { length out.items ≡ 0 },
+    ghost space: { (A.counts machine).outs ≤ out.room },
+}
+
+/// What an actor holds: its machine, its log of (number, choice), the ends of its incoming links
+/// in order of choice, and its outgoing links in order.
+#[derive(Drop)]
+pub struct ActorParts<A: Machine> {
+    pub machine: A,
+    pub log: Vec<(u64, u32)>,
+    pub takes: Vec<TakeEnd<A::Msg>>,
+    pub outs: Vec<OutPart<A::Msg>>,
+}
+
+impl<A: Machine> Actor<A> {
+    ghost use Rattle.sl_actor.specs.Held.{held};
+    ghost use Rattle.sl_actor.specs.Follows.{Follows};
+    ghost use Rattle.sl_actor.specs.Turns.{KeepsEnds, NothingDone, Stepped};
+    ghost use Rattle.sl_actor.specs.declared.moved.Moved.{Moved};
+
+    /// The actor's machine.
+    pub fn machine(&self) -> &A
+        ensures state { A.state result.now ≡ (held self.now).state }
+        ensures counts { A.counts result.now ≡ (held self.now).counts }
+    {
+        &self.machine
+    }
+
+    /// The turns in which the machine made a step, in order: the number of each and its choice.
+    pub fn log(&self) -> &[(u64, u32)]
+        ensures { result.now ≡ (held self.now).log }
+    {
+        self.log.as_slice()
+    }
+
+    /// What the actor holds.
+    pub fn into_parts(self) -> ActorParts<A>
+        ensures state { A.state result.machine ≡ (held self).state }
+        ensures counts { A.counts result.machine ≡ (held self).counts }
+        ensures log { result.log.items ≡ (held self).log }
+        ensures takes { result.takes.items ≡ (held self).takes }
+        ensures outs { views result.outs.items ≡ (held self).outs }
+    {
+        let Actor {
+            machine,
+            log,
+            takes,
+            outs,
+            ..
+        } = self;
+        let Outs { parts, .. } = outs;
+        ActorParts {
+            machine,
+            log,
+            takes,
+            outs: parts,
+        }
+    }
+
+    /// One turn by a choice: it offers what waits in the outboxes, then the machine takes the next
+    /// message of the chosen link or acts, and it offers again. A turn that is refused for memory
+    /// has changed nothing.
+    pub fn turn<R: Wait>(&mut self, rt: &R, choice: u32) -> Result<Moved, Memory>
+        requires { IsChoice (held self.old).counts choice }
+        ensures follows { (first : A.State) → Follows A.rules first (held self.old) → Follows A.rules first (held self.new) }
+        ensures did { result ≡ Ok Moved.Did → (held self.new).log ≡ (held self.old).log ++ ((held self.new).number, choice) ∷ [] }
+        ensures offered { result ≡ Ok Moved.Offered → NothingDone A.rules choice (held self.old) (held self.new) }
+        ensures put { result ≡ Ok Moved.Offered → SomePut (held self.old).outs (held self.new).outs }
+        ensures idle { result ≡ Ok Moved.Idle → NothingDone A.rules choice (held self.old) (held self.new) }
+        ensures still { result ≡ Ok Moved.Idle → (held self.new).outs ≡ (held self.old).outs }
+        ensures fronts { OnOk result (AreOffered (held self.new).outs) }
+        ensures err { OnErr result (held self.new ≡ held self.old) }
+        ensures ends { KeepsEnds (held self.old) (held self.new) }
+        ensures counts { (held self.new).counts ≡ (held self.old).counts }
+    {
+        self.prepare(choice)?;
+        let before = self.outs.offer(rt);
+        let did = self.step(rt, choice);
+        let after = self.outs.offer(rt);
+        Ok(moved(did, before, after))
+    }
+
+    // Takes the memory that a turn can need.
+    fn prepare(&mut self, choice: u32) -> Result<(), Memory>
+        requires { IsChoice (held self.old).counts choice }
+        ensures same { held self.new ≡ held self.old }
+        ensures log { OnOk result (vec_len self.new.log < vec_capacity self.new.log) }
+        ensures spare { OnOk result (AreSpare self.new.outs.parts.items) }
+        ensures ready { OnOk result (A.ready_for self.new.machine ≡ Some choice) }
+    {
+        if self.log.reserve(1).is_err() {
+            return Err(Memory);
+        }
+        self.outs.make_room()?;
+        self.machine.ready(choice)
+    }
+
+    // The step of the machine by a choice. Whether it made one.
+    fn step<R: Wait>(&mut self, rt: &R, choice: u32) -> bool
+        requires choice { IsChoice (held self.old).counts choice }
+        requires log { vec_len self.old.log < vec_capacity self.old.log }
+        requires spare { AreSpare self.old.outs.parts.items }
+        requires ready { A.ready_for self.old.machine ≡ Some choice }
+        ensures did { OnTrue result (Stepped A.rules choice (held self.old) (held self.new)) }
+        ensures idle { OnFalse result (NothingDone A.rules choice (held self.old) (held self.new)) }
+        ensures outs { OnFalse result ((held self.new).outs ≡ (held self.old).outs) }
+        ensures ends { KeepsEnds (held self.old) (held self.new) }
+        ensures counts { (held self.new).counts ≡ (held self.old).counts }
+    {
+        if (choice as usize) < self.takes.len() {
+            self.take_step(rt, choice)
+        } else {
+            self.act_step(rt, choice)
+        }
+    }
+
+    fn take_step<R: Wait>(&mut self, rt: &R, choice: u32) -> bool
+        requires choice { choice < length (held self.old).takes }
+        requires log { vec_len self.old.log < vec_capacity self.old.log }
+        requires spare { AreSpare self.old.outs.parts.items }
+        requires ready { A.ready_for self.old.machine ≡ Some choice }
+        ensures did { OnTrue result (Stepped A.rules choice (held self.old) (held self.new)) }
+        ensures idle { OnFalse result (NothingDone A.rules choice (held self.old) (held self.new)) }
+        ensures outs { OnFalse result ((held self.new).outs ≡ (held self.old).outs) }
+        ensures ends { KeepsEnds (held self.old) (held self.new) }
+        ensures counts { (held self.new).counts ≡ (held self.old).counts }
+    {
+        let end = &mut self.takes[choice as usize];
+        let s = match end.take(rt) {
+            None => return false,
+            Some(s) => s,
+        };
+        let number = next_number(rt, self.number, s.number);
+        self.machine.take(choice, s.m, &mut self.out);
+        self.number = number;
+        note(number, choice, &mut self.log, &mut self.outs, &mut self.out);
+        true
+    }
+
+    fn act_step<R: Wait>(&mut self, rt: &R, choice: u32) -> bool
+        requires low { length (held self.old).takes ≤ choice }
+        requires choice { IsChoice (held self.old).counts choice }
+        requires log { vec_len self.old.log < vec_capacity self.old.log }
+        requires spare { AreSpare self.old.outs.parts.items }
+        requires ready { A.ready_for self.old.machine ≡ Some choice }
+        ensures did { OnTrue result (Stepped A.rules choice (held self.old) (held self.new)) }
+        ensures idle { OnFalse result (NothingDone A.rules choice (held self.old) (held self.new)) }
+        ensures outs { OnFalse result ((held self.new).outs ≡ (held self.old).outs) }
+        ensures ends { KeepsEnds (held self.old) (held self.new) }
+        ensures counts { (held self.new).counts ≡ (held self.old).counts }
+    {
+        if !self.machine.act(choice, &mut self.out) {
+            return false;
+        }
+        let number = next_number(rt, self.number, 0);
+        self.number = number;
+        note(number, choice, &mut self.log, &mut self.outs, &mut self.out);
+        true
+    }
+}

@@ -1,0 +1,12 @@
+// Actors: machines with a log, which take from links and put on links. Each may run in a thread of its own.
+#![tactic(auto)]
+
+mod actor;
+mod moved;
+mod outs;
+mod part;
+mod steps;
+
+pub use actor::{Actor, ActorParts};
+pub use moved::Moved;
+pub use part::OutPart;

@@ -6,3 +6,11 @@ pub mod Polls
 pub mod Flights
 pub mod Phase
 pub mod Finished
+pub mod Potential
+pub mod Carries
+pub mod Priced
+pub mod UnitPays
+pub mod ControlPays
+pub mod TurnPays
+pub mod Rounds
+pub mod Whole

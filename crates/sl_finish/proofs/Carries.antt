@@ -119,7 +119,7 @@ pub cable-to : (net : Net) (l : ℕ) → IsWired net → (link_of net l).sort �
 cable-to net l w q = let p = is-link net l (λ z. let y : Cable ≡ ToHost = sym q ∙ z in cc) in
     cable-receiver (actor_of net (link_of net l).to) (subst (λ t. receives (actor_of net (link_of net l).to) t ≡ true) q (w.receiver l p))
 
-host-receiver : (x : ActorId) → receives x ToHost ≡ true → (h : ℕ) × (x ≡ OfHost h)
+pub host-receiver : (x : ActorId) → receives x ToHost ≡ true → (h : ℕ) × (x ≡ OfHost h)
 host-receiver (OfHost x) h = (x, refl)
 host-receiver Observer h = absurd cc
 host-receiver (Control d) h = absurd cc

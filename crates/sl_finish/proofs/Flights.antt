@@ -113,7 +113,7 @@ weigh-le : (f g : ℕ → ℕ) (xs : List ℕ) → ((x : ℕ) → f x ≤ g x) �
 weigh-le f g [] h = omega arith
 weigh-le f g (x ∷ xs) h = omega (arith, h x, weigh-le f g xs h)
 
-weigh-plus : (f g : ℕ → ℕ) (xs : List ℕ) → weigh (λ x. f x + g x) xs ≡ weigh f xs + weigh g xs
+pub weigh-plus : (f g : ℕ → ℕ) (xs : List ℕ) → weigh (λ x. f x + g x) xs ≡ weigh f xs + weigh g xs
 weigh-plus f g [] = refl
 weigh-plus f g (x ∷ xs) = omega (arith, weigh-plus f g xs)
 
@@ -127,7 +127,7 @@ weigh-none f k start (suc n) h = by_tells (eqb_tells k start) (weigh-none f k (s
     by_tells (inl q) r = absurd (omega (arith, h, q.1))
     by_tells (inr q) r = subst (λ b. cond b (f start) 0 + weigh (λ l. cond (k == l) (f l) 0) (numbers_from (suc start) n) ≡ 0) (sym q.0) (omega (arith, r))
 
-weigh-once : (f : ℕ → ℕ) (k start n : ℕ) → weigh (λ l. cond (k == l) (f l) 0) (numbers_from start n) ≤ f k
+pub weigh-once : (f : ℕ → ℕ) (k start n : ℕ) → weigh (λ l. cond (k == l) (f l) 0) (numbers_from start n) ≤ f k
 weigh-once f k start zero = omega arith
 weigh-once f k start (suc n) = by_tells (eqb_tells k start) (weigh-once f k (suc start) n)
   where

@@ -14,3 +14,10 @@ pub mod ControlPays
 pub mod TurnPays
 pub mod Rounds
 pub mod Whole
+pub mod Sums
+pub mod PortUse
+pub mod Ranks
+pub mod Ways
+pub mod Distance
+pub mod Counts
+pub mod Costs

@@ -70,7 +70,7 @@ serves net a l w o = let t = poll-to net l w o.is_link o.sort in let r = w.repor
 pub links-out-distinct : (net : Net) (a : ℕ) (t : Sort) → Distinct (links_out net a t)
 links-out-distinct net a t = distinct-filter (λ l. same_sort (link_of net l).sort t) (links_from net a) (distinct-filter (λ l. (link_of net l).from == a) (link_numbers net) (distinct-from 0 (length net.links)))
 
-out-of : (net : Net) (a : ℕ) (t : Sort) (l : ℕ) → Member l (links_out net a t) → IsOut net a t l
+pub out-of : (net : Net) (a : ℕ) (t : Sort) (l : ℕ) → Member l (links_out net a t) → IsOut net a t l
 out-of net a t l m = each-at (IsOut net a t) l (links_out net a t) (each-out net a t) m
 
 -- two links from units to one control plane that it takes by one choice are one, so the units are one

@@ -1,3 +1,4 @@
 pub mod Flight
 pub mod Fare
 pub mod Potential
+pub mod Sweeps

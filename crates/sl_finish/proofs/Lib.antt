@@ -21,3 +21,5 @@ pub mod Ways
 pub mod Distance
 pub mod Counts
 pub mod Costs
+pub mod Turns
+pub mod Enough

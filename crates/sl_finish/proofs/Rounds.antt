@@ -1,5 +1,5 @@
 -- How many rounds of sweeps finishing takes.
-use Rattle.std.proofs.Common.{◌*◌, ◌+◌, ◌++◌, ◌-◌, ◌<◌, ◌==◌, List, None, Option, Some, ap, inl, inr, length, refl, subst, suc, sym, zero, ℕ, ◌∙◌, ◌∷◌, ◌≡◌, ◌≤◌, arith, []}
+use Rattle.std.proofs.Common.{◌*◌, ◌+◌, ◌++◌, ◌-◌, ◌<◌, ◌==◌, List, None, Option, Some, ap, inl, inr, le-ltb, length, refl, subst, suc, sym, zero, ℕ, ◌∙◌, ◌∷◌, ◌≡◌, ◌≤◌, arith, []}
 use Rattle.std.specs.Prelude.{Bool, cond, false, is_some, nat_eq, nat_lt, true, ◌⊎◌, if◌then◌else◌, ◌||◌}
 use Rattle.std.proofs.lemmas.Bool.{ltb-true}
 use Rattle.std.proofs.lemmas.Bool.Decides.{eqb_tells}
@@ -14,11 +14,12 @@ use Rattle.sl_cut.specs.Knowledge.{floor, issued, observer, resent}
 use Rattle.sl_cut.specs.Schedule.{link_entries, pass_actions, pass_of, resend_entry, settling_pass, sweeps}
 use Rattle.sl_cut.specs.Setup.{Setup}
 use Rattle.sl_cut.specs.Words.{Each, weigh}
-use Rattle.sl_cut.specs.World.{Entry, kept_from, next_step, run, turn}
+use Rattle.sl_cut.specs.World.{Entry, IsLegalFrom, kept_from, next_step, run, turn}
 use Rattle.sl_cut.specs.declared.message.Step.{Step}
 use Rattle.sl_finish.specs.Potential.{allowance, allowed}
 use Rattle.sl_net.proofs.Lists.{each-append, each-below, each-flat, each-map, each-of}
 use Rattle.sl_cut.proofs.Floors.{floor-run}
+use Rattle.sl_cut.proofs.Legal.{IsLegalDone, settle_legal}
 use Rattle.sl_cut.proofs.Trails.{run-kept}
 use Rattle.sl_cut.proofs.Turns.{run-append, taken-this}
 use Rattle.sl_finish.proofs.Finished.{append-splits, floor-within, then-splits}
@@ -84,7 +85,7 @@ pass-free net settling = each-flat (IsFree net) (λ a. link_entries net a ++ pas
 abbrev pub sweep_gain : Net → ℕ
 sweep_gain net = weigh (allowed net) (sweeps net)
 
-settle-free : (n : ℕ) (s : Setup) (lost : Losses) (w : World) (es : List Entry) → settle n s lost w ≡ Some es → AddsAtMost s.net 0 es
+pub settle-free : (n : ℕ) (s : Setup) (lost : Losses) (w : World) (es : List Entry) → settle n s lost w ≡ Some es → AddsAtMost s.net 0 es
 settle-free zero s lost w es h = absurd cc
 settle-free (suc n) s lost w es h = by_kept (kept_from s lost w (settling_pass s.net)) h
     (omega (arith, weigh-kept (allowed s.net) s lost w (settling_pass s.net), weigh-free s.net (settling_pass s.net) (pass-free s.net true))) (λ v fs. settle-free n s lost v fs)
@@ -93,6 +94,19 @@ settle-free (suc n) s lost w es h = by_kept (kept_from s lost w (settling_pass s
     by_kept [] k p ih = let e : [] ≡ es = cc in subst (AddsAtMost s.net 0) e p
     by_kept (k ∷ ks) m p ih = let x = append-splits (k ∷ ks) (settle n s lost (run s lost w (k ∷ ks))) es m in
         subst (AddsAtMost s.net 0) (sym x.1.1) (free-append s.net 0 (k ∷ ks) x.0 p (ih (run s lost w (k ∷ ks)) x.0 x.1.0))
+
+pub pass-adds : (s : Setup) (lost : Losses) (w : World) → weigh (allowed s.net) (kept_from s lost w (settling_pass s.net)) ≤ 0
+pass-adds s lost w = omega (arith, weigh-kept (allowed s.net) s lost w (settling_pass s.net), weigh-free s.net (settling_pass s.net) (pass-free s.net true))
+
+pub resend-adds : (s : Setup) (lost : Losses) (w : World) → Wiring s.net → weigh (allowed s.net) (kept_from s lost w (resend_entry s.net ∷ [])) ≤ 0
+resend-adds s lost w g = let f : allowed s.net (resend_entry s.net) ≡ 0 = ap (λ i. allowance s.net 0 i (suc (action_choice s.net 0))) g.wired.observer in omega (arith, f, weigh-kept (allowed s.net) s lost w (resend_entry s.net ∷ []))
+
+pub settle-legal : (s : Setup) (lost : Losses) (n : ℕ) (w : World) (es : List Entry) → settle n s lost w ≡ Some es → IsLegalFrom s lost w es
+settle-legal s lost n w es h = subst (λ (o : Option (List Entry)). IsLegalDone s lost w o) h (settle_legal n s lost w)
+
+-- neither F nor K rose from a world to itself
+pub rose-itself : (net : Net) (w : World) → rose net w w ≡ false
+rose-itself net w = ap (λ b. b || nat_lt (issued net (observer w)) (issued net (observer w))) (le-ltb (floor net w) (floor net w) (omega arith)) ∙ le-ltb (issued net (observer w)) (issued net (observer w)) (omega arith)
 
 -- What is left to rise: F, K and the retries.
 abbrev pub left : Setup → World → ℕ

@@ -59,7 +59,7 @@ AreEnough s lost go n = (w : World) → Reached s lost w → reserve s lost w < 
 less-left : (a b g : ℕ) → suc a ≤ b → suc a * g ≤ b * g
 less-left a b g h = mul-le (suc a) b g h
 
-then-on : (s : Setup) (lost : Losses) (w : World) (go : World → Option (List Entry)) (o : Option (List Entry)) (xs ys : List Entry) → o ≡ Some xs → go (run s lost w xs) ≡ Some ys → then_from s lost w go o ≡ Some (xs ++ ys)
+pub then-on : (s : Setup) (lost : Losses) (w : World) (go : World → Option (List Entry)) (o : Option (List Entry)) (xs ys : List Entry) → o ≡ Some xs → go (run s lost w xs) ≡ Some ys → then_from s lost w go o ≡ Some (xs ++ ys)
 then-on s lost w go o xs ys q r = ap (then_from s lost w go) q ∙ ap (append_to xs) r
 
 goes-on : (ks : List Entry) (o : Option (List Entry)) (es : List Entry) → o ≡ Some es → (fs : List Entry) × (append_to ks o ≡ Some fs)

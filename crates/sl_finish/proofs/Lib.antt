@@ -23,3 +23,6 @@ pub mod Counts
 pub mod Costs
 pub mod Turns
 pub mod Enough
+pub mod Scripts
+pub mod Fuel
+pub mod Examples

@@ -2,3 +2,4 @@ pub mod Flight
 pub mod Fare
 pub mod Potential
 pub mod Sweeps
+pub mod FirstNet

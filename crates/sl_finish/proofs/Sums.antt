@@ -1,0 +1,113 @@
+-- Sums and lengths of lists.
+use Rattle.std.proofs.Common.{◌+◌, ◌<◌, ◌==◌, List, ap, eq-eqb, inl, inr, length, not, refl, subst, suc, sym, ℕ, ◌∙◌, ◌∷◌, ◌≡◌, ◌≤◌, arith, []}
+use Rattle.std.specs.Prelude.{Bool, cond, false, filter, flat_map, map, nat_eq, true, ◌⊎◌, if◌then◌else◌}
+use Rattle.std.proofs.lemmas.Bool.Decides.{eqb_tells}
+use Rattle.sl_net.specs.Parts.{below}
+use Rattle.sl_cut.specs.Words.{tally, weigh}
+use Rattle.sl_net.proofs.Counting.{length_numbers}
+use Rattle.sl_net.proofs.Filters.{distinct-map, each-passes, member-of-map}
+use Rattle.sl_net.proofs.Lists.{Distinct, Member, distinct-filter, each-at, kept-member, member-from}
+use Rattle.sl_net.proofs.Sizes.{length_map-is}
+use Rattle.sl_finish.proofs.Flights.{weigh-once}
+use Rattle.sl_finish.proofs.Potential.{weigh-append}
+use Rattle.sl_finish.proofs.Whole.{weigh-at-most}
+
+weigh-zeros : {A : Type 0} (xs : List A) → weigh (λ x. 0) xs ≡ 0
+weigh-zeros [] = refl
+weigh-zeros (x ∷ xs) = omega (arith, weigh-zeros xs)
+
+weigh-both : {A : Type 0} (f g : A → ℕ) (xs : List A) → weigh (λ x. f x + g x) xs ≡ weigh f xs + weigh g xs
+weigh-both f g [] = refl
+weigh-both f g (x ∷ xs) = omega (arith, weigh-both f g xs)
+
+-- the order of two sums
+pub weigh-swap : {A B : Type 0} (f : A → B → ℕ) (xs : List A) (ys : List B) → weigh (λ x. weigh (f x) ys) xs ≡ weigh (λ y. weigh (λ x. f x y) xs) ys
+weigh-swap f [] ys = sym (weigh-zeros ys)
+weigh-swap f (x ∷ xs) ys = ap (λ n. weigh (f x) ys + n) (weigh-swap f xs ys) ∙ sym (weigh-both (f x) (λ y. weigh (λ x. f x y) xs) ys)
+
+pub weigh-same-each : {A : Type 0} (f g : A → ℕ) (xs : List A) → ((x : A) → f x ≡ g x) → weigh f xs ≡ weigh g xs
+weigh-same-each f g [] h = refl
+weigh-same-each f g (x ∷ xs) h = omega (arith, h x, weigh-same-each f g xs h)
+
+pub weigh-filtered : {A : Type 0} (f : A → ℕ) (t : A → Bool) (xs : List A) → weigh f (filter t xs) ≡ weigh (λ x. if t x then f x else 0) xs
+weigh-filtered f t [] = refl
+weigh-filtered f t (x ∷ xs) = by_bool (t x) (weigh-filtered f t xs)
+  where
+    by_bool : (b : Bool) → weigh f (filter t xs) ≡ weigh (λ x. if t x then f x else 0) xs → weigh f (cond b (x ∷ filter t xs) (filter t xs)) ≡ (if b then f x else 0) + weigh (λ x. if t x then f x else 0) xs
+    by_bool true h = ap (λ n. f x + n) h
+    by_bool false h = omega (arith, h)
+
+pub weigh-ones-is : {A : Type 0} (xs : List A) → weigh (λ x. 1) xs ≡ length xs
+weigh-ones-is [] = refl
+weigh-ones-is (x ∷ xs) = omega (arith, weigh-ones-is xs)
+
+pub tally-is : {A : Type 0} (t : A → Bool) (xs : List A) → tally t xs ≡ length (filter t xs)
+tally-is t xs = sym (weigh-filtered (λ x. 1) t xs) ∙ weigh-ones-is (filter t xs)
+
+pub weigh-flat : {A B : Type 0} (f : B → ℕ) (g : A → List B) (xs : List A) → weigh f (flat_map g xs) ≡ weigh (λ x. weigh f (g x)) xs
+weigh-flat f g [] = refl
+weigh-flat f g (x ∷ xs) = omega (arith, weigh-append f (g x) (flat_map g xs), weigh-flat f g xs)
+
+-- what counts at one number of each element counts once
+pub weigh-keyed : {A : Type 0} (key : A → ℕ) (f : A → ℕ) (n : ℕ) (xs : List A) → weigh (λ a. weigh (λ x. if key x == a then f x else 0) xs) (below n) ≤ weigh f xs
+weigh-keyed key f n xs = omega (arith, weigh-swap (λ a x. if key x == a then f x else 0) (below n) xs, weigh-at-most (λ x. weigh (λ a. if key x == a then f x else 0) (below n)) f xs (λ x. at_once x))
+  where
+    same : (x : _) → weigh (λ a. if key x == a then f x else 0) (below n) ≡ weigh (λ a. cond (key x == a) (f x) 0) (below n)
+    same x = weigh-same-each (λ a. if key x == a then f x else 0) (λ a. cond (key x == a) (f x) 0) (below n) (λ a. by_bool (key x == a))
+      where
+        by_bool : (b : Bool) → (if b then f x else 0) ≡ cond b (f x) 0
+        by_bool true = refl
+        by_bool false = refl
+
+    at_once : (x : _) → weigh (λ a. if key x == a then f x else 0) (below n) ≤ f x
+    at_once x = omega (arith, same x, weigh-once (λ a. f x) (key x) 0 n)
+
+-- A list without doubles is no longer than a list that has all its elements.
+
+not-this : (y : ℕ) (xs : List ℕ) → Distinct xs → length xs ≤ suc (length (filter (λ x. not (x == y)) xs))
+not-this y [] d = omega arith
+not-this y (x ∷ xs) d = by_tells (eqb_tells x y) (not-this y xs d.1)
+  where
+    all-else : (zs : List ℕ) → (Member y zs → ⊥) → length (filter (λ x. not (x == y)) zs) ≡ length zs
+    all-else [] k = refl
+    all-else (z ∷ zs) k = by_other (eqb_tells z y) (all-else zs (λ m. k (inr m)))
+      where
+        by_other : ((nat_eq z y ≡ true) × (z ≡ y)) ⊎ ((nat_eq z y ≡ false) × (z ≡ y → ⊥)) → length (filter (λ x. not (x == y)) zs) ≡ length zs → length (cond (not (z == y)) (z ∷ filter (λ x. not (x == y)) zs) (filter (λ x. not (x == y)) zs)) ≡ suc (length zs)
+        by_other (inl q) h = absurd (k (inl (sym q.1)))
+        by_other (inr q) h = ap (λ b. length (cond (not b) (z ∷ filter (λ x. not (x == y)) zs) (filter (λ x. not (x == y)) zs))) q.0 ∙ ap suc h
+
+    by_tells : ((nat_eq x y ≡ true) × (x ≡ y)) ⊎ ((nat_eq x y ≡ false) × (x ≡ y → ⊥)) → length xs ≤ suc (length (filter (λ x. not (x == y)) xs))
+        → suc (length xs) ≤ suc (length (cond (not (x == y)) (x ∷ filter (λ x. not (x == y)) xs) (filter (λ x. not (x == y)) xs)))
+    by_tells (inl q) h = let e : length (filter (λ x. not (x == y)) xs) ≡ length xs = all-else xs (λ m. d.0 (subst (λ z. Member z xs) (sym q.1) m)) in
+        let k : length (cond (not (x == y)) (x ∷ filter (λ x. not (x == y)) xs) (filter (λ x. not (x == y)) xs)) ≡ length (filter (λ x. not (x == y)) xs)
+        = ap (λ b. length (cond (not b) (x ∷ filter (λ x. not (x == y)) xs) (filter (λ x. not (x == y)) xs))) q.0 in omega (arith, e, k)
+    by_tells (inr q) h = let k : length (cond (not (x == y)) (x ∷ filter (λ x. not (x == y)) xs) (filter (λ x. not (x == y)) xs)) ≡ suc (length (filter (λ x. not (x == y)) xs))
+        = ap (λ b. length (cond (not b) (x ∷ filter (λ x. not (x == y)) xs) (filter (λ x. not (x == y)) xs))) q.0 in omega (arith, h, k)
+
+pub distinct-within : (xs ys : List ℕ) → Distinct xs → ((x : ℕ) → Member x xs → Member x ys) → length xs ≤ length ys
+distinct-within [] [] d k = omega arith
+distinct-within (x ∷ xs) [] d k = absurd (k x (inl refl))
+distinct-within xs (y ∷ ys) d k = omega (arith, not-this y xs d, distinct-within (filter (λ x. not (x == y)) xs) ys (distinct-filter (λ x. not (x == y)) xs d) others)
+  where
+    not-y : (x : ℕ) → not (x == y) ≡ true → x ≡ y → ⊥
+    not-y x h q = let e : not (x == y) ≡ false = ap not (eq-eqb x y q) in let z : true ≡ false = sym h ∙ e in cc
+
+    of_member : (x : ℕ) → not (x == y) ≡ true → (x ≡ y) ⊎ Member x ys → Member x ys
+    of_member x h (inl q) = absurd (not-y x h q)
+    of_member x h (inr m) = m
+
+    others : (x : ℕ) → Member x (filter (λ x. not (x == y)) xs) → Member x ys
+    others x m = of_member x (each-at (λ x. not (x == y) ≡ true) x (filter (λ x. not (x == y)) xs) (each-passes (λ x. not (x == y)) xs) m) (k x (kept-member (λ x. not (x == y)) x xs m))
+
+-- elements with keys of their own below n
+pub few-keys : {A : Type 0} (key : A → ℕ) (n : ℕ) (xs : List A) → Distinct xs → ((x y : A) → Member x xs → Member y xs → key x ≡ key y → x ≡ y) → ((x : A) → Member x xs → key x < n) → length xs ≤ n
+few-keys key n xs d one few = omega (arith, length_map-is key xs, length_numbers 0 n, distinct-within (map key xs) (below n) (distinct-map key xs one d) within)
+  where
+    within : (k : ℕ) → Member k (map key xs) → Member k (below n)
+    within k m = let r = member-of-map key k xs m in let p : key r.0 < n = few r.0 r.1 in member-from k 0 n (omega arith) (omega (arith, p, r.2))
+
+-- at most one element
+pub one-at-most : {A : Type 0} (xs : List A) → Distinct xs → ((x y : A) → Member x xs → Member y xs → x ≡ y) → length xs ≤ 1
+one-at-most [] d k = omega arith
+one-at-most (x ∷ []) d k = omega arith
+one-at-most (x ∷ y ∷ xs) d k = absurd (d.0 (inl (k x y (inl refl) (inr (inl refl)))))

@@ -1,0 +1,5 @@
+pub mod Flight
+pub mod Fare
+pub mod Potential
+pub mod Sweeps
+pub mod FirstNet

@@ -1,3 +1,3 @@
 pub mod FormLemmas
 pub mod EndLemmas
-pub mod FormEnds
+pub mod RunLemmas

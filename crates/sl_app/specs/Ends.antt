@@ -12,7 +12,7 @@ use Rattle.sl_app.specs.declared.ended.Ended.{Ended}
 use Rattle.sl_app.specs.Words.{asked}
 use Rattle.sl_app.specs.Form.{IsForm, HasNoForm, form_input}
 use Rattle.sl_app.specs.Texts.{status_of, refusal_text, write_fault_text}
-use Rattle.sl_cut.specs.Losses.{no_loss}
+use Rattle.sl_cut.specs.Losses.{losses}
 use Rattle.sl_app.specs.Served.{IsRun}
 
 -- the words, and the source before and after: the bytes left, where it tells them, and its count of faults
@@ -66,7 +66,7 @@ pub record IsServed (r : Reading) (book : List Entry) (front : ℕ) (text : List
   pub count : ℕ
   pub length : ℕ
   pub accepted : IsAccepted r bytes count length
-  pub run : IsRun (form_input count length) no_loss book front text
+  pub run : IsRun (form_input count length) (losses (form_input count length)) book front text
 
 -- the whole line for status 5 was appended, or a part of it where the sink's count rose
 abbrev pub TellsWriteFault : Writing → Type 0

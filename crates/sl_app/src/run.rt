@@ -1,23 +1,22 @@
-// The run of an input of the form.
-ghost use Rattle.std.specs.Prelude.{◌≡◌, ◌≤◌, ◌<◌, ◌^◌, IfOk, length};
-ghost use Rattle.sl_cut.specs.Losses.{no_loss};
-ghost use Rattle.sl_cut.specs.Lossless.{IsLosslessInput};
+// The run of an input.
+ghost use Rattle.std.specs.Prelude.{◌≡◌, ◌<◌, ◌^◌, IfOk, length};
+ghost use Rattle.std.specs.List.{All};
+ghost use Rattle.sl_flow.specs.Flow.{HasAddresses};
+ghost use Rattle.sl_cut.specs.Losses.{losses};
 ghost use Rattle.sl_cut.specs.Setup.{setup_of};
 ghost use Rattle.sl_cut.specs.Fuel.{schedule_of};
 ghost use Rattle.sl_cut.specs.Findings.{findings};
 ghost use Rattle.sl_report.specs.Report.{report_text};
-ghost use Rattle.sl_app.specs.Form.{form_input};
-ghost use Rattle.sl_app.specs.Served.{IsRun, IsRunBook};
+ghost use Rattle.sl_app.specs.Served.{IsRunnable, IsRunBook, IsRun};
 
-use crate::input::form_input;
-use sl_cut::{cuts_are_consistent, findings_of, finish_histories, finishing_is_legal};
+use sl_cut::{
+    RunBook, cuts_are_consistent, findings_of, inputs_spare_reliable_links, run_histories,
+};
+use sl_finish::{finishing_finishes, inputs_are_bounded};
 use sl_machine::{Book, Entry, Memory};
 use sl_net::Input;
 use sl_report::report_bytes;
 use std::alloc::Global;
-
-/// More rounds of finishing, and more passes in each, than a run of the form takes.
-const FUEL: u64 = 120;
 
 /// What is served for an input: the book of its run, how many of its entries come before
 /// finishing, and the text of its report.
@@ -42,46 +41,43 @@ fn schedule_of(alloc: Global, entries: &[Entry]) -> Result<Vec<(u32, u32)>, Memo
     }
 }
 
-/// Finishes the run of the input of the form with this count of packets of this length.
-fn finish_form(alloc: Global, input: &Input, count: u64, length: u64) -> Result<Book, Memory>
-    requires count { count ≤ 100 }
-    requires input { input.now ≡ form_input count length }
-    ensures { IfOk result (λ book. IsRunBook (form_input count length) no_loss book.entries) }
+/// The book of the run of an input.
+fn book_of(alloc: Global, input: &Input) -> Result<RunBook, Memory>
+    requires { IsRunnable input.now }
+    ensures { IfOk result (λ run. IsRunBook input.now (losses input.now) run.book.entries run.front) }
 {
-    finishing_is_legal();
+    finishing_finishes();
+    inputs_are_bounded();
     cuts_are_consistent();
-    let Ok(found) = finish_histories(alloc, input, FUEL) else {
-        return Err(Memory);
-    };
-    match found {
-        Some(book) => Ok(book),
-        None => unreachable!(),
-    }
+    inputs_spare_reliable_links();
+    let _parts = input.net.parts();
+    run_histories(alloc, input)
 }
 
-/// The text of the report of a run with this book.
+/// The text of the report of a run with this book. A book of 2^40 entries would fill any memory,
+/// and is answered so.
 fn report_run(alloc: Global, input: &Input, book: &Book) -> Result<Vec<u8>, Memory>
-    requires lossless { IsLosslessInput input.now }
-    requires small { length book.now.entries < 2 ^ 40 }
-    ensures { IfOk result (λ text. text.items ≡ report_text input.now.net input.now.snapshot.count (findings (setup_of input.now) no_loss (schedule_of book.now.entries))) }
+    requires { All HasAddresses input.now.flows }
+    ensures { IfOk result (λ text. text.items ≡ report_text input.now.net input.now.snapshot.count (findings (setup_of input.now) (losses input.now) (schedule_of book.now.entries))) }
 {
     let schedule = schedule_of(alloc, book.entries.as_slice())?;
+    if schedule.len() >= 1 << 40 {
+        return Err(Memory);
+    }
     let findings = findings_of(alloc, input, schedule.as_slice())?;
     report_bytes(alloc, input, &findings)
 }
 
-/// Runs the input of the form with this count of packets of this length.
-pub fn run_form(alloc: Global, count: u64, length: u64) -> Result<Served, Memory>
-    requires count { count ≤ 100 }
-    requires length { length ≤ 65535 }
-    ensures { IfOk result (λ s. IsRun (form_input count length) no_loss s.book.entries s.front s.text.items) }
+/// Runs an input.
+pub fn run_input(alloc: Global, input: &Input) -> Result<Served, Memory>
+    requires { IsRunnable input.now }
+    ensures { IfOk result (λ s. IsRun input.now (losses input.now) s.book.entries s.front s.text.items) }
 {
-    let input = form_input(alloc, count, length)?;
-    let book = finish_form(alloc, &input, count, length)?;
-    let text = report_run(alloc, &input, &book)?;
+    let run = book_of(alloc, input)?;
+    let text = report_run(alloc, input, &run.book)?;
     Ok(Served {
-        book,
-        front: 0,
+        book: run.book,
+        front: run.front,
         text,
     })
 }

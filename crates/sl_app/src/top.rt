@@ -2,11 +2,15 @@
 ghost use Rattle.std.specs.Prelude.{◌≡◌, ◌≤◌, ℕ, List, [], map, string_bytes, MatchResult, IfOk};
 ghost use Rattle.sl_app.specs.Words.{asked};
 ghost use Rattle.sl_app.specs.declared.words.Command.TheVariants as command;
+ghost use Rattle.sl_cut.specs.Losses.{losses};
+ghost use Rattle.sl_app.specs.Form.{form_input};
+ghost use Rattle.sl_app.specs.Served.{IsRun};
 ghost use Rattle.sl_app.specs.Ends.{Ends, Reading, Writing, HasCause, IsServed, TellsWriteFault, Refuses, Reports};
 
 use crate::ended::{Ended, Refusal};
-use crate::form::read_form;
-use crate::run::{Served, run_form};
+use crate::form::{Form, read_form};
+use crate::input::form_input;
+use crate::run::{Served, run_input};
 use crate::words::{Command, asked};
 use sl_io::{ReadFault, Sink, Source, read_all, write_all};
 use sl_machine::Memory;
@@ -14,6 +18,16 @@ use std::alloc::Global;
 
 /// The most bytes of an input, and one more.
 const LIMIT: usize = 1_048_577;
+
+/// Runs the input of a form.
+fn run_form(alloc: Global, form: Form) -> Result<Served, Memory>
+    requires count { form.count ≤ 100 }
+    requires length { form.length ≤ 65535 }
+    ensures { IfOk result (λ s. IsRun (form_input form.count form.length) (losses (form_input form.count form.length)) s.book.entries s.front s.text.items) }
+{
+    let input = form_input(alloc, form.count, form.length)?;
+    run_input(alloc, &input)
+}
 
 fn step<I: Source>(alloc: Global, words: &[String], input: &mut I) -> Result<Served, Refusal>
     requires { asked (map (λ w. string_bytes w) words.now) ≡ command.Step }
@@ -27,7 +41,7 @@ fn step<I: Source>(alloc: Global, words: &[String], input: &mut I) -> Result<Ser
     let Some(form) = read_form(&bytes) else {
         return Err(Refusal::NotBuilt);
     };
-    match run_form(alloc, form.count, form.length) {
+    match run_form(alloc, form) {
         Ok(served) => Ok(served),
         Err(Memory) => Err(Refusal::Memory),
     }

@@ -22,8 +22,9 @@ of_entries i lost b front fuel es k q e =
     let first : take front (schedule_of b.entries) ≡ kept (setup_of i) lost (expand i.net i.script) = ap (take front) k.schedule ∙ take_at (kept (setup_of i) lost (expand i.net i.script)) es front (sym e) in
     let rest : drop front (schedule_of b.entries) ≡ es = ap (drop front) k.schedule ∙ drop_at (kept (setup_of i) lost (expand i.net i.script)) es front (sym e) in
     let fin : IsFin (setup_of i) lost (world (setup_of i) lost (kept (setup_of i) lost (expand i.net i.script))) es
-          = subst (λ (w : World). IsFin (setup_of i) lost w es) (sym there) (record { fuel = fuel; finished = q }) in
+    = subst (λ (w : World). IsFin (setup_of i) lost w es) (sym there) (record { fuel = fuel; finished = q }) in
     record {
+      count = e;
       script = first;
       finishing = subst (λ (xs : List Entry). IsFin (setup_of i) lost (world (setup_of i) lost xs) (drop front (schedule_of b.entries))) (sym first)
           (subst (λ (xs : List Entry). IsFin (setup_of i) lost (world (setup_of i) lost (kept (setup_of i) lost (expand i.net i.script))) xs) (sym rest) fin);

@@ -4,7 +4,9 @@ use Rattle.std.specs.Prelude.{Bool, true, false, cond, if◌then◌else◌}
 use Rattle.std.proofs.lemmas.List.{take_more}
 use Rattle.sl_loss.specs.Loss.{loses_next, after_put, one_more}
 use Rattle.sl_net.specs.Parts.{numbers_from}
+use Rattle.sl_net.specs.declared.actor.LinkKind.{LinkKind}
 use Rattle.sl_net.specs.Input.{Input}
+use Rattle.sl_cut.specs.World.{IsLossTable}
 use Rattle.sl_cut.specs.declared.message.Message.{Message}
 use Rattle.sl_cut.specs.Words.{tally}
 use Rattle.sl_cut.specs.History.{without_lost}
@@ -54,6 +56,11 @@ next_after i l n h = by_bool (is_lossy (kind_at i.net l))
   where
     few : one_more n ≡ n + 1
     few = omega (arith, h)
+
     by_bool : (b : Bool) → after_put (if b then Some (asked_loss i.loss (kind_at i.net l) l n) else None) ≡ (if b then Some (asked_loss i.loss (kind_at i.net l) l (n + 1)) else None)
     by_bool true = ap (λ k. Some (asked_loss i.loss (kind_at i.net l) l k)) few
     by_bool false = refl
+
+-- on a reliable link nothing is lost
+pub spared : (i : Input) → IsLossTable i.net (losses i)
+spared i l n reliable = ap (λ (k : LinkKind). loses (if is_lossy k then Some (asked_loss i.loss k l 0) else None) n) reliable

@@ -13,6 +13,7 @@ use Rattle.sl_cut.specs.Fuel.{schedule_of, numbers_of}
 -- the first entries, so many as front says, are those of the script that aren't idle; the others are what finishing takes from the world that they
 -- reach; none of all is idle; and they are numbered from 1
 pub record IsBookOfRun (i : Input) (lost : Losses) (book : List BookEntry) (front : ℕ) : Type 0 where
+  pub count : front ≡ length (kept (setup_of i) lost (expand i.net i.script))
   pub script : take front (schedule_of book) ≡ kept (setup_of i) lost (expand i.net i.script)
   pub finishing : IsFin (setup_of i) lost (world (setup_of i) lost (take front (schedule_of book))) (drop front (schedule_of book))
   pub legal : IsLegal (setup_of i) lost (schedule_of book)

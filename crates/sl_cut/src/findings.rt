@@ -1,6 +1,6 @@
 // Findings: what a run showed, as the report prints it.
-use sl_saves::Total;
 use crate::verdict::Verdict;
+use sl_saves::Total;
 use std::marker::Model;
 
 /// What a unit saved for a snapshot: the data packets and bytes that it counted before, and for

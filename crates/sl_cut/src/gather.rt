@@ -62,7 +62,12 @@ fn rows_for(
     }
 }
 
-fn finding(alloc: Global, input: &Input, world: &World, snapshot: u64) -> Result<Finding, AllocError>
+fn finding(
+    alloc: Global,
+    input: &Input,
+    world: &World,
+    snapshot: u64,
+) -> Result<Finding, AllocError>
     requires { steps_in world.now < 2 ^ 40 }
     ensures { IfOk result (λ one. one ≡ finding input.now.net (losses input.now) world.now snapshot) }
 {

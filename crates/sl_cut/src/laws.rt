@@ -10,7 +10,9 @@ ghost use Rattle.sl_cut.specs.Words.{Each};
 ghost use Rattle.sl_cut.specs.History.{Losses, history, id, first, put};
 ghost use Rattle.sl_cut.specs.Setup.{Setup};
 ghost use Rattle.sl_cut.specs.Knowledge.{observer, told_of, issued, upto_of, floor};
-ghost use Rattle.sl_cut.specs.World.{Entry, world, sender};
+ghost use Rattle.sl_cut.specs.World.{Entry, IsLossTable, world, sender};
+ghost use Rattle.sl_cut.specs.Losses.{losses};
+ghost use Rattle.sl_net.specs.Input.{Input};
 ghost use Rattle.sl_cut.specs.Made.{Ran};
 ghost use Rattle.sl_cut.specs.Cut.{cuts};
 ghost use Rattle.sl_cut.specs.Matching.{IsDataChannel, IsConsistentCut};
@@ -137,3 +139,8 @@ pub fn finished_verdicts_are_known()
 {
     nets_are_wired()
 }
+
+/// What an input loses is a loss table: on a reliable link nothing is lost.
+pub fn inputs_spare_reliable_links()
+    ensures { (i : Input) → IsLossTable i.net (losses i) }
+{}

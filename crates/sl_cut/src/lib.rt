@@ -37,8 +37,9 @@ pub use history::{History, World};
 pub use laws::{
     channel_values_are_late_data, collected_rows_stay, collected_verdicts_are_known,
     collected_verdicts_stay, cuts_are_consistent, finished_verdicts_are_known, floor_never_falls,
-    histories_only_grow, messages_fit_links, numbers_are_near, numbers_past_floor_are_near,
-    uncollected_numbers_are_near, worlds_are_in_window, worlds_are_runs,
+    histories_only_grow, inputs_spare_reliable_links, messages_fit_links, numbers_are_near,
+    numbers_past_floor_are_near, uncollected_numbers_are_near, worlds_are_in_window,
+    worlds_are_runs,
 };
 pub use message::{Message, Put, Puts, Step};
 pub use sl_saves::Total;

@@ -5,7 +5,10 @@ ghost use Rattle.sl_flow.specs.Flow.{HasAddresses};
 
 use crate::{Findings, Total, findings_of, run_histories};
 use sl_machine::Book;
-use sl_net::{DevicePart, Drop1, Flow, HostPart, Input, LossSpec, Name, Net, Parts, PortRef, Script1, Snapshot};
+use sl_net::{
+    DevicePart, Drop1, Flow, HostPart, Input, LossSpec, Name, Net, Parts, PortRef, Script1,
+    Snapshot,
+};
 use std::alloc::Global;
 use std::test::Fail;
 

@@ -13,9 +13,9 @@ use crate::history::World;
 use crate::losses::carried;
 use crate::message::{Message, Step};
 use crate::tell::{stamp_taken, taken};
-use sl_saves::Total;
 use crate::wires::{data_channels, link_of, links_into, number_at, place_in};
 use sl_net::{Input, Net};
+use sl_saves::Total;
 use std::alloc::{AllocError, Global};
 
 /// The steps after which the id of a unit is below a snapshot.

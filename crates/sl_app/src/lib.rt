@@ -2,8 +2,6 @@
 #![tactic(auto)]
 
 mod ended;
-mod form;
-mod input;
 mod run;
 #[cfg(test)]
 mod tests;

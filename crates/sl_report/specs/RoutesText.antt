@@ -1,0 +1,28 @@
+-- The text of the routes of a net. Each line ends with a newline; numbers are decimal.
+use Rattle.std.specs.Prelude.{ℕ, List, [], ◌++◌, map, flat_map, length, Option, Some, slice_index_or, codes, decimal}
+use Rattle.sl_net.specs.Parts.{Parts, below}
+use Rattle.sl_net.specs.Net.{Net}
+use Rattle.sl_route.specs.Route.{next_port, hops}
+use Rattle.sl_report.specs.Report.{device_name}
+
+abbrev pub host_name : Parts → ℕ → List ℕ
+host_name parts h = slice_index_or (map (λ host. host.name) parts.hosts) h []
+
+-- the next port and the number of cables, or that there is no way
+abbrev pub way_text : Option ℕ → Option ℕ → List ℕ
+way_text (Some port) (Some hops) = decimal port ++ (codes " " ++ decimal hops)
+way_text _ _ = codes "none"
+
+unfoldable pub route_line : List ℕ → List ℕ → Option ℕ → Option ℕ → List ℕ
+route_line device host port hops = codes "route " ++ (device ++ (codes " " ++ (host ++ (codes " " ++ (way_text port hops ++ codes "\n")))))
+
+abbrev pub route_text : Parts → ℕ → ℕ → List ℕ
+route_text parts d h = route_line (device_name parts d) (host_name parts h) (next_port parts d h) (hops parts d h)
+
+-- for a device a line for each host in order
+abbrev pub device_routes : Parts → ℕ → List ℕ
+device_routes parts d = flat_map (route_text parts d) (below (length parts.hosts))
+
+-- for each device in order
+abbrev pub routes_text : Net → List ℕ
+routes_text net = flat_map (device_routes net.parts) (below (length net.parts.devices)) ++ codes "end\n"

@@ -1,0 +1,115 @@
+// The text of routes.
+ghost use Rattle.std.specs.Prelude.{◌≡◌, ◌<◌, ◌≤◌, ◌++◌, IfOk, OnOk, length, string_bytes, flat_map};
+ghost use Rattle.sl_net.specs.Parts.{below};
+ghost use Rattle.sl_route.specs.Routes.{IsRoutesOf};
+ghost use Rattle.sl_report.specs.RoutesText.{way_text, route_line, route_text, device_routes, routes_text};
+
+use sl_machine::Memory;
+use sl_net::{Name, Net};
+use sl_route::Routes;
+use std::alloc::{AllocError, Global};
+
+fn push_way(out: &mut String, port: Option<u8>, hops: Option<u32>) -> Result<(), AllocError>
+    ensures { OnOk result (string_bytes out.new ≡ string_bytes out.old ++ way_text port hops) }
+{
+    match (port, hops) {
+        (Some(port), Some(hops)) => write!(out, "{port} {hops}"),
+        _ => write!(out, "none"),
+    }
+}
+
+#[tactic(auto, unfolding(crate::specs::RoutesText::route_line))]
+fn push_line(
+    out: &mut String,
+    device: &Name,
+    host: &Name,
+    port: Option<u8>,
+    hops: Option<u32>,
+) -> Result<(), AllocError>
+    ensures { OnOk result (string_bytes out.new ≡ string_bytes out.old ++ route_line device.now host.now port hops) }
+{
+    write!(out, "route {device} {host} ")?;
+    push_way(out, port, hops)?;
+    write!(out, "\n")
+}
+
+/// Writes the route from a device to a host.
+fn push_route(
+    out: &mut String,
+    net: &Net,
+    routes: &Routes,
+    device: u32,
+    host: u32,
+) -> Result<(), AllocError>
+    requires routes { IsRoutesOf net.now routes.now }
+    requires device { device < length net.now.parts.devices }
+    requires host { host < length net.now.parts.hosts }
+    ensures { OnOk result (string_bytes out.new ≡ string_bytes out.old ++ route_text net.now.parts device host) }
+{
+    let port = routes.next_port(device, host);
+    let hops = routes.hops(device, host);
+    let parts = net.parts();
+    push_line(
+        out,
+        &parts.devices[device as usize].name,
+        &parts.hosts[host as usize].name,
+        port,
+        hops,
+    )
+}
+
+fn host_count(net: &Net) -> u32
+    ensures { result ≡ length net.now.parts.hosts }
+{
+    net.parts().hosts.len() as u32
+}
+
+fn device_count(net: &Net) -> u32
+    ensures { result ≡ length net.now.parts.devices }
+{
+    net.parts().devices.len() as u32
+}
+
+/// Writes the routes from a device to each host.
+fn push_device(out: &mut String, net: &Net, routes: &Routes, device: u32) -> Result<(), AllocError>
+    requires routes { IsRoutesOf net.now routes.now }
+    requires device { device < length net.now.parts.devices }
+    ensures { OnOk result (string_bytes out.new ≡ string_bytes out.old ++ device_routes net.now.parts device) }
+{
+    for host in 0..host_count(net) {
+        push_route(out, net, routes, device, host)?;
+    }
+    Ok(())
+}
+
+fn push_devices(out: &mut String, net: &Net, routes: &Routes) -> Result<(), AllocError>
+    requires { IsRoutesOf net.now routes.now }
+    ensures { OnOk result (string_bytes out.new ≡ string_bytes out.old ++ flat_map (device_routes net.now.parts) (below (length net.now.parts.devices))) }
+{
+    for device in 0..device_count(net) {
+        push_device(out, net, routes, device)?;
+    }
+    Ok(())
+}
+
+fn text_of(alloc: Global, net: &Net, routes: &Routes) -> Result<Vec<u8>, AllocError>
+    requires { IsRoutesOf net.now routes.now }
+    ensures { IfOk result (λ bytes. bytes.items ≡ routes_text net.now) }
+{
+    let mut out = String::new(alloc);
+    push_devices(&mut out, net, routes)?;
+    write!(out, "end\n")?;
+    Ok(out.into_bytes())
+}
+
+/// The text of the routes of a net: for each device and each host the next port and the number of
+/// cables, or that no way leads there.
+pub fn routes_bytes(alloc: Global, net: &Net, routes: &Routes) -> Result<Vec<u8>, Memory>
+    requires { IsRoutesOf net.now routes.now }
+    ensures { IfOk result (λ bytes. bytes.items ≡ routes_text net.now) }
+{
+    match text_of(alloc, net, routes) {
+        Ok(bytes) => Ok(bytes),
+        Err(_) => Err(Memory),
+    }
+}

@@ -29,12 +29,10 @@ use Rattle.sl_net.proofs.Senders.{IsLink}
 use Rattle.sl_net.proofs.Sizes.{length_map-is}
 use Rattle.sl_net.proofs.Sorts.{IsOut, same-sort-is}
 use Rattle.sl_finish.proofs.Counts.{below-in, in-below, in-filter, is-actor, of_sort, one-number, sorted, sorted-many}
-use Rattle.sl_finish.proofs.Flights.{weigh-plus}
 use Rattle.sl_finish.proofs.Priced.{links-out-distinct, once, out-of}
 use Rattle.sl_finish.proofs.Rounds.{sweep_gain}
-use Rattle.sl_finish.proofs.Sums.{distinct-within, few-keys, tally-is, weigh-filtered, weigh-flat, weigh-keyed, weigh-ones-is, weigh-same-each, weigh-swap}
+use Rattle.sl_finish.proofs.Sums.{distinct-within, few-keys, tally-is, weigh-at-most, weigh-filtered, weigh-flat, weigh-keyed, weigh-ones-is, weigh-plus, weigh-same-each, weigh-swap}
 use Rattle.sl_finish.proofs.Ways.{link-is, one-by-ends, receiver-is, same-from, same-to, sender-is}
-use Rattle.sl_finish.proofs.Whole.{weigh-at-most}
 
 -- Links of a sort by their senders: each counts once.
 

@@ -14,6 +14,7 @@ ghost use Rattle.sl_cut.specs.Bound.{frame_count, bound_of, input_bound};
 ghost use Rattle.sl_finish.specs.Potential.{potential, allowed};
 ghost use Rattle.sl_finish.specs.Sweeps.{sweeps_in};
 ghost use Rattle.sl_finish.specs.FirstNet.{IsFirstNet};
+ghost use Rattle.sl_finish.specs.Ended.{IsEnded};
 
 /// Where a settling pass does nothing the world is settled: each link is empty, each host has put
 /// all its messages, and there is nothing to issue.
@@ -41,6 +42,12 @@ pub fn turns_lower_the_potential()
 pub fn runs_are_bounded()
     ensures { (s : Setup) (lost : Losses) (es fs : List Entry) → IsNet s.net → IsFin s lost (world s lost es) fs
         → length (kept s lost es ++ fs) ≤ bound_of s (sweeps_in s.net es) }
+{}
+
+/// Such a run is legal, its world is finished, and it is no longer than the bound says.
+pub fn runs_end()
+    ensures { (s : Setup) (lost : Losses) (es fs : List Entry) → IsNet s.net → IsLossTable s.net lost → 0 < s.window
+        → IsFin s lost (world s lost es) fs → IsEnded s lost es (kept s lost es ++ fs) }
 {}
 
 /// After every schedule finishing ends within the fuel of the bound.

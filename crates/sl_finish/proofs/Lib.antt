@@ -26,3 +26,4 @@ pub mod Enough
 pub mod Scripts
 pub mod Fuel
 pub mod Examples
+pub mod Small

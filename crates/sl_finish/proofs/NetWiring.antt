@@ -12,7 +12,7 @@ use Rattle.sl_net.specs.declared.actor.ActorId.TheVariants.{Observer}
 use Rattle.sl_net.proofs.Actors.{actor-member, each-place}
 use Rattle.sl_net.proofs.Filters.{place-of-member}
 use Rattle.sl_net.proofs.Linked.{ends}
-use Rattle.sl_net.proofs.NetWired.{net-wired, valid, wired}
+use Rattle.sl_net.proofs.NetWired.{net-wired, valid}
 
 pub record Wiring (net : Net) : Type 0 where
   pub is_net : IsNet net

@@ -4,7 +4,6 @@ use Rattle.std.proofs.Common.{◌+◌, ◌++◌, ◌<◌, ◌==◌, List, None, 
 use Rattle.std.specs.Prelude.{Bool, false, map, option_map, slice_get, true, ◌⊎◌, if◌then◌else◌, ◌||◌}
 use Rattle.std.proofs.lemmas.Bool.{and_from, and_parts, or_left, or_parts, or_right}
 use Rattle.sl_net.specs.Fault.{fault_of, first_clash, has_end, has_guest, reuses_port, takes_used_port}
-use Rattle.sl_net.specs.Net.{hosts}
 use Rattle.sl_net.specs.Parts.{Parts, has_cable, host_from, other_end, same_port}
 use Rattle.sl_net.specs.declared.fault.NetFault.TheVariants.{N1, N5, N7}
 use Rattle.sl_net.specs.declared.parts.CablePart.{CablePart}
@@ -12,7 +11,6 @@ use Rattle.sl_net.specs.declared.parts.HostPart.{HostPart}
 use Rattle.sl_net.specs.declared.parts.PortRef.{PortRef}
 use Rattle.sl_net.proofs.NetWired.{no-reason}
 use Rattle.sl_net.proofs.Sorts.{told}
-use Rattle.sl_cut.proofs.Nets.{device, port}
 
 abbrev pub Joins : List CablePart → PortRef → PortRef → Type 0
 Joins [] p q = ⊥

@@ -14,7 +14,6 @@ use Rattle.sl_cut.specs.declared.message.Step.{Step}
 use Rattle.sl_finish.specs.Flight.{Weight, puts_weight}
 use Rattle.sl_finish.specs.Potential.{credit, potential, price}
 use Rattle.sl_net.proofs.Sorts.{choice-is, is-into}
-use Rattle.sl_cut.proofs.Floors.{within}
 use Rattle.sl_cut.proofs.Turns.{Steps}
 use Rattle.sl_finish.proofs.Flights.{flight-step, paid}
 use Rattle.sl_finish.proofs.Phase.{in-links}

@@ -2,7 +2,7 @@
 use Rattle.std.proofs.Common.{◌+◌, ◌==◌, List, Some, ap, inl, inr, length, refl, subst, suc, sym, ℕ, ◌∙◌, ◌∷◌, ◌≡◌, ◌≤◌, arith, []}
 use Rattle.std.specs.Prelude.{false, map, nat_eq, slice_get, true, ◌⊎◌, if◌then◌else◌}
 use Rattle.std.proofs.lemmas.Bool.Decides.{eqb_tells}
-use Rattle.sl_net.specs.Net.{Net, actor_of, choice_of, is_unit, link_numbers, link_of, links_from, links_into, links_out, same_sort}
+use Rattle.sl_net.specs.Net.{Net, actor_of, choice_of, link_numbers, link_of, links_from, links_into, links_out, same_sort}
 use Rattle.sl_net.specs.Serving.{Served, served, serving}
 use Rattle.sl_net.specs.Wired.{IsWired, Reports}
 use Rattle.sl_net.specs.declared.actor.ActorId.TheVariants.{Unit as OfUnit}

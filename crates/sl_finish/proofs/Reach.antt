@@ -8,7 +8,7 @@ use Rattle.std.specs.Prelude.{false, map, nat_eq, option_map, slice_get, true, â
 use Rattle.std.proofs.lemmas.Bool.Decides.{eqb_tells}
 use Rattle.std.proofs.lemmas.List.{length-set}
 use Rattle.std.proofs.lemmas.Option.{get_or_from_slice_get}
-use Rattle.sl_net.specs.Net.{action_choice, actor_of, links_into, no_link, nobody}
+use Rattle.sl_net.specs.Net.{action_choice, actor_of, links_into, nobody}
 use Rattle.sl_net.specs.declared.actor.ActorId.{ActorId}
 use Rattle.sl_cut.specs.History.{History, Losses, World, first, history, on_link, put, taken}
 use Rattle.sl_cut.specs.Made.{Ran}

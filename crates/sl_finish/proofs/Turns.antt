@@ -16,7 +16,6 @@ use Rattle.sl_cut.specs.World.{Entry, IsLegalFrom, IsLossTable, kept, kept_from,
 use Rattle.sl_finish.specs.Ended.{IsEnded}
 use Rattle.sl_finish.specs.Potential.{allowance, allowed, round_price}
 use Rattle.sl_finish.specs.Sweeps.{sweeps_at, sweeps_in}
-use Rattle.sl_cut.proofs.Floors.{within}
 use Rattle.sl_cut.proofs.Legal.{fin_legal, kept_legal, legal_append}
 use Rattle.sl_cut.proofs.Trails.{run-kept}
 use Rattle.sl_cut.proofs.Turns.{run-append}
@@ -46,7 +45,7 @@ sweeps-cost net few (e ∷ es) = omega (arith, at (actor_of net e.0), sweeps-cos
 
 -- The formula, over plain numbers.
 
-mul-right : (a b g : ℕ) → a ≤ b → g * a ≤ g * b
+pub mul-right : (a b g : ℕ) → a ≤ b → g * a ≤ g * b
 mul-right a b zero h = omega arith
 mul-right a b (suc g) h = omega (arith, h, mul-right a b g h)
 

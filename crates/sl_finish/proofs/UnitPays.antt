@@ -27,7 +27,6 @@ use Rattle.sl_finish.specs.Flight.{puts_weight}
 use Rattle.sl_finish.specs.Potential.{channels, credit, goes_on, init_price, is_cable, own_at, own_side, price, probe_price}
 use Rattle.sl_net.proofs.Lists.{Member, each-of, member-filter, member-from, member-left, member-right}
 use Rattle.sl_net.proofs.Sorts.{IsOut, each-out, is-into}
-use Rattle.sl_cut.proofs.Floors.{within}
 use Rattle.sl_finish.proofs.NetWiring.{Wiring}
 use Rattle.sl_finish.proofs.Phase.{loudness, no-action, side-quiet, takes-fit}
 use Rattle.sl_finish.proofs.Potential.{Pays, sends-weigh}

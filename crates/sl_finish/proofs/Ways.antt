@@ -16,7 +16,6 @@ use Rattle.sl_net.specs.declared.parts.PortRef.{PortRef}
 use Rattle.sl_cut.specs.Puts.{crossbar_to}
 use Rattle.sl_cut.specs.Route.{Walk, first_port, least_walks, next_port}
 use Rattle.sl_cut.specs.Words.{Each}
-use Rattle.sl_cut.specs.World.{receiver, sender}
 use Rattle.sl_finish.specs.Fare.{device_at, device_of}
 use Rattle.sl_net.proofs.Actors.{actor-at, same_actor_true}
 use Rattle.sl_net.proofs.Linked.{Joined, each-joined, one-link}
@@ -24,7 +23,6 @@ use Rattle.sl_net.proofs.Lists.{Member, distinct-filter, each-at, each-both, eac
 use Rattle.sl_net.proofs.NetWired.{valid}
 use Rattle.sl_net.proofs.Senders.{IsLink, each-link}
 use Rattle.sl_net.proofs.Sorts.{IsOut, each-out}
-use Rattle.sl_cut.proofs.Nets.{host}
 use Rattle.sl_finish.proofs.Carries.{cable-receiver, host-receiver}
 use Rattle.sl_finish.proofs.PortUse.{HasOwnPorts, Joins, host-at-is, joined-end, joins-back, joins-once, no-cable, one-host, other-joins, own-ports, port_at}
 use Rattle.sl_finish.proofs.Priced.{links-out-distinct, out-of}

@@ -1,7 +1,7 @@
 // Laws of finishing, and of how many turns a run has: for each net of valid parts, each setup,
 // each schedule and each loss table. The functions do nothing: their contracts are the laws, and
 // the proofs are in proofs/.
-ghost use Rattle.std.specs.Prelude.{◌≡◌, ℕ, suc, ◌+◌, ◌*◌, ◌<◌, ◌≤◌, List, [], ◌++◌, length, Some, IsSome};
+ghost use Rattle.std.specs.Prelude.{◌≡◌, ℕ, suc, ◌+◌, ◌*◌, ◌^◌, ◌<◌, ◌≤◌, List, [], ◌++◌, length, Some, IsSome};
 ghost use Rattle.sl_net.specs.Input.{Input};
 ghost use Rattle.sl_net.specs.Wired.{IsNet};
 ghost use Rattle.sl_cut.specs.declared.message.Step.{Step};
@@ -72,6 +72,12 @@ pub fn inputs_are_bounded()
     ensures { (i : Input) (lost : Losses) (fs : List Entry) → IsNet i.net
         → IsFin (setup_of i) lost (world (setup_of i) lost (expand i.net i.script)) fs
         → length (kept (setup_of i) lost (expand i.net i.script) ++ fs) ≤ input_bound i }
+{}
+
+/// Within the limits of inputs the bound is below 2^40.
+pub fn bounds_are_small()
+    ensures { (s : Setup) (sweeps : ℕ) → IsNet s.net → s.count ≤ 1000 → s.retries ≤ 100 → frame_count s ≤ 200000
+        → sweeps ≤ 2 ^ 20 → bound_of s sweeps < 2 ^ 40 }
 {}
 
 /// The bound on the first net with one snapshot and no retry: 84, 4 for each packet and raw frame,

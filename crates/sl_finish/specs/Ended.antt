@@ -1,11 +1,12 @@
 -- A run to its end: the entries of a schedule that aren't idle, and then what finishing takes.
-use Rattle.std.proofs.Common.{List, length, ◌≤◌}
+use Rattle.std.specs.Prelude.{List, ◌≤◌, length}
 use Rattle.sl_cut.specs.Bound.{bound_of}
 use Rattle.sl_cut.specs.End.{IsFinished}
 use Rattle.sl_cut.specs.History.{Losses}
 use Rattle.sl_cut.specs.Setup.{Setup}
 use Rattle.sl_cut.specs.World.{Entry, IsLegal, world}
 use Rattle.sl_finish.specs.Sweeps.{sweeps_in}
+use Rattle.sl_cut.proofs.Floors.{within}
 
 pub record IsEnded (s : Setup) (lost : Losses) (es book : List Entry) : Type 0 where
   pub legal : IsLegal s lost book

@@ -1,6 +1,6 @@
 -- The bound on the turns of a run, in the terms of its formula.
-use Rattle.std.proofs.Common.{◌*◌, ◌+◌, ◌++◌, ◌<◌, ◌==◌, List, ap, length, refl, subst, suc, sym, zero, ℕ, ◌∙◌, ◌∷◌, ◌≡◌, ◌≤◌, arith, []}
-use Rattle.std.specs.Prelude.{◌&&◌, Bool, false, true, if◌then◌else◌}
+use Rattle.std.proofs.Common.{◌*◌, ◌+◌, ◌++◌, ◌<◌, ◌==◌, List, ap, refl, subst, suc, sym, zero, ℕ, ◌∙◌, ◌∷◌, ◌≡◌, ◌≤◌, arith, []}
+use Rattle.std.specs.Prelude.{◌&&◌, Bool, false, length, true, if◌then◌else◌}
 use Rattle.sl_net.specs.Net.{Net, action_choice, actor_of, units}
 use Rattle.sl_net.specs.Serving.{served}
 use Rattle.sl_net.specs.Wired.{IsNet}
@@ -9,13 +9,13 @@ use Rattle.sl_net.specs.declared.actor.ActorId.TheVariants.{Control, Observer, H
 use Rattle.sl_net.specs.declared.actor.Sort.TheVariants.{Cable, Crossbar, Init}
 use Rattle.sl_cut.specs.Bound.{bound, bound_of, frame_count, is_control, links_of_sort}
 use Rattle.sl_cut.specs.End.{IsFin, IsFinished}
-use Rattle.sl_cut.specs.History.{Losses, World}
+use Rattle.sl_cut.specs.History.{Losses}
 use Rattle.sl_cut.specs.Setup.{Setup}
 use Rattle.sl_cut.specs.Words.{weigh}
-use Rattle.sl_cut.specs.World.{Entry, IsLegalFrom, IsLossTable, kept, kept_from, run, start, world}
+use Rattle.sl_cut.specs.World.{Entry, IsLegalFrom, IsLossTable, kept, run, start, world}
 use Rattle.sl_finish.specs.Ended.{IsEnded}
 use Rattle.sl_finish.specs.Potential.{allowance, allowed, round_price}
-use Rattle.sl_finish.specs.Sweeps.{sweeps_at, sweeps_in}
+use Rattle.sl_finish.specs.Sweeps.{sweeps_in}
 use Rattle.sl_cut.proofs.Legal.{fin_legal, kept_legal, legal_append}
 use Rattle.sl_cut.proofs.Trails.{run-kept}
 use Rattle.sl_cut.proofs.Turns.{run-append}
@@ -139,10 +139,6 @@ within-bound s n es = omega (
 
     channels : (net : Net) → all_channels net ≤ links_of_sort net Init + (links_of_sort net Crossbar + links_of_sort net Cable)
     channels net = omega (arith, channels-few net)
-
--- Sweeps that are left out.
-pub sweeps-kept : (s : Setup) (lost : Losses) (w : World) (es : List Entry) → sweeps_in s.net (kept_from s lost w es) ≤ sweeps_in s.net es
-sweeps-kept s lost w es = weigh-kept (λ e. if sweeps_at s.net e then 1 else 0) s lost w es
 
 -- The entries of any schedule that aren't idle, then what finishing takes.
 pub run-within : (s : Setup) (lost : Losses) (es fs : List Entry) → IsNet s.net → IsFin s lost (world s lost es) fs → length (kept s lost es ++ fs) ≤ bound_of s (sweeps_in s.net es)

@@ -6,7 +6,6 @@ use Rattle.sl_cut.specs.History.{Losses}
 use Rattle.sl_cut.specs.Setup.{Setup}
 use Rattle.sl_cut.specs.World.{Entry, IsLegal, world}
 use Rattle.sl_finish.specs.Sweeps.{sweeps_in}
-use Rattle.sl_cut.proofs.Floors.{within}
 
 pub record IsEnded (s : Setup) (lost : Losses) (es book : List Entry) : Type 0 where
   pub legal : IsLegal s lost book

@@ -1,8 +1,7 @@
 -- The first net: one device with two ports, and a host at each.
 use Rattle.std.specs.Prelude.{List, ℕ, ◌∷◌, ◌≡◌, []}
-use Rattle.sl_net.specs.Net.{Net, hosts, net_of}
+use Rattle.sl_net.specs.Net.{Net, net_of}
 use Rattle.sl_net.specs.Parts.{Parts}
-use Rattle.sl_cut.proofs.Nets.{device, port}
 
 abbrev pub first_parts : List ℕ → List ℕ → List ℕ → Parts
 first_parts a h0 h1 = record {

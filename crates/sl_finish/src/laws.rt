@@ -74,6 +74,12 @@ pub fn inputs_are_bounded()
         → length (kept (setup_of i) lost (expand i.net i.script) ++ fs) ≤ input_bound i }
 {}
 
+/// After the script of an input finishing ends within the fuel of its bound.
+pub fn input_bound_is_enough_fuel()
+    ensures { (i : Input) (lost : Losses) (fuel : ℕ) → IsNet i.net → input_bound i ≤ fuel
+        → IsSome (finish fuel (setup_of i) lost (world (setup_of i) lost (expand i.net i.script))) }
+{}
+
 /// Within the limits of inputs the bound is below 2^40.
 pub fn bounds_are_small()
     ensures { (s : Setup) (sweeps : ℕ) → IsNet s.net → s.count ≤ 1000 → s.retries ≤ 100 → frame_count s ≤ 200000

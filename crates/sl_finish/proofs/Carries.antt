@@ -24,7 +24,8 @@ use Rattle.sl_net.proofs.Actors.{same_actor_true}
 use Rattle.sl_net.proofs.Filters.{each-passes}
 use Rattle.sl_net.proofs.Lists.{each-imp}
 use Rattle.sl_net.proofs.Sorts.{IsOut, each-out, is-link}
-use Rattle.sl_finish.proofs.Potential.{sends-weigh, weigh-append, weigh-below}
+use Rattle.sl_finish.proofs.Potential.{sends-weigh}
+use Rattle.sl_finish.proofs.Sums.{weigh-append, weigh-below}
 
 enter-pays : (net : Net) (dst h l : ℕ) → 1 ≤ enter_fare net dst h l
 enter-pays net dst zero l = omega arith

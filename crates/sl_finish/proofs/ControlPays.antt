@@ -24,9 +24,10 @@ use Rattle.sl_net.proofs.Sorts.{is-into}
 use Rattle.sl_cut.proofs.Floors.{within}
 use Rattle.sl_finish.proofs.Carries.{frame-pays, packet-pays}
 use Rattle.sl_finish.proofs.Idle.{guard-holds, none-past}
-use Rattle.sl_finish.proofs.Potential.{Pays, sends-weigh, weigh-append, weigh-below}
+use Rattle.sl_finish.proofs.Potential.{Pays, sends-weigh}
 use Rattle.sl_finish.proofs.Priced.{IsPriced, once}
 use Rattle.sl_finish.proofs.Reach.{ActsBy, StepOf, TakesBy, step-cases}
+use Rattle.sl_finish.proofs.Sums.{weigh-append, weigh-below}
 
 -- Sums over what a control plane serves.
 

@@ -1,7 +1,7 @@
 -- What a number issued and a round of sweeps cost, in a net of parts without a fault.
-use Rattle.std.proofs.Common.{◌*◌, ◌+◌, ◌<◌, ◌==◌, List, ap, eq-eqb, length, refl, subst, suc, sym, ℕ, ◌∙◌, ◌∷◌, ◌≡◌, ◌≤◌, arith, []}
-use Rattle.std.specs.Prelude.{Bool, false, filter, map, true, if◌then◌else◌}
-use Rattle.sl_net.specs.Net.{Net, action_choice, actor_of, actors_of, incoming, ingress, link_numbers, link_of, links_from, links_out, net_of, sort_number, units}
+use Rattle.std.proofs.Common.{◌*◌, ◌+◌, ◌<◌, ◌==◌, List, ap, eq-eqb, refl, subst, suc, sym, ℕ, ◌∙◌, ◌∷◌, ◌≡◌, ◌≤◌, arith, []}
+use Rattle.std.specs.Prelude.{Bool, false, filter, length, map, true, if◌then◌else◌}
+use Rattle.sl_net.specs.Net.{Net, action_choice, actor_of, actors_of, incoming, ingress, link_numbers, link_of, links_from, links_out, net_of, units}
 use Rattle.sl_net.specs.Parts.{Parts, below, ports_of}
 use Rattle.sl_net.specs.Roster.{IsActor, side_number}
 use Rattle.sl_net.specs.Serving.{served, serving}
@@ -22,19 +22,17 @@ use Rattle.sl_net.proofs.Actors.{same_actor_true}
 use Rattle.sl_net.proofs.EndKinds.{begin-receiver, home, poll-sender, poll-to}
 use Rattle.sl_net.proofs.Filters.{distinct-map, member-of-map}
 use Rattle.sl_net.proofs.Linked.{Joined, each-joined}
-use Rattle.sl_net.proofs.Lists.{Distinct, Member, distinct-filter, distinct-from, each-at, member-filter}
+use Rattle.sl_net.proofs.Lists.{Distinct, Member, distinct-filter, distinct-from, each-at}
 use Rattle.sl_net.proofs.NetWired.{valid, wired}
 use Rattle.sl_net.proofs.ReportWays.{unit-listed}
 use Rattle.sl_net.proofs.Senders.{IsLink}
 use Rattle.sl_net.proofs.Sizes.{length_map-is}
 use Rattle.sl_net.proofs.Sorts.{IsOut, same-sort-is}
-use Rattle.sl_finish.proofs.Counts.{below-in, in-below, in-filter, is-actor, of_sort, one-number, sorted, sorted-many}
-use Rattle.sl_finish.proofs.Flights.{weigh-plus}
+use Rattle.sl_finish.proofs.Counts.{in-below, in-filter, is-actor, of_sort, one-number, sorted, sorted-many}
 use Rattle.sl_finish.proofs.Priced.{links-out-distinct, once, out-of}
 use Rattle.sl_finish.proofs.Rounds.{sweep_gain}
-use Rattle.sl_finish.proofs.Sums.{distinct-within, few-keys, tally-is, weigh-filtered, weigh-flat, weigh-keyed, weigh-ones-is, weigh-same-each, weigh-swap}
+use Rattle.sl_finish.proofs.Sums.{distinct-within, few-keys, tally-is, weigh-at-most, weigh-filtered, weigh-flat, weigh-keyed, weigh-ones-is, weigh-plus, weigh-same-each, weigh-swap}
 use Rattle.sl_finish.proofs.Ways.{link-is, one-by-ends, receiver-is, same-from, same-to, sender-is}
-use Rattle.sl_finish.proofs.Whole.{weigh-at-most}
 
 -- Links of a sort by their senders: each counts once.
 
@@ -65,9 +63,6 @@ pub record IsSorted (net : Net) (t : Sort) (l : ℕ) : Type 0 where
 
 pub in-sorted : (net : Net) (t : Sort) (l : ℕ) → Member l (sorted net t) → IsSorted net t l
 in-sorted net t l m = let x = in-filter (of_sort net t) l (link_numbers net) m in record { is_link = in-below l (length net.links) x.0; sort = same-sort-is (link_of net l).sort t x.1 }
-
-pub sorted-in : (net : Net) (t : Sort) (l : ℕ) → l < length net.links → (link_of net l).sort ≡ t → Member l (sorted net t)
-sorted-in net t l p q = member-filter (of_sort net t) l (link_numbers net) (below-in l (length net.links) p) (eq-eqb (sort_number (link_of net l).sort) (sort_number t) (ap sort_number q))
 
 -- What follows for parts.
 

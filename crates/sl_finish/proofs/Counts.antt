@@ -22,10 +22,8 @@ use Rattle.sl_net.proofs.Lists.{Member, distinct-filter, distinct-from, each-at,
 use Rattle.sl_net.proofs.NetWired.{filter-map, numbers-suc}
 use Rattle.sl_net.proofs.Sizes.{length_map-is}
 use Rattle.sl_finish.proofs.Distance.{all_channels, all_frames, channels_of, frames_at, observer_of, observers}
-use Rattle.sl_finish.proofs.Flights.{weigh-once, weigh-plus}
 use Rattle.sl_finish.proofs.Priced.{once}
-use Rattle.sl_finish.proofs.Sums.{tally-is, weigh-filtered, weigh-flat, weigh-keyed, weigh-ones-is, weigh-same-each, weigh-swap}
-use Rattle.sl_finish.proofs.Whole.{weigh-at-most}
+use Rattle.sl_finish.proofs.Sums.{tally-is, weigh-at-most, weigh-filtered, weigh-flat, weigh-keyed, weigh-once, weigh-ones-is, weigh-plus, weigh-same-each, weigh-swap}
 
 -- Actors.
 

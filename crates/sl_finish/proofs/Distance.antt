@@ -17,8 +17,9 @@ use Rattle.sl_finish.specs.Fare.{device_at, enter_fare, frame_at, frame_fare, fr
 use Rattle.sl_finish.specs.Potential.{channels, frame_price, round_price}
 use Rattle.sl_net.proofs.Lists.{each-imp, each-of}
 use Rattle.sl_finish.proofs.Ranks.{rank}
+use Rattle.sl_finish.proofs.Sums.{weigh-each}
 use Rattle.sl_finish.proofs.Ways.{IsGuided}
-use Rattle.sl_finish.proofs.Whole.{start_credit, start_potential, weigh-each}
+use Rattle.sl_finish.proofs.Whole.{start_credit, start_potential}
 
 one-weigh : (f : ℕ → ℕ) (n : ℕ) (xs : List ℕ) → length xs ≤ 1 → Each (λ x. f x ≤ n) xs → weigh f xs ≤ n
 one-weigh f n [] h e = omega arith

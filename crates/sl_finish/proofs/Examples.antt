@@ -1,5 +1,5 @@
 -- The nets of the rows meet what the laws ask, so the laws speak of them: finishing ends there, in a finished world, within the bound.
-use Rattle.std.proofs.Common.{◌++◌, ◌<◌, ◌==◌, List, ap, inl, inr, length, refl, subst, ℕ, ◌≡◌, ◌≤◌, arith}
+use Rattle.std.proofs.Common.{◌++◌, ◌<◌, ◌==◌, List, ap, inl, inr, refl, subst, ℕ, ◌≡◌, arith}
 use Rattle.std.specs.Prelude.{◌&&◌, codes, false, nat_eq, true, ◌⊎◌}
 use Rattle.std.proofs.lemmas.Bool.Decides.{eqb_tells}
 use Rattle.sl_net.specs.Net.{Net, link_of}
@@ -9,17 +9,15 @@ use Rattle.sl_net.specs.declared.actor.LinkKind.TheVariants.{Reliable}
 use Rattle.sl_net.specs.declared.input.Flow.{Flow}
 use Rattle.sl_net.specs.declared.input.RawPart.{RawPart}
 use Rattle.sl_cut.specs.Bound.{bound_of}
-use Rattle.sl_cut.specs.End.{IsFin, IsFinished}
 use Rattle.sl_cut.specs.History.{Losses}
 use Rattle.sl_cut.specs.Setup.{Setup}
-use Rattle.sl_cut.specs.World.{Entry, IsLossTable, kept, run, world}
+use Rattle.sl_cut.specs.World.{Entry, IsLossTable, kept}
+use Rattle.sl_finish.specs.Ended.{IsEnded}
 use Rattle.sl_finish.specs.FirstNet.{IsFirstNet}
 use Rattle.sl_finish.specs.Sweeps.{sweeps_in}
 use Rattle.sl_cut.proofs.Nets.{drop_one, net_a, net_c, net_d, no_loss, setup}
 use Rattle.sl_finish.proofs.Enough.{bound-enough}
-use Rattle.sl_finish.proofs.Finished.{fin-is-finished}
-use Rattle.sl_finish.proofs.NetWiring.{wiring}
-use Rattle.sl_finish.proofs.Turns.{run-within}
+use Rattle.sl_finish.proofs.Turns.{run-ends}
 
 nets-a : IsNet net_a
 nets-a = record { made = refl; right = refl }
@@ -44,16 +42,11 @@ lost-init l n k = by_tells (eqb_tells l 11)
     by_tells (inl q) = let z : kind_of (link_of net_a 11).sort ≡ Reliable = subst (λ l. kind_of (link_of net_a l).sort ≡ Reliable) q.1 k in absurd cc
     by_tells (inr q) = ap (λ b. b && (n == 1)) q.0
 
-record Ends (s : Setup) (lost : Losses) (es : List Entry) : Type 0 where
-  finishing : List Entry
-  fin : IsFin s lost (world s lost es) finishing
-  finished : IsFinished s lost (run s lost (world s lost es) finishing)
-  within : length (kept s lost es ++ finishing) ≤ bound_of s (sweeps_in s.net es)
+ends-well : (s : Setup) (lost : Losses) (es : List Entry) → IsNet s.net → IsLossTable s.net lost → 0 < s.window → (fs : List Entry) × IsEnded s lost es (kept s lost es ++ fs)
+ends-well s lost es n t p = let b = bound-enough s lost es (bound_of s (sweeps_in s.net es)) n (omega arith) in (b.entries, run-ends s lost es b.entries n t p (record { fuel = bound_of s (sweeps_in s.net es); finished = b.is }))
 
-ends-well : (s : Setup) (lost : Losses) (es : List Entry) → IsNet s.net → IsLossTable s.net lost → 0 < s.window → Ends s lost es
-ends-well s lost es n t p = let b = bound-enough s lost es (bound_of s (sweeps_in s.net es)) n (omega arith) in
-    let f : IsFin s lost (world s lost es) b.entries = record { fuel = bound_of s (sweeps_in s.net es); finished = b.is } in
-    record { finishing = b.entries; fin = f; finished = fin-is-finished s lost (wiring s.net n) t p (world s lost es) (es, refl) b.entries f; within = run-within s lost es b.entries n f }
+abbrev Ends : Setup → Losses → List Entry → Type 0
+Ends s lost es = (fs : List Entry) × IsEnded s lost es (kept s lost es ++ fs)
 
 -- any flows and raw frames, any loss of initiations on one link, any schedule
 ends-a : (count retries : ℕ) (flows : List Flow) (raws : List RawPart) (es : List Entry) → Ends (record { net = net_a; window = 3; count = count; retries = retries; flows = flows; raws = raws }) (drop_one 11 1) es

@@ -1,9 +1,9 @@
 -- A step pays for what it puts by what it takes.
-use Rattle.std.proofs.Common.{◌+◌, ◌++◌, ◌<◌, ◌==◌, List, ap, drop, eq-eqb, inl, inr, length, refl, subst, suc, sym, take, zero, ℕ, ◌∙◌, ◌∷◌, ◌≡◌, ◌≤◌, arith, []}
+use Rattle.std.proofs.Common.{◌+◌, ◌++◌, ◌==◌, List, ap, drop, eq-eqb, inl, inr, length, refl, subst, suc, sym, take, zero, ℕ, ◌∙◌, ◌∷◌, ◌≡◌, ◌≤◌, arith, []}
 use Rattle.std.specs.Prelude.{◌&&◌, Bool, cond, false, nat_eq, true, ◌⊎◌, if◌then◌else◌}
 use Rattle.std.proofs.lemmas.Bool.Decides.{eqb_tells}
 use Rattle.sl_net.specs.Net.{Net, choice_of, link_of}
-use Rattle.sl_net.specs.Parts.{below, numbers_from}
+use Rattle.sl_net.specs.Parts.{below}
 use Rattle.sl_cut.specs.History.{Losses, World, history, on_link, put, taken, without_lost}
 use Rattle.sl_cut.specs.Window.{on_way}
 use Rattle.sl_cut.specs.Words.{weigh}
@@ -13,6 +13,7 @@ use Rattle.sl_cut.specs.declared.message.Put.{Put}
 use Rattle.sl_cut.specs.declared.message.Step.{Step}
 use Rattle.sl_finish.specs.Flight.{Weight, flight, puts_weight}
 use Rattle.sl_cut.proofs.Turns.{GrowsAt, taken-other}
+use Rattle.sl_finish.proofs.Sums.{weigh-at-most, weigh-once, weigh-plus}
 
 weigh-lost : (f : Message → ℕ) (lost : ℕ → Bool) (n : ℕ) (xs : List Message) → weigh f (without_lost lost n xs) ≤ weigh f xs
 weigh-lost f lost n [] = omega arith
@@ -109,37 +110,6 @@ flight-link weight net lost w v e step l g ch = by_receiver (link_of net l).to (
         subst (λ b. weigh f (drop (taken c (history v r)) (sent v)) + cond (b && (c == e.1)) (weigh f (take 1 (drop k (sent w)))) 0 ≤ weigh f (drop k (sent w)) + weigh f (on_link l step.puts)) (sym q.0)
         (subst (λ h. weigh f (drop (taken c h) (sent v)) + 0 ≤ weigh f (drop k (sent w)) + weigh f (on_link l step.puts)) (sym (g.other r q.1)) goal)
 
-weigh-le : (f g : ℕ → ℕ) (xs : List ℕ) → ((x : ℕ) → f x ≤ g x) → weigh f xs ≤ weigh g xs
-weigh-le f g [] h = omega arith
-weigh-le f g (x ∷ xs) h = omega (arith, h x, weigh-le f g xs h)
-
-pub weigh-plus : (f g : ℕ → ℕ) (xs : List ℕ) → weigh (λ x. f x + g x) xs ≡ weigh f xs + weigh g xs
-weigh-plus f g [] = refl
-weigh-plus f g (x ∷ xs) = omega (arith, weigh-plus f g xs)
-
--- of the numbers from a start on, at most one is k
-weigh-none : (f : ℕ → ℕ) (k start n : ℕ) → k < start → weigh (λ l. cond (k == l) (f l) 0) (numbers_from start n) ≡ 0
-weigh-none f k start zero h = refl
-weigh-none f k start (suc n) h = by_tells (eqb_tells k start) (weigh-none f k (suc start) n (omega (arith, h)))
-  where
-    by_tells : ((nat_eq k start ≡ true) × (k ≡ start)) ⊎ ((nat_eq k start ≡ false) × (k ≡ start → ⊥)) → weigh (λ l. cond (k == l) (f l) 0) (numbers_from (suc start) n) ≡ 0
-        → cond (k == start) (f start) 0 + weigh (λ l. cond (k == l) (f l) 0) (numbers_from (suc start) n) ≡ 0
-    by_tells (inl q) r = absurd (omega (arith, h, q.1))
-    by_tells (inr q) r = subst (λ b. cond b (f start) 0 + weigh (λ l. cond (k == l) (f l) 0) (numbers_from (suc start) n) ≡ 0) (sym q.0) (omega (arith, r))
-
-pub weigh-once : (f : ℕ → ℕ) (k start n : ℕ) → weigh (λ l. cond (k == l) (f l) 0) (numbers_from start n) ≤ f k
-weigh-once f k start zero = omega arith
-weigh-once f k start (suc n) = by_tells (eqb_tells k start) (weigh-once f k (suc start) n)
-  where
-    rest : ℕ
-    rest = weigh (λ l. cond (k == l) (f l) 0) (numbers_from (suc start) n)
-
-    by_tells : ((nat_eq k start ≡ true) × (k ≡ start)) ⊎ ((nat_eq k start ≡ false) × (k ≡ start → ⊥)) → weigh (λ l. cond (k == l) (f l) 0) (numbers_from (suc start) n) ≤ f k
-        → cond (k == start) (f start) 0 + weigh (λ l. cond (k == l) (f l) 0) (numbers_from (suc start) n) ≤ f k
-    by_tells (inl q) r = let z : weigh (λ l. cond (k == l) (f l) 0) (numbers_from (suc start) n) ≡ 0 = weigh-none f k (suc start) n (omega (arith, q.1)) in
-        let e : f start ≡ f k = ap f (sym q.1) in subst (λ b. cond b (f start) 0 + weigh (λ l. cond (k == l) (f l) 0) (numbers_from (suc start) n) ≤ f k) (sym q.0) (omega (arith, z, e))
-    by_tells (inr q) r = subst (λ b. cond b (f start) 0 + weigh (λ l. cond (k == l) (f l) 0) (numbers_from (suc start) n) ≤ f k) (sym q.0) (omega (arith, r))
-
 -- each put counts on one link at most
 pub puts-once : (weight : Weight) (n : ℕ) (ps : List Put) → weigh (λ l. weigh (weight l) (on_link l ps)) (below n) ≤ puts_weight weight ps
 puts-once weight n [] = zeros (below n)
@@ -147,7 +117,7 @@ puts-once weight n [] = zeros (below n)
     zeros : (xs : List ℕ) → weigh (λ l. 0) xs ≤ 0
     zeros [] = omega arith
     zeros (x ∷ xs) = omega (arith, zeros xs)
-puts-once weight n (p ∷ ps) = let s : weigh (λ l. weigh (weight l) (on_link l (p ∷ ps))) (below n) ≤ weigh (λ l. cond (p.link == l) (weight l p.message) 0 + weigh (weight l) (on_link l ps)) (below n) = weigh-le _ _ (below n) split in
+puts-once weight n (p ∷ ps) = let s : weigh (λ l. weigh (weight l) (on_link l (p ∷ ps))) (below n) ≤ weigh (λ l. cond (p.link == l) (weight l p.message) 0 + weigh (weight l) (on_link l ps)) (below n) = weigh-at-most _ _ (below n) split in
     let t : weigh (λ l. cond (p.link == l) (weight l p.message) 0 + weigh (weight l) (on_link l ps)) (below n) ≡ weigh (λ l. cond (p.link == l) (weight l p.message) 0) (below n) + weigh (λ l. weigh (weight l) (on_link l ps)) (below n) = weigh-plus (λ l. cond (p.link == l) (weight l p.message) 0) (λ l. weigh (weight l) (on_link l ps)) (below n) in
     omega (arith, s, t, weigh-once (λ l. weight l p.message) p.link 0 n, puts-once weight n ps)
   where
@@ -162,7 +132,7 @@ puts-once weight n (p ∷ ps) = let s : weigh (λ l. weigh (weight l) (on_link l
 pub flight-step : (weight : Weight) (net : Net) (lost : Losses) (w v : World) (e : Entry) (step : Step) → GrowsAt w v e.0 step → step.choice ≡ e.1
     → flight weight net lost v + weigh (paid weight net lost w e) (below (length net.links)) ≤ flight weight net lost w + puts_weight weight step.puts
 flight-step weight net lost w v e step g ch = let ls = below (length net.links) in
-    let s : weigh (λ l. weigh (weight l) (on_way net lost v l) + paid weight net lost w e l) ls ≤ weigh (λ l. weigh (weight l) (on_way net lost w l) + weigh (weight l) (on_link l step.puts)) ls = weigh-le _ _ ls (λ l. flight-link weight net lost w v e step l g ch) in
+    let s : weigh (λ l. weigh (weight l) (on_way net lost v l) + paid weight net lost w e l) ls ≤ weigh (λ l. weigh (weight l) (on_way net lost w l) + weigh (weight l) (on_link l step.puts)) ls = weigh-at-most _ _ ls (λ l. flight-link weight net lost w v e step l g ch) in
     let a : weigh (λ l. weigh (weight l) (on_way net lost v l) + paid weight net lost w e l) ls ≡ flight weight net lost v + weigh (paid weight net lost w e) ls = weigh-plus (λ l. weigh (weight l) (on_way net lost v l)) (paid weight net lost w e) ls in
     let b : weigh (λ l. weigh (weight l) (on_way net lost w l) + weigh (weight l) (on_link l step.puts)) ls ≡ flight weight net lost w + weigh (λ l. weigh (weight l) (on_link l step.puts)) ls = weigh-plus (λ l. weigh (weight l) (on_way net lost w l)) (λ l. weigh (weight l) (on_link l step.puts)) ls in
     let c : weigh (λ l. weigh (weight l) (on_link l step.puts)) ls ≤ puts_weight weight step.puts = puts-once weight (length net.links) step.puts in

@@ -3,6 +3,7 @@ pub mod NetWiring
 pub mod Idle
 pub mod Told
 pub mod Polls
+pub mod Sums
 pub mod Flights
 pub mod Phase
 pub mod Finished
@@ -14,7 +15,6 @@ pub mod ControlPays
 pub mod TurnPays
 pub mod Rounds
 pub mod Whole
-pub mod Sums
 pub mod PortUse
 pub mod Ranks
 pub mod Ways
@@ -26,3 +26,4 @@ pub mod Enough
 pub mod Scripts
 pub mod Fuel
 pub mod Examples
+pub mod Small

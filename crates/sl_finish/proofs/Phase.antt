@@ -36,6 +36,7 @@ use Rattle.sl_finish.proofs.Flights.{flight-step}
 use Rattle.sl_finish.proofs.Idle.{get-past, guard-holds, none-past, there}
 use Rattle.sl_finish.proofs.NetWiring.{Wiring}
 use Rattle.sl_finish.proofs.Reach.{ActsBy, Reached, StepOf, TakesBy, choice-of-step, history-keeps, ran-reached, reached-turn, step-cases, step-within, taken-grows}
+use Rattle.sl_finish.proofs.Sums.{weigh-zero}
 use Rattle.sl_finish.proofs.Told.{got-member, is_poll, polled_now}
 
 -- the messages that settle by themselves weigh nothing
@@ -127,11 +128,6 @@ quiet-weight [] h = refl
 quiet-weight (p ∷ ps) h = omega (arith, h.0, quiet-weight ps h.1)
 
 -- What is on its way is quiet.
-
-pub weigh-zero : (f : ℕ → ℕ) (xs : List ℕ) (x : ℕ) → weigh f xs ≡ 0 → Member x xs → f x ≡ 0
-weigh-zero f [] x h m = absurd m
-weigh-zero f (y ∷ ys) x h (inl e) = let k : f y ≡ 0 = omega (arith, h) in ap f e ∙ k
-weigh-zero f (y ∷ ys) x h (inr m) = weigh-zero f ys x (omega (arith, h)) m
 
 front-zero : (f : Message → ℕ) (xs : List Message) (n : ℕ) (m : Message) → weigh f (drop n xs) ≡ 0 → slice_get xs n ≡ Some m → f m ≡ 0
 front-zero f [] n m h g = absurd cc

@@ -25,8 +25,8 @@ use Rattle.sl_cut.proofs.Turns.{run-append, taken-this}
 use Rattle.sl_finish.proofs.Finished.{append-splits, floor-within, then-splits}
 use Rattle.sl_finish.proofs.Idle.{issued-within, resent-within}
 use Rattle.sl_finish.proofs.NetWiring.{Wiring}
-use Rattle.sl_finish.proofs.Potential.{weigh-append}
 use Rattle.sl_finish.proofs.Reach.{Reached, choice-of-step, ran-reached, reached-run, step-grows, taken-grows}
+use Rattle.sl_finish.proofs.Sums.{weigh-append}
 
 -- Parts of schedules.
 

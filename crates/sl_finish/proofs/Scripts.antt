@@ -22,8 +22,8 @@ use Rattle.sl_finish.specs.FirstNet.{IsFirstNet}
 use Rattle.sl_finish.specs.Potential.{allowance, allowed}
 use Rattle.sl_finish.specs.Sweeps.{sweeps_at, sweeps_in}
 use Rattle.sl_finish.proofs.Enough.{Finishes, bound-enough}
-use Rattle.sl_finish.proofs.Potential.{weigh-append}
 use Rattle.sl_finish.proofs.Rounds.{pass-free}
+use Rattle.sl_finish.proofs.Sums.{weigh-append}
 use Rattle.sl_finish.proofs.Turns.{run-within}
 
 -- The sweeps of a script's expansion.

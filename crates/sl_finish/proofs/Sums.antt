@@ -1,29 +1,105 @@
 -- Sums and lengths of lists.
-use Rattle.std.proofs.Common.{◌+◌, ◌<◌, ◌==◌, List, ap, eq-eqb, inl, inr, length, not, refl, subst, suc, sym, ℕ, ◌∙◌, ◌∷◌, ◌≡◌, ◌≤◌, arith, []}
+use Rattle.std.proofs.Common.{◌*◌, ◌+◌, ◌++◌, ◌<◌, ◌==◌, List, ap, eq-eqb, inl, inr, length, not, refl, subst, suc, sym, zero, ℕ, ◌∙◌, ◌∷◌, ◌≡◌, ◌≤◌, arith, []}
 use Rattle.std.specs.Prelude.{Bool, cond, false, filter, flat_map, map, nat_eq, true, ◌⊎◌, if◌then◌else◌}
+use Rattle.std.proofs.lemmas.Bool.{cases_lt}
 use Rattle.std.proofs.lemmas.Bool.Decides.{eqb_tells}
-use Rattle.sl_net.specs.Parts.{below}
-use Rattle.sl_cut.specs.Words.{tally, weigh}
+use Rattle.sl_net.specs.Parts.{below, numbers_from}
+use Rattle.sl_cut.specs.Words.{Each, tally, weigh}
 use Rattle.sl_net.proofs.Counting.{length_numbers}
 use Rattle.sl_net.proofs.Filters.{distinct-map, each-passes, member-of-map}
 use Rattle.sl_net.proofs.Lists.{Distinct, Member, distinct-filter, each-at, kept-member, member-from}
 use Rattle.sl_net.proofs.Sizes.{length_map-is}
-use Rattle.sl_finish.proofs.Flights.{weigh-once}
-use Rattle.sl_finish.proofs.Potential.{weigh-append}
-use Rattle.sl_finish.proofs.Whole.{weigh-at-most}
+
+pub weigh-append : {A : Type 0} (f : A → ℕ) (xs ys : List A) → weigh f (xs ++ ys) ≡ weigh f xs + weigh f ys
+weigh-append f [] ys = omega arith
+weigh-append f (x ∷ xs) ys = omega (arith, weigh-append f xs ys)
+
+pub weigh-plus : {A : Type 0} (f g : A → ℕ) (xs : List A) → weigh (λ x. f x + g x) xs ≡ weigh f xs + weigh g xs
+weigh-plus f g [] = refl
+weigh-plus f g (x ∷ xs) = omega (arith, weigh-plus f g xs)
 
 weigh-zeros : {A : Type 0} (xs : List A) → weigh (λ x. 0) xs ≡ 0
 weigh-zeros [] = refl
 weigh-zeros (x ∷ xs) = omega (arith, weigh-zeros xs)
 
-weigh-both : {A : Type 0} (f g : A → ℕ) (xs : List A) → weigh (λ x. f x + g x) xs ≡ weigh f xs + weigh g xs
-weigh-both f g [] = refl
-weigh-both f g (x ∷ xs) = omega (arith, weigh-both f g xs)
+pub weigh-nothing : {A : Type 0} (f : A → ℕ) (xs : List A) → ((x : A) → f x ≤ 0) → weigh f xs ≤ 0
+weigh-nothing f [] h = omega arith
+weigh-nothing f (x ∷ xs) h = omega (arith, h x, weigh-nothing f xs h)
+
+pub weigh-at-most : {A : Type 0} (f g : A → ℕ) (xs : List A) → ((x : A) → f x ≤ g x) → weigh f xs ≤ weigh g xs
+weigh-at-most f g [] h = omega arith
+weigh-at-most f g (x ∷ xs) h = omega (arith, h x, weigh-at-most f g xs h)
+
+pub weigh-below : {A : Type 0} (f g : A → ℕ) (xs : List A) → Each (λ x. f x ≤ g x) xs → weigh f xs ≤ weigh g xs
+weigh-below f g [] h = omega arith
+weigh-below f g (x ∷ xs) h = omega (arith, h.0, weigh-below f g xs h.1)
+
+pub weigh-each : {A : Type 0} (f : A → ℕ) (n : ℕ) (xs : List A) → ((x : A) → f x ≤ n) → weigh f xs ≤ n * length xs
+weigh-each f n [] h = omega arith
+weigh-each f n (x ∷ xs) h = let e : n * suc (length xs) ≡ n + n * length xs = omega arith in omega (arith, h x, weigh-each f n xs h, e)
+
+pub weigh-zero : (f : ℕ → ℕ) (xs : List ℕ) (x : ℕ) → weigh f xs ≡ 0 → Member x xs → f x ≡ 0
+weigh-zero f [] x h m = absurd m
+weigh-zero f (y ∷ ys) x h (inl e) = let k : f y ≡ 0 = omega (arith, h) in ap f e ∙ k
+weigh-zero f (y ∷ ys) x h (inr m) = weigh-zero f ys x (omega (arith, h)) m
+
+pub weigh-member : (f : ℕ → ℕ) (xs : List ℕ) (x : ℕ) → Member x xs → f x ≤ weigh f xs
+weigh-member f [] x m = absurd m
+weigh-member f (y ∷ ys) x (inl e) = omega (arith, ap f e)
+weigh-member f (y ∷ ys) x (inr m) = omega (arith, weigh-member f ys x m)
+
+pub weigh-falls : (f g : ℕ → ℕ) (n : ℕ) (xs : List ℕ) (x : ℕ) → Each (λ x. f x ≤ g x) xs → Member x xs → f x + n ≤ g x → weigh f xs + n ≤ weigh g xs
+weigh-falls f g n [] x h m d = absurd m
+weigh-falls f g n (y ∷ ys) x h (inl e) d = omega (arith, weigh-below f g ys h.1, d, ap f e, ap g e)
+weigh-falls f g n (y ∷ ys) x h (inr m) d = omega (arith, h.0, weigh-falls f g n ys x h.1 m d)
+
+-- Sums over numbers.
+
+-- of the numbers from a start on, at most one is k
+weigh-none : (f : ℕ → ℕ) (k start n : ℕ) → k < start → weigh (λ l. cond (k == l) (f l) 0) (numbers_from start n) ≡ 0
+weigh-none f k start zero h = refl
+weigh-none f k start (suc n) h = by_tells (eqb_tells k start) (weigh-none f k (suc start) n (omega (arith, h)))
+  where
+    by_tells : ((nat_eq k start ≡ true) × (k ≡ start)) ⊎ ((nat_eq k start ≡ false) × (k ≡ start → ⊥)) → weigh (λ l. cond (k == l) (f l) 0) (numbers_from (suc start) n) ≡ 0
+        → cond (k == start) (f start) 0 + weigh (λ l. cond (k == l) (f l) 0) (numbers_from (suc start) n) ≡ 0
+    by_tells (inl q) r = absurd (omega (arith, h, q.1))
+    by_tells (inr q) r = subst (λ b. cond b (f start) 0 + weigh (λ l. cond (k == l) (f l) 0) (numbers_from (suc start) n) ≡ 0) (sym q.0) (omega (arith, r))
+
+pub weigh-once : (f : ℕ → ℕ) (k start n : ℕ) → weigh (λ l. cond (k == l) (f l) 0) (numbers_from start n) ≤ f k
+weigh-once f k start zero = omega arith
+weigh-once f k start (suc n) = by_tells (eqb_tells k start) (weigh-once f k (suc start) n)
+  where
+    rest : ℕ
+    rest = weigh (λ l. cond (k == l) (f l) 0) (numbers_from (suc start) n)
+
+    by_tells : ((nat_eq k start ≡ true) × (k ≡ start)) ⊎ ((nat_eq k start ≡ false) × (k ≡ start → ⊥)) → weigh (λ l. cond (k == l) (f l) 0) (numbers_from (suc start) n) ≤ f k
+        → cond (k == start) (f start) 0 + weigh (λ l. cond (k == l) (f l) 0) (numbers_from (suc start) n) ≤ f k
+    by_tells (inl q) r = let z : weigh (λ l. cond (k == l) (f l) 0) (numbers_from (suc start) n) ≡ 0 = weigh-none f k (suc start) n (omega (arith, q.1)) in
+        let e : f start ≡ f k = ap f (sym q.1) in subst (λ b. cond b (f start) 0 + weigh (λ l. cond (k == l) (f l) 0) (numbers_from (suc start) n) ≤ f k) (sym q.0) (omega (arith, z, e))
+    by_tells (inr q) r = subst (λ b. cond b (f start) 0 + weigh (λ l. cond (k == l) (f l) 0) (numbers_from (suc start) n) ≤ f k) (sym q.0) (omega (arith, r))
+
+-- sums that differ at one number
+weigh-same : (f g : ℕ → ℕ) (a start n : ℕ) → ((x : ℕ) → (x ≡ a → ⊥) → g x ≡ f x) → a < start → weigh g (numbers_from start n) ≡ weigh f (numbers_from start n)
+weigh-same f g a start zero same h = refl
+weigh-same f g a start (suc n) same h = omega (arith, same start (λ e. omega (arith, e, h)), weigh-same f g a (suc start) n same (omega (arith, h)))
+
+pub weigh-one : (f g : ℕ → ℕ) (a start n : ℕ) → ((x : ℕ) → (x ≡ a → ⊥) → g x ≡ f x) → start ≤ a → a < start + n → weigh g (numbers_from start n) + f a ≡ weigh f (numbers_from start n) + g a
+weigh-one f g a start zero same h k = absurd (omega (arith, h, k))
+weigh-one f g a start (suc n) same h k = by_tells (eqb_tells start a) (λ b. weigh-one f g a (suc start) n same b (omega (arith, k)))
+  where
+    by_tells : ((nat_eq start a ≡ true) × (start ≡ a)) ⊎ ((nat_eq start a ≡ false) × (start ≡ a → ⊥)) → (suc start ≤ a → weigh g (numbers_from (suc start) n) + f a ≡ weigh f (numbers_from (suc start) n) + g a)
+        → (g start + weigh g (numbers_from (suc start) n)) + f a ≡ (f start + weigh f (numbers_from (suc start) n)) + g a
+    by_tells (inl q) ih = omega (arith, weigh-same f g a (suc start) n same (omega (arith, q.1)), ap f q.1, ap g q.1)
+    by_tells (inr q) ih = omega (arith, same start q.1, ih (above (cases_lt start a)))
+      where
+        above : ((start < a) ⊎ (a ≤ start)) → suc start ≤ a
+        above (inl m) = m
+        above (inr m) = absurd (q.1 (omega (arith, h, m)))
 
 -- the order of two sums
 pub weigh-swap : {A B : Type 0} (f : A → B → ℕ) (xs : List A) (ys : List B) → weigh (λ x. weigh (f x) ys) xs ≡ weigh (λ y. weigh (λ x. f x y) xs) ys
 weigh-swap f [] ys = sym (weigh-zeros ys)
-weigh-swap f (x ∷ xs) ys = ap (λ n. weigh (f x) ys + n) (weigh-swap f xs ys) ∙ sym (weigh-both (f x) (λ y. weigh (λ x. f x y) xs) ys)
+weigh-swap f (x ∷ xs) ys = ap (λ n. weigh (f x) ys + n) (weigh-swap f xs ys) ∙ sym (weigh-plus (f x) (λ y. weigh (λ x. f x y) xs) ys)
 
 pub weigh-same-each : {A : Type 0} (f g : A → ℕ) (xs : List A) → ((x : A) → f x ≡ g x) → weigh f xs ≡ weigh g xs
 weigh-same-each f g [] h = refl

@@ -1,6 +1,6 @@
 -- The bound on the turns of a run, in the terms of its formula.
-use Rattle.std.proofs.Common.{◌*◌, ◌+◌, ◌++◌, ◌==◌, List, ap, length, refl, subst, suc, sym, zero, ℕ, ◌∙◌, ◌∷◌, ◌≡◌, ◌≤◌, arith, []}
-use Rattle.std.specs.Prelude.{◌&&◌, Bool, false, true, if◌then◌else◌}
+use Rattle.std.proofs.Common.{◌*◌, ◌+◌, ◌++◌, ◌<◌, ◌==◌, List, ap, refl, subst, suc, sym, zero, ℕ, ◌∙◌, ◌∷◌, ◌≡◌, ◌≤◌, arith, []}
+use Rattle.std.specs.Prelude.{◌&&◌, Bool, false, length, true, if◌then◌else◌}
 use Rattle.sl_net.specs.Net.{Net, action_choice, actor_of, units}
 use Rattle.sl_net.specs.Serving.{served}
 use Rattle.sl_net.specs.Wired.{IsNet}
@@ -8,18 +8,21 @@ use Rattle.sl_net.specs.declared.actor.ActorId.{ActorId}
 use Rattle.sl_net.specs.declared.actor.ActorId.TheVariants.{Control, Observer, Host as OfHost, Unit as OfUnit}
 use Rattle.sl_net.specs.declared.actor.Sort.TheVariants.{Cable, Crossbar, Init}
 use Rattle.sl_cut.specs.Bound.{bound, bound_of, frame_count, is_control, links_of_sort}
-use Rattle.sl_cut.specs.End.{IsFin}
-use Rattle.sl_cut.specs.History.{Losses, World}
+use Rattle.sl_cut.specs.End.{IsFin, IsFinished}
+use Rattle.sl_cut.specs.History.{Losses}
 use Rattle.sl_cut.specs.Setup.{Setup}
 use Rattle.sl_cut.specs.Words.{weigh}
-use Rattle.sl_cut.specs.World.{Entry, kept, kept_from, start, world}
+use Rattle.sl_cut.specs.World.{Entry, IsLegalFrom, IsLossTable, kept, run, start, world}
+use Rattle.sl_finish.specs.Ended.{IsEnded}
 use Rattle.sl_finish.specs.Potential.{allowance, allowed, round_price}
-use Rattle.sl_finish.specs.Sweeps.{sweeps_at, sweeps_in}
-use Rattle.sl_cut.proofs.Legal.{kept_legal}
+use Rattle.sl_finish.specs.Sweeps.{sweeps_in}
+use Rattle.sl_cut.proofs.Legal.{fin_legal, kept_legal, legal_append}
 use Rattle.sl_cut.proofs.Trails.{run-kept}
+use Rattle.sl_cut.proofs.Turns.{run-append}
 use Rattle.sl_finish.proofs.Costs.{IsCosted, costed}
 use Rattle.sl_finish.proofs.Counts.{channels-few, frames-few, observers-few}
 use Rattle.sl_finish.proofs.Distance.{all_channels, all_frames, observers, start-by-kinds}
+use Rattle.sl_finish.proofs.Finished.{fin-is-finished}
 use Rattle.sl_finish.proofs.NetWiring.{wiring}
 use Rattle.sl_finish.proofs.Rounds.{mul-le, sweep_gain, weigh-kept}
 use Rattle.sl_finish.proofs.Ways.{guided}
@@ -42,7 +45,7 @@ sweeps-cost net few (e ∷ es) = omega (arith, at (actor_of net e.0), sweeps-cos
 
 -- The formula, over plain numbers.
 
-mul-right : (a b g : ℕ) → a ≤ b → g * a ≤ g * b
+pub mul-right : (a b g : ℕ) → a ≤ b → g * a ≤ g * b
 mul-right a b zero h = omega arith
 mul-right a b (suc g) h = omega (arith, h, mul-right a b g h)
 
@@ -137,10 +140,6 @@ within-bound s n es = omega (
     channels : (net : Net) → all_channels net ≤ links_of_sort net Init + (links_of_sort net Crossbar + links_of_sort net Cable)
     channels net = omega (arith, channels-few net)
 
--- Sweeps that are left out.
-pub sweeps-kept : (s : Setup) (lost : Losses) (w : World) (es : List Entry) → sweeps_in s.net (kept_from s lost w es) ≤ sweeps_in s.net es
-sweeps-kept s lost w es = weigh-kept (λ e. if sweeps_at s.net e then 1 else 0) s lost w es
-
 -- The entries of any schedule that aren't idle, then what finishing takes.
 pub run-within : (s : Setup) (lost : Losses) (es fs : List Entry) → IsNet s.net → IsFin s lost (world s lost es) fs → length (kept s lost es ++ fs) ≤ bound_of s (sweeps_in s.net es)
 run-within s lost es fs n f = omega (
@@ -149,3 +148,14 @@ run-within s lost es fs n f = omega (
   within-bound s n es,
   weigh-kept (allowed s.net) s lost (start s.net) es,
 )
+
+-- The same run is legal and its world finished.
+pub run-ends : (s : Setup) (lost : Losses) (es fs : List Entry) → IsNet s.net → IsLossTable s.net lost → 0 < s.window → IsFin s lost (world s lost es) fs → IsEnded s lost es (kept s lost es ++ fs)
+run-ends s lost es fs n t p f = record {
+  legal = legal_append s lost (start s.net) (kept s lost es) fs (kept_legal s lost (start s.net) es) (subst (λ w. IsLegalFrom s lost w fs) (sym same) (fin_legal f.fuel s lost (world s lost es) fs f.finished));
+  finished = subst (IsFinished s lost) (ap (λ w. run s lost w fs) (sym same) ∙ sym (run-append s lost (start s.net) (kept s lost es) fs)) (fin-is-finished s lost (wiring s.net n) t p (world s lost es) (es, refl) fs f);
+  within = run-within s lost es fs n f;
+}
+  where
+    same : run s lost (start s.net) (kept s lost es) ≡ world s lost es
+    same = run-kept s lost (start s.net) es

@@ -29,9 +29,10 @@ use Rattle.sl_net.proofs.Lists.{Member, each-of, member-filter, member-from, mem
 use Rattle.sl_net.proofs.Sorts.{IsOut, each-out, is-into}
 use Rattle.sl_finish.proofs.NetWiring.{Wiring}
 use Rattle.sl_finish.proofs.Phase.{loudness, no-action, side-quiet, takes-fit}
-use Rattle.sl_finish.proofs.Potential.{Pays, sends-weigh, weigh-append, weigh-below, weigh-falls}
+use Rattle.sl_finish.proofs.Potential.{Pays, sends-weigh}
 use Rattle.sl_finish.proofs.Priced.{IsPriced}
 use Rattle.sl_finish.proofs.Reach.{ActsBy, Reached, StepOf, TakesBy, ran-reached, step-cases}
+use Rattle.sl_finish.proofs.Sums.{weigh-append, weigh-below, weigh-falls}
 
 -- What a unit puts of a message costs less than the message did.
 

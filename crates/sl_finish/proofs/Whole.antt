@@ -1,5 +1,5 @@
 -- The turns of a whole run.
-use Rattle.std.proofs.Common.{◌*◌, ◌+◌, ◌++◌, ◌-◌, List, length, refl, subst, suc, sym, ℕ, ◌∷◌, ◌≡◌, ◌≤◌, arith, []}
+use Rattle.std.proofs.Common.{◌*◌, ◌+◌, ◌++◌, ◌-◌, List, length, refl, subst, suc, sym, ℕ, ◌≡◌, ◌≤◌, arith, []}
 use Rattle.sl_net.specs.Net.{Net, actor_of, link_of}
 use Rattle.sl_net.specs.Parts.{below}
 use Rattle.sl_net.specs.Serving.{served}
@@ -16,9 +16,9 @@ use Rattle.sl_finish.specs.Potential.{again_credit, allowed, channels, credit, f
 use Rattle.sl_cut.proofs.Legal.{fin_legal, legal_append}
 use Rattle.sl_cut.proofs.Turns.{start-empty}
 use Rattle.sl_finish.proofs.NetWiring.{Wiring}
-use Rattle.sl_finish.proofs.Potential.{weigh-append}
 use Rattle.sl_finish.proofs.Reach.{Reached, reached-start}
 use Rattle.sl_finish.proofs.Rounds.{finish-adds, left, mul-le, sweep_gain}
+use Rattle.sl_finish.proofs.Sums.{weigh-append, weigh-at-most, weigh-each, weigh-nothing}
 use Rattle.sl_finish.proofs.TurnPays.{potential-run}
 
 -- what each actor may start in all
@@ -31,29 +31,17 @@ start_credit s a (OfHost x) = weigh (frame_price s.net a) (frames_of s x)
 abbrev pub start_potential : Setup → ℕ
 start_potential s = weigh (λ a. start_credit s a (actor_of s.net a)) (below (length s.net.actors))
 
-weigh-none : {A : Type 0} (f : A → ℕ) (xs : List A) → ((x : A) → f x ≤ 0) → weigh f xs ≤ 0
-weigh-none f [] h = omega arith
-weigh-none f (x ∷ xs) h = omega (arith, h x, weigh-none f xs h)
-
-pub weigh-at-most : {A : Type 0} (f g : A → ℕ) (xs : List A) → ((x : A) → f x ≤ g x) → weigh f xs ≤ weigh g xs
-weigh-at-most f g [] h = omega arith
-weigh-at-most f g (x ∷ xs) h = omega (arith, h x, weigh-at-most f g xs h)
-
-pub weigh-each : {A : Type 0} (f : A → ℕ) (n : ℕ) (xs : List A) → ((x : A) → f x ≤ n) → weigh f xs ≤ n * length xs
-weigh-each f n [] h = omega arith
-weigh-each f n (x ∷ xs) h = let e : n * suc (length xs) ≡ n + n * length xs = omega arith in omega (arith, h x, weigh-each f n xs h, e)
-
 mul-same : (a b r : ℕ) → a ≡ b → a * r ≤ b * r
 mul-same a b r e = subst (λ b. a * r ≤ b * r) e (omega arith)
 
 credit-start : (s : Setup) (a : ℕ) (i : ActorId) → credit s a i [] ≤ start_credit s a i
 credit-start s a Observer = let e : (s.count - 0) + (s.retries - 0) ≡ s.count + s.retries = omega arith in mul-same ((s.count - 0) + (s.retries - 0)) (s.count + s.retries) (round_price s.net) e
-credit-start s a (Control d) = weigh-none (again_credit s.net a []) (served s.net a) (λ v. omega arith)
+credit-start s a (Control d) = weigh-nothing (again_credit s.net a []) (served s.net a) (λ v. omega arith)
 credit-start s a (OfUnit i) = let z : (c : ℕ) → 4 * (s.count - last c []) ≤ 4 * s.count = λ c. omega arith in weigh-each (λ c. 4 * (s.count - last c [])) (4 * s.count) (channels s.net a) z
 credit-start s a (OfHost x) = omega arith
 
 no-flight : (weight : Weight) (net : Net) (lost : Losses) → flight weight net lost (start net) ≤ 0
-no-flight weight net lost = weigh-none (λ l. weigh (weight l) (on_way net lost (start net) l)) (below (length net.links)) on
+no-flight weight net lost = weigh-nothing (λ l. weigh (weight l) (on_way net lost (start net) l)) (below (length net.links)) on
   where
     on : (l : ℕ) → weigh (weight l) (on_way net lost (start net) l) ≤ 0
     on l = rw (start-empty net (link_of net l).from, start-empty net (link_of net l).to) (omega arith)

@@ -2,7 +2,7 @@
 --     enter_fare net dst h l     a packet to the host dst with h hops left, on a link into an ingress unit
 --     leave_fare net into u      a packet at an egress unit, where it takes into l turns on a cable l
 --     packet_fare, frame_fare    a packet, a frame on any link
-use Rattle.std.proofs.Common.{◌+◌, List, None, Option, Some, length, suc, zero, ℕ}
+use Rattle.std.specs.Prelude.{◌+◌, List, None, Option, Some, suc, zero, ℕ, length}
 use Rattle.sl_net.specs.Net.{Net, actor_of, link_of, links_out}
 use Rattle.sl_net.specs.declared.actor.ActorId.{ActorId}
 use Rattle.sl_net.specs.declared.actor.ActorId.TheVariants.{Control, Unit as OfUnit}

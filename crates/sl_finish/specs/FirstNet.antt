@@ -1,5 +1,5 @@
 -- The first net: one device with two ports, and a host at each.
-use Rattle.std.proofs.Common.{List, ℕ, ◌∷◌, ◌≡◌, []}
+use Rattle.std.specs.Prelude.{List, ℕ, ◌∷◌, ◌≡◌, []}
 use Rattle.sl_net.specs.Net.{Net, net_of}
 use Rattle.sl_net.specs.Parts.{Parts}
 

@@ -1,5 +1,5 @@
 -- What is on its way, weighed. A weight says what a message on a link may still cause.
-use Rattle.std.proofs.Common.{List, ℕ}
+use Rattle.std.specs.Prelude.{List, ℕ}
 use Rattle.sl_net.specs.Net.{Net, link_numbers}
 use Rattle.sl_cut.specs.History.{Losses, World}
 use Rattle.sl_cut.specs.Window.{on_way}

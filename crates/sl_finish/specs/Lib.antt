@@ -3,3 +3,4 @@ pub mod Fare
 pub mod Potential
 pub mod Sweeps
 pub mod FirstNet
+pub mod Ended

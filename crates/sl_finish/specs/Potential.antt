@@ -3,8 +3,7 @@
 --     credit s a x h           how many turns the actor x may still start, where its history is h
 --     potential s lost w       both, of all messages on their way and of all actors
 --     allowed net e            by how much an entry may raise it: only a sweep may
-use Rattle.std.proofs.Common.{◌*◌, ◌+◌, ◌++◌, ◌-◌, ◌==◌, List, drop, length, suc, ℕ}
-use Rattle.std.specs.Prelude.{Bool, false, true, if◌then◌else◌}
+use Rattle.std.specs.Prelude.{◌*◌, ◌+◌, ◌++◌, ◌-◌, ◌==◌, List, suc, ℕ, Bool, drop, false, length, true, if◌then◌else◌}
 use Rattle.sl_net.specs.Net.{Net, action_choice, actor_of, choices_of, data_channels, link_of, links_out}
 use Rattle.sl_net.specs.Parts.{below}
 use Rattle.sl_net.specs.Serving.{Served, served}
@@ -74,11 +73,11 @@ channels net u = data_channels net u ++ choices_of net u Init
 abbrev pub again_credit : Net → ℕ → History → Served → ℕ
 again_credit net a h v = if is_again (action_choice net a) v h then 3 else 0
 
--- a frame that a host puts
+-- a frame: its inject, and what it costs on the link of its host
 abbrev pub frame_price : Net → ℕ → List ℕ → ℕ
 frame_price net a b = suc (weigh (λ l. frame_fare net l b) (links_out net a FromHost))
 
--- a unit's notices: one for each number that a channel may still rise
+-- a unit: 4 for a notice for each number by which a channel may still rise
 abbrev pub credit : Setup → ℕ → ActorId → History → ℕ
 credit s a Observer h = ((s.count - issued s.net h) + (s.retries - resent s.net h)) * round_price s.net
 credit s a (Control d) h = weigh (again_credit s.net a h) (served s.net a)

@@ -1,6 +1,5 @@
 -- The sweeps of a schedule: how many of its entries are sweeps of control planes.
-use Rattle.std.proofs.Common.{◌==◌, List, ℕ}
-use Rattle.std.specs.Prelude.{◌&&◌, Bool}
+use Rattle.std.specs.Prelude.{◌==◌, List, ℕ, ◌&&◌, Bool}
 use Rattle.sl_net.specs.Net.{Net, action_choice, actor_of}
 use Rattle.sl_cut.specs.Bound.{is_control}
 use Rattle.sl_cut.specs.Words.{tally}

@@ -1,7 +1,7 @@
 // Laws of finishing, and of how many turns a run has: for each net of valid parts, each setup,
 // each schedule and each loss table. The functions do nothing: their contracts are the laws, and
 // the proofs are in proofs/.
-ghost use Rattle.std.specs.Prelude.{◌≡◌, ℕ, suc, ◌+◌, ◌*◌, ◌<◌, ◌≤◌, List, [], ◌++◌, length, Some, IsSome};
+ghost use Rattle.std.specs.Prelude.{◌≡◌, ℕ, suc, ◌+◌, ◌*◌, ◌^◌, ◌<◌, ◌≤◌, List, [], ◌++◌, length, Some, IsSome};
 ghost use Rattle.sl_net.specs.Input.{Input};
 ghost use Rattle.sl_net.specs.Wired.{IsNet};
 ghost use Rattle.sl_cut.specs.declared.message.Step.{Step};
@@ -14,6 +14,7 @@ ghost use Rattle.sl_cut.specs.Bound.{frame_count, bound_of, input_bound};
 ghost use Rattle.sl_finish.specs.Potential.{potential, allowed};
 ghost use Rattle.sl_finish.specs.Sweeps.{sweeps_in};
 ghost use Rattle.sl_finish.specs.FirstNet.{IsFirstNet};
+ghost use Rattle.sl_finish.specs.Ended.{IsEnded};
 
 /// Where a settling pass does nothing the world is settled: each link is empty, each host has put
 /// all its messages, and there is nothing to issue.
@@ -43,6 +44,12 @@ pub fn runs_are_bounded()
         → length (kept s lost es ++ fs) ≤ bound_of s (sweeps_in s.net es) }
 {}
 
+/// Such a run is legal, its world is finished, and it is no longer than the bound says.
+pub fn runs_end()
+    ensures { (s : Setup) (lost : Losses) (es fs : List Entry) → IsNet s.net → IsLossTable s.net lost → 0 < s.window
+        → IsFin s lost (world s lost es) fs → IsEnded s lost es (kept s lost es ++ fs) }
+{}
+
 /// After every schedule finishing ends within the fuel of the bound.
 pub fn bound_is_enough_fuel()
     ensures { (s : Setup) (lost : Losses) (es : List Entry) (fuel : ℕ) → IsNet s.net
@@ -65,6 +72,18 @@ pub fn inputs_are_bounded()
     ensures { (i : Input) (lost : Losses) (fs : List Entry) → IsNet i.net
         → IsFin (setup_of i) lost (world (setup_of i) lost (expand i.net i.script)) fs
         → length (kept (setup_of i) lost (expand i.net i.script) ++ fs) ≤ input_bound i }
+{}
+
+/// After the script of an input finishing ends within the fuel of its bound.
+pub fn input_bound_is_enough_fuel()
+    ensures { (i : Input) (lost : Losses) (fuel : ℕ) → IsNet i.net → input_bound i ≤ fuel
+        → IsSome (finish fuel (setup_of i) lost (world (setup_of i) lost (expand i.net i.script))) }
+{}
+
+/// Within the limits of inputs the bound is below 2^40.
+pub fn bounds_are_small()
+    ensures { (s : Setup) (sweeps : ℕ) → IsNet s.net → s.count ≤ 1000 → s.retries ≤ 100 → frame_count s ≤ 200000
+        → sweeps ≤ 2 ^ 20 → bound_of s sweeps < 2 ^ 40 }
 {}
 
 /// The bound on the first net with one snapshot and no retry: 84, 4 for each packet and raw frame,

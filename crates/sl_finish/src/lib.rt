@@ -4,7 +4,7 @@
 mod laws;
 
 pub use laws::{
-    bound_is_enough_fuel, finishing_ends, finishing_finishes, first_net_is_bounded,
-    idle_passes_settle, inputs_are_bounded, more_fuel_changes_nothing, runs_are_bounded,
-    turns_lower_the_potential,
+    bound_is_enough_fuel, bounds_are_small, finishing_ends, finishing_finishes,
+    first_net_is_bounded, idle_passes_settle, input_bound_is_enough_fuel, inputs_are_bounded,
+    more_fuel_changes_nothing, runs_are_bounded, runs_end, turns_lower_the_potential,
 };

@@ -3,3 +3,4 @@ pub mod GiveLemmas
 pub mod StepLemmas
 pub mod HistoryLemmas
 pub mod FollowLemmas
+pub mod RunLemmas

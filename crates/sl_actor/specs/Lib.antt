@@ -5,3 +5,4 @@ pub mod Follows
 pub mod Turns
 pub mod Held
 pub mod Waiting
+pub mod Runs

@@ -108,6 +108,11 @@ impl<A: Machine> Actor<A> {
         Ok(moved(did, before, after))
     }
 
+    // The actor's place among the actors.
+    pub(crate) fn place(&self) -> u32 {
+        self.place
+    }
+
     // Takes the memory that a turn can need.
     fn prepare(&mut self, choice: u32) -> Result<(), Memory>
         requires { IsChoice (held self.old).counts choice }

@@ -5,8 +5,10 @@ mod actor;
 mod moved;
 mod outs;
 mod part;
+mod run;
 mod steps;
 
 pub use actor::{Actor, ActorParts};
 pub use moved::Moved;
 pub use part::OutPart;
+pub use run::{FreeGate, Gate, Rest};

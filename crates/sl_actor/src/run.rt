@@ -1,0 +1,138 @@
+// Runs of an actor: rounds of turns until nothing moves any more.
+ghost use Rattle.std.specs.Prelude.{◌≡◌, ◌+◌, ◌<◌, ◌≤◌, Ok, length, OnOk, OnErr, IfOk};
+ghost use Rattle.std.specs.List.{All, Contains};
+ghost use Rattle.sl_machine.specs.Machine.{IsChoice};
+ghost use Rattle.sl_actor.specs.Outs.{AreOffered};
+
+use crate::actor::Actor;
+use crate::moved::Moved;
+use crossbeam_utils::Backoff;
+use sl_machine::{Machine, Memory};
+use std::sync::Wait;
+
+/// What an actor passes at the start of each round of a run; `round` counts from 0.
+pub trait Gate {
+    fn pass(&self, actor: u32, round: u64);
+}
+
+/// A gate at which nothing happens.
+#[derive(Clone, Copy, Debug)]
+pub struct FreeGate;
+
+impl Gate for FreeGate {
+    fn pass(&self, _actor: u32, _round: u64) {}
+}
+
+/// How a run ends: nothing moved any more, or all its steps were made.
+#[derive(Clone, Copy, Debug, PartialEq, Eq)]
+pub enum Rest {
+    Rested,
+    Spent,
+}
+
+// How a round ends: all steps were made; or not all, but something moved; or nothing.
+#[derive(Clone, Copy)]
+enum Round {
+    Full,
+    Busy,
+    Calm,
+}
+
+impl<A: Machine> Actor<A> {
+    ghost use Rattle.sl_actor.specs.Held.{held};
+    ghost use Rattle.sl_actor.specs.Follows.{Follows};
+    ghost use Rattle.sl_actor.specs.Turns.{KeepsEnds, NothingDone};
+    ghost use Rattle.sl_actor.specs.Runs.{Advances, GoesOn, IsQuiet, Settled, MatchMoved, MatchRound};
+
+    /// Rounds of one turn by each choice of the plan, until the log has grown by `steps` entries
+    /// (`Spent`), or for `quiet` rounds in a row no turn did or moved anything (`Rested`). A run
+    /// that is refused for memory stands after the turns that it took.
+    pub fn run<R: Wait, G: Gate>(
+        &mut self,
+        rt: &R,
+        plan: &[u32],
+        steps: u64,
+        quiet: u64,
+        gate: &G,
+    ) -> Result<Rest, Memory>
+        requires plan { All (λ choice. IsChoice (held self.old).counts choice) plan.now }
+        requires quiet { 1 ≤ quiet }
+        ensures follows { (first : A.State) → Follows A.rules first (held self.old) → Follows A.rules first (held self.new) }
+        ensures log { GoesOn plan.now (held self.old).log (held self.new).log }
+        ensures spent { result ≡ Ok Rest.Spent → length (held self.new).log ≡ length (held self.old).log + steps }
+        ensures rested { result ≡ Ok Rest.Rested → length (held self.new).log < length (held self.old).log + steps }
+        ensures settled { result ≡ Ok Rest.Rested → All (λ choice. Settled A.rules choice (held self.new)) plan.now }
+        ensures fronts { result ≡ Ok Rest.Rested → 0 < length plan.now → AreOffered (held self.new).outs }
+        ensures ends { KeepsEnds (held self.old) (held self.new) }
+        ensures counts { (held self.new).counts ≡ (held self.old).counts }
+    {
+        if steps == 0 {
+            return Ok(Rest::Spent);
+        }
+        let backoff = Backoff::new();
+        let mut done = 0;
+        let mut idle = 0;
+        let mut round = 0;
+        for _ in rt.forever() {
+            gate.pass(self.place(), round);
+            match self.round(rt, plan, steps, &mut done)? {
+                Round::Full => return Ok(Rest::Spent),
+                Round::Busy => {
+                    idle = 0;
+                    backoff.reset();
+                }
+                Round::Calm => {
+                    idle += 1;
+                    if idle >= quiet {
+                        return Ok(Rest::Rested);
+                    }
+                    backoff.snooze();
+                }
+            }
+            round = u64::saturating_add(round, 1);
+        }
+        unreachable!()
+    }
+
+    // One turn by each choice of the plan, until all steps are made.
+    fn round<R: Wait>(
+        &mut self,
+        rt: &R,
+        plan: &[u32],
+        steps: u64,
+        done: &mut u64,
+    ) -> Result<Round, Memory>
+        requires plan { All (λ choice. IsChoice (held self.old).counts choice) plan.now }
+        requires steps { done.old < steps }
+        ensures advances { Advances A.rules plan.now (held self.old) (held self.new) }
+        ensures done { length (held self.new).log + done.old ≡ length (held self.old).log + done.new }
+        ensures answer { IfOk result (λ r. MatchRound r (done.new ≡ steps) (done.new < steps) (IsQuiet A.rules plan.now (length plan.now) (held self.new))) }
+    {
+        let mut calm = true;
+        for choice in plan {
+            match self.advance(rt, plan, *choice)? {
+                Moved::Did => {
+                    calm = false;
+                    *done += 1;
+                    if *done >= steps {
+                        return Ok(Round::Full);
+                    }
+                }
+                Moved::Offered => calm = false,
+                Moved::Idle => {}
+            }
+        }
+        if calm { Ok(Round::Calm) } else { Ok(Round::Busy) }
+    }
+
+    fn advance<R: Wait>(&mut self, rt: &R, plan: &[u32], choice: u32) -> Result<Moved, Memory>
+        requires choice { IsChoice (held self.old).counts choice }
+        requires plan { Contains plan.now choice }
+        ensures advances { Advances A.rules plan.now (held self.old) (held self.new) }
+        ensures answer { IfOk result (λ m. MatchMoved m (length (held self.new).log ≡ length (held self.old).log + 1) (NothingDone A.rules choice (held self.old) (held self.new))) }
+        ensures err { OnErr result (length (held self.new).log ≡ length (held self.old).log) }
+        ensures fronts { OnOk result (AreOffered (held self.new).outs) }
+    {
+        self.turn(rt, choice)
+    }
+}

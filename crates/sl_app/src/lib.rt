@@ -4,6 +4,8 @@
 mod ended;
 mod run;
 #[cfg(test)]
+mod rows;
+#[cfg(test)]
 mod tests;
 mod top;
 mod words;

@@ -13,7 +13,7 @@ use Rattle.sl_net.specs.declared.actor.UnitId.{UnitId}
 use Rattle.sl_net.specs.declared.input.Packet.{Packet}
 use Rattle.sl_cut.specs.Frame.{packet_of, plain_frame}
 use Rattle.sl_cut.specs.Puts.{crossbar_to, onward, route, route_frame, send_all, side_puts}
-use Rattle.sl_cut.specs.Route.{next_port}
+use Rattle.sl_route.specs.Route.{next_port}
 use Rattle.sl_cut.specs.Words.{Each, weigh}
 use Rattle.sl_cut.specs.declared.message.Message.{Message}
 use Rattle.sl_cut.specs.declared.message.Message.TheVariants.{Begin as BeginMsg, Data, Done as DoneMsg, Dump as DumpMsg, Host as HostMsg, Init as InitMsg, Notice as NoticeMsg, Poll as PollMsg, Probe as ProbeMsg}

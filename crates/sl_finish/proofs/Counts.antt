@@ -11,7 +11,7 @@ use Rattle.sl_net.specs.declared.actor.Sort.{Sort}
 use Rattle.sl_net.specs.declared.actor.Sort.TheVariants.{Cable, Crossbar, Init}
 use Rattle.sl_net.specs.declared.input.Flow.{Flow}
 use Rattle.sl_cut.specs.Bound.{frame_count, links_of_sort}
-use Rattle.sl_cut.specs.Flow.{flow_packets, packet_in, packets_of}
+use Rattle.sl_flow.specs.Flow.{flow_packets, packet_in, packets_of}
 use Rattle.sl_cut.specs.Frame.{plain_frame}
 use Rattle.sl_cut.specs.Setup.{Setup, frames_of}
 use Rattle.sl_cut.specs.Words.{weigh}

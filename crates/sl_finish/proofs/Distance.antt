@@ -10,7 +10,7 @@ use Rattle.sl_net.specs.declared.actor.Sort.TheVariants.{Cable, FromHost, ToHost
 use Rattle.sl_net.specs.declared.input.Packet.{Packet}
 use Rattle.sl_cut.specs.Frame.{packet_of}
 use Rattle.sl_cut.specs.Puts.{crossbar_to}
-use Rattle.sl_cut.specs.Route.{next_port}
+use Rattle.sl_route.specs.Route.{next_port}
 use Rattle.sl_cut.specs.Setup.{Setup, frames_of}
 use Rattle.sl_cut.specs.Words.{Each, weigh}
 use Rattle.sl_finish.specs.Fare.{device_at, enter_fare, frame_at, frame_fare, frame_in, frame_side, leave_fare, onward_fare}

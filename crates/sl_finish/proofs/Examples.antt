@@ -15,7 +15,8 @@ use Rattle.sl_cut.specs.World.{Entry, IsLossTable, kept}
 use Rattle.sl_finish.specs.Ended.{IsEnded}
 use Rattle.sl_finish.specs.FirstNet.{IsFirstNet}
 use Rattle.sl_finish.specs.Sweeps.{sweeps_in}
-use Rattle.sl_cut.proofs.Nets.{drop_one, net_a, net_c, net_d, no_loss, setup}
+use Rattle.sl_cut.specs.Losses.{no_loss}
+use Rattle.sl_cut.proofs.Nets.{drop_one, net_a, net_c, net_d, setup}
 use Rattle.sl_finish.proofs.Enough.{bound-enough}
 use Rattle.sl_finish.proofs.Turns.{run-ends}
 

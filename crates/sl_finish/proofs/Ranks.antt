@@ -6,7 +6,7 @@ use Rattle.std.proofs.lemmas.Bool.{cases_lt}
 use Rattle.sl_net.specs.Parts.{Parts, numbers_from}
 use Rattle.sl_net.specs.declared.parts.CablePart.{CablePart}
 use Rattle.sl_net.specs.declared.parts.PortRef.{PortRef}
-use Rattle.sl_cut.specs.Route.{Walk, cables_from, end_of, first_nonempty, first_port, host_port, least_walks, length_of, next_port, turned, walks, walks_between}
+use Rattle.sl_route.specs.Route.{Walk, cables_from, end_of, first_nonempty, first_port, host_port, least_walks, length_of, next_port, turned, walks, walks_between}
 use Rattle.sl_cut.specs.Words.{Each, least, least_in}
 use Rattle.sl_net.proofs.Filters.{each-filter, each-passes, member-of-flat, member-of-map}
 use Rattle.sl_net.proofs.Lists.{Member, each-at, each-flat, each-imp, each-map, each-of, kept-member, member-filter, member-parts}

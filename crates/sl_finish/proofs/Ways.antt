@@ -14,7 +14,7 @@ use Rattle.sl_net.specs.declared.actor.Sort.TheVariants.{Cable, Crossbar, FromHo
 use Rattle.sl_net.specs.declared.actor.UnitId.{UnitId}
 use Rattle.sl_net.specs.declared.parts.PortRef.{PortRef}
 use Rattle.sl_cut.specs.Puts.{crossbar_to}
-use Rattle.sl_cut.specs.Route.{Walk, first_port, least_walks, next_port}
+use Rattle.sl_route.specs.Route.{Walk, first_port, least_walks, next_port}
 use Rattle.sl_cut.specs.Words.{Each}
 use Rattle.sl_finish.specs.Fare.{device_at, device_of}
 use Rattle.sl_net.proofs.Actors.{actor-at, same_actor_true}

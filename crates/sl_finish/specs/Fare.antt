@@ -12,7 +12,7 @@ use Rattle.sl_net.specs.declared.actor.Sort.TheVariants.{Cable, ToHost}
 use Rattle.sl_net.specs.declared.input.Packet.{Packet}
 use Rattle.sl_cut.specs.Frame.{packet_of}
 use Rattle.sl_cut.specs.Puts.{crossbar_to}
-use Rattle.sl_cut.specs.Route.{next_port}
+use Rattle.sl_route.specs.Route.{next_port}
 use Rattle.sl_cut.specs.Words.{weigh}
 use Rattle.sl_cut.proofs.Nets.{port}
 

@@ -1,12 +1,9 @@
 -- The text of the routes of a net. Each line ends with a newline; numbers are decimal.
-use Rattle.std.specs.Prelude.{ℕ, List, [], ◌++◌, map, flat_map, length, Option, Some, slice_index_or, codes, decimal}
+use Rattle.std.specs.Prelude.{ℕ, List, ◌++◌, flat_map, length, Option, Some, codes, decimal}
 use Rattle.sl_net.specs.Parts.{Parts, below}
 use Rattle.sl_net.specs.Net.{Net}
 use Rattle.sl_route.specs.Route.{next_port, hops}
-use Rattle.sl_report.specs.Report.{device_name}
-
-abbrev pub host_name : Parts → ℕ → List ℕ
-host_name parts h = slice_index_or (map (λ host. host.name) parts.hosts) h []
+use Rattle.sl_net.specs.Spelling.{device_name, host_name}
 
 -- the next port and the number of cables, or that there is no way
 abbrev pub way_text : Option ℕ → Option ℕ → List ℕ

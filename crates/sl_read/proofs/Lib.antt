@@ -7,3 +7,5 @@ pub mod ScriptLemmas
 pub mod Texts
 pub mod Namesakes
 pub mod Spellings
+pub mod OneChoice
+pub mod Apart

@@ -2,7 +2,7 @@
 use Rattle.std.proofs.Common.{◌≡◌, ℕ, zero, suc, ◌<◌, ◌≤◌, List, [], ◌∷◌, ◌++◌, length, get_or, take, map, Bool, true, false, Option, Some, None, refl, sym, ap, subst, ◌∙◌, arith, inl, inr, append_assoc, append-nil}
 use Rattle.std.proofs.Common.{length-take}
 use Rattle.std.specs.Prelude.{◌⊎◌, bytes_eq, if◌then◌else◌, option_map}
-use Rattle.std.specs.List.{list_any}
+use Rattle.std.specs.List.{list_any, All}
 use Rattle.std.proofs.lemmas.Bool.{cases_lt}
 use Rattle.std.proofs.lemmas.List.{get_or-take}
 use Rattle.std.proofs.lemmas.List.Folds.{list_any_at}
@@ -78,3 +78,7 @@ has_names parts right devices hosts = let e = no-reason parts right in record {
   one_device = λ d f p q. one_name (λ (x : DevicePart). x.name) parts.devices d f (none_mapped _ _ e.1.1.1.1.1.1.1.1.0) p q;
   one_host = λ h i p q. one_name (λ (x : HostPart). x.name) parts.hosts h i (none_mapped _ _ e.1.1.1.1.1.1.1.1.1.0) p q;
 }
+
+pub named_each : {A : Type 0} (name : A → List ℕ) (xs : List A) → All (λ x. IsName (name x)) xs → (i : ℕ) → i < length xs → IsName (get_or (map name xs) i [])
+named_each name [] h i p = absurd (omega arith)
+named_each name (x ∷ xs) h i p = subst IsName (sym (at_map name (x ∷ xs) i x [] p)) (h i x p)

@@ -263,9 +263,3 @@ module _ (parts : Parts) (valid : IsValid parts) where
         let r : link_rest parts i.0 i.1 ≡ link_rest parts j.0 i.1 = same_front (link_word i.1) (link_rest parts i.0 i.1) (link_rest parts j.0 i.1) (e ∙ ap (link_text parts j.0) (sym s)) in
         let a : i.0 ≡ j.0 = one_sender x i.0 j.0 i.1 h (subst (Sends parts x j.0) (sym s) k) r in
         ap (λ a. (a, i.1)) a ∙ ap (λ s. (j.0, s)) s
-
--- The choices of an actor.
-
--- the word of an action is that of no link of its actor
-abbrev action_mark : List ℕ → ℕ
-action_mark text = get_or text 0 0

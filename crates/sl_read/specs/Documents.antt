@@ -10,7 +10,7 @@ use Rattle.sl_read.specs.Rows.{rows}
 use Rattle.sl_read.specs.Sections.{Sections, sections_of}
 use Rattle.sl_read.specs.Tables.{device_of, cable_of, host_of, snapshot_of, any_loss_of, flow_of, raw_of, any_script_of}
 
-abbrev pub walk_of : Sections → Result Document Refusal
+unfoldable pub walk_of : Sections → Result Document Refusal
 walk_of top = do
   devices ← rows Top Device device_of 0 top.devices
   cables ← rows Top Cable cable_of 0 top.cables
@@ -22,5 +22,5 @@ walk_of top = do
   script ← any_script_of top.script
   Ok (record { devices = devices; cables = cables; hosts = hosts; snapshot = snapshot; loss = loss; flows = flows; raws = raws; script = script })
 
-abbrev pub document_of : Members → Result Document Refusal
+unfoldable pub document_of : Members → Result Document Refusal
 document_of ms = sections_of ms >>= walk_of

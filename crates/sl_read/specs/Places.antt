@@ -50,7 +50,7 @@ cable_part devices i cable = do
 abbrev pub host_part : List DevicePart → ℕ → HostRow → Result HostPart Refusal
 host_part devices i host = port_place devices (at (table.Host i) At) host.at >>= (λ port. Ok (record { name = host.name; at = port }))
 
-abbrev pub parts_of : List DevicePart → List CableRow → List HostRow → Result Parts Refusal
+unfoldable pub parts_of : List DevicePart → List CableRow → List HostRow → Result Parts Refusal
 parts_of devices cable_rows host_rows = do
   cables ← each (cable_part devices) 0 cable_rows
   hosts ← each (host_part devices) 0 host_rows

@@ -21,7 +21,7 @@ pub record Sections : Type 0 where
   pub raws : Items
   pub script : Option Members
 
-abbrev pub sections_of : Members → Result Sections Refusal
+unfoldable pub sections_of : Members → Result Sections Refusal
 sections_of ms = do
   _ ← only Top (Device ∷ Cable ∷ Host ∷ Snapshot ∷ Loss ∷ Flow ∷ Raw ∷ Script ∷ []) ms
   devices ← required_tables Top Device ms

@@ -3,7 +3,7 @@ ghost use Rattle.std.specs.Prelude.{◌≡◌, ◌<◌, ◌≤◌, ◌+◌, IfOk
 ghost use Rattle.sl_net.specs.Spelling.{HasChoice, choice_count};
 ghost use Rattle.sl_read.specs.Refusals.{Answers};
 ghost use Rattle.sl_read.specs.Places.{each};
-ghost use Rattle.sl_read.specs.Choices.{choice_named, lossy_link, link_named, drop_part, entry_of, fitting, entries_of, passes};
+ghost use Rattle.sl_read.specs.Choices.{HasOneSpelling, choice_named, lossy_link, link_named, drop_part, entry_of, fitting, entries_of, passes};
 
 use crate::forms::pass_of;
 use crate::listed::{Listed, Text};
@@ -14,11 +14,16 @@ use sl_net::{Drop1, LinkKind, Net, Script1, find_choice};
 use std::alloc::Global;
 
 /// The choice of a spelling.
+#[tactic(auto, using(crate::proofs::OneChoice::one_choice, crate::proofs::OneChoice::no_choice))]
 fn choice_named(net: &Net, text: &str) -> Option<(u32, u32)>
+    requires { HasOneSpelling net.now }
     ensures choice { result ≡ choice_named net.now text.now }
     ensures there { IfSome result (λ p. HasChoice net.now p.0 p.1) }
 {
-    find_choice(net, text)
+    match find_choice(net, text) {
+        Some((actor, choice)) => Some((actor, choice)),
+        None => None,
+    }
 }
 
 /// The link that a choice takes from, where messages on it may be lost.
@@ -38,7 +43,9 @@ fn lossy_link(net: &Net, actor: u32, choice: u32) -> Option<u32>
 }
 
 /// The lossy link of a spelling.
+#[tactic(auto, unfolding(crate::specs::Choices::link_named))]
 fn link_named(net: &Net, text: &str) -> Option<u32>
+    requires { HasOneSpelling net.now }
     ensures { result ≡ link_named net.now text.now }
 {
     match choice_named(net, text) {
@@ -48,6 +55,7 @@ fn link_named(net: &Net, text: &str) -> Option<u32>
 }
 
 fn drop_part(net: &Net, index: u64, drop: &DropRow) -> Result<Drop1, Refusal>
+    requires { HasOneSpelling net.now }
     ensures { result ≡ drop_part net.now index drop.now }
 {
     match link_named(net, drop.link.as_str()) {
@@ -66,6 +74,7 @@ pub fn place_drops(
     net: &Net,
     drops: &[DropRow],
 ) -> Result<Listed<Drop1>, ReadError>
+    requires { HasOneSpelling net.now }
     ensures { Answers result (each (drop_part net.now) 0 drops.now) }
 {
     let mut found = Vec::new(alloc);
@@ -75,7 +84,9 @@ pub fn place_drops(
     Ok(Listed::from_vec(found))
 }
 
+#[tactic(auto, unfolding(crate::specs::Choices::entry_of))]
 fn entry_of(net: &Net, text: &str) -> Option<Script1>
+    requires { HasOneSpelling net.now }
     ensures value { result ≡ entry_of net.now text.now }
     ensures few { IfSome result (λ e. passes e ≤ 10000) }
 {
@@ -99,8 +110,10 @@ fn passes(entry: Script1) -> u64
 }
 
 /// The entry of a text, after so many passes.
+#[tactic(auto, unfolding(crate::specs::Choices::fitting))]
 fn fitting(net: &Net, index: u64, used: u64, text: &str) -> Result<Script1, Refusal>
-    requires { used ≤ 10000 }
+    requires net { HasOneSpelling net.now }
+    requires used { used ≤ 10000 }
     ensures entry { result ≡ fitting net.now index used text.now }
     ensures few { IfOk result (λ e. used + passes e ≤ 10000) }
 {
@@ -117,6 +130,7 @@ pub fn read_entries(
     net: &Net,
     texts: &[Text],
 ) -> Result<Listed<Script1>, ReadError>
+    requires { HasOneSpelling net.now }
     ensures { Answers result (entries_of net.now 0 0 texts.now) }
 {
     let mut found = Vec::new(alloc);

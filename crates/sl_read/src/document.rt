@@ -34,6 +34,7 @@ pub struct Document {
     pub script: Listed<Text>,
 }
 
+#[tactic(auto, unfolding(crate::specs::Documents::walk_of))]
 fn walk(alloc: Global, sections: &Sections<'_>) -> Result<Document, ReadError>
     ensures { Answers result (walk_of (sections_view sections.now)) }
 {
@@ -59,6 +60,7 @@ fn walk(alloc: Global, sections: &Sections<'_>) -> Result<Document, ReadError>
 }
 
 /// Reads the tables.
+#[tactic(auto, unfolding(crate::specs::Documents::document_of))]
 pub fn read_document(alloc: Global, table: &Table) -> Result<Document, ReadError>
     ensures { Answers result (document_of (table_view table.now)) }
 {

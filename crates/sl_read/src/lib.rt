@@ -21,6 +21,7 @@ mod refusal;
 mod rows;
 mod script;
 mod snapshot;
+mod spelling;
 mod top;
 
 pub use fault::InputFault;

@@ -121,17 +121,39 @@ fn host_parts(
     Ok(Listed::from_vec(found))
 }
 
+fn copy_device(alloc: Global, device: &DevicePart) -> Result<DevicePart, ReadError>
+    ensures { Answers result (Ok device.now) }
+{
+    let name = copy_name(alloc, &device.name)?;
+    Ok(DevicePart {
+        name,
+        ports: device.ports,
+    })
+}
+
+fn copy_devices(alloc: Global, devices: &[DevicePart]) -> Result<Listed<DevicePart>, ReadError>
+    ensures { Answers result (Ok devices.now) }
+{
+    let mut found = Vec::new(alloc);
+    for device in devices {
+        found.push(copy_device(alloc, device)?)?;
+    }
+    Ok(Listed::from_vec(found))
+}
+
 /// The parts of the net, with ports by the places of their devices.
+#[tactic(auto, unfolding(crate::specs::Places::parts_of))]
 pub fn place_parts(
     alloc: Global,
-    devices: Listed<DevicePart>,
+    devices: &[DevicePart],
     cables: &[CableRow],
     hosts: &[HostRow],
 ) -> Result<Parts, ReadError>
-    ensures { Answers result (parts_of devices cables.now hosts.now) }
+    ensures { Answers result (parts_of devices.now cables.now hosts.now) }
 {
-    let cables = cable_parts(alloc, devices.as_slice(), cables)?;
-    let hosts = host_parts(alloc, devices.as_slice(), hosts)?;
+    let cables = cable_parts(alloc, devices, cables)?;
+    let hosts = host_parts(alloc, devices, hosts)?;
+    let devices = copy_devices(alloc, devices)?;
     Ok(Parts {
         devices: devices.into_vec(),
         cables: cables.into_vec(),

@@ -37,6 +37,7 @@ fn optional_table(table: &Table, at: TableName, key: Key) -> Result<Option<&Tabl
 }
 
 /// Reads the top table.
+#[tactic(auto, unfolding(crate::specs::Sections::sections_of))]
 pub fn read_top(table: &Table) -> Result<Sections<'_>, Refusal>
     ensures { Shows sections_view result (sections_of (table_view table.now)) }
 {

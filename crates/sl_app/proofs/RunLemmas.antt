@@ -36,13 +36,13 @@ pub run_book : Finishes → Bounded → Consistent → (i : Input) (lost : Losse
 run_book finishes bounded consistent i lost book front net table window r =
     let whole : take front (schedule_of book) ++ drop front (schedule_of book) ≡ schedule_of book = take-append-drop front (schedule_of book) in
     let there : run (setup_of i) lost (world (setup_of i) lost (take front (schedule_of book))) (drop front (schedule_of book)) ≡ world (setup_of i) lost (schedule_of book)
-          = sym (run-append (setup_of i) lost (start i.net) (take front (schedule_of book)) (drop front (schedule_of book))) ∙ ap (world (setup_of i) lost) whole in
+    = sym (run-append (setup_of i) lost (start i.net) (take front (schedule_of book)) (drop front (schedule_of book))) ∙ ap (world (setup_of i) lost) whole in
     let reached : world (setup_of i) lost (take front (schedule_of book)) ≡ world (setup_of i) lost (expand i.net i.script)
-          = ap (world (setup_of i) lost) r.script ∙ run-kept (setup_of i) lost (start i.net) (expand i.net i.script) in
+    = ap (world (setup_of i) lost) r.script ∙ run-kept (setup_of i) lost (start i.net) (expand i.net i.script) in
     let short : length (kept (setup_of i) lost (expand i.net i.script) ++ drop front (schedule_of book)) ≤ input_bound i
-          = bounded i lost (drop front (schedule_of book)) net (subst (λ (w : World). IsFin (setup_of i) lost w (drop front (schedule_of book))) reached r.finishing) in
+    = bounded i lost (drop front (schedule_of book)) net (subst (λ (w : World). IsFin (setup_of i) lost w (drop front (schedule_of book))) reached r.finishing) in
     let long : length (kept (setup_of i) lost (expand i.net i.script) ++ drop front (schedule_of book)) ≡ length book
-          = ap (λ (xs : List Entry). length (xs ++ drop front (schedule_of book))) (sym r.script) ∙ ap length whole ∙ length-map (λ (e : BookEntry). (e.actor, e.choice)) book in
+    = ap (λ (xs : List Entry). length (xs ++ drop front (schedule_of book))) (sym r.script) ∙ ap length whole ∙ length-map book (λ (e : BookEntry). (e.actor, e.choice)) in
     record {
       run = r;
       finished = subst (λ (w : World). IsFinished (setup_of i) lost w) there (finishes (setup_of i) lost (take front (schedule_of book)) (drop front (schedule_of book)) net table window r.finishing);

@@ -1,4 +1,5 @@
 pub mod Words
+pub mod Form
 pub mod Texts
 pub mod Served
 pub mod Ends

@@ -2,9 +2,9 @@
 #![tactic(auto)]
 
 mod ended;
+mod form;
+mod input;
 mod run;
-#[cfg(test)]
-mod rows;
 #[cfg(test)]
 mod tests;
 mod top;

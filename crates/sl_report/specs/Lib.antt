@@ -1,3 +1,2 @@
 pub mod Report
 pub mod RoutesText
-pub mod FaultText

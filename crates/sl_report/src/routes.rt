@@ -113,3 +113,66 @@ pub fn routes_bytes(alloc: Global, net: &Net, routes: &Routes) -> Result<Vec<u8>
         Err(_) => Err(Memory),
     }
 }
+
+#[cfg(test)]
+mod tests {
+    use super::*;
+    use sl_net::{CablePart, DevicePart, HostPart, Parts, PortRef};
+    use std::test::Fail;
+
+    fn name(alloc: Global, text: &str) -> Result<Name, Fail> {
+        Ok(
+            Name::new(alloc, text)
+                .map_err(|_| "no memory")?
+                .ok_or("no name")?,
+        )
+    }
+
+    /// Two devices with a host each, and a cable between them or none.
+    fn net(alloc: Global, cables: &[CablePart]) -> Result<Net, Fail> {
+        let mut parts = Parts {
+            devices: Vec::new(alloc),
+            cables: Vec::from_slice(alloc, cables)?,
+            hosts: Vec::new(alloc),
+        };
+        for text in ["a", "b"] {
+            parts.devices.push(DevicePart {
+                name: name(alloc, text)?,
+                ports: 2,
+            })?;
+        }
+        for (text, device) in [("h0", 0), ("h1", 1)] {
+            parts.hosts.push(HostPart {
+                name: name(alloc, text)?,
+                at: PortRef {
+                    device,
+                    port: device,
+                },
+            })?;
+        }
+        Ok(Net::build(alloc, parts).map_err(|_| "refused")?)
+    }
+
+    #[test]
+    fn worked_routes(rt: HostRuntime) -> Result<(), Fail> {
+        let alloc = rt.alloc();
+        let cable = CablePart {
+            a: PortRef { device: 0, port: 1 },
+            b: PortRef { device: 1, port: 0 },
+        };
+        let joined: (&[CablePart], &[u8]) = (
+            &[cable],
+            b"route a h0 0 0\nroute a h1 1 1\nroute b h0 0 1\nroute b h1 1 0\nend\n",
+        );
+        let apart: (&[CablePart], &[u8]) = (
+            &[],
+            b"route a h0 0 0\nroute a h1 none\nroute b h0 none\nroute b h1 1 0\nend\n",
+        );
+        for (cables, text) in [joined, apart] {
+            let net = net(alloc, cables)?;
+            let routes = Routes::make(alloc, &net)?;
+            assert_eq!(rt; routes_bytes(alloc, &net, &routes)?.as_slice(), text);
+        }
+        Ok(())
+    }
+}

@@ -97,7 +97,7 @@ row-is parts d v = by_order (cases_lt d (length parts.devices))
     by_order (inr l) = get_or_past (graph_of parts) d [] (omega (arith, l, length_below (neighbours_of parts) (length parts.devices)))
         ∙ sym (ap (map neighbour_by) (none-from (length parts.devices) d (directed parts) l (recursion_from_All (IsJoined (length parts.devices)) (directed parts) (all-joined parts v))))
 
-any-map : (q : Neighbour → Bool) (cs : List CablePart) → list_any q (map neighbour_by cs) ≡ list_any (λ c. q (neighbour_by c)) cs
+pub any-map : (q : Neighbour → Bool) (cs : List CablePart) → list_any q (map neighbour_by cs) ≡ list_any (λ c. q (neighbour_by c)) cs
 any-map q [] = refl
 any-map q (c ∷ cs) = ap (λ b. q (neighbour_by c) || b) (any-map q cs)
 
@@ -105,7 +105,7 @@ any-turned : (q : CablePart → Bool) (cs : List CablePart) → list_any q (map 
 any-turned q [] = refl
 any-turned q (c ∷ cs) = ap (λ b. q (turned c) || b) (any-turned q cs)
 
-any-filter : {A : Type 0} (p q : A → Bool) (xs : List A) → list_any q (filter p xs) ≡ list_any (λ x. p x && q x) xs
+pub any-filter : {A : Type 0} (p q : A → Bool) (xs : List A) → list_any q (filter p xs) ≡ list_any (λ x. p x && q x) xs
 any-filter p q [] = refl
 any-filter p q (x ∷ xs) = elim (p x) as (λ b. list_any q (cond b (x ∷ filter p xs) (filter p xs)) ≡ ((b && q x) || list_any (λ x. p x && q x) xs))
     [ true ↦ ap (λ b. q x || b) (any-filter p q xs) | false ↦ any-filter p q xs ]

@@ -4,3 +4,5 @@ pub mod Finding
 pub mod Graphs
 pub mod Toward
 pub mod Reading
+pub mod Shortest
+pub mod Onward

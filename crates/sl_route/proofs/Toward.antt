@@ -50,7 +50,7 @@ unfolding within
 has-at parts d e n None v h = refl
 has-at parts d e n (Some m) v h = reaches-is parts e m d v ∙ (first-is (λ k. reaches (graph_of parts) e k d) n m h).passes
 
-walks-at : (parts : Parts) (d e n : ℕ) → IsValid parts → first_nonempty (map (walks_between parts d e) (below (suc n))) ≡ walks_at parts d e (within (graph_of parts) e n d)
+pub walks-at : (parts : Parts) (d e n : ℕ) → IsValid parts → first_nonempty (map (walks_between parts d e) (below (suc n))) ≡ walks_at parts d e (within (graph_of parts) e n d)
 unfolding within
 walks-at parts d e zero v = by_test (d == e) refl
   where
@@ -136,7 +136,7 @@ port-at parts own d e n far (Some (suc k)) v f s h = let g = graph_of parts in l
 
 -- The ways to a host.
 
-hops-are : (parts : Parts) (d h n : ℕ) (at : PortRef) → IsValid parts → host_port parts h ≡ Some at → length parts.devices ≡ suc n → hops parts d h ≡ within (graph_of parts) at.device n d
+pub hops-are : (parts : Parts) (d h n : ℕ) (at : PortRef) → IsValid parts → host_port parts h ≡ Some at → length parts.devices ≡ suc n → hops parts d h ≡ within (graph_of parts) at.device n d
 unfolding hops
 hops-are parts d h n at v q s = ap (option_and_then (λ at. length_of (least_walks parts d at.device))) q ∙ ap (λ k. length_of (first_nonempty (map (walks_between parts d at.device) (below k)))) s
     ∙ ap length_of (walks-at parts d at.device n v) ∙ length-at parts d at.device (within (graph_of parts) at.device n d) (has-at parts d at.device n (within (graph_of parts) at.device n d) v refl)

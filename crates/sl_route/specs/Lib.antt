@@ -3,3 +3,4 @@ pub mod Route
 pub mod Graph
 pub mod Ways
 pub mod Routes
+pub mod Walks

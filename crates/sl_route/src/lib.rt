@@ -1,6 +1,7 @@
 // Routes: for each host and each device the next port and the number of cables.
 #![tactic(auto)]
 
+mod laws;
 mod neighbours;
 mod routes;
 mod search;
@@ -8,4 +9,5 @@ mod search;
 mod tests;
 mod ways;
 
+pub use laws::{hops_are_least, routes_lead_nearer};
 pub use routes::Routes;

@@ -17,7 +17,7 @@ use Rattle.sl_route.specs.Route.{next_port}
 use Rattle.sl_cut.specs.Words.{Each, weigh}
 use Rattle.sl_cut.specs.declared.message.Message.{Message}
 use Rattle.sl_cut.specs.declared.message.Message.TheVariants.{Begin as BeginMsg, Data, Done as DoneMsg, Dump as DumpMsg, Host as HostMsg, Init as InitMsg, Notice as NoticeMsg, Poll as PollMsg, Probe as ProbeMsg}
-use Rattle.sl_finish.specs.Fare.{device_of, enter_fare, frame_at, frame_fare, frame_in, frame_side, leave_fare, onward_fare, packet_at, packet_fare, packet_side}
+use Rattle.sl_finish.specs.Fare.{device_of, enter_fare, frame_to, frame_fare, frame_in, frame_side, leave_fare, onward_fare, packet_to, packet_fare, packet_side}
 use Rattle.sl_finish.specs.Flight.{puts_weight}
 use Rattle.sl_finish.specs.Potential.{price}
 use Rattle.sl_net.proofs.Actors.{same_actor_true}
@@ -38,7 +38,7 @@ packet-pays net l p = at (actor_of net (link_of net l).to)
     of_side Ingress = enter-pays net p.dst p.hops l
     of_side Egress = omega arith
 
-    at : (a : ActorId) → 1 ≤ packet_at net p.dst p.hops l a
+    at : (a : ActorId) → 1 ≤ packet_to net p.dst p.hops l a
     at Observer = omega arith
     at (Control d) = omega arith
     at (OfUnit i) = of_side i.side
@@ -55,7 +55,7 @@ frame-pays net l b = at (actor_of net (link_of net l).to)
     of_side Ingress = of_packet (packet_of b)
     of_side Egress = omega arith
 
-    at : (a : ActorId) → 1 ≤ frame_at net l b a
+    at : (a : ActorId) → 1 ≤ frame_to net l b a
     at Observer = omega arith
     at (Control d) = omega arith
     at (OfUnit i) = of_side i.side
@@ -71,9 +71,9 @@ onward-fares net u d k p h (Some x) q = let ls = crossbar_to net u d x in
     (each-passes (λ l. same_actor (actor_of net (link_of net l).to) (egress d x)) (links_out net u Crossbar))) in
     omega (arith, a, b)
   where
-    at_link : (l : ℕ) → same_actor (actor_of net (link_of net l).to) (egress d x) ≡ true → packet_at net p.dst p.hops l (actor_of net (link_of net l).to) ≤ leave_fare net (λ m. enter_fare net p.dst h m) (link_of net l).to
-    at_link l e = let y : packet_at net p.dst p.hops l (actor_of net (link_of net l).to) ≡ leave_fare net (λ m. enter_fare net p.dst h m) (link_of net l).to
-        = ap (packet_at net p.dst p.hops l) (same_actor_true (actor_of net (link_of net l).to) (egress d x) e) ∙ ap (λ h. leave_fare net (λ m. enter_fare net p.dst h m) (link_of net l).to) q in omega (arith, y)
+    at_link : (l : ℕ) → same_actor (actor_of net (link_of net l).to) (egress d x) ≡ true → packet_to net p.dst p.hops l (actor_of net (link_of net l).to) ≤ leave_fare net (λ m. enter_fare net p.dst h m) (link_of net l).to
+    at_link l e = let y : packet_to net p.dst p.hops l (actor_of net (link_of net l).to) ≡ leave_fare net (λ m. enter_fare net p.dst h m) (link_of net l).to
+        = ap (packet_to net p.dst p.hops l) (same_actor_true (actor_of net (link_of net l).to) (egress d x) e) ∙ ap (λ h. leave_fare net (λ m. enter_fare net p.dst h m) (link_of net l).to) q in omega (arith, y)
 
 route-fares : (net : Net) (u d k l : ℕ) (p : Packet) → (link_of net l).to ≡ u → device_of (actor_of net u) ≡ d → suc (puts_weight (price net) (route net u d k p)) ≤ enter_fare net p.dst p.hops l
 route-fares net u d k l p t e = by_hops p.hops refl
@@ -142,11 +142,11 @@ leave-fares net r u k p = let cs = links_out net u Cable in let hs = links_out n
     (λ l o. by_host l (host-receiver (actor_of net (link_of net l).to) (subst (λ t. receives (actor_of net (link_of net l).to) t ≡ true) o.sort (r.receiver l o.is_link)))) (each-out net u ToHost)) in
     omega (arith, a, b, c, d, e)
   where
-    by_cable : (l : ℕ) → ((i : UnitId) × ((actor_of net (link_of net l).to ≡ OfUnit i) × (i.side ≡ Ingress))) → packet_at net p.dst p.hops l (actor_of net (link_of net l).to) ≤ enter_fare net p.dst p.hops l
-    by_cable l x = let y : packet_at net p.dst p.hops l (actor_of net (link_of net l).to) ≡ enter_fare net p.dst p.hops l = ap (packet_at net p.dst p.hops l) x.1.0 ∙ ap (packet_side net p.dst p.hops l) x.1.1 in omega (arith, y)
+    by_cable : (l : ℕ) → ((i : UnitId) × ((actor_of net (link_of net l).to ≡ OfUnit i) × (i.side ≡ Ingress))) → packet_to net p.dst p.hops l (actor_of net (link_of net l).to) ≤ enter_fare net p.dst p.hops l
+    by_cable l x = let y : packet_to net p.dst p.hops l (actor_of net (link_of net l).to) ≡ enter_fare net p.dst p.hops l = ap (packet_to net p.dst p.hops l) x.1.0 ∙ ap (packet_side net p.dst p.hops l) x.1.1 in omega (arith, y)
 
-    by_host : (l : ℕ) → ((h : ℕ) × (actor_of net (link_of net l).to ≡ OfHost h)) → frame_at net l (plain_frame p) (actor_of net (link_of net l).to) ≤ 1
-    by_host l x = let y : frame_at net l (plain_frame p) (actor_of net (link_of net l).to) ≡ 1 = ap (frame_at net l (plain_frame p)) x.1 in omega (arith, y)
+    by_host : (l : ℕ) → ((h : ℕ) × (actor_of net (link_of net l).to ≡ OfHost h)) → frame_to net l (plain_frame p) (actor_of net (link_of net l).to) ≤ 1
+    by_host l x = let y : frame_to net l (plain_frame p) (actor_of net (link_of net l).to) ≡ 1 = ap (frame_to net l (plain_frame p)) x.1 in omega (arith, y)
 
 -- packets and frames
 abbrev pub is_load : Message → Bool
@@ -176,8 +176,8 @@ carries net r u k l i m q t h = by_message m h
     host_side b Egress = omega arith
 
     by_message : (m : Message) → is_load m ≡ true → suc (puts_weight (price net) (side_puts net u i i.side k l m)) ≤ price net l m
-    by_message (HostMsg b) h = subst (λ a. suc (puts_weight (price net) (side_puts net u i i.side k l (HostMsg b))) ≤ frame_at net l b a) (sym at) (host_side b i.side)
-    by_message (Data s p) h = subst (λ a. suc (puts_weight (price net) (side_puts net u i i.side k l (Data s p))) ≤ packet_at net p.dst p.hops l a) (sym at) (data_side p s i.side)
+    by_message (HostMsg b) h = subst (λ a. suc (puts_weight (price net) (side_puts net u i i.side k l (HostMsg b))) ≤ frame_to net l b a) (sym at) (host_side b i.side)
+    by_message (Data s p) h = subst (λ a. suc (puts_weight (price net) (side_puts net u i i.side k l (Data s p))) ≤ packet_to net p.dst p.hops l a) (sym at) (data_side p s i.side)
     by_message (ProbeMsg s) h = absurd cc
     by_message (InitMsg s) h = absurd cc
     by_message PollMsg h = absurd cc

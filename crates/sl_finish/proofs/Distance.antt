@@ -13,7 +13,7 @@ use Rattle.sl_cut.specs.Puts.{crossbar_to}
 use Rattle.sl_route.specs.Route.{next_port}
 use Rattle.sl_cut.specs.Setup.{Setup, frames_of}
 use Rattle.sl_cut.specs.Words.{Each, weigh}
-use Rattle.sl_finish.specs.Fare.{device_at, enter_fare, frame_at, frame_fare, frame_in, frame_side, leave_fare, onward_fare}
+use Rattle.sl_finish.specs.Fare.{device_at, enter_fare, frame_to, frame_fare, frame_in, frame_side, leave_fare, onward_fare}
 use Rattle.sl_finish.specs.Potential.{channels, frame_price, round_price}
 use Rattle.sl_net.proofs.Lists.{each-imp, each-of}
 use Rattle.sl_finish.proofs.Ranks.{rank}
@@ -61,7 +61,7 @@ frame-near net g l b = at (actor_of net (link_of net l).to)
     of_side Ingress = of_packet (packet_of b)
     of_side Egress = omega arith
 
-    at : (a : ActorId) → frame_at net l b a ≤ 2 * length net.parts.devices + 1
+    at : (a : ActorId) → frame_to net l b a ≤ 2 * length net.parts.devices + 1
     at Observer = omega arith
     at (Control d) = omega arith
     at (OfUnit i) = of_side i.side

@@ -1,7 +1,7 @@
 -- More fuel changes no answer.
-use Rattle.std.proofs.Common.{List, Option, Some, ap, suc, sym, zero, ℕ, ◌∙◌, ◌∷◌, ◌≡◌, ◌≤◌, arith, []}
+use Rattle.std.proofs.Common.{◌+◌, List, Option, Some, ap, suc, sym, zero, ℕ, ◌∙◌, ◌∷◌, ◌≡◌, ◌≤◌, arith, []}
 use Rattle.std.specs.Prelude.{Bool, false, true}
-use Rattle.sl_cut.specs.End.{after_sweeps, again_from, append_to, finish, is_collected, rose, settle, sweep_round, then_from}
+use Rattle.sl_cut.specs.End.{IsFin, after_sweeps, again_from, append_to, finish, is_collected, rose, settle, sweep_round, then_from}
 use Rattle.sl_cut.specs.History.{Losses, World}
 use Rattle.sl_cut.specs.Schedule.{resend_entry, settling_pass, sweeps}
 use Rattle.sl_cut.specs.Setup.{Setup}
@@ -46,3 +46,9 @@ finish-more s lost zero m h w es q = absurd cc
 finish-more s lost (suc n) zero h w es q = absurd (omega (arith, h))
 finish-more s lost (suc n) (suc m) h w es q = then-more s lost w (λ v. sweep_round (suc n) (λ v. finish n s lost v) s lost v (is_collected s v)) (λ v. sweep_round (suc m) (λ v. finish m s lost v) s lost v (is_collected s v)) (settle (suc n) s lost w) (settle (suc m) s lost w) es
     (λ v es q. round-more s lost (suc n) (suc m) h (λ v. finish n s lost v) (λ v. finish m s lost v) (finish-more s lost n m (omega (arith, h))) v (is_collected s v) es q) (settle-more s lost (suc n) (suc m) h w) q
+
+-- so finishing takes one schedule
+pub one-finishing : (s : Setup) (lost : Losses) (w : World) (es fs : List Entry) → IsFin s lost w es → IsFin s lost w fs → es ≡ fs
+one-finishing s lost w es fs e f = let a : finish (e.fuel + f.fuel) s lost w ≡ Some es = finish-more s lost e.fuel (e.fuel + f.fuel) (omega arith) w es e.finished in
+    let b : finish (e.fuel + f.fuel) s lost w ≡ Some fs = finish-more s lost f.fuel (e.fuel + f.fuel) (omega arith) w fs f.finished in
+    let c : Some es ≡ Some fs = sym a ∙ b in cc

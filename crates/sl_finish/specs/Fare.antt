@@ -41,12 +41,12 @@ abbrev pub packet_side : Net → ℕ → ℕ → ℕ → Side → ℕ
 packet_side net dst h l Ingress = enter_fare net dst h l
 packet_side net dst h l Egress = leave_fare net (λ m. enter_fare net dst h m) (link_of net l).to
 
-abbrev pub packet_at : Net → ℕ → ℕ → ℕ → ActorId → ℕ
-packet_at net dst h l (OfUnit i) = packet_side net dst h l i.side
-packet_at net dst h l _ = 1
+abbrev pub packet_to : Net → ℕ → ℕ → ℕ → ActorId → ℕ
+packet_to net dst h l (OfUnit i) = packet_side net dst h l i.side
+packet_to net dst h l _ = 1
 
 abbrev pub packet_fare : Net → ℕ → Packet → ℕ
-packet_fare net l p = packet_at net p.dst p.hops l (actor_of net (link_of net l).to)
+packet_fare net l p = packet_to net p.dst p.hops l (actor_of net (link_of net l).to)
 
 abbrev pub frame_in : Net → ℕ → Option Packet → ℕ
 frame_in net l None = 1
@@ -56,9 +56,9 @@ abbrev pub frame_side : Net → ℕ → List ℕ → Side → ℕ
 frame_side net l b Ingress = frame_in net l (packet_of b)
 frame_side net l b Egress = 1
 
-abbrev pub frame_at : Net → ℕ → List ℕ → ActorId → ℕ
-frame_at net l b (OfUnit i) = frame_side net l b i.side
-frame_at net l b _ = 1
+abbrev pub frame_to : Net → ℕ → List ℕ → ActorId → ℕ
+frame_to net l b (OfUnit i) = frame_side net l b i.side
+frame_to net l b _ = 1
 
 abbrev pub frame_fare : Net → ℕ → List ℕ → ℕ
-frame_fare net l b = frame_at net l b (actor_of net (link_of net l).to)
+frame_fare net l b = frame_to net l b (actor_of net (link_of net l).to)

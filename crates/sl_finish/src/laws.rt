@@ -67,6 +67,11 @@ pub fn more_fuel_changes_nothing()
         → finish fuel s lost (world s lost es) ≡ Some fs → finish more s lost (world s lost es) ≡ Some fs }
 {}
 
+/// So finishing takes one schedule from a world.
+pub fn finishing_is_one_schedule()
+    ensures { (s : Setup) (lost : Losses) (es fs gs : List Entry) → IsFin s lost (world s lost es) fs → IsFin s lost (world s lost es) gs → fs ≡ gs }
+{}
+
 /// The run of an input, its script and then finishing, is no longer than the bound of the input.
 pub fn inputs_are_bounded()
     ensures { (i : Input) (lost : Losses) (fs : List Entry) → IsNet i.net

@@ -1,11 +1,10 @@
 -- Two choices of a net without namesakes have two spellings.
-use Rattle.std.proofs.Common.{◌≡◌, ℕ, zero, suc, ◌+◌, ◌-◌, ◌<◌, ◌≤◌, List, [], ◌∷◌, ◌++◌, length, get_or, map, Bool, true, false, Option, Some, None, refl, sym, ap, subst, ◌∙◌, arith, inl, inr, length-map}
-use Rattle.std.specs.Prelude.{◌⊎◌, ◌==◌, if◌then◌else◌, nat_lt}
+use Rattle.std.proofs.Common.{◌≡◌, ℕ, zero, suc, ◌-◌, ◌<◌, ◌≤◌, List, ◌++◌, length, get_or, map, true, None, refl, sym, ap, subst, ◌∙◌, arith, inl, inr}
+use Rattle.std.specs.Prelude.{◌⊎◌, if◌then◌else◌}
+use Rattle.std.proofs.lemmas.List.{length-map}
 use Rattle.std.proofs.lemmas.Bool.{cases_lt, lt-ltb, le-ltb}
 use Rattle.sl_net.specs.declared.actor.ActorId.{ActorId}
 use Rattle.sl_net.specs.declared.actor.ActorId.TheVariants.{Observer, Control, Unit as OfUnit, Host as OfHost}
-use Rattle.sl_net.specs.declared.actor.Side.{Side}
-use Rattle.sl_net.specs.declared.actor.Side.TheVariants.{Ingress, Egress}
 use Rattle.sl_net.specs.declared.actor.Sort.{Sort}
 use Rattle.sl_net.specs.declared.actor.Sort.TheVariants.{FromHost, ToHost, Cable, Crossbar, Init, Poll, Notice, Dump, Begin, Done}
 use Rattle.std.specs.List.{All}
@@ -26,7 +25,7 @@ use Rattle.sl_net.proofs.Filters.{one-place}
 use Rattle.sl_net.proofs.Senders.{IsSender, each-sender}
 use Rattle.sl_net.proofs.Linked.{Joined, each-joined, link_from, incoming-distinct}
 use Rattle.sl_net.proofs.NetWired.{into-links}
-use Rattle.sl_read.proofs.Texts.{at_map}
+use Rattle.sl_read.proofs.Texts.{at_map, differ}
 use Rattle.sl_read.specs.Choices.{HasOneSpelling}
 use Rattle.sl_read.proofs.Namesakes.{HasNames, has_names, named_each}
 use Rattle.sl_read.proofs.Spellings.{same_actor_text, Known, each_known, one_incoming}
@@ -62,29 +61,33 @@ host_word i Done r h = absurd (cc)
 
 -- no link's word begins as the word sweep does
 link_word_low : (s : Sort) (r : List ℕ) → head (link_word s ++ r) ≡ 115 → ⊥
-link_word_low ToHost r e = omega arith
-link_word_low FromHost r e = omega arith
-link_word_low Cable r e = omega arith
-link_word_low Crossbar r e = omega arith
-link_word_low Init r e = omega arith
-link_word_low Poll r e = omega arith
-link_word_low Notice r e = omega arith
-link_word_low Dump r e = omega arith
-link_word_low Begin r e = omega arith
-link_word_low Done r e = omega arith
+link_word_low ToHost r e = differ 110 115 e refl
+link_word_low FromHost r e = differ 104 115 e refl
+link_word_low Cable r e = differ 99 115 e refl
+link_word_low Crossbar r e = differ 120 115 e refl
+link_word_low Init r e = differ 105 115 e refl
+link_word_low Poll r e = differ 112 115 e refl
+link_word_low Notice r e = differ 110 115 e refl
+link_word_low Dump r e = differ 100 115 e refl
+link_word_low Begin r e = differ 98 115 e refl
+link_word_low Done r e = differ 100 115 e refl
 
 no_action : (x : ActorId) (s : Sort) (r : List ℕ) (m : ℕ) → receives x s ≡ true → m < actions_of x → link_word s ++ r ≡ action_text x m → ⊥
-no_action Observer s r zero h p e = let z : 100 ≡ 105 = sym (observer_word s r h) ∙ ap head e in omega arith
-no_action Observer s r (suc m) h p e = let z : 100 ≡ 114 = sym (observer_word s r h) ∙ ap head e in omega arith
+no_action Observer s r zero h p e = differ 100 105 (sym (observer_word s r h) ∙ ap head e) refl
+no_action Observer s r (suc zero) h p e = differ 100 114 (sym (observer_word s r h) ∙ ap head e) refl
+no_action Observer s r (suc (suc m)) h p e = omega arith
 no_action (Control d) s r m h p e = link_word_low s r (ap head e)
 no_action (OfUnit u) s r m h p e = omega arith
-no_action (OfHost i) s r m h p e = let z : 110 ≡ 105 = sym (host_word i s r h) ∙ ap head e in omega arith
+no_action (OfHost i) s r m h p e = differ 110 105 (sym (host_word i s r h) ∙ ap head e) refl
 
 one_action : (x : ActorId) (m n : ℕ) → m < actions_of x → n < actions_of x → action_text x m ≡ action_text x n → m ≡ n
 one_action Observer zero zero p q e = refl
-one_action Observer zero (suc n) p q e = let z : 105 ≡ 114 = ap head e in absurd (omega arith)
-one_action Observer (suc m) zero p q e = let z : 114 ≡ 105 = ap head e in absurd (omega arith)
-one_action Observer (suc m) (suc n) p q e = omega arith
+one_action Observer zero (suc zero) p q e = absurd (differ 105 114 (ap head e) refl)
+one_action Observer zero (suc (suc n)) p q e = absurd (omega arith)
+one_action Observer (suc zero) zero p q e = absurd (differ 114 105 (ap head e) refl)
+one_action Observer (suc zero) (suc zero) p q e = refl
+one_action Observer (suc zero) (suc (suc n)) p q e = absurd (omega arith)
+one_action Observer (suc (suc m)) n p q e = absurd (omega arith)
 one_action (Control d) m n p q e = omega arith
 one_action (OfUnit u) m n p q e = absurd (omega arith)
 one_action (OfHost i) m n p q e = omega arith
@@ -131,22 +134,19 @@ module _ (parts : Parts) (valid : IsValid parts) where
 
   -- one choice of an actor has one word
   same_word : HasNames parts → (a c d : ℕ) → a < length (actors_of parts) → c < choice_count (net_of parts) a → d < choice_count (net_of parts) a → choice_word (net_of parts) a c ≡ choice_word (net_of parts) a d → c ≡ d
-  same_word names a c d h p q e = by_order (cases_lt c n) (cases_lt d n)
+  same_word names a c d h p q e = by_order (cases_lt c (action_choice (net_of parts) a)) (cases_lt d (action_choice (net_of parts) a))
     where
-      n = action_choice (net_of parts) a
-      x = actor_of (net_of parts) a
-
-      by_order : (c < n) ⊎ (n ≤ c) → (d < n) ⊎ (n ≤ d) → c ≡ d
+      by_order : (c < action_choice (net_of parts) a) ⊎ (action_choice (net_of parts) a ≤ c) → (d < action_choice (net_of parts) a) ⊎ (action_choice (net_of parts) a ≤ d) → c ≡ d
       by_order (inl k) (inl l) =
-          let few : c < length (incoming parts x) = subst (λ n. c < n) (link_count a h) k in
-          let low : d < length (incoming parts x) = subst (λ n. d < n) (link_count a h) l in
-          one-place (incoming parts x) c d (nobody, Poll) (incoming-distinct parts x) few low
-          (one_incoming parts names x (incoming_at a c) (incoming_at a d) (each-index (Known parts x) (incoming parts x) c (nobody, Poll) (each_known parts valid x) few)
-          (each-index (Known parts x) (incoming parts x) d (nobody, Poll) (each_known parts valid x) low) (sym (link_said a c h k) ∙ e ∙ link_said a d h l))
+          let few : c < length (incoming parts (actor_of (net_of parts) a)) = subst (λ n. c < n) (link_count a h) k in
+          let low : d < length (incoming parts (actor_of (net_of parts) a)) = subst (λ n. d < n) (link_count a h) l in
+          one-place (incoming parts (actor_of (net_of parts) a)) c d (nobody, Poll) (incoming-distinct parts (actor_of (net_of parts) a)) few low
+          (one_incoming parts valid names (actor_of (net_of parts) a) (incoming_at a c) (incoming_at a d) (each-index (Known parts (actor_of (net_of parts) a)) (incoming parts (actor_of (net_of parts) a)) c (nobody, Poll) (each_known parts valid (actor_of (net_of parts) a)) few)
+          (each-index (Known parts (actor_of (net_of parts) a)) (incoming parts (actor_of (net_of parts) a)) d (nobody, Poll) (each_known parts valid (actor_of (net_of parts) a)) low) (sym (link_said a c h k) ∙ e ∙ link_said a d h l))
       by_order (inl k) (inr l) = absurd (link_no_action a c d h k l q e)
       by_order (inr k) (inl l) = absurd (link_no_action a d c h l k p (sym e))
       by_order (inr k) (inr l) =
-          let m : c - n ≡ d - n = one_action x (c - n) (d - n) (omega arith) (omega arith) (sym (action_said a c k) ∙ e ∙ action_said a d l) in
+          let m : c - action_choice (net_of parts) a ≡ d - action_choice (net_of parts) a = one_action (actor_of (net_of parts) a) (c - action_choice (net_of parts) a) (d - action_choice (net_of parts) a) (omega arith) (omega arith) (sym (action_said a c k) ∙ e ∙ action_said a d l) in
           omega arith
 
   -- one choice has one spelling

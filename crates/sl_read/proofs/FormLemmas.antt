@@ -1,12 +1,11 @@
 -- Names and bytes in hexadecimal.
-use Rattle.std.proofs.Common.{◌≡◌, ℕ, ◌+◌, ◌≤◌, List, [], ◌∷◌, ◌++◌, length, get_or, drop, Option, Some, None, Bool, true, false, ◌&&◌, nat_le, refl, sym, ap, subst, ◌∙◌, arith, append_assoc, append-nil}
-use Rattle.std.specs.Prelude.{option_map, option_and_then, MatchOption, if◌then◌else◌}
-use Rattle.std.specs.List.{list_all}
+use Rattle.std.proofs.Common.{◌≡◌, ℕ, ◌≤◌, List, [], ◌∷◌, ◌++◌, length, get_or, drop, Option, Some, None, Bool, true, false, nat_le, refl, sym, ap, subst, arith, append_assoc, append-nil}
+use Rattle.std.specs.Prelude.{option_map, if◌then◌else◌}
 use Rattle.std.proofs.lemmas.Bool.{and_parts, and_from}
 use Rattle.std.proofs.lemmas.Bool.Decides.{nat_tests}
 use Rattle.std.proofs.lemmas.Str.{IsUtf8-from_is_utf8, is_utf8-from_IsUtf8}
 use Rattle.std.specs.Str.{IsUtf8, is_utf8}
-use Rattle.sl_net.specs.Text.{IsName, is_name_byte}
+use Rattle.sl_net.specs.Text.{IsName}
 use Rattle.sl_read.specs.Forms.{is_name, name_of, byte_of, pairs_of}
 
 is_name_from : (text : List ℕ) → IsName text → is_name text ≡ true
@@ -65,14 +64,14 @@ pub ruleset pair_steps = (pairs_more, pairs_none, pairs_empty, pairs_odd, with_b
 
 -- Texts.
 
-not_text : (bs : List ℕ) → (IsUtf8 bs → ⊥) → is_utf8 bs ≡ false
+pub not_text : (bs : List ℕ) → (IsUtf8 bs → ⊥) → is_utf8 bs ≡ false
 not_text bs bad = by_test (is_utf8 bs) refl
   where
     by_test : (t : Bool) → is_utf8 bs ≡ t → is_utf8 bs ≡ false
     by_test true t = absurd (bad (IsUtf8-from_is_utf8 bs t))
     by_test false t = t
 
-is_text : (bs : List ℕ) → IsUtf8 bs → is_utf8 bs ≡ true
+pub is_text : (bs : List ℕ) → IsUtf8 bs → is_utf8 bs ≡ true
 is_text = is_utf8-from_IsUtf8
 
 pub ruleset texts = (not_text, is_text)

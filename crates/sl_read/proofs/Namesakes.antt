@@ -7,12 +7,11 @@ use Rattle.std.proofs.lemmas.Bool.{cases_lt}
 use Rattle.std.proofs.lemmas.List.{get_or-take}
 use Rattle.std.proofs.lemmas.List.Folds.{list_any_at}
 use Rattle.std.proofs.lemmas.Slice.Eq.{bytes_eq-Decides}
-use Rattle.sl_net.specs.declared.fault.NetFault.{NetFault}
 use Rattle.sl_net.specs.declared.parts.DevicePart.{DevicePart}
 use Rattle.sl_net.specs.declared.parts.HostPart.{HostPart}
 use Rattle.sl_net.specs.Text.{IsName}
 use Rattle.sl_net.specs.Parts.{Parts}
-use Rattle.sl_net.specs.Fault.{fault_of, first_clash, device_named, host_named}
+use Rattle.sl_net.specs.Fault.{fault_of, first_clash}
 use Rattle.sl_net.specs.Spelling.{device_name, host_name}
 use Rattle.sl_net.proofs.NetWired.{no-reason}
 use Rattle.sl_read.proofs.Texts.{at_map}
@@ -25,15 +24,16 @@ module _ {A : Type 0} where
   -- where nothing clashes, no element clashes with those before it
   no_clash : (clashes : List A → A → Bool) (before xs : List A) (j : ℕ) (d : A) → first_clash clashes before xs ≡ None → j < length xs → clashes (before ++ take j xs) (get_or xs j d) ≡ false
   no_clash clashes before [] j d h p = absurd (omega arith)
-  no_clash clashes before (x ∷ xs) j d h p = by_bool (clashes before x) refl h
+  no_clash clashes before (x ∷ xs) j d h p = by_bool (λ g k l. no_clash clashes (before ++ x ∷ []) xs k d g l) (clashes before x) refl h
     where
-      at_place : (k : ℕ) → k < length (x ∷ xs) → clashes before x ≡ false → first_clash clashes (before ++ x ∷ []) xs ≡ None → clashes (before ++ take k (x ∷ xs)) (get_or (x ∷ xs) k d) ≡ false
-      at_place zero p q h = ap (λ l. clashes l x) (append-nil before) ∙ q
-      at_place (suc k) p q h = ap (λ l. clashes l (get_or xs k d)) (sym (append_assoc before (x ∷ []) (take k xs))) ∙ no_clash clashes (before ++ x ∷ []) xs k d h (omega arith)
+      at_place : (k : ℕ) → k < length (x ∷ xs) → clashes before x ≡ false → ((k : ℕ) → k < length xs → clashes ((before ++ x ∷ []) ++ take k xs) (get_or xs k d) ≡ false) → clashes (before ++ take k (x ∷ xs)) (get_or (x ∷ xs) k d) ≡ false
+      at_place zero p q later = ap (λ l. clashes l x) (append-nil before) ∙ q
+      at_place (suc k) p q later = ap (λ l. clashes l (get_or xs k d)) (sym (append_assoc before (x ∷ []) (take k xs))) ∙ later k (omega arith)
 
-      by_bool : (b : Bool) → clashes before x ≡ b → (if b then Some (length before) else first_clash clashes (before ++ x ∷ []) xs) ≡ None → clashes (before ++ take j (x ∷ xs)) (get_or (x ∷ xs) j d) ≡ false
-      by_bool true q h = absurd (cc)
-      by_bool false q h = at_place j p q h
+      by_bool : (first_clash clashes (before ++ x ∷ []) xs ≡ None → (k : ℕ) → k < length xs → clashes ((before ++ x ∷ []) ++ take k xs) (get_or xs k d) ≡ false)
+          → (b : Bool) → clashes before x ≡ b → (if b then Some (length before) else first_clash clashes (before ++ x ∷ []) xs) ≡ None → clashes (before ++ take j (x ∷ xs)) (get_or (x ∷ xs) j d) ≡ false
+      by_bool later true q h = absurd (cc)
+      by_bool later false q h = at_place j p q (later h)
 
   module _ (name : A → List ℕ) where
     abbrev pub named : List A → A → Bool

@@ -1,7 +1,6 @@
 -- No two choices of a net have one spelling.
-use Rattle.std.proofs.Common.{◌≡◌, ℕ, zero, suc, ◌+◌, ◌-◌, ◌<◌, ◌≤◌, List, [], ◌∷◌, ◌++◌, length, get_or, map, Bool, true, false, Option, Some, None, refl, sym, ap, subst, ◌∙◌, arith, inl, inr, append_assoc}
-use Rattle.std.specs.Prelude.{◌⊎◌, codes, decimal, ◌==◌, if◌then◌else◌, nat_lt, flat_map, slice_get}
-use Rattle.std.proofs.lemmas.Bool.{cases_lt}
+use Rattle.std.proofs.Common.{◌≡◌, ℕ, ◌+◌, ◌<◌, List, [], ◌∷◌, ◌++◌, length, get_or, map, true, Option, Some, None, refl, sym, ap, subst, ◌∙◌, arith, append_assoc}
+use Rattle.std.specs.Prelude.{codes, decimal, ◌==◌, if◌then◌else◌, slice_get}
 use Rattle.std.proofs.lemmas.Fmt.{decimal_digit}
 use Rattle.sl_net.specs.declared.actor.ActorId.{ActorId}
 use Rattle.sl_net.specs.declared.actor.ActorId.TheVariants.{Observer, Control, Unit as OfUnit, Host as OfHost}
@@ -10,21 +9,16 @@ use Rattle.sl_net.specs.declared.actor.Side.TheVariants.{Ingress, Egress}
 use Rattle.sl_net.specs.declared.actor.UnitId.{UnitId}
 use Rattle.sl_net.specs.declared.actor.Sort.{Sort}
 use Rattle.sl_net.specs.declared.actor.Sort.TheVariants.{FromHost, ToHost, Cable, Crossbar, Init, Poll, Notice, Dump, Begin, Done}
-use Rattle.sl_net.specs.declared.actor.LinkPart.{LinkPart}
 use Rattle.sl_net.specs.declared.parts.PortRef.{PortRef}
 use Rattle.sl_net.specs.Parts.{Parts, below, host_at, other_end, used_ports, ports_of, is_used}
-use Rattle.sl_net.specs.Net.{net_of, actor_of, nobody, ingress, egress, units_of, actors_of, Incoming, incoming, unit_incoming, from_outside, from_host_or_cable, to_host, place_of, links_to, link_of, link_at, links_into, action_choice, no_link}
+use Rattle.sl_net.specs.Net.{nobody, ingress, egress, units_of, Incoming, incoming, unit_incoming, from_outside, from_host_or_cable, to_host}
 use Rattle.sl_net.specs.Valid.{IsValid}
 use Rattle.sl_net.specs.Roster.{IsActor}
-use Rattle.sl_net.specs.Spelling.{device_name, host_name, side_text, actor_text, sender_text, link_word, link_rest, link_text, action_text, choice_word, choice_text, choice_count}
-use Rattle.sl_net.proofs.Lists.{Each, each-append, each-map, each-flat, each-imp, each-below, each-of, each-at, each-index, inside}
-use Rattle.sl_net.proofs.Actors.{actor-at, place-at, each-actor, each-used}
+use Rattle.sl_net.specs.Spelling.{device_name, host_name, side_text, actor_text, sender_text, link_word, link_rest, link_text}
+use Rattle.sl_net.proofs.Lists.{Each, each-append, each-map, each-flat, each-imp, each-below}
+use Rattle.sl_net.proofs.Actors.{each-used}
 use Rattle.sl_net.proofs.EndKinds.{home}
-use Rattle.sl_net.proofs.Filters.{one-place}
-use Rattle.sl_net.proofs.Senders.{IsSender, each-sender}
-use Rattle.sl_net.proofs.Linked.{link_from, incoming-distinct}
-use Rattle.sl_net.proofs.NetWired.{into-links}
-use Rattle.sl_read.proofs.Texts.{Lacks, lacks_name, part_at, same_front, at_map}
+use Rattle.sl_read.proofs.Texts.{lacks_name, part_at, same_front, differ}
 use Rattle.sl_read.proofs.Namesakes.{HasNames}
 
 -- Numbers of ports are single digits.
@@ -43,8 +37,8 @@ same_digit p q r s h k e =
 same_side_text : (s t : Side) (p q : List ℕ) → side_text s ++ p ≡ side_text t ++ q → (s ≡ t) × (p ≡ q)
 same_side_text Ingress Ingress p q e = (refl, cc)
 same_side_text Egress Egress p q e = (refl, cc)
-same_side_text Ingress Egress p q e = absurd (cc)
-same_side_text Egress Ingress p q e = absurd (cc)
+same_side_text Ingress Egress p q e = absurd (differ 105 111 (ap (λ t. get_or t 0 0) e) refl)
+same_side_text Egress Ingress p q e = absurd (differ 111 105 (ap (λ t. get_or t 0 0) e) refl)
 
 same_unit : (u v : UnitId) → u.device ≡ v.device → u.port ≡ v.port → u.side ≡ v.side → OfUnit u ≡ OfUnit v
 same_unit u v d p s =
@@ -90,11 +84,11 @@ module _ (parts : Parts) (valid : IsValid parts) (names : HasNames parts) where
       let three = part_at 46 (device_name parts u.device) (device_name parts v.device) (decimal u.port ++ 32 ∷ r) (decimal v.port ++ 32 ∷ s)
           (lacks_name 46 (device_name parts u.device) refl (names.devices u.device h.0)) (lacks_name 46 (device_name parts v.device) refl (names.devices v.device k.0))
           (sym (after u r) ∙ two ∙ after v s) in
-      let four = same_digit u.port v.port (32 ∷ r) (32 ∷ s) (low_port u.device u.port h.1.0) (low_port v.device v.port k.1.0) three.1 in
+      let four = same_digit u.port v.port (32 ∷ r) (32 ∷ s) (low_port u.device u.port h.1) (low_port v.device v.port k.1) three.1 in
       (same_unit u v (names.one_device u.device v.device h.0 k.0 three.0) four.0 one.0, same_front (32 ∷ []) r s four.1)
 
   -- the actor that a text begins with, and what follows it
-  same_actor_text : (a b : ActorId) (r s : List ℕ) → IsActor parts a → IsActor parts b → actor_text parts a ++ 32 ∷ r ≡ actor_text parts b ++ 32 ∷ s → (a ≡ b) × (r ≡ s)
+  pub same_actor_text : (a b : ActorId) (r s : List ℕ) → IsActor parts a → IsActor parts b → actor_text parts a ++ 32 ∷ r ≡ actor_text parts b ++ 32 ∷ s → (a ≡ b) × (r ≡ s)
   same_actor_text Observer Observer r s h k e = (refl, same_front (codes "observer ") r s e)
   same_actor_text (Control d) (Control f) r s h k e =
       let t = part_at 32 (device_name parts d) (device_name parts f) r s (lacks_name 32 (device_name parts d) refl (names.devices d h)) (lacks_name 32 (device_name parts f) refl (names.devices f k))
@@ -105,18 +99,18 @@ module _ (parts : Parts) (valid : IsValid parts) (names : HasNames parts) where
       let t = part_at 32 (host_name parts i) (host_name parts j) r s (lacks_name 32 (host_name parts i) refl (names.hosts i h)) (lacks_name 32 (host_name parts j) refl (names.hosts j k))
           (same_front (codes "host ") (host_name parts i ++ 32 ∷ r) (host_name parts j ++ 32 ∷ s) e) in
       (ap OfHost (names.one_host i j h k t.0), t.1)
-  same_actor_text Observer (Control f) r s h k e = let z : 0 ≡ 1 = same_kind Observer (Control f) (32 ∷ r) (32 ∷ s) e in absurd (omega arith)
-  same_actor_text Observer (OfUnit v) r s h k e = let z : 0 ≡ 2 = same_kind Observer (OfUnit v) (32 ∷ r) (32 ∷ s) e in absurd (omega arith)
-  same_actor_text Observer (OfHost j) r s h k e = let z : 0 ≡ 3 = same_kind Observer (OfHost j) (32 ∷ r) (32 ∷ s) e in absurd (omega arith)
-  same_actor_text (Control d) Observer r s h k e = let z : 1 ≡ 0 = same_kind (Control d) Observer (32 ∷ r) (32 ∷ s) e in absurd (omega arith)
-  same_actor_text (Control d) (OfUnit v) r s h k e = let z : 1 ≡ 2 = same_kind (Control d) (OfUnit v) (32 ∷ r) (32 ∷ s) e in absurd (omega arith)
-  same_actor_text (Control d) (OfHost j) r s h k e = let z : 1 ≡ 3 = same_kind (Control d) (OfHost j) (32 ∷ r) (32 ∷ s) e in absurd (omega arith)
-  same_actor_text (OfUnit u) Observer r s h k e = let z : 2 ≡ 0 = same_kind (OfUnit u) Observer (32 ∷ r) (32 ∷ s) e in absurd (omega arith)
-  same_actor_text (OfUnit u) (Control f) r s h k e = let z : 2 ≡ 1 = same_kind (OfUnit u) (Control f) (32 ∷ r) (32 ∷ s) e in absurd (omega arith)
-  same_actor_text (OfUnit u) (OfHost j) r s h k e = let z : 2 ≡ 3 = same_kind (OfUnit u) (OfHost j) (32 ∷ r) (32 ∷ s) e in absurd (omega arith)
-  same_actor_text (OfHost i) Observer r s h k e = let z : 3 ≡ 0 = same_kind (OfHost i) Observer (32 ∷ r) (32 ∷ s) e in absurd (omega arith)
-  same_actor_text (OfHost i) (Control f) r s h k e = let z : 3 ≡ 1 = same_kind (OfHost i) (Control f) (32 ∷ r) (32 ∷ s) e in absurd (omega arith)
-  same_actor_text (OfHost i) (OfUnit v) r s h k e = let z : 3 ≡ 2 = same_kind (OfHost i) (OfUnit v) (32 ∷ r) (32 ∷ s) e in absurd (omega arith)
+  same_actor_text Observer (Control f) r s h k e = absurd (differ 0 1 (same_kind Observer (Control f) (32 ∷ r) (32 ∷ s) e) refl)
+  same_actor_text Observer (OfUnit v) r s h k e = absurd (differ 0 2 (same_kind Observer (OfUnit v) (32 ∷ r) (32 ∷ s) e) refl)
+  same_actor_text Observer (OfHost j) r s h k e = absurd (differ 0 3 (same_kind Observer (OfHost j) (32 ∷ r) (32 ∷ s) e) refl)
+  same_actor_text (Control d) Observer r s h k e = absurd (differ 1 0 (same_kind (Control d) Observer (32 ∷ r) (32 ∷ s) e) refl)
+  same_actor_text (Control d) (OfUnit v) r s h k e = absurd (differ 1 2 (same_kind (Control d) (OfUnit v) (32 ∷ r) (32 ∷ s) e) refl)
+  same_actor_text (Control d) (OfHost j) r s h k e = absurd (differ 1 3 (same_kind (Control d) (OfHost j) (32 ∷ r) (32 ∷ s) e) refl)
+  same_actor_text (OfUnit u) Observer r s h k e = absurd (differ 2 0 (same_kind (OfUnit u) Observer (32 ∷ r) (32 ∷ s) e) refl)
+  same_actor_text (OfUnit u) (Control f) r s h k e = absurd (differ 2 1 (same_kind (OfUnit u) (Control f) (32 ∷ r) (32 ∷ s) e) refl)
+  same_actor_text (OfUnit u) (OfHost j) r s h k e = absurd (differ 2 3 (same_kind (OfUnit u) (OfHost j) (32 ∷ r) (32 ∷ s) e) refl)
+  same_actor_text (OfHost i) Observer r s h k e = absurd (differ 3 0 (same_kind (OfHost i) Observer (32 ∷ r) (32 ∷ s) e) refl)
+  same_actor_text (OfHost i) (Control f) r s h k e = absurd (differ 3 1 (same_kind (OfHost i) (Control f) (32 ∷ r) (32 ∷ s) e) refl)
+  same_actor_text (OfHost i) (OfUnit v) r s h k e = absurd (differ 3 2 (same_kind (OfHost i) (OfUnit v) (32 ∷ r) (32 ∷ s) e) refl)
 
 -- Links.
 
@@ -139,12 +133,12 @@ sort_read Begin r = refl
 sort_read Done r = refl
 
 -- the first sender of a list
-abbrev front : List Incoming → ActorId
+abbrev pub front : List Incoming → ActorId
 front [] = nobody
 front (i ∷ is) = i.0
 
 -- the one actor that sends on a link of a sort to an actor, where there is one
-abbrev sole : Parts → ActorId → Sort → ActorId
+abbrev pub sole : Parts → ActorId → Sort → ActorId
 sole parts x Init = Control (home x)
 sole parts x Poll = Control (home x)
 sole parts (OfUnit u) FromHost = front (from_outside parts (record { device = u.device; port = u.port }))
@@ -153,31 +147,31 @@ sole parts (OfHost h) ToHost = front (incoming parts (OfHost h))
 sole parts x s = Observer
 
 -- a unit with one of the first eight ports of the device of an actor
-record IsOwn (x a : ActorId) : Type 0 where
+pub record IsOwn (x a : ActorId) : Type 0 where
   unit : UnitId
   device : unit.device ≡ home x
   port : unit.port < 8
   is : a ≡ OfUnit unit
 
-record IsPeer (x a : ActorId) : Type 0 where
+pub record IsPeer (x a : ActorId) : Type 0 where
   port : ℕ
   few : port < 8
   is : a ≡ ingress (home x) port
 
-record IsControl (parts : Parts) (a : ActorId) : Type 0 where
+pub record IsControl (parts : Parts) (a : ActorId) : Type 0 where
   device : ℕ
   within : device < length parts.devices
   is : a ≡ Control device
 
 -- who sends on a link of a sort to an actor
-abbrev Sends : Parts → ActorId → ActorId → Sort → Type 0
+abbrev pub Sends : Parts → ActorId → ActorId → Sort → Type 0
 Sends parts x a Done = IsControl parts a
 Sends parts x a Notice = IsOwn x a
 Sends parts x a Dump = IsOwn x a
 Sends parts x a Crossbar = IsPeer x a
 Sends parts x a s = a ≡ sole parts x s
 
-abbrev Known : Parts → ActorId → Incoming → Type 0
+abbrev pub Known : Parts → ActorId → Incoming → Type 0
 Known parts x i = Sends parts x i.0 i.1
 
 module _ (parts : Parts) (valid : IsValid parts) where
@@ -204,7 +198,7 @@ module _ (parts : Parts) (valid : IsValid parts) where
       (each-map (Known parts (egress d p)) (λ q. (ingress d q, Crossbar)) (used_ports parts d) (each-imp (λ q. q < 8) (λ q. IsPeer (egress d p) (ingress d q)) (used_ports parts d) (λ q h. record { port = q; few = h; is = refl }) (used_low d)))
       (refl, tt)
 
-  each_known : (x : ActorId) → Each (Known parts x) (incoming parts x)
+  pub each_known : (x : ActorId) → Each (Known parts x) (incoming parts x)
   each_known Observer = each-map (Known parts Observer) (λ d. (Control d, Done)) (below (length parts.devices))
       (each-below (λ d. IsControl parts (Control d)) (length parts.devices) (λ d h. record { device = d; within = h; is = refl }))
   each_known (Control d) = (
@@ -257,7 +251,7 @@ module _ (parts : Parts) (valid : IsValid parts) where
     one_sender x a b Begin h k e = h ∙ sym k
 
     -- one incoming link of an actor stands behind one text
-    one_incoming : (x : ActorId) (i j : Incoming) → Known parts x i → Known parts x j → link_text parts i.0 i.1 ≡ link_text parts j.0 j.1 → i ≡ j
+    pub one_incoming : (x : ActorId) (i j : Incoming) → Known parts x i → Known parts x j → link_text parts i.0 i.1 ≡ link_text parts j.0 j.1 → i ≡ j
     one_incoming x i j h k e =
         let s : i.1 ≡ j.1 = sym (sort_read i.1 (link_rest parts i.0 i.1)) ∙ ap sort_in e ∙ sort_read j.1 (link_rest parts j.0 j.1) in
         let r : link_rest parts i.0 i.1 ≡ link_rest parts j.0 i.1 = same_front (link_word i.1) (link_rest parts i.0 i.1) (link_rest parts j.0 i.1) (e ∙ ap (link_text parts j.0) (sym s)) in

@@ -1,5 +1,5 @@
 -- Texts of a list that are read from the front, and how many elements a list has.
-use Rattle.std.proofs.Common.{◌≡◌, ℕ, suc, ◌+◌, ◌<◌, List, [], ◌∷◌, ◌++◌, length, get_or, drop, Result, Ok, Err, refl, ap}
+use Rattle.std.proofs.Common.{◌≡◌, ℕ, suc, ◌+◌, ◌<◌, List, [], ◌∷◌, ◌++◌, length, get_or, drop, Ok, Err, refl, ap}
 use Rattle.toml.specs.View.{view, items_view}
 use Rattle.toml.specs.declared.value.Value.{Value}
 use Rattle.toml.proofs.Views.{items_view-drop}
@@ -7,7 +7,6 @@ use Rattle.sl_read.specs.declared.path.TableName.TheVariants.{Script}
 use Rattle.sl_read.specs.declared.path.Key.TheVariants.{Entries}
 use Rattle.sl_read.specs.declared.refusal.Refusal.{Refusal}
 use Rattle.sl_read.specs.Paths.{element}
-use Rattle.sl_read.specs.Refusals.{◌>>=◌}
 use Rattle.sl_read.specs.Fields.{text_at}
 use Rattle.sl_read.specs.Tables.{texts_of, count_items}
 use Rattle.sl_read.proofs.RowLemmas.{with_front, with_front_none, with_front_all, with_front_more}

@@ -1,7 +1,8 @@
 -- Texts that are parted at a byte, and names.
-use Rattle.std.proofs.Common.{◌≡◌, ℕ, ◌<◌, List, [], ◌∷◌, ◌++◌, length, get_or, map, zero, suc, Bool, true, false, refl, sym, ap, ◌∙◌, arith}
+use Rattle.std.proofs.Common.{◌≡◌, ℕ, ◌<◌, List, [], ◌∷◌, ◌++◌, length, get_or, map, zero, suc, true, false, refl, sym, ap, ◌∙◌, arith}
+use Rattle.std.specs.Prelude.{◌==◌}
 use Rattle.std.specs.List.{list_all}
-use Rattle.std.proofs.lemmas.Bool.{and_parts}
+use Rattle.std.proofs.lemmas.Bool.{and_parts, eq-eqb}
 use Rattle.sl_net.specs.Text.{IsName, is_name_byte}
 
 -- the byte doesn't stand in the text
@@ -37,3 +38,7 @@ pub at_map : {A B : Type 0} (f : A → B) (xs : List A) (i : ℕ) (d : A) (e : B
 at_map f [] i d e h = absurd (omega arith)
 at_map f (x ∷ xs) zero d e h = refl
 at_map f (x ∷ xs) (suc i) d e h = at_map f xs i d e (omega arith)
+
+-- two numbers that are told apart are not one
+pub differ : (m n : ℕ) → m ≡ n → (m == n) ≡ false → ⊥
+differ m n e h = let z : true ≡ false = sym (eq-eqb m n e) ∙ h in cc

@@ -1,5 +1,5 @@
 -- The shape of the input: the top table, and then each table in order.
-use Rattle.std.specs.Prelude.{Result, Ok, Err}
+use Rattle.std.specs.Prelude.{Result, Ok}
 use Rattle.toml.specs.Data.{Members}
 use Rattle.sl_read.specs.declared.path.TableName.TheVariants.{Top}
 use Rattle.sl_read.specs.declared.path.Key.TheVariants.{Device, Cable, Host, Flow, Raw}

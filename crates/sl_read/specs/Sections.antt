@@ -1,5 +1,5 @@
 -- The top table.
-use Rattle.std.specs.Prelude.{List, [], ◌∷◌, Option, Some, None, option_map, Result, Ok, Err}
+use Rattle.std.specs.Prelude.{[], ◌∷◌, Option, option_map, Result, Ok}
 use Rattle.toml.specs.Data.{Items, Members}
 use Rattle.toml.specs.View.{items_view, table_view}
 use Rattle.sl_read.specs.declared.path.TableName.TheVariants.{Top}

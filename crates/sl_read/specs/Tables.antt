@@ -1,10 +1,9 @@
 -- The tables of the input, one after the other: in each the keys that it may have, then each key in
 -- order, with its kind, its form and its range.
 use Rattle.std.specs.Prelude.{ℕ, suc, pos, ◌+◌, ◌-◌, ◌^◌, nat_lt, if◌then◌else◌, List, [], ◌∷◌, Option, Some, None, Result, Ok, Err}
-use Rattle.toml.specs.Data.{Data, Items, no_items, item, Members}
+use Rattle.toml.specs.Data.{Items, no_items, item, Members}
 use Rattle.sl_net.specs.declared.parts.DevicePart.{DevicePart}
 use Rattle.sl_net.specs.declared.input.Snapshot.{Snapshot}
-use Rattle.sl_read.specs.declared.path.TableName.{TableName}
 use Rattle.sl_read.specs.declared.path.TableName.TheVariants as table
 use Rattle.sl_read.specs.declared.path.Key.TheVariants.{Name, Ports, A, B, At, Bits, Window, Ring, Count, Retries, Seed, Cable, Crossbar, Init, Notice, Drop, Link, N, From, To, Bytes, Hops, Hex, Entries}
 use Rattle.sl_read.specs.declared.refusal.Refusal.{Refusal}

@@ -22,6 +22,8 @@ mod rows;
 mod script;
 mod snapshot;
 mod spelling;
+#[cfg(test)]
+mod tests;
 mod top;
 
 pub use fault::InputFault;

@@ -1,5 +1,5 @@
-use Rattle.std.proofs.Common.{◌≡◌, ℕ, ◌+◌, ◌++◌, ◌∷◌, [], length, get_or, drop, Some, sym, ap, ◌∙◌, arith, length-append, length-drop}
-use Rattle.sl_read.specs.Forms.{byte_of, pairs_of}
+use Rattle.std.proofs.Common.{◌≡◌, ◌++◌, ◌∷◌, [], length, get_or, drop, Some, sym, ap, ◌∙◌, arith, length-append, length-drop}
+use Rattle.sl_read.specs.Forms.{byte_of}
 use Rattle.sl_read.proofs.FormLemmas.{pairs_more}
 use Rattle.sl_read.proofs.forms.pairs_of.Goals as goal
 

@@ -82,8 +82,8 @@ module _ (parts : Parts) (valid : IsValid parts) (names : HasNames parts) where
       let one = same_side_text u.side v.side (rest u ++ 32 ∷ r) (rest v ++ 32 ∷ s) (sym (append_assoc (side_text u.side) (rest u) (32 ∷ r)) ∙ e ∙ append_assoc (side_text v.side) (rest v) (32 ∷ s)) in
       let two : (device_name parts u.device ++ (codes "." ++ decimal u.port)) ++ 32 ∷ r ≡ (device_name parts v.device ++ (codes "." ++ decimal v.port)) ++ 32 ∷ s = same_front (codes " ") _ _ one.1 in
       let three = part_at 46 (device_name parts u.device) (device_name parts v.device) (decimal u.port ++ 32 ∷ r) (decimal v.port ++ 32 ∷ s)
-          (lacks_name 46 (device_name parts u.device) refl (names.devices u.device h.0)) (lacks_name 46 (device_name parts v.device) refl (names.devices v.device k.0))
-          (sym (after u r) ∙ two ∙ after v s) in
+      (lacks_name 46 (device_name parts u.device) refl (names.devices u.device h.0)) (lacks_name 46 (device_name parts v.device) refl (names.devices v.device k.0))
+      (sym (after u r) ∙ two ∙ after v s) in
       let four = same_digit u.port v.port (32 ∷ r) (32 ∷ s) (low_port u.device u.port h.1) (low_port v.device v.port k.1) three.1 in
       (same_unit u v (names.one_device u.device v.device h.0 k.0 three.0) four.0 one.0, same_front (32 ∷ []) r s four.1)
 
@@ -92,12 +92,12 @@ module _ (parts : Parts) (valid : IsValid parts) (names : HasNames parts) where
   same_actor_text Observer Observer r s h k e = (refl, same_front (codes "observer ") r s e)
   same_actor_text (Control d) (Control f) r s h k e =
       let t = part_at 32 (device_name parts d) (device_name parts f) r s (lacks_name 32 (device_name parts d) refl (names.devices d h)) (lacks_name 32 (device_name parts f) refl (names.devices f k))
-          (same_front (codes "control ") (device_name parts d ++ 32 ∷ r) (device_name parts f ++ 32 ∷ s) e) in
+      (same_front (codes "control ") (device_name parts d ++ 32 ∷ r) (device_name parts f ++ 32 ∷ s) e) in
       (ap Control (names.one_device d f h k t.0), t.1)
   same_actor_text (OfUnit u) (OfUnit v) r s h k e = same_units u v r s h k e
   same_actor_text (OfHost i) (OfHost j) r s h k e =
       let t = part_at 32 (host_name parts i) (host_name parts j) r s (lacks_name 32 (host_name parts i) refl (names.hosts i h)) (lacks_name 32 (host_name parts j) refl (names.hosts j k))
-          (same_front (codes "host ") (host_name parts i ++ 32 ∷ r) (host_name parts j ++ 32 ∷ s) e) in
+      (same_front (codes "host ") (host_name parts i ++ 32 ∷ r) (host_name parts j ++ 32 ∷ s) e) in
       (ap OfHost (names.one_host i j h k t.0), t.1)
   same_actor_text Observer (Control f) r s h k e = absurd (differ 0 1 (same_kind Observer (Control f) (32 ∷ r) (32 ∷ s) e) refl)
   same_actor_text Observer (OfUnit v) r s h k e = absurd (differ 0 2 (same_kind Observer (OfUnit v) (32 ∷ r) (32 ∷ s) e) refl)

@@ -100,12 +100,7 @@ pub fn required_number(
 }
 
 /// The number at a key, or 0 where the key is absent.
-pub fn optional_number(
-    table: &Table,
-    at: TableName,
-    key: Key,
-    high: u64,
-) -> Result<u64, Refusal>
+pub fn optional_number(table: &Table, at: TableName, key: Key, high: u64) -> Result<u64, Refusal>
     ensures exact { result ≡ optional_number at key high (table_view table.now) }
     ensures high { IfOk result (λ n. n ≤ high) }
 {

@@ -8,11 +8,11 @@ ghost use Rattle.sl_read.specs.Inputs.{built, packets, few_packets, losses, net_
 use crate::choices::{place_drops, read_entries};
 use crate::document::{Document, read_document};
 use crate::fault::{InputFault, fault_of};
+use crate::listed::Listed;
+use crate::loss::LossRow;
 use crate::places::{place_flows, place_parts, place_raws};
 use crate::refusal::{ReadError, Refusal};
 use crate::spelling::one_spelling;
-use crate::listed::Listed;
-use crate::loss::LossRow;
 use sl_net::{Drop1, Flow, HostPart, Input, LossSpec, Net, NetFault, Parts, RawPart, Script1};
 use std::alloc::Global;
 use toml::Table;
@@ -118,11 +118,7 @@ struct Traffic {
 }
 
 #[tactic(auto, unfolding(crate::specs::Inputs::traffic_in))]
-fn traffic_in(
-    alloc: Global,
-    hosts: &[HostPart],
-    document: &Document,
-) -> Result<Traffic, ReadError>
+fn traffic_in(alloc: Global, hosts: &[HostPart], document: &Document) -> Result<Traffic, ReadError>
     ensures { Answers result (traffic_in hosts.now document.now) }
 {
     let flows = place_flows(alloc, hosts, document.flows.as_slice())?;

@@ -26,13 +26,7 @@ pub fn read_snapshot(table: &Table) -> Result<Snapshot, Refusal>
     let at = TableName::Snapshot;
     only(
         at,
-        &[
-            Key::Bits,
-            Key::Window,
-            Key::Ring,
-            Key::Count,
-            Key::Retries,
-        ],
+        &[Key::Bits, Key::Window, Key::Ring, Key::Count, Key::Retries],
         table,
     )?;
     let bits = required_number(table, at, Key::Bits, 1, 8)?;

@@ -5,11 +5,14 @@ use std::alloc::Global;
 use std::test::Fail;
 
 const DEVICE: &str = "device = [{name = \"a\", ports = 2}]\n";
+
 const HOSTS: &str = "host = [{name = \"h0\", at = \"a.0\"}, {name = \"h1\", at = \"a.1\"}]\n";
+
 const FLOW: &str = "flow = [{from = \"h0\", to = \"h1\", count = 3, bytes = 100, hops = 8}]\n";
+
 const SNAPSHOT: &str = "snapshot = {bits = 2, window = 3, ring = 3, count = 1, retries = 0}\n";
 
-/// A text that ends with 16 copies of a piece for each of so many.
+/// A text with a piece so many times between its front and its end.
 fn repeated(
     alloc: Global,
     before: &str,
@@ -76,7 +79,10 @@ const ALONE: [(&str, &str); 39] = [
     ("colour = 1", "I4 top"),
     ("device = 1\ncolour = 1", "I4 top"),
     ("colour = 9223372036854775808", "I2"),
-    ("device = [{name = \"a\", ports = -9223372036854775809}]", "I2"),
+    (
+        "device = [{name = \"a\", ports = -9223372036854775809}]",
+        "I2",
+    ),
     ("device = []\ndevice = []", "I2"),
     ("device = []", "I3 snapshot"),
     ("device = []\nloss = 1", "I3 snapshot"),
@@ -90,23 +96,62 @@ const ALONE: [(&str, &str); 39] = [
     ("device = []\nsnapshot = {}\nflow = {}", "I5 flow"),
     ("device = []\nsnapshot = {}\nflow = [true]", "I5 flow.0"),
     ("device = []\nsnapshot = {}\nraw = 1.5", "I5 raw"),
-    ("device = []\nsnapshot = {}\nraw = [{}, {}, \"x\"]", "I5 raw.2"),
+    (
+        "device = []\nsnapshot = {}\nraw = [{}, {}, \"x\"]",
+        "I5 raw.2",
+    ),
     ("device = []\nsnapshot = {}\nscript = []", "I5 script"),
     ("device = [{}]\nsnapshot = {}", "I3 device.0.name"),
     ("device = [{name = 1}]\nsnapshot = {}", "I5 device.0.name"),
-    ("device = [{name = \"\"}]\nsnapshot = {}", "I5 device.0.name"),
-    ("device = [{name = \"A\"}]\nsnapshot = {}", "I5 device.0.name"),
-    ("device = [{name = \"a-b\"}]\nsnapshot = {}", "I5 device.0.name"),
-    ("device = [{name = \"abcdefghijklmnop_\"}]\nsnapshot = {}", "I5 device.0.name"),
-    ("device = [{name = \"abcdefghijklmno_\"}]\nsnapshot = {}", "I3 device.0.ports"),
-    ("device = [{name = \"a\", ports = \"2\"}]\nsnapshot = {}", "I5 device.0.ports"),
-    ("device = [{name = \"a\", ports = 2.0}]\nsnapshot = {}", "I5 device.0.ports"),
-    ("device = [{name = \"a\", ports = -1}]\nsnapshot = {}", "I6 device.0.ports -1"),
-    ("device = [{name = \"a\", ports = 65536}]\nsnapshot = {}", "I6 device.0.ports 65536"),
-    ("device = [{name = \"a\", ports = 65535}]\nsnapshot = {}", "I3 snapshot.bits"),
+    (
+        "device = [{name = \"\"}]\nsnapshot = {}",
+        "I5 device.0.name",
+    ),
+    (
+        "device = [{name = \"A\"}]\nsnapshot = {}",
+        "I5 device.0.name",
+    ),
+    (
+        "device = [{name = \"a-b\"}]\nsnapshot = {}",
+        "I5 device.0.name",
+    ),
+    (
+        "device = [{name = \"abcdefghijklmnop_\"}]\nsnapshot = {}",
+        "I5 device.0.name",
+    ),
+    (
+        "device = [{name = \"abcdefghijklmno_\"}]\nsnapshot = {}",
+        "I3 device.0.ports",
+    ),
+    (
+        "device = [{name = \"a\", ports = \"2\"}]\nsnapshot = {}",
+        "I5 device.0.ports",
+    ),
+    (
+        "device = [{name = \"a\", ports = 2.0}]\nsnapshot = {}",
+        "I5 device.0.ports",
+    ),
+    (
+        "device = [{name = \"a\", ports = -1}]\nsnapshot = {}",
+        "I6 device.0.ports -1",
+    ),
+    (
+        "device = [{name = \"a\", ports = 65536}]\nsnapshot = {}",
+        "I6 device.0.ports 65536",
+    ),
+    (
+        "device = [{name = \"a\", ports = 65535}]\nsnapshot = {}",
+        "I3 snapshot.bits",
+    ),
     ("device = [{colour = 1}]\nsnapshot = {}", "I4 device.0"),
-    ("device = [{name = \"a\", ports = 2}, {name = 1, colour = 1}]\nsnapshot = {}", "I4 device.1"),
-    ("device = [{}, {colour = 1}]\nsnapshot = {}", "I3 device.0.name"),
+    (
+        "device = [{name = \"a\", ports = 2}, {name = 1, colour = 1}]\nsnapshot = {}",
+        "I4 device.1",
+    ),
+    (
+        "device = [{}, {colour = 1}]\nsnapshot = {}",
+        "I3 device.0.name",
+    ),
 ];
 
 /// Texts that are refused after a device of two ports.
@@ -121,14 +166,26 @@ const WITH_DEVICE: [(&str, &str); 34] = [
     ("cable = [{a = \"a.65536\"}]\nsnapshot = {}", "I5 cable.0.a"),
     ("cable = [{a = \".1\"}]\nsnapshot = {}", "I5 cable.0.a"),
     ("cable = [{a = \"a.1.1\"}]\nsnapshot = {}", "I5 cable.0.a"),
-    ("cable = [{a = \"x.65535\", b = 1}]\nsnapshot = {}", "I5 cable.0.b"),
+    (
+        "cable = [{a = \"x.65535\", b = 1}]\nsnapshot = {}",
+        "I5 cable.0.b",
+    ),
     ("cable = [{a = 1, c = 1}]\nsnapshot = {}", "I4 cable.0"),
     ("host = [{}]\nsnapshot = {}", "I3 host.0.name"),
     ("host = [{name = \"h0\"}]\nsnapshot = {}", "I3 host.0.at"),
-    ("host = [{name = \"h0\", at = 1}]\nsnapshot = {}", "I5 host.0.at"),
-    ("host = [{name = \"h0\", at = \"a.0\"}, {name = \"H\"}]\nsnapshot = {}", "I5 host.1.name"),
+    (
+        "host = [{name = \"h0\", at = 1}]\nsnapshot = {}",
+        "I5 host.0.at",
+    ),
+    (
+        "host = [{name = \"h0\", at = \"a.0\"}, {name = \"H\"}]\nsnapshot = {}",
+        "I5 host.1.name",
+    ),
     ("host = [{port = 1}]\nsnapshot = {}", "I4 host.0"),
-    ("host = [{name = \"h0\", at = \"x.0\"}]\nsnapshot = {}", "I3 snapshot.bits"),
+    (
+        "host = [{name = \"h0\", at = \"x.0\"}]\nsnapshot = {}",
+        "I3 snapshot.bits",
+    ),
     ("snapshot = {}\nloss = {colour = 1}", "I3 snapshot.bits"),
     ("snapshot = {bits = \"2\"}", "I5 snapshot.bits"),
     ("snapshot = {bits = 0}", "I6 snapshot.bits 0"),
@@ -136,15 +193,39 @@ const WITH_DEVICE: [(&str, &str); 34] = [
     ("snapshot = {bits = 2, ring = 9}", "I3 snapshot.window"),
     ("snapshot = {bits = 2, window = 0}", "I6 snapshot.window 0"),
     ("snapshot = {bits = 2, window = 4}", "I6 snapshot.window 4"),
-    ("snapshot = {bits = 8, window = 255, ring = 256}", "I3 snapshot.count"),
+    (
+        "snapshot = {bits = 8, window = 255, ring = 256}",
+        "I3 snapshot.count",
+    ),
     ("snapshot = {bits = 2, window = 3}", "I3 snapshot.ring"),
-    ("snapshot = {bits = 2, window = 3, ring = 2}", "I6 snapshot.ring 2"),
-    ("snapshot = {bits = 2, window = 3, ring = 5}", "I6 snapshot.ring 5"),
-    ("snapshot = {bits = 2, window = 3, ring = 4, count = 1001}", "I6 snapshot.count 1001"),
-    ("snapshot = {bits = 2, window = 3, ring = 4, count = 1000, retries = 101}", "I6 snapshot.retries 101"),
-    ("snapshot = {bits = 2, window = 3, ring = 4, count = 1, retries = -1}", "I6 snapshot.retries -1"),
-    ("snapshot = {bits = 2, window = 3, ring = 4, count = 1, retries = true}", "I5 snapshot.retries"),
-    ("snapshot = {bits = 2, window = 4, colour = 1}", "I4 snapshot"),
+    (
+        "snapshot = {bits = 2, window = 3, ring = 2}",
+        "I6 snapshot.ring 2",
+    ),
+    (
+        "snapshot = {bits = 2, window = 3, ring = 5}",
+        "I6 snapshot.ring 5",
+    ),
+    (
+        "snapshot = {bits = 2, window = 3, ring = 4, count = 1001}",
+        "I6 snapshot.count 1001",
+    ),
+    (
+        "snapshot = {bits = 2, window = 3, ring = 4, count = 1000, retries = 101}",
+        "I6 snapshot.retries 101",
+    ),
+    (
+        "snapshot = {bits = 2, window = 3, ring = 4, count = 1, retries = -1}",
+        "I6 snapshot.retries -1",
+    ),
+    (
+        "snapshot = {bits = 2, window = 3, ring = 4, count = 1, retries = true}",
+        "I5 snapshot.retries",
+    ),
+    (
+        "snapshot = {bits = 2, window = 4, colour = 1}",
+        "I4 snapshot",
+    ),
 ];
 
 /// Texts that are refused after a device, two hosts and the snapshots.
@@ -162,19 +243,46 @@ const WITH_NET: [(&str, &str); 61] = [
     ("loss = {drop = [{}]}", "I3 loss.drop.0.link"),
     ("loss = {drop = [{link = 1}]}", "I5 loss.drop.0.link"),
     ("loss = {drop = [{link = \"\"}]}", "I3 loss.drop.0.n"),
-    ("loss = {drop = [{link = \"\", n = 0}]}", "I6 loss.drop.0.n 0"),
-    ("loss = {drop = [{link = \"\", n = 1000000001}]}", "I6 loss.drop.0.n 1000000001"),
-    ("loss = {drop = [{link = \"\", count = 1}]}", "I4 loss.drop.0"),
-    ("loss = {drop = [{link = \"x\", n = 1}]}\nflow = [{}]", "I3 flow.0.from"),
+    (
+        "loss = {drop = [{link = \"\", n = 0}]}",
+        "I6 loss.drop.0.n 0",
+    ),
+    (
+        "loss = {drop = [{link = \"\", n = 1000000001}]}",
+        "I6 loss.drop.0.n 1000000001",
+    ),
+    (
+        "loss = {drop = [{link = \"\", count = 1}]}",
+        "I4 loss.drop.0",
+    ),
+    (
+        "loss = {drop = [{link = \"x\", n = 1}]}\nflow = [{}]",
+        "I3 flow.0.from",
+    ),
     ("flow = [{from = \"h0\"}]", "I3 flow.0.to"),
     ("flow = [{from = \"H\", to = 1}]", "I5 flow.0.from"),
     ("flow = [{from = \"h0\", to = \"a.0\"}]", "I5 flow.0.to"),
     ("flow = [{from = \"h0\", to = \"h1\"}]", "I3 flow.0.count"),
-    ("flow = [{from = \"h0\", to = \"h1\", count = 20001}]", "I6 flow.0.count 20001"),
-    ("flow = [{from = \"h0\", to = \"h1\", count = 20000, bytes = 65536}]", "I6 flow.0.bytes 65536"),
-    ("flow = [{from = \"h0\", to = \"h1\", count = 0, bytes = 65535, hops = 256}]", "I6 flow.0.hops 256"),
-    ("flow = [{from = \"h0\", to = \"h1\", count = 0, bytes = 0, hops = \"8\"}]", "I5 flow.0.hops"),
-    ("flow = [{from = \"h0\", to = \"h1\", count = 0, bytes = 0}]", "I3 flow.0.hops"),
+    (
+        "flow = [{from = \"h0\", to = \"h1\", count = 20001}]",
+        "I6 flow.0.count 20001",
+    ),
+    (
+        "flow = [{from = \"h0\", to = \"h1\", count = 20000, bytes = 65536}]",
+        "I6 flow.0.bytes 65536",
+    ),
+    (
+        "flow = [{from = \"h0\", to = \"h1\", count = 0, bytes = 65535, hops = 256}]",
+        "I6 flow.0.hops 256",
+    ),
+    (
+        "flow = [{from = \"h0\", to = \"h1\", count = 0, bytes = 0, hops = \"8\"}]",
+        "I5 flow.0.hops",
+    ),
+    (
+        "flow = [{from = \"h0\", to = \"h1\", count = 0, bytes = 0}]",
+        "I3 flow.0.hops",
+    ),
     ("flow = [{from = 1, hop = 1}]", "I4 flow.0"),
     ("raw = [{}]", "I3 raw.0.from"),
     ("raw = [{from = \"h0\"}]", "I3 raw.0.hex"),
@@ -182,8 +290,14 @@ const WITH_NET: [(&str, &str); 61] = [
     ("raw = [{from = \"h0\", hex = \"0\"}]", "I5 raw.0.hex"),
     ("raw = [{from = \"h0\", hex = \"0g\"}]", "I5 raw.0.hex"),
     ("raw = [{from = \"h0\", hex = \"0A\"}]", "I5 raw.0.hex"),
-    ("raw = [{from = \"h0\", hex = \"00\", to = \"h1\"}]", "I4 raw.0"),
-    ("raw = [{from = \"h2\", hex = \"00\"}]\nscript = {}", "I3 script.entries"),
+    (
+        "raw = [{from = \"h0\", hex = \"00\", to = \"h1\"}]",
+        "I4 raw.0",
+    ),
+    (
+        "raw = [{from = \"h2\", hex = \"00\"}]\nscript = {}",
+        "I3 script.entries",
+    ),
     ("script = {colour = 1}", "I4 script"),
     ("script = {entries = \"pass 1\"}", "I5 script.entries"),
     ("script = {entries = [\"x\", 2]}", "I5 script.entries.1"),
@@ -193,60 +307,124 @@ const WITH_NET: [(&str, &str); 61] = [
     ("cable = [{a = \"a.0\", b = \"a.0\"}]", "I9 N5(0)"),
     ("cable = [{a = \"a.0\", b = \"a.2\"}]", "I9 N4(Cable(0))"),
     ("cable = [{a = \"a.0\", b = \"a.1\"}]", "I9 N7(0)"),
-    ("cable = [{a = \"a.0\", b = \"a.2\"}]\nflow = [{from = \"x\", to = \"y\", count = 0, bytes = 0, hops = 0}]", "I9 N4(Cable(0))"),
-    ("flow = [{from = \"x\", to = \"y\", count = 0, bytes = 0, hops = 0}]", "I7 flow.0.from"),
-    ("flow = [{from = \"h0\", to = \"hx\", count = 0, bytes = 0, hops = 0}]\nraw = [{from = \"x\", hex = \"\"}]", "I7 flow.0.to"),
-    ("raw = [{from = \"h0\", hex = \"\"}, {from = \"x\", hex = \"\"}]\nloss = {drop = [{link = \"x\", n = 1}]}", "I7 raw.1.from"),
-    ("loss = {drop = [{link = \"x\", n = 1}]}\nscript = {entries = [\"x\"]}", "I7 loss.drop.0.link"),
-    ("loss = {drop = [{link = \"in a.0 init\", n = 1}, {link = \"in a.0 host\", n = 1}]}", "I7 loss.drop.1.link"),
-    ("loss = {drop = [{link = \"control a sweep\", n = 1}]}", "I7 loss.drop.0.link"),
-    ("loss = {drop = [{link = \"in  a.0 init\", n = 1}]}", "I7 loss.drop.0.link"),
-    ("script = {entries = [\"observer issue\", \"in a.99 host\"]}", "I8 1"),
+    (
+        "cable = [{a = \"a.0\", b = \"a.2\"}]\nflow = [{from = \"x\", to = \"y\", count = 0, bytes = 0, hops = 0}]",
+        "I9 N4(Cable(0))",
+    ),
+    (
+        "flow = [{from = \"x\", to = \"y\", count = 0, bytes = 0, hops = 0}]",
+        "I7 flow.0.from",
+    ),
+    (
+        "flow = [{from = \"h0\", to = \"hx\", count = 0, bytes = 0, hops = 0}]\nraw = [{from = \"x\", hex = \"\"}]",
+        "I7 flow.0.to",
+    ),
+    (
+        "raw = [{from = \"h0\", hex = \"\"}, {from = \"x\", hex = \"\"}]\nloss = {drop = [{link = \"x\", n = 1}]}",
+        "I7 raw.1.from",
+    ),
+    (
+        "loss = {drop = [{link = \"x\", n = 1}]}\nscript = {entries = [\"x\"]}",
+        "I7 loss.drop.0.link",
+    ),
+    (
+        "loss = {drop = [{link = \"in a.0 init\", n = 1}, {link = \"in a.0 host\", n = 1}]}",
+        "I7 loss.drop.1.link",
+    ),
+    (
+        "loss = {drop = [{link = \"control a sweep\", n = 1}]}",
+        "I7 loss.drop.0.link",
+    ),
+    (
+        "loss = {drop = [{link = \"in  a.0 init\", n = 1}]}",
+        "I7 loss.drop.0.link",
+    ),
+    (
+        "script = {entries = [\"observer issue\", \"in a.99 host\"]}",
+        "I8 1",
+    ),
     ("script = {entries = [\"observer  issue\"]}", "I8 0"),
     ("script = {entries = [\"control a dump:in.00\"]}", "I8 0"),
     ("script = {entries = [\"pass 0\"]}", "I8 0"),
     ("script = {entries = [\"pass 01\"]}", "I8 0"),
     ("script = {entries = [\"pass 10001\"]}", "I8 0"),
     ("script = {entries = [\"pass\"]}", "I8 0"),
-    ("script = {entries = [\"pass 9999\", \"host h0 inject\", \"pass 1\", \"pass 1\"]}", "I8 3"),
-    ("script = {entries = [\"pass 5000\", \"pass 5001\", \"x\"]}", "I8 1"),
+    (
+        "script = {entries = [\"pass 9999\", \"host h0 inject\", \"pass 1\", \"pass 1\"]}",
+        "I8 3",
+    ),
+    (
+        "script = {entries = [\"pass 5000\", \"pass 5001\", \"x\"]}",
+        "I8 1",
+    ),
 ];
 
 /// Texts that are refused before the snapshots.
 const BEFORE_SNAPSHOT: [(&str, &str); 9] = [
     ("device = []\n", "I9 N1"),
-    ("device = [{name = \"a\", ports = 0}, {name = \"a\", ports = 9}]\n", "I9 N3(0)"),
-    ("device = [{name = \"a\", ports = 2}, {name = \"b\", ports = 9}]\n", "I9 N3(1)"),
-    ("device = [{name = \"a\", ports = 2}]\nhost = [{name = \"h0\", at = \"a.2\"}]\n", "I9 N4(Host(0))"),
-    ("device = [{name = \"a\", ports = 2}]\nhost = [{name = \"h0\", at = \"x.2\"}]\n", "I7 host.0.at"),
-    ("device = [{name = \"a\", ports = 1}, {name = \"a\", ports = 2}]\ncable = [{a = \"a.0\", b = \"a.1\"}]\n", "I9 N4(Cable(0))"),
-    ("device = [{name = \"a\", ports = 2}, {name = \"a\", ports = 2}]\n", "I9 N8(Device(1))"),
-    ("device = [{name = \"a\", ports = 2}]\nhost = [{name = \"h0\", at = \"a.0\"}, {name = \"h0\", at = \"a.1\"}]\n", "I9 N8(Host(1))"),
-    ("device = [{name = \"a\", ports = 2}]\nhost = [{name = \"h0\", at = \"a.0\"}, {name = \"h0\", at = \"a.0\"}]\n", "I9 N7(1)"),
+    (
+        "device = [{name = \"a\", ports = 0}, {name = \"a\", ports = 9}]\n",
+        "I9 N3(0)",
+    ),
+    (
+        "device = [{name = \"a\", ports = 2}, {name = \"b\", ports = 9}]\n",
+        "I9 N3(1)",
+    ),
+    (
+        "device = [{name = \"a\", ports = 2}]\nhost = [{name = \"h0\", at = \"a.2\"}]\n",
+        "I9 N4(Host(0))",
+    ),
+    (
+        "device = [{name = \"a\", ports = 2}]\nhost = [{name = \"h0\", at = \"x.2\"}]\n",
+        "I7 host.0.at",
+    ),
+    (
+        "device = [{name = \"a\", ports = 1}, {name = \"a\", ports = 2}]\ncable = [{a = \"a.0\", b = \"a.1\"}]\n",
+        "I9 N4(Cable(0))",
+    ),
+    (
+        "device = [{name = \"a\", ports = 2}, {name = \"a\", ports = 2}]\n",
+        "I9 N8(Device(1))",
+    ),
+    (
+        "device = [{name = \"a\", ports = 2}]\nhost = [{name = \"h0\", at = \"a.0\"}, {name = \"h0\", at = \"a.1\"}]\n",
+        "I9 N8(Host(1))",
+    ),
+    (
+        "device = [{name = \"a\", ports = 2}]\nhost = [{name = \"h0\", at = \"a.0\"}, {name = \"h0\", at = \"a.0\"}]\n",
+        "I9 N7(1)",
+    ),
 ];
 
-fn refused(rt: &HostRuntime, before: &[&str], text: &str, after: &str, fault: &str) -> Result<(), Fail> {
-    let alloc = rt.alloc();
+fn refused(
+    alloc: Global,
+    before: &[&str],
+    text: &str,
+    after: &str,
+    fault: &str,
+) -> Result<bool, Fail> {
     let front = joined(alloc, before)?;
     let input = joined(alloc, &[front.as_str(), text, after])?;
-    let said = told(alloc, input.as_bytes())?;
-    assert_eq!(rt; said.as_str(), fault);
-    Ok(())
+    Ok(told(alloc, input.as_bytes())?.as_str() == fault)
 }
 
 #[test]
 fn refusals(rt: HostRuntime) -> Result<(), Fail> {
+    let alloc = rt.alloc();
     for (text, fault) in ALONE {
-        refused(&rt, &[], text, "", fault)?;
+        assert!(rt; refused(alloc, &[], text, "", fault)?, "{text}");
     }
     for (text, fault) in WITH_DEVICE {
-        refused(&rt, &[DEVICE], text, "", fault)?;
+        assert!(rt; refused(alloc, &[DEVICE], text, "", fault)?, "{text}");
     }
     for (text, fault) in WITH_NET {
-        refused(&rt, &[DEVICE, HOSTS, SNAPSHOT], text, "", fault)?;
+        assert!(rt;
+            refused(alloc, &[DEVICE, HOSTS, SNAPSHOT], text, "", fault)?,
+            "{text}"
+        );
     }
     for (text, fault) in BEFORE_SNAPSHOT {
-        refused(&rt, &[], text, SNAPSHOT, fault)?;
+        assert!(rt; refused(alloc, &[], text, SNAPSHOT, fault)?, "{text}");
     }
     Ok(())
 }
@@ -254,34 +432,48 @@ fn refusals(rt: HostRuntime) -> Result<(), Fail> {
 #[test]
 fn long_refusals(rt: HostRuntime) -> Result<(), Fail> {
     let alloc = rt.alloc();
+    let net: [&str; 3] = [DEVICE, HOSTS, SNAPSHOT];
     let drops = repeated(alloc, "loss = {drop = [", "{link = 1},", 1001, "]}")?;
-    refused(&rt, &[DEVICE, HOSTS, SNAPSHOT], drops.as_str(), "", "I6 loss.drop 1001")?;
     let mixed = repeated(alloc, "loss = {drop = [", "{link = 1},", 1001, "2]}")?;
-    refused(&rt, &[DEVICE, HOSTS, SNAPSHOT], mixed.as_str(), "", "I5 loss.drop.1001")?;
-    let devices = repeated(alloc, "device = [", "{name = \"a\", ports = 9},", 65, "]\n")?;
-    refused(&rt, &[], devices.as_str(), SNAPSHOT, "I9 N2(65)")?;
-    let hosts = repeated(alloc, "host = [", "{name = \"h\", at = \"a.0\"},", 129, "]\n")?;
-    refused(&rt, &[DEVICE], hosts.as_str(), SNAPSHOT, "I9 N6(129)")?;
     let hex = repeated(alloc, "raw = [{from = \"h0\", hex = \"", "00", 65, "\"}]")?;
-    refused(&rt, &[DEVICE, HOSTS, SNAPSHOT], hex.as_str(), "", "I5 raw.0.hex")?;
     let most = "{from = \"h0\", to = \"h1\", count = 20000, bytes = 0, hops = 8},";
-    let flows = repeated(alloc, "flow = [", most, 10, "]\nraw = [{from = \"h0\", hex = \"\"}]")?;
-    refused(&rt, &[DEVICE, HOSTS, SNAPSHOT], flows.as_str(), "", "I10 200001")?;
-    refused(
-        &rt,
-        &[DEVICE, HOSTS, SNAPSHOT, flows.as_str()],
-        "\nscript = {entries = [\"x\"]}",
-        "",
-        "I8 0",
+    let flows = repeated(alloc, "flow = [", most, 10, "]\n")?;
+    let raw = "raw = [{from = \"h0\", hex = \"\"}]\n";
+    let above = joined(alloc, &[flows.as_str(), raw])?;
+    let entry = joined(alloc, &[above.as_str(), "script = {entries = [\"x\"]}"])?;
+    let cases: [(&str, &str); 6] = [
+        (drops.as_str(), "I6 loss.drop 1001"),
+        (mixed.as_str(), "I5 loss.drop.1001"),
+        (hex.as_str(), "I5 raw.0.hex"),
+        (flows.as_str(), "accepted"),
+        (above.as_str(), "I10 200001"),
+        (entry.as_str(), "I8 0"),
+    ];
+    for (text, fault) in cases {
+        assert!(rt; refused(alloc, &net, text, "", fault)?, "{fault}");
+    }
+    let devices = repeated(alloc, "device = [", "{name = \"a\", ports = 9},", 65, "]\n")?;
+    assert!(rt; refused(alloc, &[], devices.as_str(), SNAPSHOT, "I9 N2(65)")?);
+    let hosts = repeated(
+        alloc,
+        "host = [",
+        "{name = \"h\", at = \"a.0\"},",
+        129,
+        "]\n",
     )?;
-    let all = repeated(alloc, "flow = [", most, 10, "]\n")?;
-    refused(&rt, &[DEVICE, HOSTS, SNAPSHOT], all.as_str(), "", "accepted")
+    assert!(rt; refused(alloc, &[DEVICE], hosts.as_str(), SNAPSHOT, "I9 N6(129)")?);
+    Ok(())
 }
 
 #[test]
 fn bytes_that_are_no_text(rt: HostRuntime) -> Result<(), Fail> {
     let alloc = rt.alloc();
-    let cases: [&[u8]; 4] = [b"\xff", b"# \xc0\xaf\n", b"# \xed\xa0\x80\n", b"device = [\x00]"];
+    let cases: [&[u8]; 4] = [
+        b"\xff",
+        b"# \xc0\xaf\n",
+        b"# \xed\xa0\x80\n",
+        b"device = [\x00]",
+    ];
     for bytes in cases {
         assert_eq!(rt; told(alloc, bytes)?.as_str(), "I2");
     }
@@ -321,7 +513,7 @@ fn three_packets(rt: HostRuntime) -> Result<(), Fail> {
         bytes: 100,
         hops: 8,
     };
-    assert_eq!(rt; input.flows.as_slice(), &[flow]);
+    assert_eq!(rt; input.flows.as_slice(), [flow].as_slice());
     let snapshot = Snapshot {
         width: 2,
         window: 3,
@@ -392,8 +584,8 @@ fn each_table(rt: HostRuntime) -> Result<(), Fail> {
             n: 1_000_000_000,
         },
     ];
-    assert_eq!(rt; input.loss.drops.as_slice(), &drops);
-    assert_eq!(rt; input.raws[0].bytes.items.as_slice(), &[0, 255]);
+    assert_eq!(rt; input.loss.drops.as_slice(), drops.as_slice());
+    assert_eq!(rt; input.raws[0].bytes.items.as_slice(), [0, 255].as_slice());
     let script: [Script1; 3] = [
         Script1::Pass(10_000),
         Script1::Choice {
@@ -405,6 +597,6 @@ fn each_table(rt: HostRuntime) -> Result<(), Fail> {
             choice: 2,
         },
     ];
-    assert_eq!(rt; input.script.as_slice(), &script);
+    assert_eq!(rt; input.script.as_slice(), script.as_slice());
     Ok(())
 }

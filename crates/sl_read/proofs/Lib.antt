@@ -1,0 +1,11 @@
+pub mod FieldLemmas
+pub mod FormLemmas
+pub mod RowLemmas
+pub mod TextLemmas
+pub mod EachLemmas
+pub mod ScriptLemmas
+pub mod Texts
+pub mod Namesakes
+pub mod Spellings
+pub mod OneChoice
+pub mod Apart

@@ -1,0 +1,11 @@
+pub mod Paths
+pub mod Refusals
+pub mod Fields
+pub mod Forms
+pub mod Rows
+pub mod Tables
+pub mod Sections
+pub mod Documents
+pub mod Places
+pub mod Choices
+pub mod Inputs

@@ -1,0 +1,26 @@
+// Devices.
+use crate::fields::{only, required_number};
+use crate::forms::required_name;
+use crate::path::{Key, TableName};
+use crate::refusal::ReadError;
+use crate::rows::Row;
+use sl_net::DevicePart;
+use std::alloc::Global;
+use toml::Table;
+
+impl Row for DevicePart {
+    ghost use Rattle.sl_read.specs.Tables.{device_of};
+
+    ghost row_of = { device_of };
+
+    fn read(alloc: Global, index: u64, table: &Table) -> Result<DevicePart, ReadError> {
+        let at = TableName::Device(index);
+        only(at, &[Key::Name, Key::Ports], table)?;
+        let name = required_name(alloc, table, at, Key::Name)?;
+        let ports = required_number(table, at, Key::Ports, 0, 65_535)?;
+        Ok(DevicePart {
+            name,
+            ports: ports as u32,
+        })
+    }
+}

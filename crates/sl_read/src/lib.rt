@@ -1,0 +1,30 @@
+// The input: a TOML document read as a network, its snapshots, losses, traffic and script, or the
+// first reason why it is none.
+#![tactic(auto)]
+
+mod cable;
+mod choices;
+mod device;
+mod document;
+mod fault;
+mod fields;
+mod flow;
+mod forms;
+mod host;
+mod listed;
+mod loss;
+mod path;
+mod places;
+mod raw;
+mod read;
+mod refusal;
+mod rows;
+mod script;
+mod snapshot;
+mod spelling;
+#[cfg(test)]
+mod tests;
+mod top;
+
+pub use fault::InputFault;
+pub use read::read_input;

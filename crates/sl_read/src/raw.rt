@@ -1,0 +1,30 @@
+// Raw frames, by the names of their hosts.
+use crate::fields::only;
+use crate::forms::{required_hex, required_name};
+use crate::path::{Key, TableName};
+use crate::refusal::ReadError;
+use crate::rows::Row;
+use sl_net::{Bytes, Name};
+use std::alloc::Global;
+use toml::Table;
+
+/// A frame that a host sends as it stands.
+#[derive(Drop)]
+pub struct RawRow {
+    pub from: Name,
+    pub bytes: Bytes,
+}
+
+impl Row for RawRow {
+    ghost use Rattle.sl_read.specs.Tables.{raw_of};
+
+    ghost row_of = { raw_of };
+
+    fn read(alloc: Global, index: u64, table: &Table) -> Result<RawRow, ReadError> {
+        let at = TableName::Raw(index);
+        only(at, &[Key::From, Key::Hex], table)?;
+        let from = required_name(alloc, table, at, Key::From)?;
+        let bytes = required_hex(alloc, table, at, Key::Hex)?;
+        Ok(RawRow { from, bytes })
+    }
+}

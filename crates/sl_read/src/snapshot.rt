@@ -1,0 +1,45 @@
+// The table of the snapshots.
+ghost use Rattle.std.specs.Prelude.{◌≡◌, ◌^◌, ◌≤◌};
+ghost use Rattle.toml.specs.View.{table_view};
+ghost use Rattle.sl_read.specs.Tables.{snapshot_of};
+
+use crate::fields::{only, optional_number, required_number};
+use crate::path::{Key, TableName};
+use crate::refusal::Refusal;
+use sl_net::Snapshot;
+use toml::Table;
+
+/// How many wrapped ids there are.
+fn modulus(bits: u64) -> u64
+    requires { bits ≤ 8 }
+    ensures value { result ≡ 2 ^ bits }
+    ensures most { result ≤ 256 }
+    ensures some { 1 ≤ result }
+{
+    1u64 << bits
+}
+
+/// Reads the table of the snapshots.
+pub fn read_snapshot(table: &Table) -> Result<Snapshot, Refusal>
+    ensures { result ≡ snapshot_of (table_view table.now) }
+{
+    let at = TableName::Snapshot;
+    only(
+        at,
+        &[Key::Bits, Key::Window, Key::Ring, Key::Count, Key::Retries],
+        table,
+    )?;
+    let bits = required_number(table, at, Key::Bits, 1, 8)?;
+    let ids = modulus(bits);
+    let window = required_number(table, at, Key::Window, 1, ids - 1)?;
+    let ring = required_number(table, at, Key::Ring, window, ids)?;
+    let count = required_number(table, at, Key::Count, 0, 1000)?;
+    let retries = optional_number(table, at, Key::Retries, 100)?;
+    Ok(Snapshot {
+        width: bits as u8,
+        window: window as u16,
+        ring: ring as u16,
+        count,
+        retries,
+    })
+}

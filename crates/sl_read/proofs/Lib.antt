@@ -9,3 +9,4 @@ pub mod Namesakes
 pub mod Spellings
 pub mod OneChoice
 pub mod Apart
+pub mod Ranges

@@ -9,3 +9,4 @@ pub mod Documents
 pub mod Places
 pub mod Choices
 pub mod Inputs
+pub mod Ranges

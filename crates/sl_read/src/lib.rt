@@ -11,6 +11,7 @@ mod fields;
 mod flow;
 mod forms;
 mod host;
+mod laws;
 mod listed;
 mod loss;
 mod path;
@@ -27,4 +28,5 @@ mod tests;
 mod top;
 
 pub use fault::InputFault;
+pub use laws::inputs_are_in_range;
 pub use read::read_input;

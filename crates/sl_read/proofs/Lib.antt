@@ -9,4 +9,6 @@ pub mod Namesakes
 pub mod Spellings
 pub mod OneChoice
 pub mod Apart
+pub mod Steps
 pub mod Ranges
+pub mod Settled

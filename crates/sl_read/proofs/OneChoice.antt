@@ -32,7 +32,7 @@ listed : (net : Net) (a c : ℕ) → HasChoice net a c → Member (a, c) (choice
 listed net a c h = member-flat (λ a. map (λ c. (a, c)) (below (choice_count net a))) a (a, c) (below (length net.actors)) (member-from a 0 (length net.actors) (omega arith) (omega (arith, h.actor)))
     (member-map (λ c. (a, c)) c (below (choice_count net a)) (member-from c 0 (choice_count net a) (omega arith) (omega (arith, h.choice))))
 
-each_has : (net : Net) → Each (λ (p : ℕ × ℕ). HasChoice net p.0 p.1) (choices net)
+pub each_has : (net : Net) → Each (λ (p : ℕ × ℕ). HasChoice net p.0 p.1) (choices net)
 each_has net = each-flat (λ (p : ℕ × ℕ). HasChoice net p.0 p.1) (λ a. map (λ c. (a, c)) (below (choice_count net a))) (below (length net.actors))
     (each-below (λ a. Each (λ (p : ℕ × ℕ). HasChoice net p.0 p.1) (map (λ c. (a, c)) (below (choice_count net a)))) (length net.actors)
     (λ a h. each-map (λ (p : ℕ × ℕ). HasChoice net p.0 p.1) (λ c. (a, c)) (below (choice_count net a)) (each-below (λ c. HasChoice net a c) (choice_count net a) (λ c k. record { actor = h; choice = k }))))

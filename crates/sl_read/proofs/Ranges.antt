@@ -1,282 +1,149 @@
--- Accepted inputs are in range.
-use Rattle.std.proofs.Common.{◌≡◌, ℕ, ◌+◌, ◌≤◌, List, [], ◌∷◌, length, Bool, true, false, Option, Some, None, Result, Ok, Err, refl, subst, arith}
-use Rattle.std.specs.Prelude.{ℤ, pos, negsuc, ◌-◌, ◌^◌, nat_le, nat_lt, ◌<◌, ◌&&◌, if◌then◌else◌, bytes_eq, option_and_then}
-use Rattle.std.specs.List.{All}
-use Rattle.std.proofs.lemmas.Bool.{and_parts, leb-true}
-use Rattle.std.proofs.lemmas.List.Elements.{All-cons}
-use Rattle.std.proofs.lemmas.List.Quantifiers.{position-Some}
-use Rattle.toml.specs.Data.{Data, integer, Members}
-use Rattle.toml.specs.Parse.{parse_document}
-use Rattle.sl_net.specs.declared.fault.NetFault.{NetFault}
-use Rattle.sl_net.specs.declared.input.Flow.{Flow}
+-- What the tables say is within its ranges.
+use Rattle.std.proofs.Common.{◌≡◌, ℕ, suc, ◌+◌, ◌-◌, ◌<◌, ◌≤◌, ◌^◌, List, [], ◌∷◌, length, Bool, true, false, Option, Some, None, Ok, refl, subst, arith}
+use Rattle.std.specs.Prelude.{nat_lt, if◌then◌else◌, option_map}
+use Rattle.std.proofs.lemmas.Bool.{ltb-false}
+use Rattle.toml.specs.Data.{Items, Members}
+use Rattle.sl_net.proofs.Lists.{Each}
 use Rattle.sl_net.specs.declared.input.Snapshot.{Snapshot}
-use Rattle.sl_net.specs.declared.parts.HostPart.{HostPart}
-use Rattle.sl_net.specs.Parts.{Parts}
-use Rattle.sl_net.specs.Fault.{fault_of}
-use Rattle.sl_net.specs.Net.{Net, net_of}
-use Rattle.sl_net.specs.Wired.{IsNet}
-use Rattle.sl_net.specs.declared.parts.DevicePart.{DevicePart}
-use Rattle.sl_net.specs.declared.input.RawPart.{RawPart}
-use Rattle.sl_net.specs.declared.input.Drop1.{Drop1}
-use Rattle.sl_net.specs.declared.input.Script1.{Script1}
-use Rattle.sl_net.specs.Input.{Input}
-use Rattle.sl_net.proofs.Checked.{few_hosts}
-use Rattle.sl_net.proofs.NetWired.{no-reason}
-use Rattle.sl_read.specs.declared.cable.CableRow.{CableRow}
-use Rattle.sl_read.specs.declared.host.HostRow.{HostRow}
-use Rattle.sl_read.specs.declared.raw.RawRow.{RawRow}
-use Rattle.sl_read.specs.declared.loss.LossRow.{LossRow}
-use Rattle.sl_read.specs.Sections.{Sections, sections_of}
-use Rattle.sl_read.specs.Rows.{rows}
-use Rattle.sl_read.specs.Choices.{drop_part, entries_of}
-use Rattle.sl_read.specs.declared.path.TableName.{TableName}
-use Rattle.sl_read.specs.declared.path.TableName.TheVariants as table
 use Rattle.sl_read.specs.declared.path.TableName.TheVariants.{Top}
-use Rattle.sl_read.specs.declared.path.Key.{Key}
-use Rattle.sl_read.specs.declared.path.Key.TheVariants.{Device, Cable, Host, Flow as FlowKey, Raw, From, To, Bits, Window, Ring, Count, Retries}
-use Rattle.sl_read.specs.declared.path.Path.{Path}
-use Rattle.sl_read.specs.Paths.{at}
-use Rattle.sl_read.specs.declared.refusal.Refusal.TheVariants.{Range, TooLong}
+use Rattle.sl_read.specs.declared.path.TableName.TheVariants as table
+use Rattle.sl_read.specs.declared.path.Key.TheVariants.{Device, Cable, Host, Flow, Raw, Bits, Window, Ring, Count, Retries, Seed, Crossbar, Init, Notice, Drop, Link, N, From, To, Bytes, Hops, Hex}
 use Rattle.sl_read.specs.declared.flow.FlowRow.{FlowRow}
+use Rattle.sl_read.specs.declared.raw.RawRow.{RawRow}
+use Rattle.sl_read.specs.declared.loss.DropRow.{DropRow}
+use Rattle.sl_read.specs.declared.loss.LossRow.{LossRow}
 use Rattle.sl_read.specs.declared.document.Document.{Document}
-use Rattle.sl_read.specs.declared.read.Traffic.{Traffic}
-use Rattle.sl_read.specs.declared.read.Contents.{Contents}
-use Rattle.sl_read.specs.declared.refusal.Refusal.{Refusal}
-use Rattle.sl_read.specs.Refusals.{◌>>=◌}
-use Rattle.sl_read.specs.Fields.{only, get_key, in_range, number, required, required_number, optional_number}
-use Rattle.sl_read.specs.Tables.{device_of, cable_of, host_of, snapshot_of, any_loss_of, flow_of, raw_of, any_script_of}
-use Rattle.sl_read.specs.Documents.{document_of, walk_of}
-use Rattle.sl_read.specs.Places.{each, known, host_place, parts_of, flow_part, raw_part}
-use Rattle.sl_read.specs.Inputs.{built, unless_refused, few_packets, losses, net_in, traffic_in, contents_in, settled, tables_of, parsed, text_of, reading_of, numbered, input_of}
-use Rattle.sl_read.specs.Ranges.{HasHosts, IsInRange}
+use Rattle.sl_read.specs.Accepted.{IsSnapshot}
+use Rattle.sl_read.specs.Paths.{at}
+use Rattle.sl_read.specs.Fields.{only, required_text, required_form}
+use Rattle.sl_read.specs.Rows.{optional_tables, rows}
+use Rattle.sl_read.specs.Forms.{name_of, byte_of, pairs_of, hex_of}
+use Rattle.sl_read.specs.Tables.{device_of, cable_of, host_of, any_script_of, snapshot_of, drop_of, count_items, few_drops, drops_at, loss_of, any_loss_of, flow_of, raw_of}
+use Rattle.sl_read.specs.Sections.{Sections, sections_of}
+use Rattle.sl_read.specs.Documents.{walk_of, document_of}
+use Rattle.sl_read.proofs.Steps.{bind_ok, same_ok, not_held, and_then_some, map_some, same_some, formed_ok, number_then, option_then, rows_ok}
 
--- What a step that goes well keeps.
+snapshot_ok : (ms : Members) (s : Snapshot) → snapshot_of ms ≡ Ok s → IsSnapshot s
+snapshot_ok ms s h =
+    let a = bind_ok (only table.Snapshot (Bits ∷ Window ∷ Ring ∷ Count ∷ Retries ∷ []) ms) _ s h in
+    let bits = number_then table.Snapshot Bits 1 8 ms _ s a.2 in
+    let window = number_then table.Snapshot Window 1 (2 ^ bits.0 - 1) ms _ s bits.3 in
+    let ring = number_then table.Snapshot Ring window.0 (2 ^ bits.0) ms _ s window.3 in
+    let count = number_then table.Snapshot Count 0 1000 ms _ s ring.3 in
+    let retries = option_then table.Snapshot Retries 100 ms _ s count.3 in
+    let few : window.0 < 2 ^ bits.0 = omega (arith, window.1, window.2) in
+    subst IsSnapshot (same_ok _ s retries.2)
+    (record { some_bits = bits.1; few_bits = bits.2; some_window = window.1; few_window = few; some_ring = ring.1; few_ring = ring.2; count = count.2; retries = retries.1 })
 
-abbrev Has : {A : Type 0} → (A → Type 0) → Result A Refusal → Type 0
-Has P (Ok x) = P x
-Has P (Err r) = Unit {0}
+pub record IsDropRow (d : DropRow) : Type 0 where
+  pub some : 1 ≤ d.n
+  pub most : d.n ≤ 1000000000
 
-next-ok : {A B : Type 0} (Q : A → Type 0) (P : B → Type 0) (m : Result A Refusal) (f : A → Result B Refusal) → Has Q m → ((x : A) → Q x → Has P (f x)) → Has P (m >>= f)
-next-ok Q P (Ok x) f q keeps = keeps x q
-next-ok Q P (Err r) f q keeps = tt
+drop_ok : (i : ℕ) (ms : Members) (d : DropRow) → drop_of i ms ≡ Ok d → IsDropRow d
+drop_ok i ms d h =
+    let a = bind_ok (only (table.Drop i) (Link ∷ N ∷ []) ms) _ d h in
+    let link = bind_ok (required_text (table.Drop i) Link ms) _ d a.2 in
+    let n = number_then (table.Drop i) N 1 1000000000 ms _ d link.2 in
+    subst IsDropRow (same_ok _ d n.3) (record { some = n.1; most = n.2 })
 
-abbrev Any : {A : Type 0} → A → Type 0
-Any x = Unit {0}
+pub record IsLossRow (l : LossRow) : Type 0 where
+  pub seed : l.seed < 2 ^ 63
+  pub cable : l.cable ≤ 1000
+  pub crossbar : l.crossbar ≤ 1000
+  pub init : l.init ≤ 1000
+  pub notice : l.notice ≤ 1000
+  pub few : length l.drops ≤ 1000
+  pub drops : Each IsDropRow l.drops
 
-any : {A : Type 0} (m : Result A Refusal) → Has Any m
-any (Ok x) = tt
-any (Err r) = tt
+few_ok : (ds es : Items) → few_drops ds ≡ Ok es → count_items es ≤ 1000
+few_ok ds es h =
+    let t = not_held (nat_lt 1000 (count_items ds)) _ ds es h in
+    subst (λ es. count_items es ≤ 1000) t.1 (ltb-false 1000 (count_items ds) t.0)
 
-each-has : {A B : Type 0} (f : ℕ → A → Result B Refusal) (P : B → Type 0) → ((i : ℕ) (x : A) → Has P (f i x)) → (i : ℕ) (xs : List A) → Has (λ ys. All P ys) (each f i xs)
-each-has f P keeps i [] = λ k d h. absurd (omega (arith, h))
-each-has {A} {B} f P keeps i (x ∷ xs) = next-ok P (λ ys. All P ys) (f i x) (λ y. each f (i + 1) xs >>= (λ ys. Ok (y ∷ ys))) (keeps i x)
-    (λ y p. next-ok (λ ys. All P ys) (λ ys. All P ys) (each f (i + 1) xs) (λ ys. Ok (y ∷ ys)) (each-has f P keeps (i + 1) xs) (λ ys q. All-cons P y ys p q))
+loss_ok : (ms : Members) (l : LossRow) → loss_of ms ≡ Ok l → IsLossRow l
+loss_ok ms l h =
+    let a = bind_ok (only table.Loss (Seed ∷ Cable ∷ Crossbar ∷ Init ∷ Notice ∷ Drop ∷ []) ms) _ l h in
+    let seed = option_then table.Loss Seed 9223372036854775807 ms _ l a.2 in
+    let cable = option_then table.Loss Cable 1000 ms _ l seed.2 in
+    let crossbar = option_then table.Loss Crossbar 1000 ms _ l cable.2 in
+    let init = option_then table.Loss Init 1000 ms _ l crossbar.2 in
+    let notice = option_then table.Loss Notice 1000 ms _ l init.2 in
+    let tables = bind_ok (drops_at ms) _ l notice.2 in
+    let drops = bind_ok (rows table.Loss Drop drop_of 0 tables.0) _ l tables.2 in
+    let listed = bind_ok (optional_tables table.Loss Drop ms) few_drops tables.0 tables.1 in
+    let few = few_ok listed.0 tables.0 listed.2 in
+    let r = rows_ok table.Loss Drop drop_of IsDropRow drop_ok 0 tables.0 drops.0 drops.1 in
+    let low : seed.0 < 2 ^ 63 = omega (arith, seed.1) in
+    let short : length drops.0 ≤ 1000 = omega (arith, few, r.1) in
+    subst IsLossRow (same_ok _ l drops.2) (record { seed = low; cable = cable.1; crossbar = crossbar.1; init = init.1; notice = notice.1; few = short; drops = r.0 })
 
--- Hosts.
+any_loss_ok : (o : Option Members) (l : LossRow) → any_loss_of o ≡ Ok l → IsLossRow l
+any_loss_ok None l h = subst IsLossRow (same_ok (record { seed = 0; cable = 0; crossbar = 0; init = 0; notice = 0; drops = [] }) l h) (record { seed = omega arith; cable = omega arith; crossbar = omega arith; init = omega arith; notice = omega arith; few = omega arith; drops = tt })
+any_loss_ok (Some ms) l h = loss_ok ms l h
 
-host-within : (hosts : List HostPart) (name : List ℕ) (p : Path) → Has (λ x. x < length hosts) (known p (host_place hosts name))
-host-within hosts name p = go (host_place hosts name) refl
+pub record IsFlowRow (f : FlowRow) : Type 0 where
+  pub count : f.count ≤ 20000
+  pub bytes : f.bytes < 2 ^ 16
+  pub hops : f.hops < 2 ^ 8
+
+flow_ok : (i : ℕ) (ms : Members) (f : FlowRow) → flow_of i ms ≡ Ok f → IsFlowRow f
+flow_ok i ms f h =
+    let a = bind_ok (only (table.Flow i) (From ∷ To ∷ Count ∷ Bytes ∷ Hops ∷ []) ms) _ f h in
+    let from = bind_ok (required_form name_of (table.Flow i) From ms) _ f a.2 in
+    let to = bind_ok (required_form name_of (table.Flow i) To ms) _ f from.2 in
+    let count = number_then (table.Flow i) Count 0 20000 ms _ f to.2 in
+    let bytes = number_then (table.Flow i) Bytes 0 65535 ms _ f count.3 in
+    let hops = number_then (table.Flow i) Hops 0 255 ms _ f bytes.3 in
+    let low : bytes.0 < 2 ^ 16 = omega (arith, bytes.2) in
+    let few : hops.0 < 2 ^ 8 = omega (arith, hops.2) in
+    subst IsFlowRow (same_ok _ f hops.3) (record { count = count.2; bytes = low; hops = few })
+
+pairs_short : (text bytes : List ℕ) → pairs_of text ≡ Some bytes → length bytes + length bytes ≡ length text
+pairs_short [] bytes h = let e : [] ≡ bytes = same_some [] bytes h in subst (λ b. length b + length b ≡ 0) e refl
+pairs_short (x ∷ []) bytes h = absurd (cc)
+pairs_short (x ∷ y ∷ text) bytes h =
+    let a = and_then_some (λ byte. option_map (λ bytes. byte ∷ bytes) (pairs_of text)) (byte_of x y) bytes h in
+    let b = map_some (λ bytes. a.0 ∷ bytes) (pairs_of text) bytes a.2 in
+    let ih = pairs_short text b.0 b.1 in
+    subst (λ l. length l + length l ≡ suc (suc (length text))) b.2 (omega (arith, ih))
+
+hex_short : (text bytes : List ℕ) → hex_of text ≡ Some bytes → length bytes ≤ 64
+hex_short text bytes h = by_test (nat_lt 128 (length text)) refl h
   where
-    go : (o : Option ℕ) → host_place hosts name ≡ o → Has (λ x. x < length hosts) (known p o)
-    go None e = tt
-    go (Some x) e = (position-Some (λ h. bytes_eq h.name name) hosts x (record { name = []; at = record { device = 0; port = 0 } }) e).0
+    by_test : (b : Bool) → nat_lt 128 (length text) ≡ b → (if b then None else pairs_of text) ≡ Some bytes → length bytes ≤ 64
+    by_test true q h = absurd (cc)
+    by_test false q h = omega (arith, ltb-false 128 (length text) q, pairs_short text bytes h)
 
-flow-hosts : (hosts : List HostPart) (i : ℕ) (row : FlowRow) → Has (HasHosts (length hosts)) (flow_part hosts i row)
-flow-hosts hosts i row = next-ok (λ x. x < length hosts) (HasHosts (length hosts)) (known (at (table.Flow i) From) (host_place hosts row.from))
-    (λ from. known (at (table.Flow i) To) (host_place hosts row.to) >>= (λ to. Ok (record { from = from; to = to; count = row.count; bytes = row.bytes; hops = row.hops })))
-    (host-within hosts row.from (at (table.Flow i) From))
-    (λ from f. next-ok (λ x. x < length hosts) (HasHosts (length hosts)) (known (at (table.Flow i) To) (host_place hosts row.to))
-    (λ to. Ok (record { from = from; to = to; count = row.count; bytes = row.bytes; hops = row.hops }))
-    (host-within hosts row.to (at (table.Flow i) To)) (λ to t. record { from = f; to = t }))
+raw_ok : (i : ℕ) (ms : Members) (r : RawRow) → raw_of i ms ≡ Ok r → length r.bytes ≤ 64
+raw_ok i ms r h =
+    let a = bind_ok (only (table.Raw i) (From ∷ Hex ∷ []) ms) _ r h in
+    let from = bind_ok (required_form name_of (table.Raw i) From ms) _ r a.2 in
+    let bytes = bind_ok (required_form hex_of (table.Raw i) Hex ms) _ r from.2 in
+    let text = bind_ok (required_text (table.Raw i) Hex ms) _ bytes.0 bytes.1 in
+    let short = hex_short text.0 bytes.0 (formed_ok (at (table.Raw i) Hex) (hex_of text.0) bytes.0 text.2) in
+    subst (λ (r : RawRow). length r.bytes ≤ 64) (same_ok _ r bytes.2) short
 
--- The window.
+pub record IsDocument (d : Document) : Type 0 where
+  pub snapshot : IsSnapshot d.snapshot
+  pub loss : IsLossRow d.loss
+  pub flows : Each IsFlowRow d.flows
+  pub raws : Each (λ (r : RawRow). length r.bytes ≤ 64) d.raws
 
-range-least : (p : Path) (low high : ℕ) (z : ℤ) → Has (λ n. low ≤ n) (in_range p low high z)
-range-least p low high (pos k) = by_test (nat_le low k && nat_le k high) refl
-  where
-    by_test : (b : Bool) → (nat_le low k && nat_le k high) ≡ b → Has (λ n. low ≤ n) (if b then Ok k else Err (Range p (pos k)))
-    by_test true q = leb-true low k (and_parts (nat_le low k) (nat_le k high) q).0
-    by_test false q = tt
-range-least p low high (negsuc k) = tt
+walk_ok : (s : Sections) (d : Document) → walk_of s ≡ Ok d → IsDocument d
+unfolding walk_of
+walk_ok s d h =
+    let devices = bind_ok (rows Top Device device_of 0 s.devices) _ d h in
+    let cables = bind_ok (rows Top Cable cable_of 0 s.cables) _ d devices.2 in
+    let hosts = bind_ok (rows Top Host host_of 0 s.hosts) _ d cables.2 in
+    let snapshot = bind_ok (snapshot_of s.snapshot) _ d hosts.2 in
+    let loss = bind_ok (any_loss_of s.loss) _ d snapshot.2 in
+    let flows = bind_ok (rows Top Flow flow_of 0 s.flows) _ d loss.2 in
+    let raws = bind_ok (rows Top Raw raw_of 0 s.raws) _ d flows.2 in
+    let script = bind_ok (any_script_of s.script) _ d raws.2 in
+    let f = rows_ok Top Flow flow_of IsFlowRow flow_ok 0 s.flows flows.0 flows.1 in
+    let r = rows_ok Top Raw raw_of (λ (r : RawRow). length r.bytes ≤ 64) raw_ok 0 s.raws raws.0 raws.1 in
+    subst IsDocument (same_ok _ d script.2) (record { snapshot = snapshot_ok s.snapshot snapshot.0 snapshot.1; loss = any_loss_ok s.loss loss.0 loss.1; flows = f.0; raws = r.0 })
 
-number-least : (p : Path) (low high : ℕ) (d : Data) → Has (λ n. low ≤ n) (number p low high d)
-number-least p low high (integer z) = range-least p low high z
-number-least p low high _ = tt
-
-required-least : (t : TableName) (k : Key) (low high : ℕ) (ms : Members) → Has (λ n. low ≤ n) (required_number t k low high ms)
-required-least t k low high ms = go (get_key k ms)
-  where
-    go : (o : Option Data) → Has (λ n. low ≤ n) (required (at t k) (λ p. number p low high) o)
-    go None = tt
-    go (Some d) = number-least (at t k) low high d
-
-abbrev HasWindow : Snapshot → Type 0
-HasWindow s = 1 ≤ s.window
-
--- the steps after each number of the table
-abbrev with_retries : ℕ → ℕ → ℕ → ℕ → ℕ → Result Snapshot Refusal
-with_retries b w r c t = Ok (record { width = b; window = w; ring = r; count = c; retries = t })
-
-abbrev with_count : Members → ℕ → ℕ → ℕ → ℕ → Result Snapshot Refusal
-with_count ms b w r c = optional_number table.Snapshot Retries 100 ms >>= with_retries b w r c
-
-abbrev with_ring : Members → ℕ → ℕ → ℕ → Result Snapshot Refusal
-with_ring ms b w r = required_number table.Snapshot Count 0 1000 ms >>= with_count ms b w r
-
-abbrev with_window : Members → ℕ → ℕ → Result Snapshot Refusal
-with_window ms b w = required_number table.Snapshot Ring w (2 ^ b) ms >>= with_ring ms b w
-
-abbrev with_bits : Members → ℕ → Result Snapshot Refusal
-with_bits ms b = required_number table.Snapshot Window 1 (2 ^ b - 1) ms >>= with_window ms b
-
-snapshot-window : (ms : Members) → Has HasWindow (snapshot_of ms)
-snapshot-window ms = next-ok Any HasWindow (only table.Snapshot (Bits ∷ Window ∷ Ring ∷ Count ∷ Retries ∷ []) ms) (λ _. required_number table.Snapshot Bits 1 8 ms >>= with_bits ms) (any _)
-    (λ _ _. next-ok Any HasWindow (required_number table.Snapshot Bits 1 8 ms) (with_bits ms) (any _)
-    (λ b _. next-ok (λ w. 1 ≤ w) HasWindow (required_number table.Snapshot Window 1 (2 ^ b - 1) ms) (with_window ms b) (required-least table.Snapshot Window 1 (2 ^ b - 1) ms)
-    (λ w h. next-ok Any HasWindow (required_number table.Snapshot Ring w (2 ^ b) ms) (with_ring ms b w) (any _)
-    (λ r _. next-ok Any HasWindow (required_number table.Snapshot Count 0 1000 ms) (with_count ms b w r) (any _)
-    (λ c _. next-ok Any HasWindow (optional_number table.Snapshot Retries 100 ms) (with_retries b w r c) (any _) (λ t _. h))))))
-
--- The document.
-
-abbrev HasWindowIn : Document → Type 0
-HasWindowIn d = HasWindow d.snapshot
-
-module _ (top : Sections) where
-  abbrev with_script : List DevicePart → List CableRow → List HostRow → Snapshot → LossRow → List FlowRow → List RawRow → List (List ℕ) → Result Document Refusal
-  with_script ds cs hs s l fs rs sc = Ok (record { devices = ds; cables = cs; hosts = hs; snapshot = s; loss = l; flows = fs; raws = rs; script = sc })
-
-  abbrev with_raws : List DevicePart → List CableRow → List HostRow → Snapshot → LossRow → List FlowRow → List RawRow → Result Document Refusal
-  with_raws ds cs hs s l fs rs = any_script_of top.script >>= with_script ds cs hs s l fs rs
-
-  abbrev with_flows : List DevicePart → List CableRow → List HostRow → Snapshot → LossRow → List FlowRow → Result Document Refusal
-  with_flows ds cs hs s l fs = rows Top Raw raw_of 0 top.raws >>= with_raws ds cs hs s l fs
-
-  abbrev with_loss : List DevicePart → List CableRow → List HostRow → Snapshot → LossRow → Result Document Refusal
-  with_loss ds cs hs s l = rows Top FlowKey flow_of 0 top.flows >>= with_flows ds cs hs s l
-
-  abbrev with_snapshot : List DevicePart → List CableRow → List HostRow → Snapshot → Result Document Refusal
-  with_snapshot ds cs hs s = any_loss_of top.loss >>= with_loss ds cs hs s
-
-  abbrev with_hosts : List DevicePart → List CableRow → List HostRow → Result Document Refusal
-  with_hosts ds cs hs = snapshot_of top.snapshot >>= with_snapshot ds cs hs
-
-  abbrev with_cables : List DevicePart → List CableRow → Result Document Refusal
-  with_cables ds cs = rows Top Host host_of 0 top.hosts >>= with_hosts ds cs
-
-  abbrev with_devices : List DevicePart → Result Document Refusal
-  with_devices ds = rows Top Cable cable_of 0 top.cables >>= with_cables ds
-
-  walk-window : Has HasWindowIn (walk_of top)
-  unfolding walk_of
-  walk-window = next-ok Any HasWindowIn (rows Top Device device_of 0 top.devices) with_devices (any _)
-      (λ ds _. next-ok Any HasWindowIn (rows Top Cable cable_of 0 top.cables) (with_cables ds) (any _)
-      (λ cs _. next-ok Any HasWindowIn (rows Top Host host_of 0 top.hosts) (with_hosts ds cs) (any _)
-      (λ hs _. next-ok HasWindow HasWindowIn (snapshot_of top.snapshot) (with_snapshot ds cs hs) (snapshot-window top.snapshot)
-      (λ s h. next-ok Any HasWindowIn (any_loss_of top.loss) (with_loss ds cs hs s) (any _)
-      (λ l _. next-ok Any HasWindowIn (rows Top FlowKey flow_of 0 top.flows) (with_flows ds cs hs s l) (any _)
-      (λ fs _. next-ok Any HasWindowIn (rows Top Raw raw_of 0 top.raws) (with_raws ds cs hs s l fs) (any _)
-      (λ rs _. next-ok Any HasWindowIn (any_script_of top.script) (with_script ds cs hs s l fs rs) (any _) (λ sc _. h))))))))
-
-document-window : (ms : Members) → Has HasWindowIn (document_of ms)
+pub document_ok : (ms : Members) (d : Document) → document_of ms ≡ Ok d → IsDocument d
 unfolding document_of
-document-window ms = next-ok Any HasWindowIn (sections_of ms) walk_of (any _) (λ top _. walk-window top)
-
--- The net.
-
-pub record IsFew (net : Net) : Type 0 where
-  pub net_is : IsNet net
-  pub few : length net.parts.hosts ≤ 128
-
-built-few : (parts : Parts) → Has IsFew (built parts)
-unfolding built
-built-few parts = go (fault_of parts) refl
-  where
-    go : (o : Option NetFault) → fault_of parts ≡ o → Has IsFew (unless_refused o (net_of parts))
-    go None q = record { net_is = record { made = refl; right = q }; few = few_hosts parts (no-reason parts q).1.1.1.1.1.1.0 }
-    go (Some e) q = tt
-
-net-few : (doc : Document) → Has IsFew (net_in doc)
-unfolding net_in
-net-few doc = next-ok Any IsFew (parts_of doc.devices doc.cables doc.hosts) built (any _) (λ parts _. built-few parts)
-
--- The input.
-
-module _ (hosts : List HostPart) (doc : Document) where
-  abbrev HasFlows : Traffic → Type 0
-  HasFlows t = All (HasHosts (length hosts)) t.flows
-
-  abbrev with_packets : List Flow → List RawPart → Result Traffic Refusal
-  with_packets fs rs = Ok (record { flows = fs; raws = rs })
-
-  abbrev with_flows_of : List Flow → Result Traffic Refusal
-  with_flows_of fs = each (raw_part hosts) 0 doc.raws >>= with_packets fs
-
-  traffic-hosts : Has HasFlows (traffic_in hosts doc)
-  unfolding traffic_in
-  traffic-hosts = next-ok (λ fs. All (HasHosts (length hosts)) fs) HasFlows (each (flow_part hosts) 0 doc.flows) with_flows_of
-      (each-has (flow_part hosts) (HasHosts (length hosts)) (λ i row. flow-hosts hosts i row) 0 doc.flows)
-      (λ fs f. next-ok Any HasFlows (each (raw_part hosts) 0 doc.raws) (with_packets fs) (any _) (λ rs _. f))
-
-module _ (net : Net) (doc : Document) where
-  abbrev HasFlowsIn : Contents → Type 0
-  HasFlowsIn c = All (HasHosts (length net.parts.hosts)) c.flows
-
-  abbrev with_total : Traffic → List Drop1 → List Script1 → Unit {0} → Result Contents Refusal
-  with_total t drops script _ = Ok (record { loss = losses doc.loss drops; flows = t.flows; raws = t.raws; script = script })
-
-  abbrev with_entries : Traffic → List Drop1 → List Script1 → Result Contents Refusal
-  with_entries t drops script = few_packets t.flows t.raws >>= with_total t drops script
-
-  abbrev with_drops : Traffic → List Drop1 → Result Contents Refusal
-  with_drops t drops = entries_of net 0 0 doc.script >>= with_entries t drops
-
-  abbrev with_traffic : Traffic → Result Contents Refusal
-  with_traffic t = each (drop_part net) 0 doc.loss.drops >>= with_drops t
-
-  contents-hosts : Has HasFlowsIn (contents_in net doc)
-  unfolding contents_in
-  contents-hosts = next-ok (HasFlows net.parts.hosts doc) HasFlowsIn (traffic_in net.parts.hosts doc) with_traffic (traffic-hosts net.parts.hosts doc)
-      (λ t f. next-ok Any HasFlowsIn (each (drop_part net) 0 doc.loss.drops) (with_drops t) (any _)
-      (λ drops _. next-ok Any HasFlowsIn (entries_of net 0 0 doc.script) (with_entries t drops) (any _)
-      (λ script _. next-ok Any HasFlowsIn (few_packets t.flows t.raws) (with_total t drops script) (any _) (λ _ _. f))))
-
-module _ (doc : Document) where
-  abbrev with_contents : Net → Contents → Result Input Refusal
-  with_contents net c = Ok (record { net = net; snapshot = doc.snapshot; loss = c.loss; flows = c.flows; raws = c.raws; script = c.script })
-
-  abbrev with_net : Net → Result Input Refusal
-  with_net net = contents_in net doc >>= with_contents net
-
-  settled-range : HasWindowIn doc → Has IsInRange (settled doc)
-  unfolding settled
-  settled-range w = next-ok IsFew IsInRange (net_in doc) with_net (net-few doc)
-      (λ net n. next-ok (HasFlowsIn net doc) IsInRange (contents_in net doc) (with_contents net) (contents-hosts net doc)
-      (λ c f. record { net = n.net_is; few_hosts = n.few; window = w; flows = f }))
-
-tables-range : (ms : Members) → Has IsInRange (tables_of ms)
-unfolding tables_of
-tables-range ms = next-ok HasWindowIn IsInRange (document_of ms) settled (document-window ms) (λ doc w. settled-range doc w)
-
-parsed-range : (o : Option Members) → Has IsInRange (parsed o)
-parsed-range None = tt
-parsed-range (Some ms) = tables-range ms
-
-reading-range : (bytes : List ℕ) → Has IsInRange (reading_of bytes)
-unfolding reading_of
-reading-range bytes = by_test (nat_lt 1048576 (length bytes))
-  where
-    by_test : (b : Bool) → Has IsInRange (if b then Err TooLong else parsed (option_and_then parse_document (text_of bytes)))
-    by_test true = tt
-    by_test false = parsed-range (option_and_then parse_document (text_of bytes))
-
--- what a read input is, it is in range
-pub accepted : (bytes : List ℕ) (i : Input) → input_of bytes ≡ Ok i → IsInRange i
-accepted bytes i e = go (reading_of bytes) (reading-range bytes) e
-  where
-    same : (j : Input) → numbered (Ok j) ≡ Ok i → j ≡ i
-    same j q = cc
-
-    go : (m : Result Input Refusal) → Has IsInRange m → numbered m ≡ Ok i → IsInRange i
-    go (Ok j) h q = subst IsInRange (same j q) h
-    go (Err r) h q = absurd cc
+document_ok ms d h = let a = bind_ok (sections_of ms) walk_of d h in walk_ok a.0 d a.2

@@ -9,4 +9,4 @@ pub mod Documents
 pub mod Places
 pub mod Choices
 pub mod Inputs
-pub mod Ranges
+pub mod Accepted

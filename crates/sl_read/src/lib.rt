@@ -11,7 +11,6 @@ mod fields;
 mod flow;
 mod forms;
 mod host;
-mod laws;
 mod listed;
 mod loss;
 mod path;
@@ -28,5 +27,4 @@ mod tests;
 mod top;
 
 pub use fault::InputFault;
-pub use laws::inputs_are_in_range;
 pub use read::read_input;

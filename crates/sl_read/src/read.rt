@@ -3,6 +3,7 @@ ghost use Rattle.std.specs.Prelude.{◌≡◌, ◌≢◌, Ok, Err, IfOk, IfErr, 
 ghost use Rattle.std.specs.List.{sum};
 ghost use Rattle.toml.specs.View.{table_view};
 ghost use Rattle.sl_read.specs.Refusals.{Answers};
+ghost use Rattle.sl_read.specs.Accepted.{IsAccepted};
 ghost use Rattle.sl_read.specs.Inputs.{built, packets, few_packets, losses, net_in, traffic_in, contents_in, settled, tables_of, text_of, reading_of, input_of};
 
 use crate::choices::{place_drops, read_entries};
@@ -199,6 +200,7 @@ fn reading_of(alloc: Global, bytes: &[u8]) -> Result<Input, ReadError>
 /// Reads an input: the input that the bytes are, or the first reason why they are none.
 pub fn read_input(alloc: Global, bytes: &[u8]) -> Result<Input, InputFault>
     ensures input { IfOk result (λ input. input_of bytes.now ≡ Ok input) }
+    ensures accepted { IfOk result IsAccepted }
     ensures fault { IfErr result (λ e. e ≢ InputFault.Memory → input_of bytes.now ≡ Err e) }
 {
     match reading_of(alloc, bytes) {

@@ -1,118 +1,229 @@
-// The lines of refused inputs.
-ghost use Rattle.std.specs.Prelude.{◌≡◌, ◌++◌, IfOk, OnOk, string_bytes};
-ghost use Rattle.sl_report.specs.FaultText.{place_text, net_fault_text, path_line, range_line, entry_line, net_line, total_line, fault_text};
+// The text of a refused input.
+ghost use Rattle.std.specs.Prelude.{◌≡◌, ◌++◌, IfOk, codes, string_bytes};
+ghost use Rattle.std.specs.Fmt.{signed_decimal};
+ghost use Rattle.sl_report.specs.FaultText.{IsRefusal, net_words, fault_words, fault_text};
 
 use sl_machine::Memory;
 use sl_net::{Line, NetFault, Place};
 use sl_read::InputFault;
 use std::alloc::{AllocError, Global};
+use std::fmt;
 
-fn push_place(out: &mut String, place: Place) -> Result<(), AllocError>
-    ensures { OnOk result (string_bytes out.new ≡ string_bytes out.old ++ place_text place) }
-{
-    match place {
-        Place::Device(i) => write!(out, "device.{i}"),
-        Place::Cable(i) => write!(out, "cable.{i}"),
-        Place::Host(i) => write!(out, "host.{i}"),
+/// A part of a net as the input names it.
+#[derive(Clone, Copy)]
+struct Part {
+    place: Place,
+}
+
+impl fmt::Display for Part {
+    ghost use Rattle.std.specs.Prelude.{Some};
+    ghost use Rattle.sl_report.specs.FaultText.{place_text};
+
+    ghost output = { λ p. Some (place_text p.place) };
+
+    fn fmt<W: fmt::Write>(&self, f: &mut fmt::Formatter<W>) -> fmt::Result {
+        match self.place {
+            Place::Device(i) => write!(f, "device.{i}"),
+            Place::Cable(i) => write!(f, "cable.{i}"),
+            Place::Host(i) => write!(f, "host.{i}"),
+        }
     }
 }
 
-fn push_at(out: &mut String, name: &str, place: Place) -> Result<(), AllocError>
-    ensures { OnOk result (string_bytes out.new ≡ string_bytes out.old ++ (name.now ++ place_text place)) }
-{
-    write!(out, "{name}")?;
-    push_place(out, place)
-}
-
-#[tactic(auto, unfolding(crate::specs::FaultText::net_fault_text))]
-fn push_net_fault(out: &mut String, fault: NetFault) -> Result<(), AllocError>
-    ensures { OnOk result (string_bytes out.new ≡ string_bytes out.old ++ net_fault_text fault) }
+fn net_words(alloc: Global, fault: NetFault) -> Result<String, AllocError>
+    ensures { IfOk result (λ text. string_bytes text ≡ net_words fault) }
 {
     match fault {
-        NetFault::N1 => write!(out, "N1"),
-        NetFault::N2(n) => write!(out, "N2 {n}"),
-        NetFault::N3(i) => write!(out, "N3 device.{i}"),
-        NetFault::N4(place) => push_at(out, "N4 ", place),
-        NetFault::N5(i) => write!(out, "N5 cable.{i}"),
-        NetFault::N6(n) => write!(out, "N6 {n}"),
-        NetFault::N7(i) => write!(out, "N7 host.{i}"),
-        NetFault::N8(place) => push_at(out, "N8 ", place),
-        NetFault::Memory => write!(out, "out of memory"),
+        NetFault::N1 => format!(in alloc; "N1"),
+        NetFault::N2(n) => format!(in alloc; "N2 {n}"),
+        NetFault::N3(i) => format!(in alloc; "N3 device.{i}"),
+        NetFault::N4(place) => {
+            let part = Part { place };
+            format!(in alloc; "N4 {part}")
+        }
+        NetFault::N5(i) => format!(in alloc; "N5 cable.{i}"),
+        NetFault::N6(n) => format!(in alloc; "N6 {n}"),
+        NetFault::N7(i) => format!(in alloc; "N7 host.{i}"),
+        NetFault::N8(place) => {
+            let part = Part { place };
+            format!(in alloc; "N8 {part}")
+        }
+        NetFault::Memory => Ok(String::new(alloc)),
     }
 }
 
-#[tactic(auto, unfolding(crate::specs::FaultText::net_line))]
-fn net_line(alloc: Global, fault: NetFault) -> Result<Vec<u8>, AllocError>
-    ensures { IfOk result (λ line. line.items ≡ net_line fault) }
+/// A number, a space and a path.
+fn with_path(alloc: Global, number: &str, path: &Line) -> Result<Vec<u8>, AllocError>
+    ensures { IfOk result (λ bytes. bytes.items ≡ (number.now ++ codes " ") ++ path.now) }
 {
-    let mut out = String::from_str(alloc, "speedlight: I9 ")?;
-    push_net_fault(&mut out, fault)?;
-    write!(out, "\n")?;
-    Ok(out.into_bytes())
+    let text = format!(in alloc; "{number} ")?;
+    let mut bytes = text.into_bytes();
+    bytes.extend_from_slice(path.items.as_slice())?;
+    Ok(bytes)
 }
 
-#[tactic(auto, unfolding(crate::specs::FaultText::path_line))]
-fn path_line(alloc: Global, name: &str, path: &Line) -> Result<Vec<u8>, AllocError>
-    ensures { IfOk result (λ line. line.items ≡ path_line name.now path.now) }
+/// A path and the value that it has.
+fn with_value(alloc: Global, path: &Line, value: i64) -> Result<Vec<u8>, AllocError>
+    ensures { IfOk result (λ bytes. bytes.items ≡ codes "I6 " ++ (path.now ++ (codes " " ++ signed_decimal value))) }
 {
-    let head = format!(in alloc; "speedlight: {name} ")?;
-    let mut out = head.into_bytes();
-    out.extend_from_slice(path.items.as_slice())?;
-    out.push(b'\n')?;
-    Ok(out)
+    let mut bytes = with_path(alloc, "I6", path)?;
+    let text = format!(in alloc; " {value}")?;
+    bytes.extend_from_slice(text.as_bytes())?;
+    Ok(bytes)
 }
 
-#[tactic(auto, unfolding(crate::specs::FaultText::range_line))]
-fn range_line(alloc: Global, path: &Line, value: i64) -> Result<Vec<u8>, AllocError>
-    ensures { IfOk result (λ line. line.items ≡ range_line path.now value) }
+fn with_net(alloc: Global, fault: NetFault) -> Result<Vec<u8>, AllocError>
+    ensures { IfOk result (λ bytes. bytes.items ≡ codes "I9 " ++ net_words fault) }
 {
-    let tail = format!(in alloc; " {value}\n")?;
-    let mut out = Vec::from_slice(alloc, b"speedlight: I6 ")?;
-    out.extend_from_slice(path.items.as_slice())?;
-    out.extend_from_slice(tail.as_bytes())?;
-    Ok(out)
+    let words = net_words(alloc, fault)?;
+    let text = format!(in alloc; "I9 {words}")?;
+    Ok(text.into_bytes())
 }
 
-#[tactic(auto, unfolding(crate::specs::FaultText::entry_line))]
-fn entry_line(alloc: Global, place: u64) -> Result<Vec<u8>, AllocError>
-    ensures { IfOk result (λ line. line.items ≡ entry_line place) }
+/// The number of a fault and what it keeps.
+fn words_of(alloc: Global, fault: &InputFault) -> Result<Vec<u8>, AllocError>
+    ensures { IfOk result (λ bytes. bytes.items ≡ fault_words fault.now) }
 {
-    let line = format!(in alloc; "speedlight: I8 script.{place}\n")?;
-    Ok(line.into_bytes())
+    match fault {
+        InputFault::I1 => Ok(format!(in alloc; "I1")?.into_bytes()),
+        InputFault::I2 => Ok(format!(in alloc; "I2")?.into_bytes()),
+        InputFault::I3(path) => with_path(alloc, "I3", path),
+        InputFault::I4(path) => with_path(alloc, "I4", path),
+        InputFault::I5(path) => with_path(alloc, "I5", path),
+        InputFault::I6(path, value) => with_value(alloc, path, *value),
+        InputFault::I7(path) => with_path(alloc, "I7", path),
+        InputFault::I8(entry) => Ok(format!(in alloc; "I8 script.{entry}")?.into_bytes()),
+        InputFault::I9(fault) => with_net(alloc, *fault),
+        InputFault::I10(count) => Ok(format!(in alloc; "I10 {count}")?.into_bytes()),
+        InputFault::Memory => Ok(Vec::new(alloc)),
+    }
 }
 
-#[tactic(auto, unfolding(crate::specs::FaultText::total_line))]
-fn total_line(alloc: Global, count: u64) -> Result<Vec<u8>, AllocError>
-    ensures { IfOk result (λ line. line.items ≡ total_line count) }
-{
-    let line = format!(in alloc; "speedlight: I10 {count}\n")?;
-    Ok(line.into_bytes())
-}
-
+#[tactic(auto, unfolding(crate::specs::FaultText::fault_text))]
 fn line_of(alloc: Global, fault: &InputFault) -> Result<Vec<u8>, AllocError>
-    ensures { IfOk result (λ line. line.items ≡ fault_text fault.now) }
+    ensures { IfOk result (λ bytes. bytes.items ≡ fault_text fault.now) }
 {
-    match fault {
-        InputFault::I1 => Ok(Vec::from_slice(alloc, b"speedlight: I1\n")?),
-        InputFault::I2 => Ok(Vec::from_slice(alloc, b"speedlight: I2\n")?),
-        InputFault::I3(path) => path_line(alloc, "I3", path),
-        InputFault::I4(path) => path_line(alloc, "I4", path),
-        InputFault::I5(path) => path_line(alloc, "I5", path),
-        InputFault::I6(path, value) => range_line(alloc, path, *value),
-        InputFault::I7(path) => path_line(alloc, "I7", path),
-        InputFault::I8(place) => entry_line(alloc, *place),
-        InputFault::I9(fault) => net_line(alloc, *fault),
-        InputFault::I10(count) => total_line(alloc, *count),
-        InputFault::Memory => Ok(Vec::from_slice(alloc, b"speedlight: out of memory\n")?),
-    }
+    let words = words_of(alloc, fault)?;
+    let mut bytes = format!(in alloc; "speedlight: ")?.into_bytes();
+    bytes.extend_from_slice(words.as_slice())?;
+    bytes.extend_from_slice(b"\n")?;
+    Ok(bytes)
 }
 
-/// The line that is written for an input that is refused.
+/// The text of a refused input, one line.
 pub fn fault_bytes(alloc: Global, fault: &InputFault) -> Result<Vec<u8>, Memory>
-    ensures { IfOk result (λ line. line.items ≡ fault_text fault.now) }
+    ensures { IfOk result (λ bytes. bytes.items ≡ fault_text fault.now) }
 {
     match line_of(alloc, fault) {
-        Ok(line) => Ok(line),
+        Ok(bytes) => Ok(bytes),
         Err(_) => Err(Memory),
+    }
+}
+
+#[cfg(test)]
+mod tests {
+    use super::fault_bytes;
+    use sl_net::NetFault;
+    use sl_read::{InputFault, read_input};
+    use std::alloc::Global;
+    use std::test::Fail;
+
+    const DEVICE: &str = "device = [{name = \"a\", ports = 2}]\n";
+
+    const SNAPSHOT: &str = "snapshot = {bits = 2, window = 3, ring = 3, count = 1}\n";
+
+    /// Inputs that are refused as they stand, and the line that says why.
+    const ALONE: [(&str, &str); 7] = [
+        ("", "speedlight: I3 device\n"),
+        ("device = [", "speedlight: I2\n"),
+        ("colour = 1", "speedlight: I4 top\n"),
+        (
+            "device = [{colour = 1}]\nsnapshot = {}",
+            "speedlight: I4 device.0\n",
+        ),
+        ("device = [1]", "speedlight: I5 device.0\n"),
+        (
+            "device = [{name = \"a\", ports = -2}]\nsnapshot = {}",
+            "speedlight: I6 device.0.ports -2\n",
+        ),
+        (
+            "device = []\nsnapshot = {bits = 9}",
+            "speedlight: I6 snapshot.bits 9\n",
+        ),
+    ];
+
+    /// Texts that are refused between a device and the snapshots.
+    const WITH_DEVICE: [(&str, &str); 9] = [
+        (
+            "cable = [{a = \"x.0\", b = \"a.0\"}]\n",
+            "speedlight: I7 cable.0.a\n",
+        ),
+        (
+            "loss = {drop = [{link = \"x\", n = 1}]}\n",
+            "speedlight: I7 loss.drop.0.link\n",
+        ),
+        (
+            "script = {entries = [\"pass 1\", \"x\"]}\n",
+            "speedlight: I8 script.1\n",
+        ),
+        (
+            "script = {entries = [1]}\n",
+            "speedlight: I5 script.entries.0\n",
+        ),
+        (
+            "cable = [{a = \"a.9\", b = \"a.0\"}]\n",
+            "speedlight: I9 N4 cable.0\n",
+        ),
+        (
+            "host = [{name = \"h\", at = \"a.9\"}]\n",
+            "speedlight: I9 N4 host.0\n",
+        ),
+        (
+            "cable = [{a = \"a.0\", b = \"a.0\"}]\n",
+            "speedlight: I9 N5 cable.0\n",
+        ),
+        (
+            "host = [{name = \"h\", at = \"a.0\"}, {name = \"i\", at = \"a.0\"}]\n",
+            "speedlight: I9 N7 host.1\n",
+        ),
+        (
+            "host = [{name = \"h\", at = \"a.0\"}, {name = \"h\", at = \"a.1\"}]\n",
+            "speedlight: I9 N8 host.1\n",
+        ),
+    ];
+
+    fn line(alloc: Global, fault: &InputFault) -> Result<Vec<u8>, Fail> {
+        match fault {
+            InputFault::Memory | InputFault::I9(NetFault::Memory) => Ok(Vec::new(alloc)),
+            _ => Ok(fault_bytes(alloc, fault).map_err(|_| "no memory")?),
+        }
+    }
+
+    fn refused(alloc: Global, text: &str) -> Result<Vec<u8>, Fail> {
+        match read_input(alloc, text.as_bytes()) {
+            Ok(_) => Ok(Vec::new(alloc)),
+            Err(fault) => line(alloc, &fault),
+        }
+    }
+
+    #[test]
+    fn refused_inputs(rt: HostRuntime) -> Result<(), Fail> {
+        let alloc = rt.alloc();
+        for (text, expected) in ALONE {
+            assert_eq!(rt; refused(alloc, text)?.as_slice(), expected.as_bytes());
+        }
+        for (text, expected) in WITH_DEVICE {
+            let input = format!(in alloc; "{DEVICE}{text}{SNAPSHOT}")?;
+            assert_eq!(rt;
+                refused(alloc, input.as_str())?.as_slice(),
+                expected.as_bytes()
+            );
+        }
+        let none = format!(in alloc; "device = []\n{SNAPSHOT}")?;
+        assert_eq!(rt;
+            refused(alloc, none.as_str())?.as_slice(),
+            "speedlight: I9 N1\n".as_bytes()
+        );
+        Ok(())
     }
 }

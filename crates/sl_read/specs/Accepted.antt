@@ -1,0 +1,72 @@
+-- What holds of each accepted input: its numbers and places are within their ranges.
+use Rattle.std.specs.Prelude.{◌≡◌, ◌<◌, ◌≤◌, ◌^◌, true, length, None}
+use Rattle.std.specs.List.{All, sum_by}
+use Rattle.sl_net.specs.declared.input.Snapshot.{Snapshot}
+use Rattle.sl_net.specs.declared.input.Drop1.{Drop1}
+use Rattle.sl_net.specs.declared.input.Flow.{Flow}
+use Rattle.sl_net.specs.declared.input.RawPart.{RawPart}
+use Rattle.sl_net.specs.declared.input.Script1.{Script1}
+use Rattle.sl_net.specs.declared.input.Script1.TheVariants.{Pass, Choice}
+use Rattle.sl_net.specs.Parts.{Parts}
+use Rattle.sl_net.specs.Fault.{fault_of}
+use Rattle.sl_net.specs.Net.{Net, net_of, link_of}
+use Rattle.sl_net.specs.Wiring.{kind_of}
+use Rattle.sl_net.specs.Spelling.{HasChoice}
+use Rattle.sl_net.specs.Input.{Input, LossSpec}
+use Rattle.sl_read.specs.Choices.{is_lossy, passes}
+use Rattle.sl_read.specs.Inputs.{packets}
+
+-- at least one snapshot fits the window, a wrapped id stands for one number in it, and the ring holds it
+pub record IsSnapshot (s : Snapshot) : Type 0 where
+  pub some_bits : 1 ≤ s.width
+  pub few_bits : s.width ≤ 8
+  pub some_window : 1 ≤ s.window
+  pub few_window : s.window < 2 ^ s.width
+  pub some_ring : s.window ≤ s.ring
+  pub few_ring : s.ring ≤ 2 ^ s.width
+  pub count : s.count ≤ 1000
+  pub retries : s.retries ≤ 100
+
+-- a put on a link of the net on which messages may be lost
+pub record IsDrop (net : Net) (d : Drop1) : Type 0 where
+  pub link : d.link < length net.links
+  pub lossy : is_lossy (kind_of (link_of net d.link).sort) ≡ true
+  pub some : 1 ≤ d.n
+  pub most : d.n ≤ 1000000000
+
+pub record IsLoss (net : Net) (l : LossSpec) : Type 0 where
+  pub seed : l.seed < 2 ^ 63
+  pub cable : l.cable ≤ 1000
+  pub crossbar : l.crossbar ≤ 1000
+  pub init : l.init ≤ 1000
+  pub notice : l.notice ≤ 1000
+  pub few : length l.drops ≤ 1000
+  pub drops : All (IsDrop net) l.drops
+
+-- between two hosts of the net
+pub record IsFlow (parts : Parts) (f : Flow) : Type 0 where
+  pub from : f.from < length parts.hosts
+  pub to : f.to < length parts.hosts
+  pub count : f.count ≤ 20000
+  pub bytes : f.bytes < 2 ^ 16
+  pub hops : f.hops < 2 ^ 8
+
+pub record IsRaw (parts : Parts) (r : RawPart) : Type 0 where
+  pub from : r.from < length parts.hosts
+  pub bytes : length r.bytes ≤ 64
+
+-- some passes, or a choice of the net
+abbrev pub IsEntry : Net → Script1 → Type 0
+IsEntry net (Pass n) = (1 ≤ n) × (n ≤ 10000)
+IsEntry net (Choice a c) = HasChoice net a c
+
+pub record IsAccepted (input : Input) : Type 0 where
+  pub net : input.net ≡ net_of input.net.parts
+  pub right : fault_of input.net.parts ≡ None
+  pub snapshot : IsSnapshot input.snapshot
+  pub loss : IsLoss input.net input.loss
+  pub flows : All (IsFlow input.net.parts) input.flows
+  pub raws : All (IsRaw input.net.parts) input.raws
+  pub script : All (IsEntry input.net) input.script
+  pub few_passes : sum_by passes input.script ≤ 10000
+  pub few_packets : packets input.flows input.raws ≤ 200000

@@ -144,8 +144,8 @@ module _ {S M : Type 0} where
         subst (λ (x : S). Follows rules x (get_or actors i a)) first
         (follows_first rules (get_or actors i a) n.parts n.number_is n.log_is (such_list IsNewEnd (get_or actors i a).takes takes i n.takes_are new_ends) n.outs_are (such_list IsNewPart n.parts outs i n.parts_are new_parts))
 
-    pub all_tied : (plan : Plan) (losses : List (Option Loss)) → IsSound plan → length plan.ins ≡ length machines → AreJoined plan.links losses (length plan.links) takes outs → AreTied plan.links losses actors
-    all_tied plan losses sound many joined =
+    pub all_tied : (plan : Plan) (losses : List (Option Loss)) (capacity : ℕ) → IsSound plan → length plan.ins ≡ length machines → AreJoined plan.links losses capacity (length plan.links) takes outs → AreTied plan.links losses capacity actors
+    all_tied plan losses capacity sound many joined =
         record {
           tied = λ l loss low.
               let to : (link_at plan.links l).to < length machines = omega (arith, sound.to_below l low) in
@@ -164,5 +164,10 @@ module _ {S M : Type 0} where
                     ap (λ (v : OutView M). unasked v.loss)
                     (ap (λ outs. get_or outs (link_at plan.links l).out o) at_from.outs_are ∙ filled_view at_from.parts (get_or outs (link_at plan.links l).from []) (link_at plan.links l).out j.part o at_from.parts_are j.part_at)
                     ∙ ap unasked j.loss_is;
+                capacity_is = λ b o.
+                    let at_from = new (link_at plan.links l).from (element machines (link_at plan.links l).from from) b from in
+                    ap (λ (v : OutView M). v.put.capacity)
+                    (ap (λ outs. get_or outs (link_at plan.links l).out o) at_from.outs_are ∙ filled_view at_from.parts (get_or outs (link_at plan.links l).from []) (link_at plan.links l).out j.part o at_from.parts_are j.part_at)
+                    ∙ j.capacity_is;
               };
         }

@@ -35,7 +35,7 @@ pub fn make_actors<A: Machine>(
     ensures logs { IfOk result (λ v. All (λ a. a.log ≡ []) (map held v.items)) }
     ensures follows { IfOk result (λ v. EachFollows A.rules (map A.state machines.items) (map held v.items)) }
     ensures ends { IfOk result (λ v. All HasEnds (map held v.items)) }
-    ensures tied { IfOk result (λ v. AreTied wiring.now.links losses.items (map held v.items)) }
+    ensures tied { IfOk result (λ v. AreTied wiring.now.links losses.items capacity (map held v.items)) }
 {
     let mut takes = empty_rows(alloc, wiring.in_counts.as_slice())?;
     let mut outs = empty_rows(alloc, wiring.out_counts.as_slice())?;
@@ -104,7 +104,7 @@ fn join_all<M: Drop>(
     ensures outs { map length outs.new.items ≡ map length outs.old.items }
     ensures ends { AreSuch IsNewEnd takes.new.items }
     ensures parts { AreSuch IsNewPart outs.new.items }
-    ensures joined { OnOk result (AreJoined links.now losses.items (length links.now) takes.new.items outs.new.items) }
+    ensures joined { OnOk result (AreJoined links.now losses.items capacity (length links.now) takes.new.items outs.new.items) }
 {
     let mut losses = VecDeque::from(losses);
     for link in links {
@@ -132,7 +132,7 @@ fn join_one<M: Drop>(
     requires out { link.out < length (slice_index_or outs.old.items link.from []) }
     requires loss { IsFresh loss }
     ensures same { OnErr result ((takes.new.items ≡ takes.old.items) × (outs.new.items ≡ outs.old.items)) }
-    ensures joins { OnOk result (Joins link loss takes.old.items takes.new.items outs.old.items outs.new.items) }
+    ensures joins { OnOk result (Joins link loss capacity takes.old.items takes.new.items outs.old.items outs.new.items) }
 {
     let (put, take) = make_link::<M>(alloc, capacity)?;
     let part = OutPart {

@@ -9,6 +9,7 @@ use std::alloc::{AllocError, Global};
 use std::marker::Model;
 use std::sync::Wait;
 use std::test::Fail;
+use std::thread;
 
 /// Sends packets while it has some left, and passes on those that come, where it has a link for them.
 #[derive(Drop)]
@@ -181,6 +182,27 @@ fn an_actor_rests(rt: HostRuntime) -> Result<(), Fail> {
         assert_eq!(rt; host.log(), [(1, 0), (2, 0), (3, 0)].as_slice());
         assert_eq!(rt; run_all(&rt, alloc, host, 0)?, Rest::Spent);
     }
+    Ok(())
+}
+
+fn run_one<R: Wait>(rt: &R, alloc: Global, mut actor: Actor<Stop>) -> Actor<Stop> {
+    let _ = run_all(rt, alloc, &mut actor, 1000);
+    actor
+}
+
+// Each actor runs in a thread of its own; what is then still on its way is delivered by turns.
+#[test]
+fn a_thread_for_each(rt: HostRuntime) -> Result<(), Fail> {
+    let alloc = rt.alloc();
+    let actors = actors_in_line(alloc, &[])?;
+    let mut actors = thread::map_vec(&rt, actors, &|actor| run_one(&rt, alloc, actor))?;
+    for _ in 0..100 {
+        if !pass(&rt, &mut actors)? {
+            break;
+        }
+    }
+    let seen: Vec<u32> = actors.iter().map(|a| a.machine().seen).collect(alloc)?;
+    assert_eq!(rt; seen.as_slice(), [0, 3, 3, 3].as_slice());
     Ok(())
 }
 

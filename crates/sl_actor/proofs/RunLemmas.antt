@@ -1,16 +1,14 @@
 -- One turn of an actor after another.
-use Rattle.std.proofs.Common.{◌≡◌, ℕ, zero, suc, ◌+◌, ◌<◌, ◌≤◌, ◌⊎◌, inl, inr, List, [], ◌∷◌, ◌++◌, length, slice_index, get_or, refl, ap, sym, ◌∙◌, subst, arith, append_assoc, append-nil, Result, Ok, Err}
+use Rattle.std.proofs.Common.{◌≡◌, ℕ, ◌+◌, ◌<◌, ◌≤◌, ◌⊎◌, inl, inr, List, [], ◌∷◌, ◌++◌, length, slice_index, refl, ap, sym, ◌∙◌, subst, arith, append_assoc, append-nil, Result, Ok, Err}
 use Rattle.std.specs.List.{All, Contains}
 use Rattle.std.specs.Prelude.{IfOk, OnErr}
 use Rattle.std.proofs.lemmas.Bool.{cases_eq}
 use Rattle.std.proofs.lemmas.List.{length_push, get_or_default}
 use Rattle.std.proofs.lemmas.List.Elements.{All-append, All-push, All-nil}
 use Rattle.sl_machine.specs.Machine.{Rules}
-use Rattle.sl_link.specs.Rule.{Found, taker}
-use Rattle.sl_link.specs.declared.ends.Stamped.{Stamped}
 use Rattle.sl_actor.specs.Outs.{AreOffered}
-use Rattle.sl_actor.specs.Follows.{ActorView, Follows}
-use Rattle.sl_actor.specs.Turns.{KeepsEnds, NothingDone}
+use Rattle.sl_actor.specs.Follows.{ActorView}
+use Rattle.sl_actor.specs.Turns.{NothingDone}
 use Rattle.sl_actor.specs.Runs.{GoesOn, Settled, Advances, IsQuiet, MatchMoved, MatchRound}
 use Rattle.sl_actor.specs.declared.moved.Moved.{Moved}
 use Rattle.sl_actor.specs.declared.moved.Moved.TheVariants.{Did, Offered, Idle}
@@ -44,7 +42,7 @@ module _ {S M : Type 0} (rules : Rules S M) (plan : List ℕ) where
       }
 
   pub advances_not : (a : ActorView S M) → Advances rules plan a a
-  advances_not a = record { follows = λ first f. f; ends = record { takes = refl; outs = refl; capacities = refl }; counts = refl; log = log_stays plan a.log a.log refl }
+  advances_not a = record { follows = λ first f. f; ends = record { takes = refl; outs = refl; capacities = refl; losses = refl }; counts = refl; log = log_stays plan a.log a.log refl }
 
   -- the log of a turn
   pub turn_log : {E : Type 0} (choice : ℕ) (r : Result Moved E) (a b : ActorView S M) → Contains plan choice → (r ≡ Ok Did → b.log ≡ a.log ++ (b.number, choice) ∷ []) → (r ≡ Ok Offered → NothingDone rules choice a b) → (r ≡ Ok Idle → NothingDone rules choice a b) → OnErr r (b ≡ a)

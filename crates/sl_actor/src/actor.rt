@@ -1,17 +1,21 @@
 // An actor: a machine with its log, the ends from which it takes and the links on which it puts.
-ghost use Rattle.std.specs.Prelude.{◌≡◌, ◌+◌, ◌<◌, ◌≤◌, ◌++◌, ◌∷◌, [], Some, Ok, length, OnOk, OnErr};
+ghost use Rattle.std.specs.Prelude.{◌≡◌, ◌+◌, ◌<◌, ◌≤◌, ◌++◌, ◌∷◌, [], Some, Ok, length, IfOk, IfSome, OnOk, OnErr};
 ghost use Rattle.std.specs.Bool.{OnTrue, OnFalse};
+ghost use Rattle.std.specs.List.{All};
 ghost use Rattle.std.specs.Vec.{vec_capacity, vec_len};
 ghost use Rattle.sl_machine.specs.Machine.{IsChoice};
 ghost use Rattle.sl_actor.specs.Outs.{AreOffered, SomePut};
+ghost use Rattle.sl_actor.specs.Rows.{IsFilled};
 ghost use Rattle.sl_actor.specs.Waiting.{AreSpare, views};
 
 use crate::moved::Moved;
 use crate::outs::Outs;
 use crate::part::OutPart;
+use crate::rows::Row;
 use crate::steps::{moved, next_number, note};
 use sl_link::TakeEnd;
 use sl_machine::{Machine, Memory, Outputs};
+use std::alloc::Global;
 use std::sync::Wait;
 
 /// A machine with its log, its incoming links and its outgoing links.
@@ -45,6 +49,36 @@ impl<A: Machine> Actor<A> {
     ghost use Rattle.sl_actor.specs.Follows.{Follows};
     ghost use Rattle.sl_actor.specs.Turns.{KeepsEnds, NothingDone, Stepped};
     ghost use Rattle.sl_actor.specs.declared.moved.Moved.{Moved};
+    ghost use Rattle.sl_actor.specs.Made.{IsNew, IsNewPart};
+
+    // An actor of a machine whose links have these ends.
+    pub(crate) fn new(
+        alloc: Global,
+        place: u32,
+        machine: A,
+        takes: Row<TakeEnd<A::Msg>>,
+        outs: Row<OutPart<A::Msg>>,
+    ) -> Result<Actor<A>, Memory>
+        requires takes { All IsFilled takes }
+        requires outs { All IsFilled outs }
+        requires ins { length takes ≡ (A.counts machine).ins }
+        requires outs_each { length outs ≡ (A.counts machine).outs }
+        requires empty { All (λ p. IfSome p IsNewPart) outs }
+        ensures { IfOk result (λ a. IsNew (A.state machine) (A.counts machine) takes outs (held a)) }
+    {
+        let out = Outputs::with_room(alloc, outs.len())?;
+        let takes = takes.into_list(alloc)?;
+        let outs = Outs::new(alloc, outs.into_list(alloc)?)?;
+        Ok(Actor {
+            place,
+            machine,
+            number: 0,
+            log: Vec::new(alloc),
+            takes,
+            outs,
+            out,
+        })
+    }
 
     /// The actor's machine.
     pub fn machine(&self) -> &A

@@ -2,13 +2,19 @@
 #![tactic(auto)]
 
 mod actor;
+mod make;
 mod moved;
 mod outs;
 mod part;
+mod rows;
 mod run;
 mod steps;
 
 pub use actor::{Actor, ActorParts};
+pub use make::make_actors;
 pub use moved::Moved;
 pub use part::OutPart;
 pub use run::{FreeGate, Gate, Rest};
+
+#[cfg(test)]
+mod tests;

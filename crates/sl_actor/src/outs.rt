@@ -1,6 +1,7 @@
 // The outgoing links of an actor.
-ghost use Rattle.std.specs.Prelude.{◌≡◌, ◌+◌, ◌<◌, ◌≤◌, ◌==◌, [], ℕ, length, map, take, OnOk, true, false};
+ghost use Rattle.std.specs.Prelude.{◌≡◌, ◌+◌, ◌<◌, ◌≤◌, ◌==◌, [], ℕ, length, map, take, IfOk, OnOk, true};
 ghost use Rattle.std.specs.Bool.{OnTrue, OnFalse};
+ghost use Rattle.std.specs.List.{All};
 ghost use Rattle.std.specs.VecDeque.{deque_len, deque_capacity};
 ghost use Rattle.sl_machine.specs.Machine.{is_fitting};
 ghost use Rattle.sl_actor.specs.Outs.{sent, give, give_all, change, AreOffered, SomePut};
@@ -9,6 +10,7 @@ ghost use Rattle.sl_actor.specs.Waiting.{views, IsWaiting, AreSpare, KeepSpare, 
 use crate::part::{OutPart, give_to, offer_from};
 use sl_link::Stamped;
 use sl_machine::{Memory, Outputs};
+use std::alloc::Global;
 use std::collections::VecDeque;
 use std::sync::Wait;
 
@@ -21,6 +23,18 @@ pub struct Outs<M: Drop> {
 }
 
 impl<M: Drop> Outs<M> {
+    // Links whose outboxes are empty.
+    pub fn new(alloc: Global, mut parts: Vec<OutPart<M>>) -> Result<Outs<M>, Memory>
+        requires { All (λ p. deque_len p.outbox ≡ 0) parts.items }
+        ensures { IfOk result (λ o. views o.parts.items ≡ views parts.items) }
+    {
+        let Ok(waiting) = VecDeque::with_capacity(alloc, parts.len()) else {
+            return Err(Memory);
+        };
+        make_first_room(&mut parts)?;
+        Ok(Outs { parts, waiting })
+    }
+
     // Makes room for one more message in each outbox.
     pub fn make_room(&mut self) -> Result<(), Memory>
         ensures same { views self.new.parts.items ≡ views self.old.parts.items }
@@ -52,6 +66,23 @@ impl<M: Drop> Outs<M> {
     {
         give_out(&mut self.parts, &mut self.waiting, number, puts);
     }
+}
+
+// Makes room for a message in each outbox.
+fn make_first_room<M: Drop>(parts: &mut Vec<OutPart<M>>) -> Result<(), Memory>
+    requires { All (λ p. deque_len p.outbox ≡ 0) parts.old.items }
+    ensures same { views parts.new.items ≡ views parts.old.items }
+    ensures empty { All (λ p. deque_len p.outbox ≡ 0) parts.new.items }
+    ensures len { length parts.new.items ≡ length parts.old.items }
+    ensures room { OnOk result (All (λ p. 0 < deque_capacity p.outbox) parts.new.items) }
+{
+    for i in 0..parts.len() {
+        let part = &mut parts[i];
+        if part.outbox.reserve(1).is_err() {
+            return Err(Memory);
+        }
+    }
+    Ok(())
 }
 
 // Makes room for one more message in each outbox that holds something.

@@ -122,7 +122,11 @@ impl<A: Machine> Actor<A> {
                 Moved::Idle => {}
             }
         }
-        if calm { Ok(Round::Calm) } else { Ok(Round::Busy) }
+        if calm {
+            Ok(Round::Calm)
+        } else {
+            Ok(Round::Busy)
+        }
     }
 
     fn advance<R: Wait>(&mut self, rt: &R, plan: &[u32], choice: u32) -> Result<Moved, Memory>

@@ -1,7 +1,7 @@
 // The text of a refused input.
 ghost use Rattle.std.specs.Prelude.{◌≡◌, ◌++◌, IfOk, codes, string_bytes};
 ghost use Rattle.std.specs.Fmt.{signed_decimal};
-ghost use Rattle.sl_report.specs.FaultText.{IsRefusal, net_words, fault_words, fault_text};
+ghost use Rattle.sl_report.specs.FaultText.{net_words, fault_words, fault_text};
 
 use sl_machine::Memory;
 use sl_net::{Line, NetFault, Place};

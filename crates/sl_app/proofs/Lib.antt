@@ -1,3 +1,2 @@
-pub mod FormLemmas
 pub mod EndLemmas
 pub mod RunLemmas

@@ -1,5 +1,5 @@
 -- The book of a run, by the laws of finishing.
-use Rattle.std.proofs.Common.{◌≡◌, ℕ, ◌<◌, ◌≤◌, List, ◌++◌, length, take, drop, sym, ap, ◌∙◌, subst}
+use Rattle.std.proofs.Common.{◌≡◌, ℕ, ◌<◌, ◌≤◌, List, ◌++◌, length, take, drop, sym, ap, ◌∙◌, subst, arith}
 use Rattle.std.proofs.lemmas.List.{take-append-drop, length-map}
 use Rattle.sl_machine.specs.declared.wiring.Entry.{Entry as BookEntry}
 use Rattle.sl_net.specs.Input.{Input}
@@ -16,7 +16,10 @@ use Rattle.sl_cut.specs.Cut.{cuts}
 use Rattle.sl_cut.specs.Matching.{IsConsistentCut}
 use Rattle.sl_cut.proofs.Turns.{run-append}
 use Rattle.sl_cut.proofs.Trails.{run-kept}
-use Rattle.sl_app.specs.Served.{IsRunBook}
+use Rattle.sl_net.proofs.Checked.{few_hosts}
+use Rattle.sl_net.proofs.NetWired.{no-reason}
+use Rattle.sl_read.specs.Accepted.{IsAccepted}
+use Rattle.sl_app.specs.Served.{IsRunnable, IsRunBook}
 
 -- finishing leads to a finished world
 abbrev pub Finishes : Type 0
@@ -49,3 +52,16 @@ run_book finishes bounded consistent i lost book front net table window r =
       within = subst (λ (n : ℕ). n ≤ input_bound i) long short;
       cuts_consistent = λ k. consistent (setup_of i) lost (schedule_of book) k net;
     }
+
+-- an accepted input can be run
+pub runnable : (i : Input) → IsAccepted i → IsRunnable i
+runnable i a = record {
+  window = omega (arith, w);
+  addresses = λ k d h. let f = a.flows k d h in record { from = omega (arith, f.from, few); to = omega (arith, f.to, few) };
+}
+  where
+    w : 1 ≤ i.snapshot.window
+    w = a.snapshot.some_window
+
+    few : length i.net.parts.hosts ≤ 128
+    few = few_hosts i.net.parts (no-reason i.net.parts a.right).1.1.1.1.1.1.0

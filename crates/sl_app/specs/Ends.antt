@@ -1,5 +1,5 @@
 -- How a call of the program ends, and the cause of each ending.
-use Rattle.std.specs.Prelude.{◌≡◌, ℕ, ◌⊎◌, List, take, Option, Some, None}
+use Rattle.std.specs.Prelude.{◌≡◌, ℕ, ◌⊎◌, List, take, Option, Some, None, Ok, Err}
 use Rattle.std.specs.Io.KnownBytes.{Appends, Keeps}
 use Rattle.sl_io.specs.Faults.{Rose}
 use Rattle.sl_io.specs.Pieces.{IsReadUpTo, AppendsPart}
@@ -7,12 +7,16 @@ use Rattle.sl_machine.specs.declared.wiring.Entry.{Entry}
 use Rattle.sl_machine.specs.Book.{Book}
 use Rattle.sl_app.specs.declared.words.Command.TheVariants as command
 use Rattle.sl_app.specs.declared.ended.Refusal.{Refusal}
-use Rattle.sl_app.specs.declared.ended.Refusal.TheVariants.{Usage, NotBuilt, ReadFault, Memory}
+use Rattle.sl_app.specs.declared.ended.Refusal.TheVariants.{Usage, NotBuilt, Input as InputRefused, ReadFault, Memory}
 use Rattle.sl_app.specs.declared.ended.Ended.{Ended}
-use Rattle.sl_app.specs.Words.{asked}
-use Rattle.sl_app.specs.Form.{IsForm, HasNoForm, form_input}
+use Rattle.sl_app.specs.Words.{asked, reads}
 use Rattle.sl_app.specs.Texts.{status_of, refusal_text, write_fault_text}
+use Rattle.sl_net.specs.Input.{Input}
+use Rattle.sl_read.specs.declared.fault.InputFault.{InputFault}
+use Rattle.sl_read.specs.Inputs.{input_of}
 use Rattle.sl_cut.specs.Losses.{losses}
+use Rattle.sl_report.specs.FaultText.{fault_text}
+use Rattle.sl_report.specs.RoutesText.{routes_text}
 use Rattle.sl_app.specs.Served.{IsRun}
 
 -- the words, and the source before and after: the bytes left, where it tells them, and its count of faults
@@ -42,31 +46,52 @@ pub record IsUntouched (w : Writing) : Type 0 where
 abbrev pub HasRead : Reading → List ℕ → Type 0
 HasRead r bytes = IsReadUpTo 1048577 r.before r.after bytes
 
--- an input of the form was read
-pub record IsAccepted (r : Reading) (bytes : List ℕ) (c b : ℕ) : Type 0 where
-  pub words : asked r.words ≡ command.Step
+-- this input was read
+pub record WasRead (r : Reading) (i : Input) : Type 0 where
+  pub bytes : List ℕ
   pub read : HasRead r bytes
-  pub form : IsForm bytes c b
+  pub input : input_of bytes ≡ Ok i
 
-pub record IsNoForm (r : Reading) (bytes : List ℕ) : Type 0 where
-  pub words : asked r.words ≡ command.Step
+-- the bytes that were read are refused with this line
+pub record IsRefusedInput (r : Reading) (line : List ℕ) : Type 0 where
+  pub bytes : List ℕ
+  pub fault : InputFault
   pub read : HasRead r bytes
-  pub form : HasNoForm bytes
+  pub refused : input_of bytes ≡ Err fault
+  pub line_is : line ≡ fault_text fault
+
+-- the refusal of an input with this fault, or want of memory
+abbrev pub TellsFault : InputFault → Refusal → Type 0
+TellsFault fault (InputRefused line) = line.items ≡ fault_text fault
+TellsFault fault Memory = Unit {0}
+TellsFault fault _ = ⊥
 
 -- the cause of a refusal; want of memory has none
 abbrev pub HasCause : Reading → Refusal → Type 0
 HasCause r Usage = (asked r.words ≡ command.Usage) × IsUnread r
-HasCause r NotBuilt = ((asked r.words ≡ command.NotBuilt) × IsUnread r) ⊎ ((bytes : List ℕ) × IsNoForm r bytes)
-HasCause r ReadFault = (asked r.words ≡ command.Step) × Rose r.faults_before r.faults_after
+HasCause r NotBuilt = (asked r.words ≡ command.NotBuilt) × IsUnread r
+HasCause r (InputRefused line) = reads (asked r.words) × IsRefusedInput r line.items
+HasCause r ReadFault = reads (asked r.words) × Rose r.faults_before r.faults_after
 HasCause r Memory = Unit {0}
 
--- an accepted input was run, with this book and this text of its report
-pub record IsServed (r : Reading) (book : List Entry) (front : ℕ) (text : List ℕ) : Type 0 where
-  pub bytes : List ℕ
-  pub count : ℕ
-  pub length : ℕ
-  pub accepted : IsAccepted r bytes count length
-  pub run : IsRun (form_input count length) (losses (form_input count length)) book front text
+-- an input was run, with this book and this text of its report
+pub record IsStepped (r : Reading) (book : List Entry) (front : ℕ) (text : List ℕ) : Type 0 where
+  pub words : asked r.words ≡ command.Step
+  pub input : Input
+  pub accepted : WasRead r input
+  pub run : IsRun input (losses input) book front text
+
+-- the text of the routes of an input's net
+pub record IsRouted (r : Reading) (text : List ℕ) : Type 0 where
+  pub words : asked r.words ≡ command.Routes
+  pub input : Input
+  pub accepted : WasRead r input
+  pub routes : text ≡ routes_text input.net
+
+-- what is served: a run, or routes, for which there is no book
+abbrev pub IsServed : Reading → Option Book → ℕ → List ℕ → Type 0
+IsServed r (Some book) front text = IsStepped r book.entries front text
+IsServed r None front text = IsRouted r text × (front ≡ 0)
 
 -- the whole line for status 5 was appended, or a part of it where the sink's count rose
 abbrev pub TellsWriteFault : Writing → Type 0
@@ -74,22 +99,22 @@ TellsWriteFault err = Appends err.before err.after write_fault_text ⊎ (Appends
 
 -- The ways in which writing ends.
 
--- the report was written whole: nothing was appended to `err`
+-- the text was written whole: nothing was appended to `err`
 pub record IsWhole (out err : Writing) (text : List ℕ) (e : Ended) : Type 0 where
   pub status : e.status ≡ 0
   pub written : Appends out.before out.after text
   pub silent : IsUntouched err
 
--- `out` failed: a part of the report was appended to it, and the line for status 5 to `err`
+-- `out` failed: a part of the text was appended to it, and the line for status 5 to `err`
 pub record IsOutFault (out err : Writing) (text : List ℕ) (e : Ended) : Type 0 where
   pub status : e.status ≡ 5
   pub rose : Rose out.faults_before out.faults_after
   pub part : AppendsPart out.before out.after text
   pub told : TellsWriteFault err
 
--- what writing a report leaves: the book is returned either way
-pub record Reports (out err : Writing) (book : Book) (front : ℕ) (text : List ℕ) (e : Ended) : Type 0 where
-  pub kept : e.book ≡ Some book
+-- what writing a text leaves: the book, where there is one, is returned either way
+pub record Reports (out err : Writing) (book : Option Book) (front : ℕ) (text : List ℕ) (e : Ended) : Type 0 where
+  pub kept : e.book ≡ book
   pub front_kept : e.front ≡ front
   pub ending : IsWhole out err text e ⊎ IsOutFault out err text e
 
@@ -114,12 +139,12 @@ pub record Refuses (err : Writing) (refusal : Refusal) (e : Ended) : Type 0 wher
 
 -- The ending of a call.
 
--- an accepted input was run, and its report written, or a part of it
+-- an accepted input was served, and the text written, or a part of it
 pub record IsReported (r : Reading) (out err : Writing) (e : Ended) : Type 0 where
-  pub book : Book
+  pub book : Option Book
   pub front : ℕ
   pub text : List ℕ
-  pub served : IsServed r book.entries front text
+  pub served : IsServed r book front text
   pub reports : Reports out err book front text e
 
 -- a refusal had its cause, and nothing was appended to `out`

@@ -5,12 +5,14 @@ ghost use Rattle.sl_app.specs.Texts.{status_of, refusal_text};
 use sl_machine::Book;
 
 /// Why nothing is served.
-#[derive(Clone, Copy, Debug, PartialEq, Eq)]
+#[derive(Debug, Drop)]
 pub enum Refusal {
     /// The words are no command.
     Usage,
-    /// The command or the input is not built yet.
+    /// The command is not built yet.
     NotBuilt,
+    /// The input is refused, with the line that says why.
+    Input(Vec<u8>),
     /// A read of the source failed.
     ReadFault,
     /// Want of memory.
@@ -19,12 +21,13 @@ pub enum Refusal {
 
 impl Refusal {
     /// The exit status.
-    pub fn status(self) -> u8
-        ensures { result ≡ status_of self }
+    pub fn status(&self) -> u8
+        ensures { result ≡ status_of self.now }
     {
         match self {
             Refusal::Usage => 2,
             Refusal::NotBuilt => 3,
+            Refusal::Input(_) => 3,
             Refusal::ReadFault => 4,
             Refusal::Memory => 6,
         }
@@ -32,16 +35,17 @@ impl Refusal {
 
     /// The line that is written for it.
     #[tactic(auto, unfolding(crate::specs::Texts::refusal_text))]
-    pub fn text(self) -> &'static str
-        ensures { result.now ≡ refusal_text self }
+    pub fn text(&self) -> &[u8]
+        ensures { result.now ≡ refusal_text self.now }
     {
         match self {
             Refusal::Usage => {
-                "speedlight: usage: speedlight step [--trace] | run [--trace] | routes | sample N [--input]\n"
+                b"speedlight: usage: speedlight step [--trace] | run [--trace] | routes | sample N [--input]\n"
             }
-            Refusal::NotBuilt => "speedlight: not built\n",
-            Refusal::ReadFault => "speedlight: read fault\n",
-            Refusal::Memory => "speedlight: out of memory\n",
+            Refusal::NotBuilt => b"speedlight: not built\n",
+            Refusal::Input(line) => line.as_slice(),
+            Refusal::ReadFault => b"speedlight: read fault\n",
+            Refusal::Memory => b"speedlight: out of memory\n",
         }
     }
 }

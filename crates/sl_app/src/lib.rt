@@ -2,8 +2,8 @@
 #![tactic(auto)]
 
 mod ended;
-mod form;
-mod input;
+#[cfg(test)]
+mod rows;
 mod run;
 #[cfg(test)]
 mod tests;

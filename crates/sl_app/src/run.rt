@@ -1,5 +1,5 @@
 // The run of an input.
-ghost use Rattle.std.specs.Prelude.{◌≡◌, ◌<◌, ◌^◌, IfOk, length};
+ghost use Rattle.std.specs.Prelude.{◌≡◌, ◌<◌, ◌^◌, None, IfOk, IfSome, IsSome, length};
 ghost use Rattle.std.specs.List.{All};
 ghost use Rattle.sl_flow.specs.Flow.{HasAddresses};
 ghost use Rattle.sl_cut.specs.Losses.{losses};
@@ -7,6 +7,7 @@ ghost use Rattle.sl_cut.specs.Setup.{setup_of};
 ghost use Rattle.sl_cut.specs.Fuel.{schedule_of};
 ghost use Rattle.sl_cut.specs.Findings.{findings};
 ghost use Rattle.sl_report.specs.Report.{report_text};
+ghost use Rattle.sl_report.specs.RoutesText.{routes_text};
 ghost use Rattle.sl_app.specs.Served.{IsRunnable, IsRunBook, IsRun};
 
 use sl_cut::{
@@ -15,14 +16,15 @@ use sl_cut::{
 use sl_finish::{finishing_finishes, inputs_are_bounded};
 use sl_machine::{Book, Entry, Memory};
 use sl_net::Input;
-use sl_report::report_bytes;
+use sl_report::{report_bytes, routes_bytes};
+use sl_route::Routes;
 use std::alloc::Global;
 
-/// What is served for an input: the book of its run, how many of its entries come before
-/// finishing, and the text of its report.
+/// What is served for an input: a text, and where it is the report of a run, the book of the run
+/// and how many of its entries come before finishing.
 #[derive(Drop)]
 pub struct Served {
-    pub book: Book,
+    pub book: Option<Book>,
     pub front: u64,
     pub text: Vec<u8>,
 }
@@ -69,15 +71,31 @@ fn report_run(alloc: Global, input: &Input, book: &Book) -> Result<Vec<u8>, Memo
 }
 
 /// Runs an input.
-pub fn run_input(alloc: Global, input: &Input) -> Result<Served, Memory>
+pub fn serve_run(alloc: Global, input: &Input) -> Result<Served, Memory>
     requires { IsRunnable input.now }
-    ensures { IfOk result (λ s. IsRun input.now (losses input.now) s.book.entries s.front s.text.items) }
+    ensures run { IfOk result (λ s. IfSome s.book (λ book. IsRun input.now (losses input.now) book.entries s.front s.text.items)) }
+    ensures book { IfOk result (λ s. IsSome s.book) }
 {
     let run = book_of(alloc, input)?;
     let text = report_run(alloc, input, &run.book)?;
     Ok(Served {
-        book: run.book,
+        book: Some(run.book),
         front: run.front,
+        text,
+    })
+}
+
+/// The routes of an input's net.
+pub fn serve_routes(alloc: Global, input: &Input) -> Result<Served, Memory>
+    ensures text { IfOk result (λ s. s.text.items ≡ routes_text input.now.net) }
+    ensures book { IfOk result (λ s. s.book ≡ None) }
+    ensures front { IfOk result (λ s. s.front ≡ 0) }
+{
+    let routes = Routes::make(alloc, &input.net)?;
+    let text = routes_bytes(alloc, &input.net, &routes)?;
+    Ok(Served {
+        book: None,
+        front: 0,
         text,
     })
 }

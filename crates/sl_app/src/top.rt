@@ -1,59 +1,85 @@
 // The top call.
 ghost use Rattle.std.specs.Prelude.{◌≡◌, ◌≤◌, ℕ, List, [], map, string_bytes, MatchResult, IfOk};
-ghost use Rattle.sl_app.specs.Words.{asked};
+ghost use Rattle.sl_read.specs.Accepted.{IsAccepted};
+ghost use Rattle.sl_app.specs.Words.{asked, reads};
 ghost use Rattle.sl_app.specs.declared.words.Command.TheVariants as command;
-ghost use Rattle.sl_cut.specs.Losses.{losses};
-ghost use Rattle.sl_app.specs.Form.{form_input};
-ghost use Rattle.sl_app.specs.Served.{IsRun};
-ghost use Rattle.sl_app.specs.Ends.{Ends, Reading, Writing, HasCause, IsServed, TellsWriteFault, Refuses, Reports};
+ghost use Rattle.sl_app.specs.Ends.{Ends, Reading, Writing, HasCause, WasRead, IsServed, TellsFault, TellsWriteFault, Refuses, Reports};
 
 use crate::ended::{Ended, Refusal};
-use crate::form::{Form, read_form};
-use crate::input::form_input;
-use crate::run::{Served, run_input};
+use crate::run::{Served, serve_routes, serve_run};
 use crate::words::{Command, asked};
 use sl_io::{ReadFault, Sink, Source, read_all, write_all};
-use sl_machine::Memory;
+use sl_net::Input;
+use sl_read::{InputFault, read_input};
+use sl_report::fault_bytes;
 use std::alloc::Global;
 
 /// The most bytes of an input, and one more.
 const LIMIT: usize = 1_048_577;
 
-/// Runs the input of a form.
-fn run_form(alloc: Global, form: Form) -> Result<Served, Memory>
-    requires count { form.count ≤ 100 }
-    requires length { form.length ≤ 65535 }
-    ensures { IfOk result (λ s. IsRun (form_input form.count form.length) (losses (form_input form.count form.length)) s.book.entries s.front s.text.items) }
+/// The refusal of an input.
+fn refused(alloc: Global, fault: &InputFault) -> Refusal
+    ensures { TellsFault fault.now result }
 {
-    let input = form_input(alloc, form.count, form.length)?;
-    run_input(alloc, &input)
+    match fault_bytes(alloc, fault) {
+        Ok(line) => Refusal::Input(line),
+        Err(_) => Refusal::Memory,
+    }
 }
 
-fn step<I: Source>(alloc: Global, words: &[String], input: &mut I) -> Result<Served, Refusal>
-    requires { asked (map (λ w. string_bytes w) words.now) ≡ command.Step }
-    ensures { let r : Reading = record { words = map (λ w. string_bytes w) words.now; before = I.left input.old; after = I.left input.new; faults_before = I.faults input.old; faults_after = I.faults input.new } in MatchResult result (λ s. IsServed r s.book.entries s.front s.text.items) (HasCause r) }
+/// Reads an input, or says why there is none.
+fn accept<I: Source>(alloc: Global, words: &[String], input: &mut I) -> Result<Input, Refusal>
+    requires { reads (asked (map (λ w. string_bytes w) words.now)) }
+    ensures { let r : Reading = record { words = map (λ w. string_bytes w) words.now; before = I.left input.old; after = I.left input.new; faults_before = I.faults input.old; faults_after = I.faults input.new } in MatchResult result (λ i. WasRead r i × IsAccepted i) (HasCause r) }
 {
     let bytes = match read_all(alloc, input, LIMIT) {
         Ok(bytes) => bytes,
         Err(ReadFault::Failed) => return Err(Refusal::ReadFault),
         Err(ReadFault::Memory) => return Err(Refusal::Memory),
     };
-    let Some(form) = read_form(&bytes) else {
-        return Err(Refusal::NotBuilt);
+    match read_input(alloc, bytes.as_slice()) {
+        Ok(input) => Ok(input),
+        Err(InputFault::Memory) => Err(Refusal::Memory),
+        Err(fault) => Err(refused(alloc, &fault)),
+    }
+}
+
+fn step<I: Source>(alloc: Global, words: &[String], input: &mut I) -> Result<Served, Refusal>
+    requires { asked (map (λ w. string_bytes w) words.now) ≡ command.Step }
+    ensures { let r : Reading = record { words = map (λ w. string_bytes w) words.now; before = I.left input.old; after = I.left input.new; faults_before = I.faults input.old; faults_after = I.faults input.new } in MatchResult result (λ s. IsServed r s.book s.front s.text.items) (HasCause r) }
+{
+    let accepted = match accept(alloc, words, input) {
+        Ok(accepted) => accepted,
+        Err(refusal) => return Err(refusal),
     };
-    match run_form(alloc, form) {
+    match serve_run(alloc, &accepted) {
         Ok(served) => Ok(served),
-        Err(Memory) => Err(Refusal::Memory),
+        Err(_) => Err(Refusal::Memory),
+    }
+}
+
+fn routes<I: Source>(alloc: Global, words: &[String], input: &mut I) -> Result<Served, Refusal>
+    requires { asked (map (λ w. string_bytes w) words.now) ≡ command.Routes }
+    ensures { let r : Reading = record { words = map (λ w. string_bytes w) words.now; before = I.left input.old; after = I.left input.new; faults_before = I.faults input.old; faults_after = I.faults input.new } in MatchResult result (λ s. IsServed r s.book s.front s.text.items) (HasCause r) }
+{
+    let accepted = match accept(alloc, words, input) {
+        Ok(accepted) => accepted,
+        Err(refusal) => return Err(refusal),
+    };
+    match serve_routes(alloc, &accepted) {
+        Ok(served) => Ok(served),
+        Err(_) => Err(Refusal::Memory),
     }
 }
 
 fn serve<I: Source>(alloc: Global, words: &[String], input: &mut I) -> Result<Served, Refusal>
-    ensures { let r : Reading = record { words = map (λ w. string_bytes w) words.now; before = I.left input.old; after = I.left input.new; faults_before = I.faults input.old; faults_after = I.faults input.new } in MatchResult result (λ s. IsServed r s.book.entries s.front s.text.items) (HasCause r) }
+    ensures { let r : Reading = record { words = map (λ w. string_bytes w) words.now; before = I.left input.old; after = I.left input.new; faults_before = I.faults input.old; faults_after = I.faults input.new } in MatchResult result (λ s. IsServed r s.book s.front s.text.items) (HasCause r) }
 {
     match asked(words) {
         Command::Usage => Err(Refusal::Usage),
         Command::NotBuilt => Err(Refusal::NotBuilt),
         Command::Step => step(alloc, words, input),
+        Command::Routes => routes(alloc, words, input),
     }
 }
 
@@ -78,10 +104,10 @@ fn ended_without(status: u8) -> Ended
 }
 
 /// Writes the line for a refusal, or that it could not be written.
-fn refuse<E: Sink>(refusal: Refusal, err: &mut E) -> Ended
-    ensures { let w : Writing = record { before = E.written err.old; after = E.written err.new; faults_before = E.faults err.old; faults_after = E.faults err.new } in Refuses w refusal result }
+fn refuse<E: Sink>(refusal: &Refusal, err: &mut E) -> Ended
+    ensures { let w : Writing = record { before = E.written err.old; after = E.written err.new; faults_before = E.faults err.old; faults_after = E.faults err.new } in Refuses w refusal.now result }
 {
-    match write_all(err, refusal.text().as_bytes()) {
+    match write_all(err, refusal.text()) {
         Ok(()) => ended_without(refusal.status()),
         Err(_) => {
             tell_write_fault(err);
@@ -90,7 +116,7 @@ fn refuse<E: Sink>(refusal: Refusal, err: &mut E) -> Ended
     }
 }
 
-/// Writes the report, or that it could not be written.
+/// Writes what is served, or that it could not be written.
 fn report<O: Sink, E: Sink>(served: Served, out: &mut O, err: &mut E) -> Ended
     ensures { let o : Writing = record { before = O.written out.old; after = O.written out.new; faults_before = O.faults out.old; faults_after = O.faults out.new } in let w : Writing = record { before = E.written err.old; after = E.written err.new; faults_before = E.faults err.old; faults_after = E.faults err.new } in Reports o w served.book served.front served.text.items result }
 {
@@ -103,7 +129,7 @@ fn report<O: Sink, E: Sink>(served: Served, out: &mut O, err: &mut E) -> Ended
     };
     Ended {
         status,
-        book: Some(served.book),
+        book: served.book,
         front: served.front,
     }
 }
@@ -121,6 +147,6 @@ pub fn speedlight<I: Source, O: Sink, E: Sink>(
 {
     match serve(alloc, words, input) {
         Ok(served) => report(served, out, err),
-        Err(refusal) => refuse(refusal, err),
+        Err(refusal) => refuse(&refusal, err),
     }
 }

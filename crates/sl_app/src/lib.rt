@@ -2,8 +2,6 @@
 #![tactic(auto)]
 
 mod ended;
-#[cfg(test)]
-mod rows;
 mod run;
 #[cfg(test)]
 mod tests;

@@ -1,6 +1,4 @@
-// Calls over sources and sinks in memory: the worked rows, padded inputs, words, and faults at each
-// call.
-use crate::rows::ROWS;
+// Runs over sources and sinks in memory: whole reports, refusals, and faults at each call.
 use crate::speedlight;
 use sl_io::{MemorySink, MemorySource};
 use std::alloc::{AllocError, Global};
@@ -8,6 +6,12 @@ use std::test::Fail;
 
 const THREE_PACKETS: &str =
     "device = [{name = \"a\", ports = 2}]\nhost = [{name = \"h0\", at = \"a.0\"}, {name = \"h1\", at = \"a.1\"}]\nflow = [{from = \"h0\", to = \"h1\", count = 3, bytes = 100, hops = 8}]\nsnapshot = {bits = 2, window = 3, ring = 3, count = 1, retries = 0}\n";
+
+const REPORT_HEAD: &str =
+    "speedlight 1\nnetwork devices 1 units 4 hosts 2\nobserver count 1 issued 1 collected 1 resent 0\nsnapshot 1 consistent\nin a.0 0 0\nout a.0 0 0 x0 0 0 x1 0 0\nin a.1 0 0\nout a.1 0 0 x0 0 0 x1 0 0\n";
+
+const REPORT_TAIL: &str =
+    "drops bad 0 expired 0 noroute 0\nlost cable 0 crossbar 0 init 0 notice 0\nend\n";
 
 const USAGE: &str =
     "speedlight: usage: speedlight step [--trace] | run [--trace] | routes | sample N [--input]\n";
@@ -49,45 +53,49 @@ fn call(alloc: Global, words: &[&str], text: &str, fail: (u64, u64, u64)) -> Res
     })
 }
 
-/// Each worked row, byte for byte.
 #[test]
-fn rows(rt: HostRuntime) -> Result<(), Fail> {
-    for row in &ROWS {
-        let left = call(rt.alloc(), &[row.word], row.input, (0, 0, 0))?;
-        let name = row.name;
-        assert_eq!(rt; left.out.as_slice(), row.out.as_bytes(), "{name}");
-        assert_eq!(rt; left.err.as_slice(), row.err.as_bytes(), "{name}");
-        assert_eq!(rt; left.status, row.status, "{name}");
-        assert_eq!(rt;
-            left.has_book,
-            row.word == "step" && row.status == 0,
-            "{name}"
-        );
-    }
+fn reports(rt: HostRuntime) -> Result<(), Fail> {
+    let alloc = rt.alloc();
+    let three = call(alloc, &["step"], THREE_PACKETS, (0, 0, 0))?;
+    let hosts = "host h0 sent 3 delivered 0\nhost h1 sent 0 delivered 3\n";
+    let report = format!(in alloc; "{REPORT_HEAD}{hosts}{REPORT_TAIL}")?;
+    assert_eq!(rt; three.status, 0);
+    assert_eq!(rt; three.out.as_slice(), report.as_bytes());
+    assert!(rt; three.err.is_empty() && three.has_book);
+    let none = THREE_PACKETS.replace(alloc, "count = 3", "count = 0")?;
+    let none = call(alloc, &["step"], none.as_str(), (0, 0, 0))?;
+    let hosts = "host h0 sent 0 delivered 0\nhost h1 sent 0 delivered 0\n";
+    let report = format!(in alloc; "{REPORT_HEAD}{hosts}{REPORT_TAIL}")?;
+    assert_eq!(rt; none.status, 0);
+    assert_eq!(rt; none.out.as_slice(), report.as_bytes());
     Ok(())
 }
 
-/// The input, followed by newlines up to so many bytes.
-fn padded(alloc: Global, length: usize) -> Result<String, AllocError> {
-    let mut text = String::from_str(alloc, THREE_PACKETS)?;
-    let more = length.saturating_sub(text.len());
-    for _ in 0..more {
-        text.push('\n')?;
-    }
-    Ok(text)
-}
-
-/// An input may have 1,048,576 bytes.
 #[test]
-fn longest_input(rt: HostRuntime) -> Result<(), Fail> {
+fn refusals(rt: HostRuntime) -> Result<(), Fail> {
     let alloc = rt.alloc();
-    let longest = padded(alloc, 1_048_576)?;
-    let left = call(alloc, &["step"], longest.as_str(), (0, 0, 0))?;
-    assert_eq!(rt; left.status, 0);
-    let longer = padded(alloc, 1_048_577)?;
-    let left = call(alloc, &["step"], longer.as_str(), (0, 0, 0))?;
-    assert_eq!(rt; left.status, 3);
-    assert_eq!(rt; left.err.as_slice(), b"speedlight: I1\n".as_slice());
+    // What takes the place of a part of the input, so that it is refused.
+    let changes = [
+        ("count = 3", "count = 20001", "I6 flow.0.count 20001"),
+        ("count = 3", "count = 03", "I2"),
+        ("count = 3", "count = \"3\"", "I5 flow.0.count"),
+        ("count = 3", "count = -3", "I6 flow.0.count -3"),
+        ("count = 3", "count = ", "I2"),
+        ("bytes = 100", "bytes = 65536", "I6 flow.0.bytes 65536"),
+        ("bytes = 100", "bytes = 0100", "I2"),
+        ("window = 3", "window = 4", "I6 snapshot.window 4"),
+        ("retries = 0}", "retries = 0, colour = 1}", "I4 snapshot"),
+        ("to = \"h1\"", "to = \"hx\"", "I7 flow.0.to"),
+        ("device", "devise", "I4 top"),
+    ];
+    for (old, new, refusal) in changes {
+        let text = THREE_PACKETS.replace(alloc, old, new)?;
+        let left = call(alloc, &["step"], text.as_str(), (0, 0, 0))?;
+        assert_eq!(rt; left.status, 3, "{new}");
+        assert!(rt; left.out.is_empty() && !left.has_book, "{new}");
+        let line = format!(in alloc; "speedlight: {refusal}\n")?;
+        assert_eq!(rt; left.err.as_slice(), line.as_bytes(), "{new}");
+    }
     Ok(())
 }
 
@@ -99,15 +107,12 @@ fn words_and_faults(rt: HostRuntime) -> Result<(), Fail> {
     let write_fault = "speedlight: write fault\n";
     // The words, the calls that fail, the status, and what is on the error sink. A source of one
     // piece is read twice. A read that fails is told, whatever the words of the input.
-    let rows: [(&[&str], (u64, u64, u64), u8, &str); 15] = [
+    let rows: [(&[&str], (u64, u64, u64), u8, &str); 12] = [
         (&[], (1, 0, 0), 2, USAGE),
         (&["walk"], (1, 0, 0), 2, USAGE),
         (&["-h"], (1, 0, 0), 2, USAGE),
         (&["run"], (1, 0, 0), 3, not_built),
-        (&["sample", "8"], (1, 0, 0), 3, not_built),
         (&["routes", "x"], (1, 0, 0), 3, not_built),
-        (&["routes"], (1, 0, 0), 4, read_fault),
-        (&["routes"], (0, 1, 0), 5, write_fault),
         (&["step", "--trace"], (1, 0, 0), 3, not_built),
         (&["step"], (1, 0, 0), 4, read_fault),
         (&["step"], (2, 0, 0), 4, read_fault),
@@ -126,8 +131,7 @@ fn words_and_faults(rt: HostRuntime) -> Result<(), Fail> {
             text.as_bytes(),
             "{count} words, {fail:?}"
         );
-        let has_book = fail.1 != 0 && words.first() == Some(&"step");
-        assert_eq!(rt; left.has_book, has_book, "{count} words, {fail:?}");
+        assert_eq!(rt; left.has_book, fail.1 != 0, "{count} words, {fail:?}");
     }
     Ok(())
 }

@@ -22,8 +22,6 @@ mod schedule;
 mod sends;
 mod step;
 mod tell;
-#[cfg(test)]
-mod tests;
 mod units;
 mod values;
 mod verdict;

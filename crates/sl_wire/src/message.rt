@@ -1,6 +1,6 @@
 // Messages between actors, with whole numbers as stamps, and the registers in a dump.
 use sl_ids::Wid;
-use sl_net::Packet;
+use sl_net::{Bytes, Packet};
 use sl_saves::{Saved, View};
 use std::marker::Model;
 
@@ -50,12 +50,12 @@ pub struct PlainDump {
     pub view: View,
 }
 
-/// A message, with whole numbers as stamps: a host's packet; a data packet, a probe and an
+/// A message, with whole numbers as stamps: the bytes of a frame from a host or to it; a data packet, a probe and an
 /// initiation with their stamps; a poll of a unit, a notice and a dump from it; the begin of a
 /// snapshot; and a report on a unit.
 #[derive(Debug, Drop)]
 pub enum Msg {
-    Host(Packet),
+    Host(Bytes),
     Data(u64, Packet),
     Probe(u64),
     Init(u64),

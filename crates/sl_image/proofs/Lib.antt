@@ -1,0 +1,10 @@
+pub mod Entries
+pub mod Lowest
+pub mod Rows
+pub mod Later
+pub mod Late
+pub mod Settled
+pub mod Totals
+pub mod Channels
+pub mod Windows
+pub mod Accounts

@@ -1,0 +1,5 @@
+pub mod Calls
+pub mod Rows
+pub mod Late
+pub mod Window
+pub mod Accounts

@@ -1,0 +1,14 @@
+// A unit's history as saved entries and rows: laws of what a unit saves, of the rows that are read
+// from it, and of the findings that collected rows give.
+#![tactic(auto)]
+
+mod laws;
+mod worlds;
+
+pub use laws::{
+    calls_follow_steps, calls_lead_to_id, entries_are_values, late_is_credited, read_is_row,
+    row_stays, saved_is_row,
+};
+pub use worlds::{
+    accounts_give_findings, calls_are_in_window, rows_are_final, rows_are_of_the_world,
+};

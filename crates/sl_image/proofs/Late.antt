@@ -55,7 +55,7 @@ place-same n x c (y ∷ ys) m e = by_tells (eqb_tells y x) (eqb_tells y c) m (λ
 abbrev zero_total : Total
 zero_total = record { packets = 0; bytes = 0 }
 
-abbrev both_totals : Total → Total → Total
+abbrev pub both_totals : Total → Total → Total
 both_totals a b = record { packets = a.packets + b.packets; bytes = a.bytes + b.bytes }
 
 abbrev old_total : ℕ → List Message → Total
@@ -86,7 +86,7 @@ with-zero : (t : Total) → t ≡ both_totals t zero_total
 with-zero t = let p : t.packets ≡ t.packets + 0 = omega arith in let b : t.bytes ≡ t.bytes + 0 = omega arith in λ i. record { packets = p i; bytes = b i }
 
 -- at most one credit in front
-step-total : (cs : List ℕ) (j k ch : ℕ) (o : Option Message) (xs : List Credit) → total_on j (credits_in cs k ch o ++ xs) ≡ both_totals (total_on j xs) (total_on j (credits_in cs k ch o))
+pub step-total : (cs : List ℕ) (j k ch : ℕ) (o : Option Message) (xs : List Credit) → total_on j (credits_in cs k ch o ++ xs) ≡ both_totals (total_on j xs) (total_on j (credits_in cs k ch o))
 step-total cs j k ch (Some (Data s p)) xs = by_bool (nat_lt s k)
   where
     by_bool : (b : Bool) → total_on j ((if b then credit cs k ch s p ∷ [] else []) ++ xs) ≡ both_totals (total_on j xs) (total_on j (if b then credit cs k ch s p ∷ [] else []))

@@ -3,8 +3,10 @@ pub mod Lowest
 pub mod Rows
 pub mod Later
 pub mod Late
+pub mod Fits
 pub mod Settled
 pub mod Totals
 pub mod Channels
 pub mod Windows
+pub mod Shorts
 pub mod Accounts

@@ -64,7 +64,7 @@ way-head [] n m e = absurd cc
 way-head (x ∷ xs) zero m e = let q : x ≡ m = cc in (xs, ap (λ y. y ∷ xs) q)
 way-head (x ∷ xs) (suc n) m e = way-head xs n m e
 
-each-get : (P : Message → Type 0) (xs : List Message) (n : ℕ) (m : Message) → Each P xs → slice_get xs n ≡ Some m → P m
+pub each-get : (P : Message → Type 0) (xs : List Message) (n : ℕ) (m : Message) → Each P xs → slice_get xs n ≡ Some m → P m
 each-get P [] n m h e = absurd cc
 each-get P (x ∷ xs) zero m h e = let q : x ≡ m = cc in subst P q h.0
 each-get P (x ∷ xs) (suc n) m h e = each-get P xs n m h.1 e

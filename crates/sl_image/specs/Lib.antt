@@ -2,4 +2,5 @@ pub mod Calls
 pub mod Rows
 pub mod Late
 pub mod Window
+pub mod Short
 pub mod Accounts

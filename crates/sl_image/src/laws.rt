@@ -1,6 +1,6 @@
 // Laws of one unit's history and of what it saves. The functions do nothing: their contracts are
 // the laws, and the proofs are in proofs/. cs are the unit's data channels, as choices.
-ghost use Rattle.std.specs.Prelude.{◌≡◌, ℕ, ◌+◌, ◌-◌, ◌<◌, ◌≤◌, List, [], ◌∷◌, length, Some, false};
+ghost use Rattle.std.specs.Prelude.{◌≡◌, ℕ, ◌+◌, ◌-◌, ◌*◌, ◌^◌, ◌<◌, ◌≤◌, List, [], ◌∷◌, length, Some, false};
 ghost use Rattle.sl_net.specs.declared.input.Packet.{Packet};
 ghost use Rattle.sl_net.specs.Net.{place_in};
 ghost use Rattle.sl_saves.specs.declared.entry.View.{View};
@@ -16,6 +16,7 @@ ghost use Rattle.sl_cut.specs.Fit.{stamp};
 ghost use Rattle.sl_cut.specs.Verdict.{is_old_data, miscredits};
 ghost use Rattle.sl_image.specs.Calls.{calls, credit};
 ghost use Rattle.sl_image.specs.Rows.{row, entries, credits_at};
+ghost use Rattle.sl_image.specs.Short.{TakesShort};
 ghost use Rattle.sl_image.specs.Late.{late_total};
 
 use sl_saves::shown_is_read;
@@ -71,3 +72,11 @@ pub fn read_is_row()
 {
     shown_is_read()
 }
+
+/// A history of fewer than 2 ^ 40 steps with packets shorter than 2 ^ 16 bytes counts at most its
+/// steps, and so many bytes, and the totals of its rows fit their type.
+pub fn counts_fit()
+    ensures packets { (h : History) → packets h ≤ length h }
+    ensures bytes { (h : History) → TakesShort h → bytes h ≤ 65535 * length h }
+    ensures rows { (cs : List ℕ) (k : ℕ) (h : History) → TakesShort h → length h < 2 ^ 40 → IsFitting (row cs k h) }
+{}

@@ -6,9 +6,10 @@ mod laws;
 mod worlds;
 
 pub use laws::{
-    calls_follow_steps, calls_lead_to_id, entries_are_values, late_is_credited, read_is_row,
-    row_stays, saved_is_row,
+    calls_follow_steps, calls_lead_to_id, counts_fit, entries_are_values, late_is_credited,
+    read_is_row, row_stays, saved_is_row,
 };
 pub use worlds::{
-    accounts_give_findings, calls_are_in_window, rows_are_final, rows_are_of_the_world,
+    accounts_give_findings, calls_are_in_window, packets_are_short, rows_are_final,
+    rows_are_of_the_world,
 };

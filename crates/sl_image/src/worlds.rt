@@ -19,6 +19,7 @@ ghost use Rattle.sl_cut.specs.Findings.{row as world_row};
 ghost use Rattle.sl_image.specs.Calls.{calls, step_calls};
 ghost use Rattle.sl_image.specs.Rows.{row};
 ghost use Rattle.sl_image.specs.Window.{IsWithin};
+ghost use Rattle.sl_image.specs.Short.{TakesShort, SendsShort};
 ghost use Rattle.sl_image.specs.Accounts.{accounts, cause_in, value_row, finding_by};
 
 use sl_cut::{collected_verdicts_are_known, finished_verdicts_are_known};
@@ -35,6 +36,14 @@ pub fn calls_are_in_window()
 {
     nets_are_wired()
 }
+
+/// Where the flows of a setup have packets shorter than 2 ^ 16 bytes and its raw frames are bytes,
+/// each data packet that a unit counts is that short, and the steps of a schedule are at most its
+/// entries.
+pub fn packets_are_short()
+    ensures short { (s : Setup) (lost : Losses) (es : List Entry) (u : ℕ) → SendsShort s → TakesShort (history (world s lost es) u) }
+    ensures steps { (s : Setup) (lost : Losses) (es : List Entry) (u : ℕ) → length (history (world s lost es) u) ≤ length es }
+{}
 
 /// Once the id and the data last-seen numbers of a unit have reached k, the row of k stays what it
 /// is after more of its steps, and in every longer schedule.

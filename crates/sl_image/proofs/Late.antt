@@ -15,6 +15,7 @@ use Rattle.sl_cut.specs.Cut.{outside, data_count, data_bytes}
 use Rattle.sl_cut.specs.Verdict.{is_old_data, miscredits}
 use Rattle.sl_cut.specs.Late.{is_old}
 use Rattle.sl_net.proofs.Lists.{Member, each-of}
+use Rattle.sl_net.proofs.ReportWays.{place-same}
 use Rattle.sl_cut.proofs.Prefixes.{outside-none, outside-more}
 use Rattle.sl_image.specs.Calls.{credit, credits_in}
 use Rattle.sl_image.specs.Rows.{credits_at}
@@ -23,32 +24,11 @@ use Rattle.sl_image.proofs.Entries.{credits-none, credits-same, credits-more, cr
 
 -- Places in a list.
 
-pub place-ge : (n x : ℕ) (xs : List ℕ) → n ≤ place_in n x xs
-place-ge n x [] = omega arith
-place-ge n x (y ∷ ys) = by_bool (y == x) (place-ge (suc n) x ys)
-  where
-    by_bool : (b : Bool) → suc n ≤ place_in (suc n) x ys → n ≤ (if b then n else place_in (suc n) x ys)
-    by_bool true p = omega arith
-    by_bool false p = omega (arith, p)
-
 pub place-here : (n x y : ℕ) (ys : List ℕ) → y ≡ x → place_in n x (y ∷ ys) ≡ n
 place-here n x y ys p = ap (λ b. if b then n else place_in (suc n) x ys) (eq-eqb y x p)
 
 pub place-past : (n x y : ℕ) (ys : List ℕ) → (y ≡ x → ⊥) → place_in n x (y ∷ ys) ≡ place_in (suc n) x ys
 place-past n x y ys p = ap (λ b. if b then n else place_in (suc n) x ys) (ne_eqb y x p)
-
--- what stands at the place of an element is this element
-pub place-same : (n x c : ℕ) (xs : List ℕ) → Member c xs → place_in n x xs ≡ place_in n c xs → x ≡ c
-place-same n x c [] m e = absurd m
-place-same n x c (y ∷ ys) m e = by_tells (eqb_tells y x) (eqb_tells y c) m (λ r q. place-same (suc n) x c ys r q)
-  where
-    by_tells : ((nat_eq y x ≡ true) × (y ≡ x)) ⊎ ((nat_eq y x ≡ false) × (y ≡ x → ⊥)) → ((nat_eq y c ≡ true) × (y ≡ c)) ⊎ ((nat_eq y c ≡ false) × (y ≡ c → ⊥)) → Member c (y ∷ ys)
-        → (Member c ys → place_in (suc n) x ys ≡ place_in (suc n) c ys → x ≡ c) → x ≡ c
-    by_tells (inl p) (inl q) m ih = sym p.1 ∙ q.1
-    by_tells (inl p) (inr q) m ih = absurd (let a : n ≡ place_in (suc n) c ys = sym (place-here n x y ys p.1) ∙ e ∙ place-past n c y ys q.1 in omega (arith, a, place-ge (suc n) c ys))
-    by_tells (inr p) (inl q) m ih = absurd (let a : place_in (suc n) x ys ≡ n = sym (place-past n x y ys p.1) ∙ e ∙ place-here n c y ys q.1 in omega (arith, a, place-ge (suc n) x ys))
-    by_tells (inr p) (inr q) (inl r) ih = absurd (q.1 (sym r))
-    by_tells (inr p) (inr q) (inr r) ih = ih r (sym (place-past n x y ys p.1) ∙ e ∙ place-past n c y ys q.1)
 
 -- Totals.
 

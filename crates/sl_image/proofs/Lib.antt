@@ -9,4 +9,5 @@ pub mod Totals
 pub mod Channels
 pub mod Windows
 pub mod Shorts
+pub mod Brought
 pub mod Accounts

@@ -69,6 +69,11 @@ each-get P [] n m h e = absurd cc
 each-get P (x ∷ xs) zero m h e = let q : x ≡ m = cc in subst P q h.0
 each-get P (x ∷ xs) (suc n) m h e = each-get P xs n m h.1 e
 
+-- what an actor takes is the first message on its way there
+pub next-way : (s : Setup) (lost : Losses) (w : World) (u : ℕ) (step : Step) → (t : Takes s lost w u step) → (rest : List Message) × (on_way s.net lost w t.took.link ≡ t.took.message ∷ rest)
+next-way s lost w u step t = let front = way-head (carried s.net lost w t.took.link) (taken step.choice (history w u)) t.took.message t.found in let into = is-into s.net u step.choice t.took.link t.took.into in
+    (front.0, (λ i. drop (taken (choice-is s.net u step.choice t.took.link t.took.into i) (history w (into.to i))) (carried s.net lost w t.took.link)) ∙ front.1)
+
 -- what holds of the message that a step takes, by the link that it comes from
 record IsNext (s : Setup) (u : ℕ) (step : Step) (h : History) (m : Message) : Type 0 where
   -- where it has a stamp, this and the id lie at most the window above the last-seen number
@@ -105,8 +110,7 @@ next-is s lost w u i step n r x q t = record {
     there = ap (λ a. last (choice_of s.net t.took.link) (history w a)) into.to ∙ same
 
     way : (rest : List Message) × (on_way s.net lost w t.took.link ≡ t.took.message ∷ rest)
-    way = let front = way-head (carried s.net lost w t.took.link) (taken step.choice (history w u)) t.took.message t.found in
-        (front.0, (λ i. drop (taken (choice-is s.net u step.choice t.took.link t.took.into i) (history w (into.to i))) (carried s.net lost w t.took.link)) ∙ front.1)
+    way = next-way s lost w u step t
 
     fit : fits_link s.net t.took.link t.took.message ≡ true
     fit = let from = (link_of s.net t.took.link).from in each-get (λ m. fits_link s.net t.took.link m ≡ true) (carried s.net lost w t.took.link) (taken step.choice (history w u)) t.took.message

@@ -3,4 +3,5 @@ pub mod Rows
 pub mod Late
 pub mod Window
 pub mod Short
+pub mod Brought
 pub mod Accounts

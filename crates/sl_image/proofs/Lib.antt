@@ -10,4 +10,5 @@ pub mod Channels
 pub mod Windows
 pub mod Shorts
 pub mod Brought
+pub mod Polls
 pub mod Accounts

@@ -4,4 +4,5 @@ pub mod Late
 pub mod Window
 pub mod Short
 pub mod Brought
+pub mod Polls
 pub mod Accounts

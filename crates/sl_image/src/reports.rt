@@ -1,26 +1,47 @@
 // Laws of what is reported of units, over all schedules and losses. The functions do nothing: their
 // contracts are the laws, and the proofs are in proofs/.
-ghost use Rattle.std.specs.Prelude.{◌≡◌, ℕ, ◌<◌, ◌≤◌, List, length, Some};
+ghost use Rattle.std.specs.Prelude.{◌≡◌, ℕ, ◌<◌, ◌≤◌, List, length, true, Some};
 ghost use Rattle.sl_net.specs.declared.actor.UnitId.{UnitId};
-ghost use Rattle.sl_net.specs.declared.actor.ActorId.TheVariants.{Unit as OfUnit};
-ghost use Rattle.sl_net.specs.Net.{Net, actor_of, unit_place};
+ghost use Rattle.sl_net.specs.declared.actor.ActorId.TheVariants.{Control, Unit as OfUnit};
+ghost use Rattle.sl_net.specs.Net.{Net, actor_of, choice_of, unit_place};
 ghost use Rattle.sl_net.specs.Serving.{served};
-ghost use Rattle.sl_net.specs.Wired.{IsNet};
+ghost use Rattle.sl_net.specs.Wired.{IsNet, Reports};
 ghost use Rattle.sl_cut.specs.declared.message.Message.TheVariants.{Dump as DumpMsg, Done as DoneMsg};
 ghost use Rattle.sl_cut.specs.declared.message.Step.{Step};
-ghost use Rattle.sl_cut.specs.Words.{Each};
+ghost use Rattle.sl_cut.specs.Words.{Each, numbers};
 ghost use Rattle.sl_saves.specs.declared.entry.View.{View};
 ghost use Rattle.sl_saves.specs.Views.{IsShown, IsLive, held_saved, read};
-ghost use Rattle.sl_cut.specs.History.{History, Losses, history, id, first};
+ghost use Rattle.sl_cut.specs.History.{History, Losses, history, dump_of, done_of, id, first, takes, put};
 ghost use Rattle.sl_cut.specs.Setup.{Setup};
-ghost use Rattle.sl_cut.specs.Knowledge.{observer, dumped, known, upto_of};
+ghost use Rattle.sl_cut.specs.Knowledge.{observer, dumped, is_outstanding, known, upto_of};
 ghost use Rattle.sl_cut.specs.World.{Entry, next_step, world};
 ghost use Rattle.sl_image.specs.Calls.{calls};
 ghost use Rattle.sl_image.specs.Rows.{row};
 ghost use Rattle.sl_image.specs.Brought.{IsBrought};
+ghost use Rattle.sl_image.specs.Polls.{IsAsked};
 
 use sl_net::nets_are_wired;
 use sl_saves::{shown_is_live, shown_is_read};
+
+/// A control plane takes no more dumps of a unit than it put polls to it, and has at most one poll
+/// outstanding. Each dump that it takes next was asked for.
+pub fn dumps_answer_polls()
+    ensures polls { (s : Setup) (lost : Losses) (es : List Entry) (a d : ℕ) → IsNet s.net → actor_of s.net a ≡ Control d
+        → Each (λ v. IsAsked v (history (world s lost es) a)) (served s.net a) }
+    ensures next { (s : Setup) (lost : Losses) (es : List Entry) (e : Entry) (step : Step) → IsNet s.net
+        → next_step s lost (world s lost es) e ≡ Some step
+        → Each (λ v. step.choice ≡ v.dump → is_outstanding v (history (world s lost es) e.0) ≡ true) (served s.net e.0) }
+{
+    nets_are_wired()
+}
+
+/// The Dones that a control plane puts of a unit tell, in order, what the dumps said that it took
+/// of it.
+pub fn dones_tell_dumps()
+    ensures { (s : Setup) (lost : Losses) (es : List Entry) (u : ℕ) (i : UnitId) (r : Reports s.net u) → actor_of s.net u ≡ OfUnit i
+        → numbers (done_of (unit_place s.net u)) (put r.done (history (world s lost es) r.control))
+        ≡ numbers dump_of (takes (choice_of s.net r.dump) (history (world s lost es) r.control)) }
+{}
 
 /// What the next dump that a control plane takes from a unit brings it, over what it knows.
 pub fn dumps_bring_rows()

@@ -195,3 +195,7 @@ pub finding-is : (s : Setup) (lost : Losses) (w : World) (k : ℕ) → IsWired s
     → finding_by (issued s.net (observer w)) (accounts s.net w) k ≡ finding s.net lost w k
 finding-is s lost w k n r one e = let v = verdict-is s.net w k one e in
     ap (λ v. record { k = k; verdict = v; rows = rows_by (accounts s.net w) k v }) v ∙ ap (λ r. record { k = k; verdict = verdict s.net w k; rows = r }) (rows-by s lost w k n r one e)
+
+pub map-from : {A : Type 0} (f g : ℕ → A) (start n : ℕ) → 1 ≤ start → ((k : ℕ) → 1 ≤ k → f k ≡ g k) → map f (numbers_from start n) ≡ map g (numbers_from start n)
+map-from f g start zero p h = refl
+map-from f g start (suc n) p h = let e = h start p in let r = map-from f g (suc start) n (omega arith) h in λ i. e i ∷ r i

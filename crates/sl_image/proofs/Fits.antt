@@ -11,7 +11,7 @@ use Rattle.sl_cut.specs.declared.message.Message.TheVariants.{Data}
 use Rattle.sl_cut.specs.declared.message.Step.{Step}
 use Rattle.sl_cut.specs.declared.verdict.Cause.{Cause}
 use Rattle.sl_cut.specs.declared.verdict.Cause.TheVariants.{Skipped as WasSkipped, Miscredited as WasMiscredited}
-use Rattle.sl_cut.specs.History.{History, id}
+use Rattle.sl_cut.specs.History.{History, id, first}
 use Rattle.sl_cut.specs.Counting.{counted_in, counted, packets, bytes}
 use Rattle.sl_cut.specs.Verdict.{cause}
 use Rattle.sl_image.specs.Calls.{credit, credits_in}
@@ -80,3 +80,21 @@ fits-told cs k h None t l = all-map (λ t. (t.packets < 2 ^ 64) × (t.bytes < 2 
 
 pub fits-row : (cs : List ℕ) (k : ℕ) (h : History) → TakesShort h → length h < 2 ^ 40 → IsFitting (row cs k h)
 fits-row cs k h t l = fits-told cs k h (cause k h) t l
+
+-- The first steps.
+
+pub first-le : (n : ℕ) (h : History) → length (first n h) ≤ length h
+first-le n [] = omega arith
+first-le n (s ∷ h) = by_bool (nat_lt (length h) n) (first-le n h)
+  where
+    by_bool : (b : Bool) → length (first n h) ≤ length h → length (if b then s ∷ h else first n h) ≤ suc (length h)
+    by_bool true p = omega arith
+    by_bool false p = omega (arith, p)
+
+pub first-short : (n : ℕ) (h : History) → TakesShort h → TakesShort (first n h)
+first-short n [] t = t
+first-short n (s ∷ h) t = by_bool (nat_lt (length h) n) (first-short n h t.1)
+  where
+    by_bool : (b : Bool) → TakesShort (first n h) → TakesShort (if b then s ∷ h else first n h)
+    by_bool true p = t
+    by_bool false p = p

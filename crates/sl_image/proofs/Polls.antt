@@ -23,9 +23,9 @@ use Rattle.sl_cut.specs.History.{History, World, Losses, history, last, taken, t
 use Rattle.sl_cut.specs.Setup.{Setup}
 use Rattle.sl_cut.specs.Frame.{plain_frame, packet_of}
 use Rattle.sl_route.specs.Route.{next_port}
-use Rattle.sl_cut.specs.Knowledge.{is_outstanding, is_again, is_swept}
+use Rattle.sl_cut.specs.Knowledge.{is_outstanding, is_again, is_swept, observer}
 use Rattle.sl_cut.specs.Puts.{send, send_all, crossbar_to, onward, route, route_frame, ingress_puts, is_own_port, egress_puts, side_puts, notice_puts, dump_puts, id_after, unit_puts, poll_puts, dump_answer, control_puts, guarded, action}
-use Rattle.sl_cut.specs.World.{carried}
+use Rattle.sl_cut.specs.World.{IsLossTable, carried}
 use Rattle.sl_cut.specs.Made.{Took, Acted, IsMade, Ran}
 use Rattle.sl_cut.specs.Fit.{fits, fits_link}
 use Rattle.sl_net.proofs.Lists.{Member, Distinct, distinct-filter, distinct-from, each-append, each-map, each-imp, each-of, each-at}
@@ -39,7 +39,10 @@ use Rattle.sl_cut.proofs.Said.{PutBy, unit-said}
 use Rattle.sl_cut.proofs.Stamps.{took-by, acted-by}
 use Rattle.sl_cut.proofs.Begins.{TakesFit, fit-taken, fit-before, fit-last}
 use Rattle.sl_cut.proofs.Ran.{Takes, Acts}
-use Rattle.sl_cut.proofs.Reported.{dumps-into}
+use Rattle.sl_cut.proofs.Reported.{dumps-into, dones-into}
+use Rattle.sl_cut.proofs.Near.{on-way-is}
+use Rattle.sl_net.specs.Wiring.{kind_of}
+use Rattle.sl_cut.specs.Window.{on_way}
 use Rattle.sl_image.specs.Polls.{IsAsked}
 
 -- What is put on one link.
@@ -526,3 +529,17 @@ pub dones-are : (s : Setup) (u : ℕ) (i : UnitId) (r : Reports s.net u) (h : Hi
 dones-are s u i r [] q m = refl
 dones-are s u i r (step ∷ h) q m = numbers-append (done_of (unit_place s.net u)) (put r.done h) (on_link r.done step.puts)
     ∙ (λ j. dones-are s u i r h q m.1 j ++ dones-step s u i r step h q m.0 j) ∙ sym (numbers-append dump_of (takes (choice_of s.net r.dump) h) (if step.choice == choice_of s.net r.dump then listed step.taken else []))
+
+-- Where nothing is lost on reliable links, the observer takes them in order.
+
+lost-none : (lost : ℕ → Bool) (n : ℕ) (ms : List Message) → ((k : ℕ) → lost k ≡ false) → without_lost lost n ms ≡ ms
+lost-none lost n [] h = refl
+lost-none lost n (m ∷ ms) h = ap (λ b. if b then without_lost lost (suc n) ms else m ∷ without_lost lost (suc n) ms) (h (suc n)) ∙ ap (λ r. m ∷ r) (lost-none lost (suc n) ms h)
+
+pub dones-taken : (s : Setup) (lost : Losses) (w : World) (u : ℕ) (i : UnitId) (r : Reports s.net u) → Ran s lost w → IsLossTable s.net lost → actor_of s.net u ≡ OfUnit i
+    → numbers (done_of (unit_place s.net u)) (takes (choice_of s.net r.done) (observer w) ++ on_way s.net lost w r.done) ≡ numbers dump_of (takes (choice_of s.net r.dump) (history w r.control))
+dones-taken s lost w u i r x t q = let o = only-is-out s.net r.control Done r.done r.dones in
+    ap (λ ms. numbers (done_of (unit_place s.net u)) (takes (choice_of s.net r.done) (observer w) ++ ms)) (on-way-is s.net lost w 0 (choice_of s.net r.done) r.done (dones-into s.net u r) (x.fifo 0 (choice_of s.net r.done) r.done (dones-into s.net u r)))
+    ∙ ap (numbers (done_of (unit_place s.net u))) (sym (x.fifo 0 (choice_of s.net r.done) r.done (dones-into s.net u r)).split
+    ∙ lost-none (lost r.done) 0 (put r.done (history w (link_of s.net r.done).from)) (λ k. t r.done k (ap kind_of o.sort)) ∙ ap (λ a. put r.done (history w a)) o.from)
+    ∙ dones-are s u i r (history w r.control) q (x.made r.control)

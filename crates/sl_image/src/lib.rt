@@ -14,6 +14,6 @@ pub use reports::{
     brought_rows_are_read, dones_bring_rows, dones_tell_dumps, dumps_answer_polls, dumps_bring_rows,
 };
 pub use worlds::{
-    accounts_give_findings, calls_are_in_window, packets_are_short, rows_are_final,
+    accounts_give_findings, calls_are_in_window, packets_are_short, rows_are_final, rows_are_held,
     rows_are_of_the_world,
 };

@@ -1,6 +1,6 @@
 // Laws of what is reported of units, over all schedules and losses. The functions do nothing: their
 // contracts are the laws, and the proofs are in proofs/.
-ghost use Rattle.std.specs.Prelude.{◌≡◌, ℕ, ◌<◌, ◌≤◌, List, length, true, Some};
+ghost use Rattle.std.specs.Prelude.{◌≡◌, ℕ, ◌<◌, ◌≤◌, List, ◌++◌, length, true, Some};
 ghost use Rattle.sl_net.specs.declared.actor.UnitId.{UnitId};
 ghost use Rattle.sl_net.specs.declared.actor.ActorId.TheVariants.{Control, Unit as OfUnit};
 ghost use Rattle.sl_net.specs.Net.{Net, actor_of, choice_of, unit_place};
@@ -14,7 +14,8 @@ ghost use Rattle.sl_saves.specs.Views.{IsShown, IsLive, held_saved, read};
 ghost use Rattle.sl_cut.specs.History.{History, Losses, history, dump_of, done_of, id, first, takes, put};
 ghost use Rattle.sl_cut.specs.Setup.{Setup};
 ghost use Rattle.sl_cut.specs.Knowledge.{observer, dumped, is_outstanding, known, upto_of};
-ghost use Rattle.sl_cut.specs.World.{Entry, next_step, world};
+ghost use Rattle.sl_cut.specs.World.{Entry, IsLossTable, next_step, world};
+ghost use Rattle.sl_cut.specs.Window.{on_way};
 ghost use Rattle.sl_image.specs.Calls.{calls};
 ghost use Rattle.sl_image.specs.Rows.{row};
 ghost use Rattle.sl_image.specs.Brought.{IsBrought};
@@ -36,10 +37,14 @@ pub fn dumps_answer_polls()
 }
 
 /// The Dones that a control plane puts of a unit tell, in order, what the dumps said that it took
-/// of it.
+/// of it. Where nothing is lost on reliable links, these are the Dones that the observer took, and
+/// then those on their way to it.
 pub fn dones_tell_dumps()
-    ensures { (s : Setup) (lost : Losses) (es : List Entry) (u : ℕ) (i : UnitId) (r : Reports s.net u) → actor_of s.net u ≡ OfUnit i
+    ensures put { (s : Setup) (lost : Losses) (es : List Entry) (u : ℕ) (i : UnitId) (r : Reports s.net u) → actor_of s.net u ≡ OfUnit i
         → numbers (done_of (unit_place s.net u)) (put r.done (history (world s lost es) r.control))
+        ≡ numbers dump_of (takes (choice_of s.net r.dump) (history (world s lost es) r.control)) }
+    ensures taken { (s : Setup) (lost : Losses) (es : List Entry) (u : ℕ) (i : UnitId) (r : Reports s.net u) → IsLossTable s.net lost → actor_of s.net u ≡ OfUnit i
+        → numbers (done_of (unit_place s.net u)) (takes (choice_of s.net r.done) (observer (world s lost es)) ++ on_way s.net lost (world s lost es) r.done)
         ≡ numbers dump_of (takes (choice_of s.net r.dump) (history (world s lost es) r.control)) }
 {}
 

@@ -1,10 +1,12 @@
 // Laws of worlds, over all schedules and losses: the calls of units, the rows that are collected
 // of them, and the findings that these give. The functions do nothing: their contracts are the
 // laws, and the proofs are in proofs/. All call the law that nets are wired.
-ghost use Rattle.std.specs.Prelude.{◌≡◌, ℕ, ◌<◌, ◌≤◌, List, ◌++◌, length, Some, None};
+ghost use Rattle.std.specs.Prelude.{◌≡◌, ℕ, ◌^◌, ◌<◌, ◌≤◌, List, ◌++◌, length, map, Some, None};
 ghost use Rattle.sl_net.specs.declared.actor.UnitId.{UnitId};
 ghost use Rattle.sl_net.specs.declared.actor.ActorId.TheVariants.{Unit as OfUnit};
+ghost use Rattle.sl_net.specs.Parts.{numbers_from};
 ghost use Rattle.sl_net.specs.Net.{actor_of, data_channels};
+ghost use Rattle.sl_saves.specs.Views.{held_saved};
 ghost use Rattle.sl_net.specs.Wired.{IsNet};
 ghost use Rattle.sl_cut.specs.declared.message.Step.{Step};
 ghost use Rattle.sl_cut.specs.Words.{Each};
@@ -14,7 +16,7 @@ ghost use Rattle.sl_cut.specs.Knowledge.{observer, issued, floor};
 ghost use Rattle.sl_cut.specs.World.{Entry, next_step, world};
 ghost use Rattle.sl_cut.specs.Verdict.{cause, lag};
 ghost use Rattle.sl_cut.specs.End.{IsFinished};
-ghost use Rattle.sl_cut.specs.Findings.{finding};
+ghost use Rattle.sl_cut.specs.Findings.{finding, findings};
 ghost use Rattle.sl_cut.specs.Findings.{row as world_row};
 ghost use Rattle.sl_image.specs.Calls.{calls, step_calls};
 ghost use Rattle.sl_image.specs.Rows.{row};
@@ -43,6 +45,13 @@ pub fn calls_are_in_window()
 pub fn packets_are_short()
     ensures short { (s : Setup) (lost : Losses) (es : List Entry) (u : ℕ) → SendsShort s → TakesShort (history (world s lost es) u) }
     ensures steps { (s : Setup) (lost : Losses) (es : List Entry) (u : ℕ) → length (history (world s lost es) u) ≤ length es }
+{}
+
+/// In a schedule of fewer than 2 ^ 40 entries the totals of each row fit their type, so that a slot
+/// holds the row as it is.
+pub fn rows_are_held()
+    ensures { (s : Setup) (lost : Losses) (es : List Entry) (cs : List ℕ) (u k n : ℕ) → SendsShort s → length es < 2 ^ 40
+        → held_saved (row cs k (first n (history (world s lost es) u))) ≡ row cs k (first n (history (world s lost es) u)) }
 {}
 
 /// Once the id and the data last-seen numbers of a unit have reached k, the row of k stays what it
@@ -75,6 +84,8 @@ pub fn accounts_give_findings()
         → finding_by (issued s.net (observer (world s lost es))) (accounts s.net (world s lost es)) k ≡ finding s.net lost (world s lost es) k }
     ensures finished { (s : Setup) (lost : Losses) (es : List Entry) (k : ℕ) → IsNet s.net → IsFinished s lost (world s lost es) → 1 ≤ k
         → finding_by (issued s.net (observer (world s lost es))) (accounts s.net (world s lost es)) k ≡ finding s.net lost (world s lost es) k }
+    ensures list { (s : Setup) (lost : Losses) (es : List Entry) → IsNet s.net → IsFinished s lost (world s lost es)
+        → map (finding_by (issued s.net (observer (world s lost es))) (accounts s.net (world s lost es))) (numbers_from 1 s.count) ≡ (findings s lost es).list }
 {
     nets_are_wired();
     collected_verdicts_are_known();

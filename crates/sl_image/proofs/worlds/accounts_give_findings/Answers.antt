@@ -1,6 +1,10 @@
+use Rattle.std.proofs.Common.{arith}
+use Rattle.sl_cut.specs.Findings.{finding}
+use Rattle.sl_cut.specs.Knowledge.{observer, issued}
+use Rattle.sl_image.specs.Accounts.{accounts, finding_by}
 use Rattle.sl_cut.specs.World.{world}
 use Rattle.sl_cut.proofs.Ran.{ran}
-use Rattle.sl_image.proofs.Accounts.{finding-is}
+use Rattle.sl_image.proofs.Accounts.{finding-is, map-from}
 use Rattle.sl_image.proofs.worlds.accounts_give_findings.Goals as goal
 
 pub returns-clause-collected : goal.returns-clause-collected
@@ -10,3 +14,7 @@ returns-clause-collected c s lost es k n one p =
 pub returns-clause-finished : goal.returns-clause-finished
 returns-clause-finished c s lost es k n f one =
     finding-is s lost (world s lost es) k (c.nets_are_wired.ensures s.net n) (ran s lost es) one (λ q. c.finished_verdicts_are_known.ensures s lost es k n f q)
+
+pub returns-clause-list : goal.returns-clause-list
+returns-clause-list c s lost es n f = map-from (finding_by (issued s.net (observer (world s lost es))) (accounts s.net (world s lost es))) (finding s.net lost (world s lost es)) 1 s.count (omega arith)
+    (λ k one. finding-is s lost (world s lost es) k (c.nets_are_wired.ensures s.net n) (ran s lost es) one (λ q. c.finished_verdicts_are_known.ensures s lost es k n f q))

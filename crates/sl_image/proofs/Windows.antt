@@ -1,6 +1,6 @@
 -- The calls of a unit lie within the window.
 use Rattle.std.proofs.Common.{◌≡◌, ℕ, zero, suc, ◌+◌, ◌-◌, ◌<◌, ◌≤◌, List, [], ◌∷◌, ◌++◌, length, refl, sym, ap, subst, ◌∙◌, Option, Some, None, arith, inl, inr}
-use Rattle.std.specs.Prelude.{◌⊎◌, max, true, false, Bool, ◌==◌, if◌then◌else◌, map, drop, nat_lt, nat_eq, slice_get, unwrap_or, IsTrue}
+use Rattle.std.specs.Prelude.{◌⊎◌, max, true, false, Bool, ◌==◌, if◌then◌else◌, map, drop, nat_lt, nat_eq, slice_get, unwrap_or, IsTrue, option_and_then}
 use Rattle.std.proofs.lemmas.Bool.{lt-ltb, le-ltb, cases_lt}
 use Rattle.std.proofs.lemmas.Bool.Decides.{eqb_tells}
 use Rattle.sl_net.specs.declared.actor.UnitId.{UnitId}
@@ -14,14 +14,14 @@ use Rattle.sl_saves.specs.Calls.{Adopt, Credited}
 use Rattle.sl_cut.specs.declared.message.Message.{Message}
 use Rattle.sl_cut.specs.declared.message.Message.TheVariants.{Data, Probe as ProbeMsg, Init as InitMsg}
 use Rattle.sl_cut.specs.declared.message.Step.{Step}
-use Rattle.sl_cut.specs.Words.{Each, Rises, numbers}
+use Rattle.sl_cut.specs.Words.{Each, Rises, listed, numbers}
 use Rattle.sl_cut.specs.History.{History, World, Losses, history, stamp_of, stamp_taken, id, last, taken, put}
 use Rattle.sl_cut.specs.Setup.{Setup}
 use Rattle.sl_cut.specs.Counting.{packets, bytes}
 use Rattle.sl_cut.specs.World.{Entry, start, next_step, turn, world, carried, sender, receiver}
 use Rattle.sl_cut.specs.Made.{Ran}
 use Rattle.sl_cut.specs.Fit.{fits, fits_link, is_stamped, stamp}
-use Rattle.sl_cut.specs.Window.{on_way, IsInWindow, IsNear}
+use Rattle.sl_cut.specs.Window.{on_way, IsInWindow, IsNear, begun}
 use Rattle.sl_net.proofs.Lists.{Member, each-append}
 use Rattle.sl_net.proofs.Sorts.{IsInto, is-into, choice-is}
 use Rattle.sl_cut.proofs.Turns.{kept_by_run, Steps, turn-cases, run-append, start-empty}
@@ -29,7 +29,7 @@ use Rattle.sl_cut.proofs.Ran.{Takes, Acts, next-view, ran}
 use Rattle.sl_cut.proofs.Stamps.{each-lost, put-fits}
 use Rattle.sl_cut.proofs.Near.{in-window, near}
 use Rattle.sl_image.specs.Calls.{credit, credits_in, step_calls, calls}
-use Rattle.sl_image.specs.Window.{IsWithin}
+use Rattle.sl_image.specs.Window.{IsWithin, IsTakeable}
 use Rattle.sl_image.proofs.Entries.{stamp_in}
 use Rattle.sl_image.proofs.Settled.{IsData, data-fits, is-channel, place-lt}
 use Rattle.sl_image.proofs.Totals.{data-is}
@@ -79,19 +79,17 @@ record IsNext (s : Setup) (u : ℕ) (step : Step) (h : History) (m : Message) : 
   -- where it has a stamp, this and the id lie at most the window above the last-seen number
   pub stamp_near : (j : ℕ) → stamp_of m ≡ Some j → j ≤ last step.choice h + s.window
   pub id_near : (j : ℕ) → stamp_of m ≡ Some j → id h ≤ last step.choice h + s.window
-  -- data comes by a data channel, in order
+  pub order : (j : ℕ) → stamp_of m ≡ Some j → last step.choice h ≤ j
+  -- data comes by a data channel
   pub channel : (j : ℕ) (p : Packet) → m ≡ Data j p → Member step.choice (data_channels s.net u)
-  pub order : (j : ℕ) (p : Packet) → m ≡ Data j p → last step.choice h ≤ j
 
 next-is : (s : Setup) (lost : Losses) (w : World) (u : ℕ) (i : UnitId) (step : Step) → IsWired s.net → Ran s lost w → IsInWindow s lost w → actor_of s.net u ≡ OfUnit i → (t : Takes s lost w u step)
     → IsNext s u step (history w u) t.took.message
 next-is s lost w u i step n r x q t = record {
   stamp_near = λ j e. let b = (subst (Each (λ m. stamp m ≤ last (choice_of s.net l) h + s.window)) way.1 (near-by j e).stamps_near).0 in let z : stamp t.took.message ≡ j = ap (λ o. unwrap_or o 0) e in omega (arith, b, z, same);
   id_near = λ j e. let b = (near-by j e).id_near in omega (arith, b, same);
+  order = λ j e. let y = by_sort (link_of s.net l).sort refl (stamped-sort (link_of s.net l).sort t.took.message j fit e) j e in omega (arith, y, there);
   channel = λ j p e. is-channel s.net u step.choice l t.took.into (carries j p e);
-  order = λ j p e. let y = (subst (λ m. Rises (last (choice_of s.net l) (receiver s.net w l)) (numbers stamp_of (m ∷ way.0)) (id (sender s.net w l))) e
-      (subst (λ ms. Rises (last (choice_of s.net l) (receiver s.net w l)) (numbers stamp_of ms) (id (sender s.net w l))) way.1 (x.data_stamps l (record { link = into.is_link; data_sort = data-is (link_of s.net l).sort (carries j p e) })))).0 in
-      omega (arith, y, there);
 }
   where
     l : ℕ
@@ -118,6 +116,16 @@ next-is s lost w u i step n r x q t = record {
 
     near-by : (j : ℕ) → stamp_of t.took.message ≡ Some j → IsNear s lost w u t.took.link
     near-by j e = near s lost w u t.took.link i n r x q into.is_link into.to (stamped-sort (link_of s.net t.took.link).sort t.took.message j fit e)
+
+    rise : (b j : ℕ) → stamp_of t.took.message ≡ Some j → Rises (last (choice_of s.net t.took.link) (receiver s.net w t.took.link)) (numbers stamp_of (on_way s.net lost w t.took.link)) b → last (choice_of s.net t.took.link) (receiver s.net w t.took.link) ≤ j
+    rise b j e y = (subst (λ o. Rises (last (choice_of s.net t.took.link) (receiver s.net w t.took.link)) (listed o ++ numbers stamp_of way.0) b) e
+        (subst (λ ms. Rises (last (choice_of s.net t.took.link) (receiver s.net w t.took.link)) (numbers stamp_of ms) b) way.1 y)).0
+
+    by_sort : (k : Sort) → (link_of s.net t.took.link).sort ≡ k → IsTrue (is_stamped k) → (j : ℕ) → stamp_of t.took.message ≡ Some j → last (choice_of s.net t.took.link) (receiver s.net w t.took.link) ≤ j
+    by_sort Cable q y j e = rise (id (sender s.net w t.took.link)) j e (x.data_stamps t.took.link (record { link = into.is_link; data_sort = data-is (link_of s.net t.took.link).sort (inl q) }))
+    by_sort Crossbar q y j e = rise (id (sender s.net w t.took.link)) j e (x.data_stamps t.took.link (record { link = into.is_link; data_sort = data-is (link_of s.net t.took.link).sort (inr q) }))
+    by_sort Init q y j e = rise (begun (sender s.net w t.took.link)) j e (x.init_stamps t.took.link into.is_link q)
+    by_sort _ q y j e = absurd cc
 
     carries : (j : ℕ) (p : Packet) → t.took.message ≡ Data j p → IsData s.net t.took.link
     carries j p e = data-fits (link_of s.net t.took.link).sort j p (ap (fits_link s.net t.took.link) (sym e) ∙ fit)
@@ -146,7 +154,7 @@ taken-calls s u step h m few e x = by_place (cases_lt (id h) (id (step ∷ h)))
     of_data : (j : ℕ) (p : Packet) → m ≡ Data j p → ((j < id h) ⊎ (id h ≤ j))
         → Each (IsWithin s.window) (map Credited (if nat_lt j (id h) then credit (data_channels s.net u) (id h) step.choice j p ∷ [] else []))
     of_data j p q (inl y) = subst (λ b. Each (IsWithin s.window) (map Credited (if b then credit (data_channels s.net u) (id h) step.choice j p ∷ [] else []))) (sym (lt-ltb j (id h) y))
-        (let b = x.id_near j (ap stamp_of q) in let o = x.order j p q in let k = place-lt 0 step.choice (data_channels s.net u) (x.channel j p q) in ((omega (arith, k, few), omega (arith, y), omega (arith, b, o)), tt))
+        (let b = x.id_near j (ap stamp_of q) in let o = x.order j (ap stamp_of q) in let k = place-lt 0 step.choice (data_channels s.net u) (x.channel j p q) in ((omega (arith, k, few), omega (arith, y), omega (arith, b, o)), tt))
     of_data j p q (inr y) = subst (λ b. Each (IsWithin s.window) (map Credited (if b then credit (data_channels s.net u) (id h) step.choice j p ∷ [] else []))) (sym (le-ltb j (id h) y)) tt
 
     of_message : (k : Message) → m ≡ k → Each (IsWithin s.window) (map Credited (credits_in (data_channels s.net u) (id h) step.choice (Some k)))
@@ -167,6 +175,17 @@ next-calls s lost w u i step n r x few q (inr t) = idle-calls s.window (data_cha
 pub next-within : (s : Setup) (lost : Losses) (es : List Entry) (e : Entry) (i : UnitId) (step : Step) → IsWired s.net → length (data_channels s.net e.0) ≤ 8 → actor_of s.net e.0 ≡ OfUnit i
     → next_step s lost (world s lost es) e ≡ Some step → Each (IsWithin s.window) (step_calls (data_channels s.net e.0) (history (world s lost es) e.0) step)
 next-within s lost es e i step n few q x = next-calls s lost (world s lost es) e.0 i step n (ran s lost es) (in-window s lost es n) few q (next-view s lost (world s lost es) e step x)
+
+-- A stamp that comes next lies within the window.
+
+takeable : (s : Setup) (u : ℕ) (step : Step) (h : History) (m : Message) (j : ℕ) → IsNext s u step h m → stamp_of m ≡ Some j → IsTakeable s.window step.choice h j
+takeable s u step h m j x e = let a = x.order j e in let b = x.stamp_near j e in let c = x.id_near j e in
+    record { order = a; ahead = b; above = omega (arith, b, last-le step.choice h); below = omega (arith, a, c) }
+
+pub next-takeable : (s : Setup) (lost : Losses) (w : World) (u : ℕ) (i : UnitId) (step : Step) (j : ℕ) → IsWired s.net → Ran s lost w → IsInWindow s lost w → actor_of s.net u ≡ OfUnit i → Takes s lost w u step ⊎ Acts s w u step → stamp_taken step ≡ Some j
+    → IsTakeable s.window step.choice (history w u) j
+next-takeable s lost w u i step j n r x q (inl t) e = takeable s u step (history w u) t.took.message j (next-is s lost w u i step n r x q t) (ap (option_and_then stamp_of) (sym t.took.taken) ∙ e)
+next-takeable s lost w u i step j n r x q (inr t) e = absurd (let z : None ≡ Some j = ap (option_and_then stamp_of) (sym t.acted.taken) ∙ e in cc)
 
 -- The calls of a whole history.
 

@@ -15,5 +15,5 @@ pub use reports::{
 };
 pub use worlds::{
     accounts_give_findings, calls_are_in_window, packets_are_short, rows_are_final, rows_are_held,
-    rows_are_of_the_world,
+    rows_are_of_the_world, stamps_are_in_window,
 };

@@ -10,7 +10,7 @@ ghost use Rattle.sl_saves.specs.Views.{held_saved};
 ghost use Rattle.sl_net.specs.Wired.{IsNet};
 ghost use Rattle.sl_cut.specs.declared.message.Step.{Step};
 ghost use Rattle.sl_cut.specs.Words.{Each};
-ghost use Rattle.sl_cut.specs.History.{History, Losses, history, first};
+ghost use Rattle.sl_cut.specs.History.{History, Losses, history, stamp_taken, first};
 ghost use Rattle.sl_cut.specs.Setup.{Setup};
 ghost use Rattle.sl_cut.specs.Knowledge.{observer, issued, floor};
 ghost use Rattle.sl_cut.specs.World.{Entry, next_step, world};
@@ -20,7 +20,7 @@ ghost use Rattle.sl_cut.specs.Findings.{finding, findings};
 ghost use Rattle.sl_cut.specs.Findings.{row as world_row};
 ghost use Rattle.sl_image.specs.Calls.{calls, step_calls};
 ghost use Rattle.sl_image.specs.Rows.{row};
-ghost use Rattle.sl_image.specs.Window.{IsWithin};
+ghost use Rattle.sl_image.specs.Window.{IsWithin, IsTakeable};
 ghost use Rattle.sl_image.specs.Short.{TakesShort, SendsShort};
 ghost use Rattle.sl_image.specs.Accounts.{accounts, cause_in, value_row, finding_by};
 
@@ -35,6 +35,16 @@ pub fn calls_are_in_window()
         → Each (IsWithin s.window) (step_calls (data_channels s.net e.0) (history (world s lost es) e.0) step) }
     ensures all { (s : Setup) (lost : Losses) (es : List Entry) (u : ℕ) (i : UnitId) → IsNet s.net → actor_of s.net u ≡ OfUnit i
         → Each (IsWithin s.window) (calls (data_channels s.net u) (history (world s lost es) u)) }
+{
+    nets_are_wired()
+}
+
+/// The stamp that a unit's next step takes lies from the last-seen number of its link to W above
+/// it, and at most W from the id.
+pub fn stamps_are_in_window()
+    ensures { (s : Setup) (lost : Losses) (es : List Entry) (e : Entry) (i : UnitId) (step : Step) (j : ℕ) → IsNet s.net
+        → actor_of s.net e.0 ≡ OfUnit i → next_step s lost (world s lost es) e ≡ Some step → stamp_taken step ≡ Some j
+        → IsTakeable s.window step.choice (history (world s lost es) e.0) j }
 {
     nets_are_wired()
 }

@@ -12,3 +12,4 @@ pub mod Shorts
 pub mod Brought
 pub mod Polls
 pub mod Accounts
+pub mod Examples

@@ -1,6 +1,6 @@
 // Laws of worlds, over all schedules and losses: the calls of units, the rows that are collected
 // of them, and the findings that these give. The functions do nothing: their contracts are the
-// laws, and the proofs are in proofs/. All call the law that nets are wired.
+// laws, and the proofs are in proofs/. Most call the law that nets are wired.
 ghost use Rattle.std.specs.Prelude.{◌≡◌, ℕ, ◌^◌, ◌<◌, ◌≤◌, List, ◌++◌, length, map, Some, None};
 ghost use Rattle.sl_net.specs.declared.actor.UnitId.{UnitId};
 ghost use Rattle.sl_net.specs.declared.actor.ActorId.TheVariants.{Unit as OfUnit};

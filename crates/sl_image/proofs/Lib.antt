@@ -1,0 +1,13 @@
+pub mod Entries
+pub mod Lowest
+pub mod Rows
+pub mod Later
+pub mod Late
+pub mod Fits
+pub mod Settled
+pub mod Totals
+pub mod Channels
+pub mod Windows
+pub mod Shorts
+pub mod Brought
+pub mod Accounts

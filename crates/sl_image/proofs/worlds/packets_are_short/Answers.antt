@@ -1,0 +1,11 @@
+use Rattle.std.proofs.Common.{refl, arith}
+use Rattle.sl_cut.specs.World.{world}
+use Rattle.sl_cut.proofs.Sizes.{history_size, world_size}
+use Rattle.sl_image.proofs.Shorts.{all-short}
+use Rattle.sl_image.proofs.worlds.packets_are_short.Goals as goal
+
+pub returns-clause-short : goal.returns-clause-short
+returns-clause-short c s lost es u t = all-short s lost es u t
+
+pub returns-clause-steps : goal.returns-clause-steps
+returns-clause-steps c s lost es u = omega (arith, history_size (world s lost es) u, world_size s lost (world s lost es) es refl)

@@ -1,0 +1,7 @@
+pub mod Calls
+pub mod Rows
+pub mod Late
+pub mod Window
+pub mod Short
+pub mod Brought
+pub mod Accounts

@@ -1,0 +1,17 @@
+// A unit's history as saved entries and rows: laws of what a unit saves, of the rows that are read
+// from it, and of the findings that collected rows give.
+#![tactic(auto)]
+
+mod laws;
+mod reports;
+mod worlds;
+
+pub use laws::{
+    calls_follow_steps, calls_lead_to_id, counts_fit, entries_are_values, late_is_credited,
+    read_is_row, row_stays, saved_is_row,
+};
+pub use reports::{brought_rows_are_read, dones_bring_rows, dumps_bring_rows};
+pub use worlds::{
+    accounts_give_findings, calls_are_in_window, packets_are_short, rows_are_final,
+    rows_are_of_the_world,
+};

@@ -2,6 +2,8 @@
 #![tactic(auto)]
 
 mod ended;
+#[cfg(test)]
+mod rows;
 mod run;
 #[cfg(test)]
 mod tests;

@@ -38,9 +38,6 @@ one-number parts a b h k q = sym (place-at parts a h) ∙ ap (λ x. place_of x (
 pub in-below : (a n : ℕ) → Member a (below n) → a < n
 in-below a n m = each-at (λ x. x < n) a (below n) (each-below (λ x. x < n) n (λ x h. h)) m
 
-pub below-in : (a n : ℕ) → a < n → Member a (below n)
-below-in a n h = member-from a 0 n (omega arith) (omega (arith, h))
-
 pub in-filter : {A : Type 0} (t : A → Bool) (x : A) (xs : List A) → Member x (filter t xs) → Member x xs × (t x ≡ true)
 in-filter t x xs m = (kept-member t x xs m, each-at (λ x. t x ≡ true) x (filter t xs) (each-passes t xs) m)
 

@@ -4,11 +4,7 @@ pub mod RowLemmas
 pub mod TextLemmas
 pub mod EachLemmas
 pub mod ScriptLemmas
-pub mod Texts
-pub mod Namesakes
-pub mod Spellings
 pub mod OneChoice
-pub mod Apart
 pub mod Steps
 pub mod Ranges
 pub mod Settled

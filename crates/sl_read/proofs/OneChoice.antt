@@ -6,7 +6,8 @@ use Rattle.sl_net.specs.Parts.{below}
 use Rattle.sl_net.specs.Net.{Net}
 use Rattle.sl_net.specs.Spelling.{choice_text, choice_count, HasChoice}
 use Rattle.sl_net.proofs.Lists.{Each, each-map, each-flat, each-below, each-at, Member, member-flat, member-map, member-from}
-use Rattle.sl_read.specs.Choices.{choices, first, choice_named, HasOneSpelling}
+use Rattle.sl_spell.specs.Spelled.{HasOneSpelling}
+use Rattle.sl_read.specs.Choices.{choices, first, choice_named}
 
 -- Looking for the first.
 

@@ -8,7 +8,7 @@ use Rattle.sl_net.specs.declared.actor.LinkKind.TheVariants.{Reliable}
 use Rattle.sl_net.specs.Parts.{below}
 use Rattle.sl_net.specs.Net.{Net, link_of, link_at, action_choice}
 use Rattle.sl_net.specs.Wiring.{kind_of}
-use Rattle.sl_net.specs.Spelling.{choice_text, choice_count, HasChoice}
+use Rattle.sl_net.specs.Spelling.{choice_text, choice_count}
 use Rattle.sl_read.specs.declared.path.TableName.TheVariants as table
 use Rattle.sl_read.specs.declared.path.Key.TheVariants.{Link}
 use Rattle.sl_read.specs.declared.refusal.Refusal.{Refusal}
@@ -75,7 +75,3 @@ fitting net i used text = fits i used (entry_of net text)
 abbrev pub entries_of : Net → ℕ → ℕ → List (List ℕ) → Result (List Script1) Refusal
 entries_of net i used [] = Ok []
 entries_of net i used (text ∷ texts) = fitting net i used text >>= (λ e. entries_of net (i + 1) (used + passes e) texts >>= (λ es. Ok (e ∷ es)))
-
--- no two choices of the net have one spelling
-pub record HasOneSpelling (net : Net) : Type 0 where
-  pub one : (a c b d : ℕ) → HasChoice net a c → HasChoice net b d → choice_text net a c ≡ choice_text net b d → (a ≡ b) × (c ≡ d)

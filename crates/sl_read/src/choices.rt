@@ -3,7 +3,8 @@ ghost use Rattle.std.specs.Prelude.{◌≡◌, ◌<◌, ◌≤◌, ◌+◌, IfOk
 ghost use Rattle.sl_net.specs.Spelling.{HasChoice, choice_count};
 ghost use Rattle.sl_read.specs.Refusals.{Answers};
 ghost use Rattle.sl_read.specs.Places.{each};
-ghost use Rattle.sl_read.specs.Choices.{HasOneSpelling, choice_named, lossy_link, link_named, drop_part, entry_of, fitting, entries_of, passes};
+ghost use Rattle.sl_spell.specs.Spelled.{HasOneSpelling};
+ghost use Rattle.sl_read.specs.Choices.{choice_named, lossy_link, link_named, drop_part, entry_of, fitting, entries_of, passes};
 
 use crate::forms::pass_of;
 use crate::listed::{Listed, Text};

@@ -21,7 +21,6 @@ mod refusal;
 mod rows;
 mod script;
 mod snapshot;
-mod spelling;
 #[cfg(test)]
 mod tests;
 mod top;

@@ -13,8 +13,8 @@ use crate::listed::Listed;
 use crate::loss::LossRow;
 use crate::places::{place_flows, place_parts, place_raws};
 use crate::refusal::{ReadError, Refusal};
-use crate::spelling::one_spelling;
 use sl_net::{Drop1, Flow, HostPart, Input, LossSpec, Net, NetFault, Parts, RawPart, Script1};
+use sl_spell::one_spelling;
 use std::alloc::Global;
 use toml::Table;
 

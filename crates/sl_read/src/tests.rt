@@ -1,6 +1,6 @@
 // Inputs that are accepted, and inputs that are refused.
 use crate::{InputFault, read_input};
-use sl_net::{Flow, Input, Line, Snapshot};
+use sl_net::{CablePart, Drop1, Flow, Input, Line, PortRef, RawPart, Script1, Snapshot};
 use std::alloc::Global;
 use std::test::Fail;
 
@@ -69,6 +69,172 @@ fn told(alloc: Global, bytes: &[u8]) -> Result<String, Fail> {
     }
 }
 
+// Tables of inputs that are refused. A line is a text, in which `;` stands for the end of a line,
+// an arrow, and what is said of the text.
+
+/// Texts as they stand.
+fn alone() -> &'static str {
+    r#" => I3 device
+device = [ => I2
+device = [1] ; cable = 3 ; snapshot = {} => I5 device.0
+device = 1 => I5 device
+device = {} => I5 device
+colour = 1 => I4 top
+device = 1 ; colour = 1 => I4 top
+colour = 9223372036854775808 => I2
+device = [{name = "a", ports = -9223372036854775809}] => I2
+device = [] ; device = [] => I2
+device = [] => I3 snapshot
+device = [] ; loss = 1 => I3 snapshot
+device = [] ; snapshot = 1 => I5 snapshot
+device = [] ; snapshot = [] => I5 snapshot
+device = [] ; cable = 1 ; snapshot = {} => I5 cable
+device = [] ; cable = [{}, 1] ; host = 1 => I5 cable.1
+device = [] ; host = "a" => I5 host
+device = [] ; host = [[]] => I5 host.0
+device = [] ; snapshot = {} ; loss = [] => I5 loss
+device = [] ; snapshot = {} ; flow = {} => I5 flow
+device = [] ; snapshot = {} ; flow = [true] => I5 flow.0
+device = [] ; snapshot = {} ; raw = 1.5 => I5 raw
+device = [] ; snapshot = {} ; raw = [{}, {}, "x"] => I5 raw.2
+device = [] ; snapshot = {} ; script = [] => I5 script
+device = [{}] ; snapshot = {} => I3 device.0.name
+device = [{name = 1}] ; snapshot = {} => I5 device.0.name
+device = [{name = ""}] ; snapshot = {} => I5 device.0.name
+device = [{name = "A"}] ; snapshot = {} => I5 device.0.name
+device = [{name = "a-b"}] ; snapshot = {} => I5 device.0.name
+device = [{name = "abcdefghijklmnop_"}] ; snapshot = {} => I5 device.0.name
+device = [{name = "abcdefghijklmno_"}] ; snapshot = {} => I3 device.0.ports
+device = [{name = "a", ports = "2"}] ; snapshot = {} => I5 device.0.ports
+device = [{name = "a", ports = 2.0}] ; snapshot = {} => I5 device.0.ports
+device = [{name = "a", ports = -1}] ; snapshot = {} => I6 device.0.ports -1
+device = [{name = "a", ports = 65536}] ; snapshot = {} => I6 device.0.ports 65536
+device = [{name = "a", ports = 65535}] ; snapshot = {} => I3 snapshot.bits
+device = [{colour = 1}] ; snapshot = {} => I4 device.0
+device = [{name = "a", ports = 2}, {name = 1, colour = 1}] ; snapshot = {} => I4 device.1
+device = [{}, {colour = 1}] ; snapshot = {} => I3 device.0.name
+"#
+}
+
+/// Texts after a device of two ports.
+fn with_device() -> &'static str {
+    r#"cable = [{}] ; snapshot = {} => I3 cable.0.a
+cable = [{a = "a.0"}] ; snapshot = {} => I3 cable.0.b
+cable = [{b = 1}] ; snapshot = {} => I3 cable.0.a
+cable = [{a = "a"}] ; snapshot = {} => I5 cable.0.a
+cable = [{a = "a."}] ; snapshot = {} => I5 cable.0.a
+cable = [{a = "a.01"}] ; snapshot = {} => I5 cable.0.a
+cable = [{a = "a.+1"}] ; snapshot = {} => I5 cable.0.a
+cable = [{a = "a.65536"}] ; snapshot = {} => I5 cable.0.a
+cable = [{a = ".1"}] ; snapshot = {} => I5 cable.0.a
+cable = [{a = "a.1.1"}] ; snapshot = {} => I5 cable.0.a
+cable = [{a = "x.65535", b = 1}] ; snapshot = {} => I5 cable.0.b
+cable = [{a = 1, c = 1}] ; snapshot = {} => I4 cable.0
+host = [{}] ; snapshot = {} => I3 host.0.name
+host = [{name = "h0"}] ; snapshot = {} => I3 host.0.at
+host = [{name = "h0", at = 1}] ; snapshot = {} => I5 host.0.at
+host = [{name = "h0", at = "a.0"}, {name = "H"}] ; snapshot = {} => I5 host.1.name
+host = [{port = 1}] ; snapshot = {} => I4 host.0
+host = [{name = "h0", at = "x.0"}] ; snapshot = {} => I3 snapshot.bits
+snapshot = {} ; loss = {colour = 1} => I3 snapshot.bits
+snapshot = {bits = "2"} => I5 snapshot.bits
+snapshot = {bits = 0} => I6 snapshot.bits 0
+snapshot = {bits = 9, window = 0} => I6 snapshot.bits 9
+snapshot = {bits = 2, ring = 9} => I3 snapshot.window
+snapshot = {bits = 2, window = 0} => I6 snapshot.window 0
+snapshot = {bits = 2, window = 4} => I6 snapshot.window 4
+snapshot = {bits = 8, window = 255, ring = 256} => I3 snapshot.count
+snapshot = {bits = 2, window = 3} => I3 snapshot.ring
+snapshot = {bits = 2, window = 3, ring = 2} => I6 snapshot.ring 2
+snapshot = {bits = 2, window = 3, ring = 5} => I6 snapshot.ring 5
+snapshot = {bits = 2, window = 3, ring = 4, count = 1001} => I6 snapshot.count 1001
+snapshot = {bits = 2, window = 3, ring = 4, count = 1000, retries = 101} => I6 snapshot.retries 101
+snapshot = {bits = 2, window = 3, ring = 4, count = 1, retries = -1} => I6 snapshot.retries -1
+snapshot = {bits = 2, window = 3, ring = 4, count = 1, retries = true} => I5 snapshot.retries
+snapshot = {bits = 2, window = 4, colour = 1} => I4 snapshot
+"#
+}
+
+/// Texts after a device, two hosts and the snapshots.
+fn with_net() -> &'static str {
+    r#"loss = {colour = 1} => I4 loss
+loss = {seed = -1} => I6 loss.seed -1
+loss = {seed = 9223372036854775808} => I2
+loss = {seed = "1"} => I5 loss.seed
+loss = {cable = 1001} => I6 loss.cable 1001
+loss = {crossbar = -1} => I6 loss.crossbar -1
+loss = {init = 0.5} => I5 loss.init
+loss = {notice = 1001, drop = 1} => I6 loss.notice 1001
+loss = {drop = 1} => I5 loss.drop
+loss = {drop = [{}, 1]} => I5 loss.drop.1
+loss = {drop = [{}]} => I3 loss.drop.0.link
+loss = {drop = [{link = 1}]} => I5 loss.drop.0.link
+loss = {drop = [{link = ""}]} => I3 loss.drop.0.n
+loss = {drop = [{link = "", n = 0}]} => I6 loss.drop.0.n 0
+loss = {drop = [{link = "", n = 1000000001}]} => I6 loss.drop.0.n 1000000001
+loss = {drop = [{link = "", count = 1}]} => I4 loss.drop.0
+loss = {drop = [{link = "x", n = 1}]} ; flow = [{}] => I3 flow.0.from
+flow = [{from = "h0"}] => I3 flow.0.to
+flow = [{from = "H", to = 1}] => I5 flow.0.from
+flow = [{from = "h0", to = "a.0"}] => I5 flow.0.to
+flow = [{from = "h0", to = "h1"}] => I3 flow.0.count
+flow = [{from = "h0", to = "h1", count = 20001}] => I6 flow.0.count 20001
+flow = [{from = "h0", to = "h1", count = 20000, bytes = 65536}] => I6 flow.0.bytes 65536
+flow = [{from = "h0", to = "h1", count = 0, bytes = 65535, hops = 256}] => I6 flow.0.hops 256
+flow = [{from = "h0", to = "h1", count = 0, bytes = 0, hops = "8"}] => I5 flow.0.hops
+flow = [{from = "h0", to = "h1", count = 0, bytes = 0}] => I3 flow.0.hops
+flow = [{from = 1, hop = 1}] => I4 flow.0
+raw = [{}] => I3 raw.0.from
+raw = [{from = "h0"}] => I3 raw.0.hex
+raw = [{from = "h0", hex = 1}] => I5 raw.0.hex
+raw = [{from = "h0", hex = "0"}] => I5 raw.0.hex
+raw = [{from = "h0", hex = "0g"}] => I5 raw.0.hex
+raw = [{from = "h0", hex = "0A"}] => I5 raw.0.hex
+raw = [{from = "h0", hex = "00", to = "h1"}] => I4 raw.0
+raw = [{from = "h2", hex = "00"}] ; script = {} => I3 script.entries
+script = {colour = 1} => I4 script
+script = {entries = "pass 1"} => I5 script.entries
+script = {entries = ["x", 2]} => I5 script.entries.1
+cable = [{a = "x.0", b = "y.0"}] => I7 cable.0.a
+cable = [{a = "a.0", b = "y.0"}] => I7 cable.0.b
+cable = [{a = "a.7", b = "y.0"}] => I7 cable.0.b
+cable = [{a = "a.0", b = "a.0"}] => I9 N5(0)
+cable = [{a = "a.0", b = "a.2"}] => I9 N4(Cable(0))
+cable = [{a = "a.0", b = "a.1"}] => I9 N7(0)
+cable = [{a = "a.0", b = "a.2"}] ; flow = [{from = "x", to = "y", count = 0, bytes = 0, hops = 0}] => I9 N4(Cable(0))
+flow = [{from = "x", to = "y", count = 0, bytes = 0, hops = 0}] => I7 flow.0.from
+flow = [{from = "h0", to = "hx", count = 0, bytes = 0, hops = 0}] ; raw = [{from = "x", hex = ""}] => I7 flow.0.to
+raw = [{from = "h0", hex = ""}, {from = "x", hex = ""}] ; loss = {drop = [{link = "x", n = 1}]} => I7 raw.1.from
+loss = {drop = [{link = "x", n = 1}]} ; script = {entries = ["x"]} => I7 loss.drop.0.link
+loss = {drop = [{link = "in a.0 init", n = 1}, {link = "in a.0 host", n = 1}]} => I7 loss.drop.1.link
+loss = {drop = [{link = "control a sweep", n = 1}]} => I7 loss.drop.0.link
+loss = {drop = [{link = "in  a.0 init", n = 1}]} => I7 loss.drop.0.link
+script = {entries = ["observer issue", "in a.99 host"]} => I8 1
+script = {entries = ["observer  issue"]} => I8 0
+script = {entries = ["control a dump:in.00"]} => I8 0
+script = {entries = ["pass 0"]} => I8 0
+script = {entries = ["pass 01"]} => I8 0
+script = {entries = ["pass 10001"]} => I8 0
+script = {entries = ["pass"]} => I8 0
+script = {entries = ["pass 9999", "host h0 inject", "pass 1", "pass 1"]} => I8 3
+script = {entries = ["pass 5000", "pass 5001", "x"]} => I8 1
+"#
+}
+
+/// Texts before the snapshots.
+fn before_snapshot() -> &'static str {
+    r#"device = [] => I9 N1
+device = [{name = "a", ports = 0}, {name = "a", ports = 9}] => I9 N3(0)
+device = [{name = "a", ports = 2}, {name = "b", ports = 9}] => I9 N3(1)
+device = [{name = "a", ports = 2}] ; host = [{name = "h0", at = "a.2"}] => I9 N4(Host(0))
+device = [{name = "a", ports = 2}] ; host = [{name = "h0", at = "x.2"}] => I7 host.0.at
+device = [{name = "a", ports = 1}, {name = "a", ports = 2}] ; cable = [{a = "a.0", b = "a.1"}] => I9 N4(Cable(0))
+device = [{name = "a", ports = 2}, {name = "a", ports = 2}] => I9 N8(Device(1))
+device = [{name = "a", ports = 2}] ; host = [{name = "h0", at = "a.0"}, {name = "h0", at = "a.1"}] => I9 N8(Host(1))
+device = [{name = "a", ports = 2}] ; host = [{name = "h0", at = "a.0"}, {name = "h0", at = "a.0"}] => I9 N7(1)
+"#
+}
+
 fn refused(
     alloc: Global,
     before: &[&str],
@@ -79,6 +245,46 @@ fn refused(
     let front = joined(alloc, before)?;
     let input = joined(alloc, &[front.as_str(), text, after])?;
     Ok(told(alloc, input.as_bytes())?.as_str() == fault)
+}
+
+/// A text of a table as TOML.
+fn unfolded(alloc: Global, text: &str) -> Result<String, Fail> {
+    let mut lines = String::new(alloc);
+    for line in text.split(';') {
+        lines.push_str(line)?;
+        lines.push_str("\n")?;
+    }
+    Ok(lines)
+}
+
+/// The first line of a table of which something else is said.
+fn wrong_line<'a>(
+    alloc: Global,
+    before: &[&str],
+    table: &'a str,
+    after: &str,
+) -> Result<Option<&'a str>, Fail> {
+    for line in table.lines() {
+        let (text, fault) = line.split_once(" => ").ok_or("no arrow")?;
+        let input = unfolded(alloc, text)?;
+        if !refused(alloc, before, input.as_str(), after, fault)? {
+            return Ok(Some(line));
+        }
+    }
+    Ok(None)
+}
+
+#[test]
+fn refusals(rt: HostRuntime) -> Result<(), Fail> {
+    let alloc = rt.alloc();
+    assert_eq!(rt; wrong_line(alloc, &[], alone(), "")?, None);
+    assert_eq!(rt; wrong_line(alloc, &[DEVICE], with_device(), "")?, None);
+    assert_eq!(rt;
+        wrong_line(alloc, &[DEVICE, HOSTS, SNAPSHOT], with_net(), "")?,
+        None
+    );
+    assert_eq!(rt; wrong_line(alloc, &[], before_snapshot(), SNAPSHOT)?, None);
+    Ok(())
 }
 
 #[test]
@@ -175,5 +381,97 @@ fn three_packets(rt: HostRuntime) -> Result<(), Fail> {
     };
     assert_eq!(rt; input.snapshot, snapshot);
     assert_eq!(rt; input.script.len(), 0);
+    Ok(())
+}
+
+/// Each table, and what version 1.1 of TOML has more than 1.0: a line end, a comment and a last
+/// comma in an inline table, and two escapes.
+const EACH_TABLE: &str = "
+[[device]]
+name = \"a\"
+ports = 2
+[[device]]
+name = \"b_\\x31\"
+ports = 8
+[[cable]]
+a = \"a.1\"
+b = \"b_1.7\"
+[[host]]
+name = \"h0\"
+at = \"a.0\"
+[snapshot]
+bits = 8
+window = 255
+ring = 256
+count = 1000
+[loss]
+seed = 9223372036854775807
+cable = 1000
+drop = [{link = \"out a.1 x0\", n = 1}, {
+  link = \"in b_1.7 cable\", # the cable
+  n = 1000000000,
+}]
+[[flow]]
+from = \"h0\"
+to = \"h0\"
+count = 20000
+bytes = 65535
+hops = 255
+[[raw]]
+from = \"h0\"
+hex = \"00ff\"
+[script]
+entries = [\"pass 10000\", \"control b_1 sweep\", \"observer issue\"]
+";
+
+fn drops_of(input: &Input) -> &[Drop1] {
+    input.loss.drops.as_slice()
+}
+
+fn entries_of(input: &Input) -> &[Script1] {
+    input.script.as_slice()
+}
+
+fn first_frame(raws: &[RawPart]) -> Option<&[u8]> {
+    raws.first().map(|raw| raw.bytes.items.as_slice())
+}
+
+fn first_end(cables: &[CablePart]) -> Option<PortRef> {
+    cables.first().map(|cable| cable.b)
+}
+
+#[test]
+fn each_table(rt: HostRuntime) -> Result<(), Fail> {
+    let alloc = rt.alloc();
+    let input = read(alloc, EACH_TABLE)?;
+    let end = first_end(input.net.parts().cables.as_slice()).ok_or("no cable")?;
+    assert_eq!(rt; end, PortRef { device: 1, port: 7 });
+    let frame = first_frame(input.raws.as_slice()).ok_or("no frame")?;
+    let bytes: [u8; 2] = [0, 255];
+    assert_eq!(rt; frame, bytes.as_slice());
+    let script: [Script1; 3] = [
+        Script1::Pass(10_000),
+        Script1::Choice {
+            actor: 6,
+            choice: 5,
+        },
+        Script1::Choice {
+            actor: 0,
+            choice: 2,
+        },
+    ];
+    assert_eq!(rt; entries_of(&input), script.as_slice());
+    let drops: [Drop1; 2] = [
+        Drop1 { link: 20, n: 1 },
+        Drop1 {
+            link: 28,
+            n: 1_000_000_000,
+        },
+    ];
+    assert_eq!(rt; drops_of(&input), drops.as_slice());
+    let loss = &input.loss;
+    assert_eq!(rt; loss.seed, 9_223_372_036_854_775_807);
+    assert_eq!(rt; loss.cable, 1000);
+    assert_eq!(rt; loss.notice, 0);
     Ok(())
 }

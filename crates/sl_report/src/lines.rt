@@ -33,6 +33,7 @@ pub fn push_network(out: &mut String, net: &Net, count: usize) -> Result<(), All
     )
 }
 
+/// Adds the observer's line.
 #[tactic(auto, unfolding(crate::specs::Report::observer_line))]
 pub fn push_observer(out: &mut String, count: u64, findings: &Findings) -> Result<(), AllocError>
     ensures { OnOk result (string_bytes out.new ≡ string_bytes out.old ++ observer_line count findings.now) }
@@ -46,6 +47,7 @@ pub fn push_observer(out: &mut String, count: u64, findings: &Findings) -> Resul
     )
 }
 
+/// Adds the line of a host.
 #[tactic(auto, unfolding(crate::specs::Report::host_line))]
 pub fn push_host(out: &mut String, name: &Name, sent: u64, delivered: u64) -> Result<(), AllocError>
     ensures { OnOk result (string_bytes out.new ≡ string_bytes out.old ++ host_line name.now sent delivered) }
@@ -53,6 +55,7 @@ pub fn push_host(out: &mut String, name: &Name, sent: u64, delivered: u64) -> Re
     write!(out, "host {name} sent {sent} delivered {delivered}\n")
 }
 
+/// Adds the line of drops.
 #[tactic(auto, unfolding(crate::specs::Report::drops_line))]
 pub fn push_drops(out: &mut String, drops: &Drops) -> Result<(), AllocError>
     ensures { OnOk result (string_bytes out.new ≡ string_bytes out.old ++ drops_line drops.now) }
@@ -63,6 +66,7 @@ pub fn push_drops(out: &mut String, drops: &Drops) -> Result<(), AllocError>
     write!(out, "drops bad {bad} expired {expired} noroute {noroute}\n")
 }
 
+/// Adds the line of lost messages.
 #[tactic(auto, unfolding(crate::specs::Report::lost_line))]
 pub fn push_lost(out: &mut String, lost: &Lost) -> Result<(), AllocError>
     ensures { OnOk result (string_bytes out.new ≡ string_bytes out.old ++ lost_line lost.now) }

@@ -18,8 +18,8 @@ use Rattle.sl_net.specs.Spelling.{device_name, host_name, side_text, actor_text,
 use Rattle.sl_net.proofs.Lists.{Each, each-append, each-map, each-flat, each-imp, each-below}
 use Rattle.sl_net.proofs.Actors.{each-used}
 use Rattle.sl_net.proofs.EndKinds.{home}
-use Rattle.sl_read.proofs.Texts.{lacks_name, part_at, same_front, differ}
-use Rattle.sl_read.proofs.Namesakes.{HasNames}
+use Rattle.sl_spell.proofs.Texts.{lacks_name, part_at, same_front, differ}
+use Rattle.sl_spell.proofs.Namesakes.{HasNames}
 
 -- Numbers of ports are single digits.
 

@@ -14,7 +14,7 @@ use Rattle.sl_net.specs.Parts.{Parts}
 use Rattle.sl_net.specs.Fault.{fault_of, first_clash}
 use Rattle.sl_net.specs.Spelling.{device_name, host_name}
 use Rattle.sl_net.proofs.NetWired.{no-reason}
-use Rattle.sl_read.proofs.Texts.{at_map}
+use Rattle.sl_spell.proofs.Texts.{at_map}
 
 none_mapped : {A B : Type 0} (f : A → B) (o : Option A) → option_map f o ≡ None → o ≡ None
 none_mapped f None h = refl

@@ -25,10 +25,10 @@ use Rattle.sl_net.proofs.Filters.{one-place}
 use Rattle.sl_net.proofs.Senders.{IsSender, each-sender}
 use Rattle.sl_net.proofs.Linked.{Joined, each-joined, link_from, incoming-distinct}
 use Rattle.sl_net.proofs.NetWired.{into-links}
-use Rattle.sl_read.proofs.Texts.{at_map, differ}
-use Rattle.sl_read.specs.Choices.{HasOneSpelling}
-use Rattle.sl_read.proofs.Namesakes.{HasNames, has_names, named_each}
-use Rattle.sl_read.proofs.Spellings.{same_actor_text, Known, each_known, one_incoming}
+use Rattle.sl_spell.proofs.Texts.{at_map, differ}
+use Rattle.sl_spell.specs.Spelled.{HasOneSpelling}
+use Rattle.sl_spell.proofs.Namesakes.{HasNames, has_names, named_each}
+use Rattle.sl_spell.proofs.Spellings.{same_actor_text, Known, each_known, one_incoming}
 
 -- The word of an action is that of no link of its actor.
 

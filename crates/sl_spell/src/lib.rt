@@ -1,7 +1,9 @@
-// No two choices of a net have one spelling.
+// The law of spellings: no two choices of a net have one spelling.
+#![tactic(auto)]
+
 ghost use Rattle.std.specs.List.{All};
 ghost use Rattle.sl_net.specs.Text.{IsName};
-ghost use Rattle.sl_read.specs.Choices.{HasOneSpelling};
+ghost use Rattle.sl_spell.specs.Spelled.{HasOneSpelling};
 
 use sl_net::{DevicePart, HostPart, Net};
 
@@ -21,7 +23,8 @@ fn host_names(hosts: &[HostPart])
     }
 }
 
-/// A law of nets: names differ and are names, so a text is the spelling of one choice at most.
+/// No two choices of a net have one spelling: the names of its devices and of its hosts are names
+/// and differ. So the choice that `find_choice` finds is the only one that the text spells.
 pub fn one_spelling(net: &Net)
     ensures { HasOneSpelling net.now }
 {

@@ -1,0 +1,551 @@
+// The worked rows of the commands that read an input, as texts. A row is a line with the command and
+// a name, the input up to `--`, and what is written, on the error sink where it begins with
+// `speedlight: `. Rows stand apart by `==`.
+
+/// Runs in which each snapshot is consistent.
+pub fn reports() -> &'static str {
+    r#"step expired
+device = [{name = "a", ports = 2}, {name = "b", ports = 2}, {name = "c", ports = 2}]
+cable = [{a = "a.1", b = "b.0"}, {a = "b.1", b = "c.0"}]
+host = [{name = "h0", at = "a.0"}, {name = "h1", at = "c.1"}]
+flow = [{from = "h0", to = "h1", count = 2, bytes = 50, hops = 1}]
+snapshot = {bits = 2, window = 3, ring = 3, count = 1, retries = 0}
+script = {entries = ["pass 6"]}
+--
+speedlight 1
+network devices 3 units 12 hosts 2
+observer count 1 issued 1 collected 1 resent 0
+snapshot 1 consistent
+in a.0 2 100
+out a.0 0 0 x0 0 0 x1 0 0
+in a.1 0 0 cable 0 0
+out a.1 2 100 x0 0 0 x1 0 0
+in b.0 2 100 cable 0 0
+out b.0 0 0 x0 0 0 x1 0 0
+in b.1 0 0 cable 0 0
+out b.1 0 0 x0 0 0 x1 0 0
+in c.0 0 0 cable 0 0
+out c.0 0 0 x0 0 0 x1 0 0
+in c.1 0 0
+out c.1 0 0 x0 0 0 x1 0 0
+host h0 sent 2 delivered 0
+host h1 sent 0 delivered 0
+drops bad 0 expired 2 noroute 0
+lost cable 0 crossbar 0 init 0 notice 0
+end
+==
+step hostile_frames
+device = [{name = "a", ports = 2}]
+host = [{name = "h0", at = "a.0"}, {name = "h1", at = "a.1"}]
+snapshot = {bits = 2, window = 3, ring = 3, count = 1, retries = 0}
+raw = [{from = "h0", hex = "010100030000000100000002006407010000000000000000"}, {from = "h0", hex = "03ff00010000000000000000000000010000000000000000"}, {from = "h0", hex = "000000010000000100000000006408010000000000000000"}, {from = "h0", hex = ""}, {from = "h0", hex = "000000000000000100000000006400010000000000000000"}, {from = "h0", hex = "000000000000000900000000006408010000000000000000"}]
+--
+speedlight 1
+network devices 1 units 4 hosts 2
+observer count 1 issued 1 collected 1 resent 0
+snapshot 1 consistent
+in a.0 0 0
+out a.0 0 0 x0 0 0 x1 0 0
+in a.1 0 0
+out a.1 0 0 x0 0 0 x1 0 0
+host h0 sent 6 delivered 0
+host h1 sent 0 delivered 0
+drops bad 4 expired 1 noroute 1
+lost cable 0 crossbar 0 init 0 notice 0
+end
+==
+step idle_script
+device = [{name = "a", ports = 2}]
+host = [{name = "h0", at = "a.0"}, {name = "h1", at = "a.1"}]
+flow = [{from = "h0", to = "h1", count = 3, bytes = 100, hops = 8}]
+snapshot = {bits = 2, window = 3, ring = 3, count = 1, retries = 0}
+script = {entries = ["observer resend", "in a.0 host", "out a.0 x0"]}
+--
+speedlight 1
+network devices 1 units 4 hosts 2
+observer count 1 issued 1 collected 1 resent 0
+snapshot 1 consistent
+in a.0 0 0
+out a.0 0 0 x0 0 0 x1 0 0
+in a.1 0 0
+out a.1 0 0 x0 0 0 x1 0 0
+host h0 sent 3 delivered 0
+host h1 sent 0 delivered 3
+drops bad 0 expired 0 noroute 0
+lost cable 0 crossbar 0 init 0 notice 0
+end
+==
+step no_flow
+device = [{name = "a", ports = 2}]
+host = [{name = "h0", at = "a.0"}, {name = "h1", at = "a.1"}]
+snapshot = {bits = 2, window = 3, ring = 3, count = 1, retries = 0}
+--
+speedlight 1
+network devices 1 units 4 hosts 2
+observer count 1 issued 1 collected 1 resent 0
+snapshot 1 consistent
+in a.0 0 0
+out a.0 0 0 x0 0 0 x1 0 0
+in a.1 0 0
+out a.1 0 0 x0 0 0 x1 0 0
+host h0 sent 0 delivered 0
+host h1 sent 0 delivered 0
+drops bad 0 expired 0 noroute 0
+lost cable 0 crossbar 0 init 0 notice 0
+end
+==
+step no_last_newline
+device = [{name = "a", ports = 2}]
+host = [{name = "h0", at = "a.0"}, {name = "h1", at = "a.1"}]
+flow = [{from = "h0", to = "h1", count = 3, bytes = 100, hops = 8}]
+snapshot = {bits = 2, window = 3, ring = 3, count = 1, retries = 0}--
+speedlight 1
+network devices 1 units 4 hosts 2
+observer count 1 issued 1 collected 1 resent 0
+snapshot 1 consistent
+in a.0 0 0
+out a.0 0 0 x0 0 0 x1 0 0
+in a.1 0 0
+out a.1 0 0 x0 0 0 x1 0 0
+host h0 sent 3 delivered 0
+host h1 sent 0 delivered 3
+drops bad 0 expired 0 noroute 0
+lost cable 0 crossbar 0 init 0 notice 0
+end
+==
+step no_snapshot
+device = [{name = "a", ports = 2}]
+host = [{name = "h0", at = "a.0"}, {name = "h1", at = "a.1"}]
+flow = [{from = "h0", to = "h1", count = 3, bytes = 100, hops = 8}]
+snapshot = {bits = 2, window = 3, ring = 3, count = 0, retries = 0}
+--
+speedlight 1
+network devices 1 units 4 hosts 2
+observer count 0 issued 0 collected 0 resent 0
+host h0 sent 3 delivered 0
+host h1 sent 0 delivered 3
+drops bad 0 expired 0 noroute 0
+lost cable 0 crossbar 0 init 0 notice 0
+end
+==
+step raw_frame.1
+device = [{name = "a", ports = 2}]
+host = [{name = "h0", at = "a.0"}, {name = "h1", at = "a.1"}]
+snapshot = {bits = 2, window = 3, ring = 3, count = 1, retries = 0}
+raw = [{from = "h0", hex = "000000000000000100000000006408010100000000000000"}]
+--
+speedlight 1
+network devices 1 units 4 hosts 2
+observer count 1 issued 1 collected 1 resent 0
+snapshot 1 consistent
+in a.0 0 0
+out a.0 0 0 x0 0 0 x1 0 0
+in a.1 0 0
+out a.1 0 0 x0 0 0 x1 0 0
+host h0 sent 1 delivered 0
+host h1 sent 0 delivered 0
+drops bad 1 expired 0 noroute 0
+lost cable 0 crossbar 0 init 0 notice 0
+end
+==
+step raw_frame.2
+device = [{name = "a", ports = 2}]
+host = [{name = "h0", at = "a.0"}, {name = "h1", at = "a.1"}]
+snapshot = {bits = 2, window = 3, ring = 3, count = 1, retries = 0}
+raw = [{from = "h0", hex = "000000000000000100000000006408010000000000000000"}]
+--
+speedlight 1
+network devices 1 units 4 hosts 2
+observer count 1 issued 1 collected 1 resent 0
+snapshot 1 consistent
+in a.0 0 0
+out a.0 0 0 x0 0 0 x1 0 0
+in a.1 0 0
+out a.1 0 0 x0 0 0 x1 0 0
+host h0 sent 1 delivered 0
+host h1 sent 0 delivered 1
+drops bad 0 expired 0 noroute 0
+lost cable 0 crossbar 0 init 0 notice 0
+end
+==
+step three_packets
+device = [{name = "a", ports = 2}]
+host = [{name = "h0", at = "a.0"}, {name = "h1", at = "a.1"}]
+flow = [{from = "h0", to = "h1", count = 3, bytes = 100, hops = 8}]
+snapshot = {bits = 2, window = 3, ring = 3, count = 1, retries = 0}
+--
+speedlight 1
+network devices 1 units 4 hosts 2
+observer count 1 issued 1 collected 1 resent 0
+snapshot 1 consistent
+in a.0 0 0
+out a.0 0 0 x0 0 0 x1 0 0
+in a.1 0 0
+out a.1 0 0 x0 0 0 x1 0 0
+host h0 sent 3 delivered 0
+host h1 sent 0 delivered 3
+drops bad 0 expired 0 noroute 0
+lost cable 0 crossbar 0 init 0 notice 0
+end
+==
+step two_flows
+device = [{name = "a", ports = 2}]
+host = [{name = "h0", at = "a.0"}, {name = "h1", at = "a.1"}]
+flow = [{from = "h0", to = "h1", count = 3, bytes = 100, hops = 8}, {from = "h1", to = "h0", count = 2, bytes = 100, hops = 8}]
+snapshot = {bits = 2, window = 3, ring = 3, count = 1, retries = 0}
+--
+speedlight 1
+network devices 1 units 4 hosts 2
+observer count 1 issued 1 collected 1 resent 0
+snapshot 1 consistent
+in a.0 0 0
+out a.0 0 0 x0 0 0 x1 0 0
+in a.1 0 0
+out a.1 0 0 x0 0 0 x1 0 0
+host h0 sent 3 delivered 2
+host h1 sent 2 delivered 3
+drops bad 0 expired 0 noroute 0
+lost cable 0 crossbar 0 init 0 notice 0
+end
+==
+step two_in_flight
+device = [{name = "a", ports = 2}]
+host = [{name = "h0", at = "a.0"}, {name = "h1", at = "a.1"}]
+flow = [{from = "h0", to = "h1", count = 3, bytes = 100, hops = 8}]
+snapshot = {bits = 2, window = 3, ring = 3, count = 1, retries = 0}
+script = {entries = ["host h0 inject", "host h0 inject", "in a.0 host", "in a.0 host", "observer issue", "control a begin", "in a.1 init", "out a.1 x1", "out a.1 x0", "out a.1 x0"]}
+--
+speedlight 1
+network devices 1 units 4 hosts 2
+observer count 1 issued 1 collected 1 resent 0
+snapshot 1 consistent
+in a.0 2 200
+out a.0 0 0 x0 0 0 x1 0 0
+in a.1 0 0
+out a.1 0 0 x0 2 200 x1 0 0
+host h0 sent 3 delivered 0
+host h1 sent 0 delivered 3
+drops bad 0 expired 0 noroute 0
+lost cable 0 crossbar 0 init 0 notice 0
+end
+"#
+}
+
+/// Runs with losses, late packets or retries.
+pub fn verdicts() -> &'static str {
+    r#"step dead_cable
+device = [{name = "a", ports = 2}, {name = "b", ports = 2}]
+cable = [{a = "a.1", b = "b.0"}]
+host = [{name = "h0", at = "a.0"}, {name = "h1", at = "b.1"}]
+snapshot = {bits = 2, window = 1, ring = 1, count = 2, retries = 0}
+loss = {cable = 1000}
+--
+speedlight 1
+network devices 2 units 8 hosts 2
+observer count 2 issued 1 collected 0 resent 0
+snapshot 1 pending in a.1 cable 0
+snapshot 2 not issued in a.1 0
+host h0 sent 0 delivered 0
+host h1 sent 0 delivered 0
+drops bad 0 expired 0 noroute 0
+lost cable 2 crossbar 0 init 0 notice 0
+end
+==
+step five_snapshots
+device = [{name = "a", ports = 1}]
+host = [{name = "h0", at = "a.0"}]
+flow = [{from = "h0", to = "h0", count = 8, bytes = 100, hops = 8}]
+snapshot = {bits = 1, window = 1, ring = 1, count = 5, retries = 0}
+--
+speedlight 1
+network devices 1 units 2 hosts 1
+observer count 5 issued 5 collected 5 resent 0
+snapshot 1 consistent
+in a.0 0 0
+out a.0 0 0 x0 0 0
+snapshot 2 consistent
+in a.0 4 400
+out a.0 4 400 x0 0 0
+snapshot 3 consistent
+in a.0 8 800
+out a.0 8 800 x0 0 0
+snapshot 4 consistent
+in a.0 8 800
+out a.0 8 800 x0 0 0
+snapshot 5 consistent
+in a.0 8 800
+out a.0 8 800 x0 0 0
+host h0 sent 8 delivered 8
+drops bad 0 expired 0 noroute 0
+lost cable 0 crossbar 0 init 0 notice 0
+end
+==
+step lost_initiation
+device = [{name = "a", ports = 1}]
+host = [{name = "h0", at = "a.0"}]
+snapshot = {bits = 2, window = 2, ring = 2, count = 2, retries = 0}
+loss = {drop = [{link = "in a.0 init", n = 1}]}
+--
+speedlight 1
+network devices 1 units 2 hosts 1
+observer count 2 issued 2 collected 2 resent 0
+snapshot 1 inconsistent in a.0 skipped to 2
+snapshot 2 consistent
+in a.0 0 0
+out a.0 0 0 x0 0 0
+host h0 sent 0 delivered 0
+drops bad 0 expired 0 noroute 0
+lost cable 0 crossbar 0 init 1 notice 0
+end
+==
+step lost_notices
+device = [{name = "a", ports = 1}]
+host = [{name = "h0", at = "a.0"}]
+snapshot = {bits = 2, window = 3, ring = 3, count = 1, retries = 0}
+loss = {notice = 1000}
+--
+speedlight 1
+network devices 1 units 2 hosts 1
+observer count 1 issued 1 collected 1 resent 0
+snapshot 1 consistent
+in a.0 0 0
+out a.0 0 0 x0 0 0
+host h0 sent 0 delivered 0
+drops bad 0 expired 0 noroute 0
+lost cable 0 crossbar 0 init 0 notice 2
+end
+==
+step overtaken_initiation
+device = [{name = "a", ports = 2}, {name = "b", ports = 2}]
+cable = [{a = "a.1", b = "b.0"}]
+host = [{name = "h0", at = "a.0"}, {name = "h1", at = "b.1"}]
+flow = [{from = "h0", to = "h1", count = 1, bytes = 100, hops = 8}]
+snapshot = {bits = 2, window = 1, ring = 1, count = 2, retries = 0}
+script = {entries = ["observer issue", "control a begin", "in a.0 init", "host h0 inject", "in a.0 host", "out a.1 x0", "out a.1 x0", "in b.0 cable", "observer issue"]}
+--
+speedlight 1
+network devices 2 units 8 hosts 2
+observer count 2 issued 2 collected 2 resent 0
+snapshot 1 consistent
+in a.0 0 0
+out a.0 0 0 x0 0 0 x1 0 0
+in a.1 0 0 cable 0 0
+out a.1 0 0 x0 0 0 x1 0 0
+in b.0 0 0 cable 0 0
+out b.0 0 0 x0 0 0 x1 0 0
+in b.1 0 0
+out b.1 0 0 x0 0 0 x1 0 0
+snapshot 2 consistent
+in a.0 1 100
+out a.0 0 0 x0 0 0 x1 0 0
+in a.1 0 0 cable 0 0
+out a.1 1 100 x0 0 0 x1 0 0
+in b.0 1 100 cable 0 0
+out b.0 0 0 x0 0 0 x1 0 0
+in b.1 0 0
+out b.1 1 100 x0 0 0 x1 0 0
+host h0 sent 1 delivered 0
+host h1 sent 0 delivered 1
+drops bad 0 expired 0 noroute 0
+lost cable 0 crossbar 0 init 0 notice 0
+end
+==
+step resent
+device = [{name = "a", ports = 2}, {name = "b", ports = 2}]
+cable = [{a = "a.1", b = "b.0"}]
+host = [{name = "h0", at = "a.0"}, {name = "h1", at = "b.1"}]
+snapshot = {bits = 2, window = 1, ring = 1, count = 1, retries = 1}
+loss = {drop = [{link = "in b.0 cable", n = 1}]}
+--
+speedlight 1
+network devices 2 units 8 hosts 2
+observer count 1 issued 1 collected 1 resent 1
+snapshot 1 consistent
+in a.0 0 0
+out a.0 0 0 x0 0 0 x1 0 0
+in a.1 0 0 cable 0 0
+out a.1 0 0 x0 0 0 x1 0 0
+in b.0 0 0 cable 0 0
+out b.0 0 0 x0 0 0 x1 0 0
+in b.1 0 0
+out b.1 0 0 x0 0 0 x1 0 0
+host h0 sent 0 delivered 0
+host h1 sent 0 delivered 0
+drops bad 0 expired 0 noroute 0
+lost cable 1 crossbar 0 init 0 notice 0
+end
+==
+step reused_slot
+device = [{name = "a", ports = 1}]
+host = [{name = "h0", at = "a.0"}]
+snapshot = {bits = 2, window = 3, ring = 3, count = 6, retries = 0}
+loss = {drop = [{link = "in a.0 init", n = 5}]}
+--
+speedlight 1
+network devices 1 units 2 hosts 1
+observer count 6 issued 6 collected 6 resent 0
+snapshot 1 consistent
+in a.0 0 0
+out a.0 0 0 x0 0 0
+snapshot 2 consistent
+in a.0 0 0
+out a.0 0 0 x0 0 0
+snapshot 3 consistent
+in a.0 0 0
+out a.0 0 0 x0 0 0
+snapshot 4 consistent
+in a.0 0 0
+out a.0 0 0 x0 0 0
+snapshot 5 inconsistent in a.0 skipped to 6
+snapshot 6 consistent
+in a.0 0 0
+out a.0 0 0 x0 0 0
+host h0 sent 0 delivered 0
+drops bad 0 expired 0 noroute 0
+lost cable 0 crossbar 0 init 1 notice 0
+end
+==
+step too_late_packet
+device = [{name = "a", ports = 2}]
+host = [{name = "h0", at = "a.0"}, {name = "h1", at = "a.1"}]
+flow = [{from = "h0", to = "h1", count = 1, bytes = 100, hops = 8}]
+snapshot = {bits = 2, window = 2, ring = 2, count = 2, retries = 0}
+script = {entries = ["host h0 inject", "in a.0 host", "observer issue", "observer issue", "control a begin", "control a begin", "in a.1 init", "in a.1 init", "out a.1 x1", "out a.1 x1", "out a.1 x0"]}
+--
+speedlight 1
+network devices 1 units 4 hosts 2
+observer count 2 issued 2 collected 2 resent 0
+snapshot 1 inconsistent out a.1 miscredited by 2
+snapshot 2 consistent
+in a.0 1 100
+out a.0 0 0 x0 0 0 x1 0 0
+in a.1 0 0
+out a.1 0 0 x0 1 100 x1 0 0
+host h0 sent 1 delivered 0
+host h1 sent 0 delivered 1
+drops bad 0 expired 0 noroute 0
+lost cable 0 crossbar 0 init 0 notice 0
+end
+"#
+}
+
+/// Inputs that are refused.
+pub fn refusals() -> &'static str {
+    r#"step cut_input.1
+device = [{name = "a", ports = 2}]
+--
+speedlight: I3 snapshot
+==
+step cut_input.2
+device = [{name = "a", ports = 2}]
+host = [{name = "h0", at = "a.0"}, {name = "h1", at = "a.1"}]
+--
+speedlight: I3 snapshot
+==
+step cut_input.3
+device = [{name = "a", ports = 2}]
+host = [{name = "h0", at = "a.0"}, {name = "h1", at = "a.1"}]
+flow = [{from = "h0", to = "h1", count = 3, bytes = 100, hops = 8}]
+--
+speedlight: I3 snapshot
+==
+step padded_input.3
+device = [--
+speedlight: I2
+==
+step padded_input.4
+--
+speedlight: I3 device
+==
+step refused_inputs.1
+device = [{name = "a", ports = 2}]
+host = [{name = "h0", at = "a.0"}, {name = "h1", at = "a.1"}]
+flow = [{from = "h0", to = "h1", count = 3, bytes = 100, hops = 8}]
+snapshot = {bits = 2, window = 3, ring = 3, count = 1, retries = 0}
+cable = [{a = "a.0", b = "a.0"}]
+--
+speedlight: I9 N5 cable.0
+==
+step refused_inputs.2
+device = [{name = "a", ports = 2}]
+host = [{name = "h0", at = "a.0"}, {name = "h1", at = "a.1"}]
+flow = [{from = "h0", to = "h1", count = 3, bytes = 100, hops = 8}]
+snapshot = {bits = 2, window = 3, ring = 3, count = 1, retries = 0}
+script = {entries = ["observer issue", "in a.99 host"]}
+--
+speedlight: I8 script.1
+==
+step refused_inputs.3
+device = [{name = "a", ports = 2}]
+host = [{name = "h0", at = "a.0"}, {name = "h1", at = "a.1"}]
+flow = [{from = "h0", to = "h1", count = 3, bytes = 100, hops = 8}]
+snapshot = {bits = 2, window = 4, ring = 3, count = 1, retries = 0}
+--
+speedlight: I6 snapshot.window 4
+==
+step refused_inputs.4
+device = [{name = "a", ports = 2}]
+host = [{name = "h0", at = "a.0"}, {name = "h1", at = "a.1"}]
+flow = [{from = "h0", to = "h1", count = 3, bytes = 100, hops = 8}]
+snapshot = {bits = 2, window = 3, ring = 3, count = 1, retries = 0, colour = 1}
+--
+speedlight: I4 snapshot
+==
+step refused_inputs.5
+device = [{name = "a", ports = "2"}]
+host = [{name = "h0", at = "a.0"}, {name = "h1", at = "a.1"}]
+flow = [{from = "h0", to = "h1", count = 3, bytes = 100, hops = 8}]
+snapshot = {bits = 2, window = 3, ring = 3, count = 1, retries = 0}
+--
+speedlight: I5 device.0.ports
+==
+step refused_inputs.6
+device = [{name = "a", ports = 2}]
+host = [{name = "h0", at = "a.0"}, {name = "h1", at = "a.1"}]
+flow = [{from = "h0", to = "hx", count = 3, bytes = 100, hops = 8}]
+snapshot = {bits = 2, window = 3, ring = 3, count = 1, retries = 0}
+--
+speedlight: I7 flow.0.to
+==
+step refused_inputs.7
+device = []
+snapshot = {bits = 2, window = 3, ring = 3, count = 1, retries = 0}
+--
+speedlight: I9 N1
+==
+step refused_inputs.8
+device = [{name = "a", ports = 2}]
+host = [{name = "h0", at = "a.0"}, {name = "h1", at = "a.1"}]
+flow = [{from = "h0", to = "h1", count = 20000, bytes = 100, hops = 8}, {from = "h0", to = "h1", count = 20000, bytes = 100, hops = 8}, {from = "h0", to = "h1", count = 20000, bytes = 100, hops = 8}, {from = "h0", to = "h1", count = 20000, bytes = 100, hops = 8}, {from = "h0", to = "h1", count = 20000, bytes = 100, hops = 8}, {from = "h0", to = "h1", count = 20000, bytes = 100, hops = 8}, {from = "h0", to = "h1", count = 20000, bytes = 100, hops = 8}, {from = "h0", to = "h1", count = 20000, bytes = 100, hops = 8}, {from = "h0", to = "h1", count = 20000, bytes = 100, hops = 8}, {from = "h0", to = "h1", count = 20000, bytes = 100, hops = 8}, {from = "h0", to = "h1", count = 1, bytes = 100, hops = 8}]
+snapshot = {bits = 2, window = 3, ring = 3, count = 1, retries = 0}
+--
+speedlight: I10 200001
+"#
+}
+
+/// Routes.
+pub fn routes() -> &'static str {
+    r#"routes routes.1
+device = [{name = "a", ports = 2}, {name = "b", ports = 2}]
+cable = [{a = "a.1", b = "b.0"}]
+host = [{name = "h0", at = "a.0"}, {name = "h1", at = "b.1"}]
+snapshot = {bits = 1, window = 1, ring = 1, count = 0, retries = 0}
+--
+route a h0 0 0
+route a h1 1 1
+route b h0 0 1
+route b h1 1 0
+end
+==
+routes routes.2
+device = [{name = "a", ports = 2}, {name = "b", ports = 2}]
+host = [{name = "h0", at = "a.0"}, {name = "h1", at = "b.1"}]
+snapshot = {bits = 1, window = 1, ring = 1, count = 0, retries = 0}
+--
+route a h0 0 0
+route a h1 none
+route b h0 none
+route b h1 1 0
+end
+"#
+}

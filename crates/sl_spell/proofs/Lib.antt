@@ -1,0 +1,4 @@
+pub mod Texts
+pub mod Namesakes
+pub mod Spellings
+pub mod Apart

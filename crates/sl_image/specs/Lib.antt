@@ -6,3 +6,4 @@ pub mod Short
 pub mod Brought
 pub mod Polls
 pub mod Accounts
+pub mod Messages

@@ -1,0 +1,86 @@
+-- What the messages of machines stand for. us gives the history of each actor, ring is the size of the units' rings.
+--     IsDumpOf net ring u g d            d has the registers of the unit u after its history g
+--     IsDoneOf net u before now d        d brings, over what was known of the unit u before, what is known now
+--     IsMessage net ring us a told m x   x stands for the message m that the actor a puts
+--     AreSent net ring us a told ps xs   the puts of a machine stand for those of a step
+-- told gives for the place of each unit how many of its steps were told before.
+use Rattle.std.specs.Prelude.{◌≡◌, ℕ, suc, ◌-◌, List, [], ◌∷◌, ◌++◌, map, take, length, replicate, slice_index, slice_get, option_map, unwrap_or}
+use Rattle.sl_net.specs.declared.actor.Sort.TheVariants.{Init as InitSort}
+use Rattle.sl_net.specs.Parts.{numbers_from}
+use Rattle.sl_net.specs.Net.{Net, units, unit_place, data_channels, choices_of}
+use Rattle.sl_net.specs.Wires.{out_of}
+use Rattle.sl_saves.specs.declared.entry.Saved.{Saved}
+use Rattle.sl_saves.specs.Views.{IsShown, held_saved}
+use Rattle.sl_wire.specs.declared.message.PlainDump.{PlainDump}
+use Rattle.sl_wire.specs.declared.message.Done.{Done}
+use Rattle.sl_wire.specs.declared.message.Msg.{Msg}
+use Rattle.sl_wire.specs.declared.message.Msg.TheVariants as wire
+use Rattle.sl_cut.specs.declared.message.Message.{Message}
+use Rattle.sl_cut.specs.declared.message.Message.TheVariants.{Host, Data, Probe, Init, Poll, Notice, Dump as DumpMsg, Begin, Done as DoneMsg}
+use Rattle.sl_cut.specs.declared.message.Put.{Put}
+use Rattle.sl_cut.specs.History.{History, id, last, first}
+use Rattle.sl_cut.specs.Knowledge.{upto_of, floor_of}
+use Rattle.sl_image.specs.Calls.{calls}
+use Rattle.sl_image.specs.Rows.{row}
+
+-- eight numbers, with 0 past those that there are
+abbrev pub eight : List ℕ → List ℕ
+eight xs = take 8 (xs ++ replicate 8 0)
+
+-- the last-seen numbers of the data channels in order
+abbrev pub lasts : Net → ℕ → History → List ℕ
+lasts net u g = map (λ c. last c g) (data_channels net u)
+
+-- that of initiations, 0 of an egress unit
+abbrev pub cpu_last : Net → ℕ → History → ℕ
+cpu_last net u g = unwrap_or (option_map (λ c. last c g) (slice_get (choices_of net u InitSort) 0)) 0
+
+pub record IsDumpOf (net : Net) (ring u : ℕ) (g : History) (d : PlainDump) : Type 0 where
+  pub id : d.id ≡ id g
+  pub cpu : d.cpu ≡ cpu_last net u g
+  pub last : d.last ≡ eight (lasts net u g)
+  pub size : length d.view.slots ≡ ring
+  pub shown : IsShown d.view (calls (data_channels net u) g)
+
+-- a number with its row, as slots hold it
+abbrev pub held_row : Net → ℕ → History → ℕ → ℕ × Saved
+held_row net u g k = (k, held_saved (row (data_channels net u) k g))
+
+-- the numbers above a, up to b
+abbrev pub span : ℕ → ℕ → List ℕ
+span a b = numbers_from (suc a) (b - a)
+
+pub record IsDoneOf (net : Net) (u : ℕ) (before now : History) (d : Done) : Type 0 where
+  pub unit : d.unit ≡ unit_place net u
+  pub id : d.id ≡ id now
+  pub last : d.last ≡ eight (lasts net u now)
+  pub floor : d.floor ≡ floor_of net u now
+  pub rows : d.rows ≡ map (held_row net u now) (span (upto_of net u before) (upto_of net u now))
+
+pub record SaysDump (net : Net) (ring u : ℕ) (g : History) (x : Msg) : Type 0 where
+  pub dump : PlainDump
+  pub is : x ≡ wire.Dump dump
+  pub of : IsDumpOf net ring u g dump
+
+pub record SaysDone (net : Net) (u : ℕ) (before now : History) (x : Msg) : Type 0 where
+  pub done : Done
+  pub is : x ≡ wire.Done done
+  pub of : IsDoneOf net u before now done
+
+abbrev pub IsMessage : Net → ℕ → (ℕ → History) → ℕ → (ℕ → ℕ) → Message → Msg → Type 0
+IsMessage net ring us a told (Host bytes) x = x ≡ wire.Host bytes
+IsMessage net ring us a told (Data s p) x = x ≡ wire.Data s p
+IsMessage net ring us a told (Probe s) x = x ≡ wire.Probe s
+IsMessage net ring us a told (Init s) x = x ≡ wire.Init s
+IsMessage net ring us a told Poll x = x ≡ wire.Poll
+IsMessage net ring us a told Notice x = x ≡ wire.Notice
+IsMessage net ring us a told (DumpMsg n) x = SaysDump net ring a (first n (us a)) x
+IsMessage net ring us a told (Begin k) x = x ≡ wire.Begin k
+IsMessage net ring us a told (DoneMsg place n) x =
+    let u : ℕ = slice_index (units net) place in SaysDone net u (first (told place) (us u)) (first n (us u)) x
+
+-- in order, each on the outgoing link that has the number of the put's link
+abbrev pub AreSent : Net → ℕ → (ℕ → History) → ℕ → (ℕ → ℕ) → List Put → List (ℕ × Msg) → Type 0
+AreSent net ring us a told [] [] = Unit {0}
+AreSent net ring us a told (p ∷ ps) (x ∷ xs) = ((x.0 ≡ out_of net p.link) × IsMessage net ring us a told p.message x.1) × AreSent net ring us a told ps xs
+AreSent net ring us a told _ _ = ⊥

@@ -1,0 +1,4 @@
+pub mod Outs
+pub mod Ways
+pub mod Fitting
+pub mod Channels

@@ -2,3 +2,4 @@ pub mod Outs
 pub mod Ways
 pub mod Fitting
 pub mod Channels
+pub mod Numbers

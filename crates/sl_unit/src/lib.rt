@@ -2,6 +2,7 @@
 // its counters when a newer snapshot id reaches it (Yaseen, Sonchack and Liu 2018).
 #![tactic(auto)]
 
+mod laws;
 mod make;
 mod puts;
 mod registers;
@@ -10,6 +11,7 @@ mod step;
 mod unit;
 mod wires;
 
+pub use laws::{unit_side, ways_are_links};
 pub use unit::{Unit, UnitCounts};
 
 #[cfg(test)]

@@ -97,6 +97,14 @@ impl Wires {
         self.entrances[choice as usize]
     }
 
+    /// How many choices there are.
+    #[cfg(test)]
+    pub fn entrance_count(&self) -> usize
+        ensures { result ≡ length self.now.entrances }
+    {
+        self.entrances.len()
+    }
+
     /// The outgoing links.
     pub fn exits(&self) -> &[Exit]
         ensures now { result.now ≡ self.now.exits }

@@ -9,5 +9,7 @@ loop-host-preserved c =
     let net = c.args.net.now in
     let f = next_port net.parts c.args.device in
     let i = c.loop-host.host in
-    c.in_ok-push.ensures.items ∙ ap (λ xs. xs ++ c.next_port.result ∷ []) c.loop-host.invariant
-    ∙ ap (λ x. map f (below i) ++ x ∷ []) (c.next_port.ensures net c.requires.routes c.requires.device) ∙ sym (map_below_more f i)
+    let pushed = c.in_ok-push.ensures.items in
+    let so_far = ap (λ xs. xs ++ c.next_port.result ∷ []) c.loop-host.invariant in
+    let port = ap (λ x. map f (below i) ++ x ∷ []) (c.next_port.ensures net c.requires.routes c.requires.device) in
+    pushed ∙ so_far ∙ port ∙ sym (map_below_more f i)

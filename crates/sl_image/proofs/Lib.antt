@@ -13,3 +13,4 @@ pub mod Brought
 pub mod Polls
 pub mod Accounts
 pub mod Examples
+pub mod UnitLasts

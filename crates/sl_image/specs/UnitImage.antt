@@ -1,0 +1,65 @@
+-- What the machine of a unit stands for. table is the snapshot table, u the unit's number, i the unit, h its history.
+--     Keeps ring saved calls         the entries that a machine saved keep what some calls saved
+--     IsUnitOf net table u i h m     the state m stands for the history h
+--     Follows ..                     the state after a step stands for the history after it, and the puts for its puts
+use Rattle.std.specs.Prelude.{◌≡◌, ℕ, List}
+use Rattle.sl_machine.specs.Machine.{After}
+use Rattle.sl_net.specs.declared.actor.Side.{Side}
+use Rattle.sl_net.specs.declared.actor.Side.TheVariants.{Ingress, Egress}
+use Rattle.sl_net.specs.declared.actor.UnitId.{UnitId}
+use Rattle.sl_net.specs.declared.input.Snapshot.{Snapshot}
+use Rattle.sl_net.specs.Net.{Net, data_channels}
+use Rattle.sl_saves.specs.Calls.{Call}
+use Rattle.sl_saves.specs.Keeping.{Listed, IsListed}
+use Rattle.sl_wire.specs.declared.message.Msg.{Msg}
+use Rattle.sl_unit.specs.Registers.{Registers}
+use Rattle.sl_unit.specs.Step.{UnitState}
+use Rattle.sl_unit.specs.Made.{IsRanged, ingress_state, egress_state}
+use Rattle.sl_cut.specs.declared.message.Put.{Put}
+use Rattle.sl_cut.specs.History.{History, id}
+use Rattle.sl_cut.specs.Counting.{packets, bytes, bad, expired, noroute}
+use Rattle.sl_cut.specs.Setup.{Setup}
+use Rattle.sl_image.specs.Calls.{calls}
+use Rattle.sl_image.specs.Messages.{eight, lasts, cpu_last, AreSent}
+
+-- a snapshot table in its ranges, of the setup's window
+pub record IsTableOf (s : Setup) (table : Snapshot) : Type 0 where
+  pub window : s.window ≡ table.window
+  pub ranged : IsRanged table
+
+-- they are shown in views of as many slots as the ring has
+pub record Keeps (ring : ℕ) (saved : Listed) (calls : List Call) : Type 0 where
+  pub listed : IsListed saved calls
+  pub size : saved.size ≡ ring
+
+-- the state of a new unit
+abbrev pub new_state : Net → ℕ → Snapshot → Side → UnitState
+new_state net u table Ingress = ingress_state net u table
+new_state net u table Egress = egress_state net u table
+
+-- an ingress unit alone drops what it took
+abbrev pub dropped : Side → ℕ → ℕ
+dropped Ingress n = n
+dropped Egress n = 0
+
+pub record HasRegisters (net : Net) (ring u : ℕ) (i : UnitId) (h : History) (r : Registers) : Type 0 where
+  pub id : r.id ≡ id h
+  pub cpu : r.cpu ≡ cpu_last net u h
+  pub last : r.last ≡ eight (lasts net u h)
+  pub packets : r.packets ≡ packets h
+  pub bytes : r.bytes ≡ bytes h
+  pub bad : r.bad ≡ dropped i.side (bad h)
+  pub expired : r.expired ≡ dropped i.side (expired h)
+  pub noroute : r.noroute ≡ dropped i.side (noroute net.parts i.device h)
+  pub saved : Keeps ring r.saved (calls (data_channels net u) h)
+
+-- links and window never change
+pub record IsUnitOf (net : Net) (table : Snapshot) (u : ℕ) (i : UnitId) (h : History) (m : UnitState) : Type 0 where
+  pub wires : m.wires ≡ (new_state net u table i.side).wires
+  pub window : m.window ≡ table.window
+  pub registers : HasRegisters net table.ring u i h m.registers
+
+-- us gives the history of each actor after the step, ps the puts of the step
+pub record Follows (net : Net) (table : Snapshot) (u : ℕ) (i : UnitId) (us : ℕ → History) (told : ℕ → ℕ) (ps : List Put) (after : After UnitState Msg) : Type 0 where
+  pub stands : IsUnitOf net table u i (us u) after.state
+  pub sent : AreSent net table.ring us u told ps after.puts

@@ -14,3 +14,5 @@ pub mod Polls
 pub mod Accounts
 pub mod Examples
 pub mod UnitLasts
+pub mod UnitFrames
+pub mod UnitSent

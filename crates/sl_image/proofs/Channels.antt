@@ -76,3 +76,24 @@ few-of parts u i v q = let a = is-at parts u (OfUnit i) q (λ e. cc) in
 
 pub few-channels : (net : Net) (u : ℕ) (i : UnitId) → IsNet net → actor_of net u ≡ OfUnit i → length (data_channels net u) ≤ 8
 few-channels net u i n = subst (λ m. actor_of m u ≡ OfUnit i → length (data_channels m u) ≤ 8) (sym n.made) (λ q. few-of net.parts u i (valid net.parts n.right) q)
+
+-- Initiations come to a unit by at most one choice.
+
+no-inits : (d : ℕ) (qs : List ℕ) → length (filter (of_sort Init) (map (λ q. (ingress d q, Crossbar)) qs ++ (Control d, Poll) ∷ [])) ≡ 0
+no-inits d [] = refl
+no-inits d (q ∷ qs) = no-inits d qs
+
+one-init : (d : ℕ) (o : Option ℕ) (e : Option PortRef) → length (filter (of_sort Init) (from_host_or_cable o e ++ (Control d, Init) ∷ (Control d, Poll) ∷ [])) ≡ 1
+one-init d (Some h) e = refl
+one-init d None (Some q) = refl
+one-init d None None = refl
+
+few-inits : (parts : Parts) (d p : ℕ) (side : Side) → length (filter (of_sort Init) (unit_incoming parts d p side)) ≤ 1
+few-inits parts d p Ingress = let at : PortRef = record { device = d; port = p } in let e = one-init d (host_at parts at) (other_end parts.cables at) in omega (arith, e)
+few-inits parts d p Egress = let e = no-inits d (used_ports parts d) in omega (arith, e)
+
+inits-of : (parts : Parts) (u : ℕ) (i : UnitId) → actor_of (net_of parts) u ≡ OfUnit i → length (choices_of (net_of parts) u Init) ≤ 1
+inits-of parts u i q = let a = is-at parts u (OfUnit i) q (λ e. cc) in omega (arith, incoming-count parts u (OfUnit i) Init a, few-inits parts i.device i.port i.side)
+
+pub init-choices : (net : Net) (u : ℕ) (i : UnitId) → IsNet net → actor_of net u ≡ OfUnit i → length (choices_of net u Init) ≤ 1
+init-choices net u i n = subst (λ m. actor_of m u ≡ OfUnit i → length (choices_of m u Init) ≤ 1) (sym n.made) (λ q. inits-of net.parts u i q)

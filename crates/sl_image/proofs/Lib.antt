@@ -16,3 +16,4 @@ pub mod Examples
 pub mod UnitLasts
 pub mod UnitFrames
 pub mod UnitSent
+pub mod UnitRegisters

@@ -17,3 +17,4 @@ pub mod UnitLasts
 pub mod UnitFrames
 pub mod UnitSent
 pub mod UnitRegisters
+pub mod UnitTurns

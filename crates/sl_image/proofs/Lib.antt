@@ -18,3 +18,4 @@ pub mod UnitFrames
 pub mod UnitSent
 pub mod UnitRegisters
 pub mod UnitTurns
+pub mod UnitMessages

@@ -1,0 +1,193 @@
+-- A unit's machine takes a message, of each kind, as the unit's history says.
+use Rattle.std.proofs.Common.{◌≡◌, ℕ, suc, ◌+◌, ◌-◌, ◌^◌, ◌<◌, ◌≤◌, List, [], ◌∷◌, ◌++◌, length, refl, sym, ap, subst, ◌∙◌, Option, Some, None, arith}
+use Rattle.std.specs.Prelude.{true, false, Bool, not, ◌&&◌, slice_index_or, ◌==◌, if◌then◌else◌, is_none, unwrap_or, option_map, nat_lt}
+use Rattle.std.proofs.lemmas.Bool.{lt-ltb}
+use Rattle.sl_machine.specs.Machine.{After}
+use Rattle.sl_net.specs.declared.actor.Side.{Side}
+use Rattle.sl_net.specs.declared.actor.Side.TheVariants.{Ingress, Egress}
+use Rattle.sl_net.specs.declared.actor.Sort.TheVariants.{ToHost, Cable as CableSort, Crossbar as CrossbarSort, Init as InitSort, Dump as DumpSort}
+use Rattle.sl_net.specs.declared.actor.ActorId.TheVariants.{Unit as OfUnit}
+use Rattle.sl_net.specs.declared.actor.UnitId.{UnitId}
+use Rattle.sl_net.specs.declared.input.Packet.{Packet}
+use Rattle.sl_net.specs.declared.input.Snapshot.{Snapshot}
+use Rattle.sl_net.specs.Net.{Net, actor_of, links_out, data_channels, choices_of, place_in}
+use Rattle.sl_net.proofs.Lists.{Member}
+use Rattle.sl_route.specs.Route.{next_port}
+use Rattle.sl_saves.specs.Keeping.{Listed}
+use Rattle.sl_saves.proofs.Lists.{list-shown, length-view}
+use Rattle.sl_wire.specs.declared.message.Msg.{Msg}
+use Rattle.sl_wire.specs.declared.message.Msg.TheVariants as wire
+use Rattle.sl_unit.specs.declared.wires.Entrance.TheVariants as entrance
+use Rattle.sl_unit.specs.declared.wires.Way.TheVariants.{All}
+use Rattle.sl_unit.specs.declared.registers.Channel.TheVariants.{Cpu, Upstream}
+use Rattle.sl_unit.specs.Registers.{Registers, more, dump_of, after_stamp, after_data}
+use Rattle.sl_unit.specs.Registers.{counted as counted_by}
+use Rattle.sl_unit.specs.Step.{UnitState, take_at, framed, routed, passed, probed, initiated, absorbed, stamped, dumped, send}
+use Rattle.sl_unit.specs.Step.{plain_frame as unit_frame}
+use Rattle.sl_cut.specs.declared.message.Message.{Message}
+use Rattle.sl_cut.specs.declared.message.Message.TheVariants.{Host as HostMsg, Data, Probe as ProbeMsg, Init as InitMsg, Poll as PollMsg, Dump as DumpMsg}
+use Rattle.sl_cut.specs.declared.message.Put.{Put}
+use Rattle.sl_cut.specs.declared.message.Step.{Step}
+use Rattle.sl_cut.specs.Words.{weigh, tally}
+use Rattle.sl_cut.specs.World.{taking}
+use Rattle.sl_cut.specs.History.{History, stamp_of, id, last, first}
+use Rattle.sl_cut.specs.Counting.{packets, bytes, bad, expired, noroute, counted, counted_in, is_bad, is_expired, is_noroute}
+use Rattle.sl_cut.specs.Frame.{packet_of, plain_frame}
+use Rattle.sl_cut.specs.Puts.{send_all, route, route_frame, notice_puts}
+use Rattle.sl_image.specs.Calls.{calls}
+use Rattle.sl_image.specs.Window.{IsTakeable}
+use Rattle.sl_image.specs.Messages.{AreSent, IsDumpOf, SaysDump, eight, lasts, cpu_last}
+use Rattle.sl_image.specs.UnitImage.{IsUnitOf, Keeps, dropped}
+use Rattle.sl_image.proofs.UnitLasts.{lasts-at, first-only}
+use Rattle.sl_image.proofs.UnitFrames.{frame-is, plain-is}
+use Rattle.sl_image.proofs.UnitSent.{sent-append, sent-nil, sort-sent, sent-if}
+use Rattle.sl_image.proofs.UnitRegisters.{regs, Moves, HasChannels, HasRoom, has-registers, data-moves, probe-moves, init-moves, quiet-moves}
+use Rattle.sl_image.proofs.UnitTurns.{wires_at, wires-are, one_if, Routes, routes, Ends, stamped-ends, takeable-near}
+
+-- what is given of a turn by the choice c that takes m, after the history h
+pub record IsGiven (net : Net) (table : Snapshot) (u d p : ℕ) (side : Side) (c : ℕ) (h : History) (saved : Listed) (m : Message) : Type 0 where
+  pub actor : actor_of net u ≡ OfUnit (record { device = d; port = p; side = side })
+  pub chans : HasChannels net u
+  pub keeps : Keeps table.ring saved (calls (data_channels net u) h)
+  pub room : HasRoom h m
+  pub few : length h + 1 < 2 ^ 64
+  pub near : (k : ℕ) → stamp_of m ≡ Some k → IsTakeable table.window c h k
+
+abbrev pub unit_at : ℕ → ℕ → Side → UnitId
+unit_at d p side = record { device = d; port = p; side = side }
+
+-- the state that stands for h, with these saved entries
+abbrev pub state_at : Net → Snapshot → ℕ → ℕ → Side → History → Listed → UnitState
+state_at net table u d side h saved = record {
+  wires = wires_at net u d side table;
+  window = table.window;
+  registers = regs net u h (dropped side (bad h)) (dropped side (expired h)) (dropped side (noroute net.parts d h)) saved;
+}
+
+tally-le : (t : Step → Bool) (h : History) → tally t h ≤ length h
+tally-le t [] = omega arith
+tally-le t (s ∷ h) = by_bool (t s) (tally-le t h)
+  where
+    by_bool : (b : Bool) → tally t h ≤ length h → (if b then 1 else 0) + tally t h ≤ suc (length h)
+    by_bool true k = omega (arith, k)
+    by_bool false k = omega (arith, k)
+
+stands : (net : Net) (table : Snapshot) (u d p : ℕ) (side : Side) (h : History) (b e n : ℕ) (r : Registers) → actor_of net u ≡ OfUnit (unit_at d p side) → Moves net table.ring u h b e n r
+    → b ≡ dropped side (bad h) → e ≡ dropped side (expired h) → n ≡ dropped side (noroute net.parts d h)
+    → IsUnitOf net table u (unit_at d p side) h (record { wires = wires_at net u d side table; window = table.window; registers = r })
+stands net table u d p side h b e n r q m x y z = record { wires = sym (wires-are net u (unit_at d p side) table q); window = refl; registers = has-registers net table.ring u (unit_at d p side) h b e n r m x y z }
+
+-- the place of a data channel
+abbrev pub place : Net → ℕ → ℕ → ℕ
+place net u c = place_in 0 c (data_channels net u)
+
+-- Data packets and probes of the cable.
+
+pub cable-data : (net : Net) (table : Snapshot) (u d p : ℕ) (us : ℕ → History) (told : ℕ → ℕ) (c k : ℕ) (q : Packet) (ps : List Put) (h : History) (saved : Listed)
+    → IsGiven net table u d p Ingress c h saved (Data k q) → Member c (data_channels net u) → (Member c (choices_of net u InitSort) → ⊥)
+    → Ends net table u (unit_at d p Ingress) us told (taking c (Data k q) ps ∷ h) (route net u d (id (taking c (Data k q) ps ∷ h)) q ++ (notice_puts net u (last c h) (Some k) ++ []))
+    (take_at (entrance.Cable (place net u c)) (state_at net table u d Ingress h saved) (wire.Data k q))
+cable-data net table u d p us told c k q ps h saved g m out =
+    of_moves (data-moves net table.ring u c k q ps h (bad h) (expired h) (noroute net.parts d h) saved g.chans g.room m out g.keeps)
+  where
+    of_routes : (v : Moves net table.ring u (taking c (Data k q) ps ∷ h) (bad h) (expired h) (noroute net.parts d h) (after_data (place net u c) k q (regs net u h (bad h) (expired h) (noroute net.parts d h) saved)))
+        → Routes net table.ring us told u d (taking c (Data k q) ps ∷ h) (bad h) (expired h) (noroute net.parts d h) v.saved q
+        (routed (wires_at net u d Ingress table) q (regs net u (taking c (Data k q) ps ∷ h) (bad h) (expired h) (noroute net.parts d h) v.saved))
+        → Ends net table u (unit_at d p Ingress) us told (taking c (Data k q) ps ∷ h) (route net u d (id (taking c (Data k q) ps ∷ h)) q ++ (notice_puts net u (last c h) (Some k) ++ []))
+        (take_at (entrance.Cable (place net u c)) (state_at net table u d Ingress h saved) (wire.Data k q))
+    of_routes v r = let e = ap (routed (wires_at net u d Ingress table) q) v.is in let lo = lasts-at (data_channels net u) c h m g.chans.few in let z : bad h ≡ 0 + bad h = omega arith in
+        stamped-ends net table u (unit_at d p Ingress) us told (taking c (Data k q) ps ∷ h) (route net u d (id (taking c (Data k q) ps ∷ h)) q) (last c h) k (state_at net table u d Ingress h saved) (Upstream (place net u c))
+        (routed (wires_at net u d Ingress table) q (after_data (place net u c) k q (regs net u h (bad h) (expired h) (noroute net.parts d h) saved)))
+        refl lo (takeable-near table.window c k (slice_index_or (eight (lasts net u h)) (place net u c) 0) h lo (g.near k refl))
+        (stands net table u d p Ingress (taking c (Data k q) ps ∷ h) (bad h) (one_if (q.hops == 0) + expired h) (one_if (not (q.hops == 0) && is_none (next_port net.parts d q.dst)) + noroute net.parts d h)
+        (routed (wires_at net u d Ingress table) q (after_data (place net u c) k q (regs net u h (bad h) (expired h) (noroute net.parts d h) saved))).state g.actor
+        (record { saved = v.saved; is = ap (λ a. a.state) e ∙ r.state; keeps = v.keeps }) z refl refl)
+        (subst (λ a. AreSent net table.ring us u told (route net u d (id (taking c (Data k q) ps ∷ h)) q) a.puts) (sym e) r.sent)
+
+    of_moves : Moves net table.ring u (taking c (Data k q) ps ∷ h) (bad h) (expired h) (noroute net.parts d h) (after_data (place net u c) k q (regs net u h (bad h) (expired h) (noroute net.parts d h) saved))
+        → Ends net table u (unit_at d p Ingress) us told (taking c (Data k q) ps ∷ h) (route net u d (id (taking c (Data k q) ps ∷ h)) q ++ (notice_puts net u (last c h) (Some k) ++ []))
+        (take_at (entrance.Cable (place net u c)) (state_at net table u d Ingress h saved) (wire.Data k q))
+    of_moves v = of_routes v (routes net table.ring us told u d (taking c (Data k q) ps ∷ h) (bad h) (expired h) (noroute net.parts d h) v.saved q table
+        (omega (arith, g.few, tally-le (λ s. is_expired (counted s)) h)) (omega (arith, g.few, tally-le (λ s. is_noroute net.parts d (counted s)) h)))
+
+pub cable-probe : (net : Net) (table : Snapshot) (u d p : ℕ) (us : ℕ → History) (told : ℕ → ℕ) (c k : ℕ) (ps : List Put) (h : History) (saved : Listed)
+    → IsGiven net table u d p Ingress c h saved (ProbeMsg k) → Member c (data_channels net u) → (Member c (choices_of net u InitSort) → ⊥)
+    → Ends net table u (unit_at d p Ingress) us told (taking c (ProbeMsg k) ps ∷ h) ([] ++ (notice_puts net u (last c h) (Some k) ++ []))
+    (take_at (entrance.Cable (place net u c)) (state_at net table u d Ingress h saved) (wire.Probe k))
+cable-probe net table u d p us told c k ps h saved g m out =
+    of_moves (probe-moves net table.ring u c k ps h (bad h) (expired h) (noroute net.parts d h) saved g.chans m out g.keeps)
+  where
+    of_moves : Moves net table.ring u (taking c (ProbeMsg k) ps ∷ h) (bad h) (expired h) (noroute net.parts d h) (after_stamp (Upstream (place net u c)) k (regs net u h (bad h) (expired h) (noroute net.parts d h) saved))
+        → Ends net table u (unit_at d p Ingress) us told (taking c (ProbeMsg k) ps ∷ h) ([] ++ (notice_puts net u (last c h) (Some k) ++ []))
+        (take_at (entrance.Cable (place net u c)) (state_at net table u d Ingress h saved) (wire.Probe k))
+    of_moves v = let lo = lasts-at (data_channels net u) c h m g.chans.few in let x : bad h ≡ 0 + bad h = omega arith in let y : expired h ≡ 0 + expired h = omega arith in let z : noroute net.parts d h ≡ 0 + noroute net.parts d h = omega arith in
+        stamped-ends net table u (unit_at d p Ingress) us told (taking c (ProbeMsg k) ps ∷ h) [] (last c h) k (state_at net table u d Ingress h saved) (Upstream (place net u c))
+        (absorbed (after_stamp (Upstream (place net u c)) k (regs net u h (bad h) (expired h) (noroute net.parts d h) saved)))
+        refl lo (takeable-near table.window c k (slice_index_or (eight (lasts net u h)) (place net u c) 0) h lo (g.near k refl))
+        (stands net table u d p Ingress (taking c (ProbeMsg k) ps ∷ h) (bad h) (expired h) (noroute net.parts d h)
+        (after_stamp (Upstream (place net u c)) k (regs net u h (bad h) (expired h) (noroute net.parts d h) saved)) g.actor v x y z) tt
+
+-- Initiations.
+
+pub init-stamp : (net : Net) (table : Snapshot) (u d p : ℕ) (us : ℕ → History) (told : ℕ → ℕ) (c k : ℕ) (ps : List Put) (h : History) (saved : Listed)
+    → IsGiven net table u d p Ingress c h saved (InitMsg k) → Member c (choices_of net u InitSort) → (Member c (data_channels net u) → ⊥)
+    → Ends net table u (unit_at d p Ingress) us told (taking c (InitMsg k) ps ∷ h) (send_all (ProbeMsg (id (taking c (InitMsg k) ps ∷ h))) (links_out net u CrossbarSort) ++ (notice_puts net u (last c h) (Some k) ++ []))
+    (take_at entrance.Init (state_at net table u d Ingress h saved) (wire.Init k))
+init-stamp net table u d p us told c k ps h saved g m out =
+    of_moves (init-moves net table.ring u c k ps h (bad h) (expired h) (noroute net.parts d h) saved g.chans m out g.keeps)
+  where
+    of_moves : Moves net table.ring u (taking c (InitMsg k) ps ∷ h) (bad h) (expired h) (noroute net.parts d h) (after_stamp Cpu k (regs net u h (bad h) (expired h) (noroute net.parts d h) saved))
+        → Ends net table u (unit_at d p Ingress) us told (taking c (InitMsg k) ps ∷ h) (send_all (ProbeMsg (id (taking c (InitMsg k) ps ∷ h))) (links_out net u CrossbarSort) ++ (notice_puts net u (last c h) (Some k) ++ []))
+        (take_at entrance.Init (state_at net table u d Ingress h saved) (wire.Init k))
+    of_moves v = let lo = first-only (choices_of net u InitSort) c h m g.chans.inits in let x : bad h ≡ 0 + bad h = omega arith in let y : expired h ≡ 0 + expired h = omega arith in let z : noroute net.parts d h ≡ 0 + noroute net.parts d h = omega arith in
+        stamped-ends net table u (unit_at d p Ingress) us told (taking c (InitMsg k) ps ∷ h) (send_all (ProbeMsg (id (taking c (InitMsg k) ps ∷ h))) (links_out net u CrossbarSort)) (last c h) k (state_at net table u d Ingress h saved) Cpu
+        (initiated (wires_at net u d Ingress table) (after_stamp Cpu k (regs net u h (bad h) (expired h) (noroute net.parts d h) saved)))
+        refl lo (takeable-near table.window c k (cpu_last net u h) h lo (g.near k refl))
+        (stands net table u d p Ingress (taking c (InitMsg k) ps ∷ h) (bad h) (expired h) (noroute net.parts d h)
+        (after_stamp Cpu k (regs net u h (bad h) (expired h) (noroute net.parts d h) saved)) g.actor v x y z)
+        (sort-sent net table.ring us u told (ProbeMsg (id (taking c (InitMsg k) ps ∷ h))) (wire.Probe (after_stamp Cpu k (regs net u h (bad h) (expired h) (noroute net.parts d h) saved)).id) CrossbarSort (wires_at net u d Ingress table) refl
+        (ap (λ r. wire.Probe r.id) v.is))
+
+-- Data packets and probes of the crossbar.
+
+pub crossbar-data : (net : Net) (table : Snapshot) (u d p : ℕ) (us : ℕ → History) (told : ℕ → ℕ) (c k : ℕ) (own : Bool) (q : Packet) (ps : List Put) (h : History) (saved : Listed)
+    → IsGiven net table u d p Egress c h saved (Data k q) → Member c (data_channels net u) → (Member c (choices_of net u InitSort) → ⊥)
+    → Ends net table u (unit_at d p Egress) us told (taking c (Data k q) ps ∷ h)
+    ((send_all (Data (id (taking c (Data k q) ps ∷ h)) q) (links_out net u CableSort) ++ send_all (HostMsg (plain_frame q)) (links_out net u ToHost)) ++ (notice_puts net u (last c h) (Some k) ++ []))
+    (take_at (entrance.Crossbar (place net u c) own) (state_at net table u d Egress h saved) (wire.Data k q))
+crossbar-data net table u d p us told c k own q ps h saved g m out = of_moves (data-moves net table.ring u c k q ps h 0 0 0 saved g.chans g.room m out g.keeps)
+  where
+    of_moves : Moves net table.ring u (taking c (Data k q) ps ∷ h) 0 0 0 (after_data (place net u c) k q (regs net u h 0 0 0 saved))
+        → Ends net table u (unit_at d p Egress) us told (taking c (Data k q) ps ∷ h)
+        ((send_all (Data (id (taking c (Data k q) ps ∷ h)) q) (links_out net u CableSort) ++ send_all (HostMsg (plain_frame q)) (links_out net u ToHost)) ++ (notice_puts net u (last c h) (Some k) ++ []))
+        (take_at (entrance.Crossbar (place net u c) own) (state_at net table u d Egress h saved) (wire.Data k q))
+    of_moves v = let lo = lasts-at (data_channels net u) c h m g.chans.few in
+        stamped-ends net table u (unit_at d p Egress) us told (taking c (Data k q) ps ∷ h) (send_all (Data (id (taking c (Data k q) ps ∷ h)) q) (links_out net u CableSort) ++ send_all (HostMsg (plain_frame q)) (links_out net u ToHost))
+        (last c h) k (state_at net table u d Egress h saved) (Upstream (place net u c))
+        (passed (wires_at net u d Egress table) q (after_data (place net u c) k q (regs net u h 0 0 0 saved)))
+        refl lo (takeable-near table.window c k (slice_index_or (eight (lasts net u h)) (place net u c) 0) h lo (g.near k refl))
+        (stands net table u d p Egress (taking c (Data k q) ps ∷ h) 0 0 0 (after_data (place net u c) k q (regs net u h 0 0 0 saved)) g.actor v refl refl refl)
+        (sent-append net table.ring us u told (send_all (Data (id (taking c (Data k q) ps ∷ h)) q) (links_out net u CableSort)) (send_all (HostMsg (plain_frame q)) (links_out net u ToHost))
+        (send (wires_at net u d Egress table) (All CableSort) (wire.Data (after_data (place net u c) k q (regs net u h 0 0 0 saved)).id q)) (send (wires_at net u d Egress table) (All ToHost) (wire.Host (unit_frame q)))
+        (sort-sent net table.ring us u told (Data (id (taking c (Data k q) ps ∷ h)) q) (wire.Data (after_data (place net u c) k q (regs net u h 0 0 0 saved)).id q) CableSort (wires_at net u d Egress table) refl (ap (λ r. wire.Data r.id q) v.is))
+        (sort-sent net table.ring us u told (HostMsg (plain_frame q)) (wire.Host (unit_frame q)) ToHost (wires_at net u d Egress table) refl (ap wire.Host (frame-is q))))
+
+pub crossbar-probe : (net : Net) (table : Snapshot) (u d p : ℕ) (us : ℕ → History) (told : ℕ → ℕ) (c k : ℕ) (own : Bool) (ps : List Put) (h : History) (saved : Listed)
+    → IsGiven net table u d p Egress c h saved (ProbeMsg k) → Member c (data_channels net u) → (Member c (choices_of net u InitSort) → ⊥)
+    → Ends net table u (unit_at d p Egress) us told (taking c (ProbeMsg k) ps ∷ h)
+    ((if own then send_all (ProbeMsg (id (taking c (ProbeMsg k) ps ∷ h))) (links_out net u CableSort) else []) ++ (notice_puts net u (last c h) (Some k) ++ []))
+    (take_at (entrance.Crossbar (place net u c) own) (state_at net table u d Egress h saved) (wire.Probe k))
+crossbar-probe net table u d p us told c k own ps h saved g m out = of_moves (probe-moves net table.ring u c k ps h 0 0 0 saved g.chans m out g.keeps)
+  where
+    of_moves : Moves net table.ring u (taking c (ProbeMsg k) ps ∷ h) 0 0 0 (after_stamp (Upstream (place net u c)) k (regs net u h 0 0 0 saved))
+        → Ends net table u (unit_at d p Egress) us told (taking c (ProbeMsg k) ps ∷ h)
+        ((if own then send_all (ProbeMsg (id (taking c (ProbeMsg k) ps ∷ h))) (links_out net u CableSort) else []) ++ (notice_puts net u (last c h) (Some k) ++ []))
+        (take_at (entrance.Crossbar (place net u c) own) (state_at net table u d Egress h saved) (wire.Probe k))
+    of_moves v = let lo = lasts-at (data_channels net u) c h m g.chans.few in
+        stamped-ends net table u (unit_at d p Egress) us told (taking c (ProbeMsg k) ps ∷ h) (if own then send_all (ProbeMsg (id (taking c (ProbeMsg k) ps ∷ h))) (links_out net u CableSort) else [])
+        (last c h) k (state_at net table u d Egress h saved) (Upstream (place net u c))
+        (probed (wires_at net u d Egress table) own (after_stamp (Upstream (place net u c)) k (regs net u h 0 0 0 saved)))
+        refl lo (takeable-near table.window c k (slice_index_or (eight (lasts net u h)) (place net u c) 0) h lo (g.near k refl))
+        (stands net table u d p Egress (taking c (ProbeMsg k) ps ∷ h) 0 0 0 (after_stamp (Upstream (place net u c)) k (regs net u h 0 0 0 saved)) g.actor v refl refl refl)
+        (sent-if net table.ring us u told own (send_all (ProbeMsg (id (taking c (ProbeMsg k) ps ∷ h))) (links_out net u CableSort)) (send (wires_at net u d Egress table) (All CableSort) (wire.Probe (after_stamp (Upstream (place net u c)) k (regs net u h 0 0 0 saved)).id))
+        (sort-sent net table.ring us u told (ProbeMsg (id (taking c (ProbeMsg k) ps ∷ h))) (wire.Probe (after_stamp (Upstream (place net u c)) k (regs net u h 0 0 0 saved)).id) CableSort (wires_at net u d Egress table) refl (ap (λ r. wire.Probe r.id) v.is)))

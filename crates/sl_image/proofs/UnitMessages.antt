@@ -191,3 +191,99 @@ crossbar-probe net table u d p us told c k own ps h saved g m out = of_moves (pr
         (stands net table u d p Egress (taking c (ProbeMsg k) ps ∷ h) 0 0 0 (after_stamp (Upstream (place net u c)) k (regs net u h 0 0 0 saved)) g.actor v refl refl refl)
         (sent-if net table.ring us u told own (send_all (ProbeMsg (id (taking c (ProbeMsg k) ps ∷ h))) (links_out net u CableSort)) (send (wires_at net u d Egress table) (All CableSort) (wire.Probe (after_stamp (Upstream (place net u c)) k (regs net u h 0 0 0 saved)).id))
         (sort-sent net table.ring us u told (ProbeMsg (id (taking c (ProbeMsg k) ps ∷ h))) (wire.Probe (after_stamp (Upstream (place net u c)) k (regs net u h 0 0 0 saved)).id) CableSort (wires_at net u d Egress table) refl (ap (λ r. wire.Probe r.id) v.is)))
+
+-- Frames of the host.
+
+abbrev one_of : Option Packet → ℕ
+one_of o = unwrap_or (option_map (λ q. 1) o) 0
+
+abbrev long_of : Option Packet → ℕ
+long_of o = unwrap_or (option_map (λ q. q.len) o) 0
+
+pub host-frame : (net : Net) (table : Snapshot) (u d p : ℕ) (us : ℕ → History) (told : ℕ → ℕ) (c : ℕ) (bs : List ℕ) (ps : List Put) (h : History) (saved : Listed)
+    → IsGiven net table u d p Ingress c h saved (HostMsg bs)
+    → Ends net table u (unit_at d p Ingress) us told (taking c (HostMsg bs) ps ∷ h) (route_frame net u d (id (taking c (HostMsg bs) ps ∷ h)) (packet_of bs) ++ [])
+    (take_at entrance.Host (state_at net table u d Ingress h saved) (wire.Host bs))
+host-frame net table u d p us told c bs ps h saved g = subst (λ o. Ends net table u (unit_at d p Ingress) us told (taking c (HostMsg bs) ps ∷ h) (route_frame net u d (id (taking c (HostMsg bs) ps ∷ h)) (packet_of bs) ++ []) (framed (state_at net table u d Ingress h saved) o))
+    (sym (plain-is table.width bs)) (by_packet (packet_of bs) refl)
+  where
+    e_room : expired h + 1 < 2 ^ 64
+    e_room = omega (arith, g.few, tally-le (λ s. is_expired (counted s)) h)
+
+    n_room : noroute net.parts d h + 1 < 2 ^ 64
+    n_room = omega (arith, g.few, tally-le (λ s. is_noroute net.parts d (counted s)) h)
+
+    of_bad : packet_of bs ≡ None → Ends net table u (unit_at d p Ingress) us told (taking c (HostMsg bs) ps ∷ h) [] (framed (state_at net table u d Ingress h saved) None)
+    of_bad e =
+        let x : packets h ≡ packets (taking c (HostMsg bs) ps ∷ h) = (let z = ap one_of e in omega (arith, z)) in
+        let y : bytes h ≡ bytes (taking c (HostMsg bs) ps ∷ h) = (let z = ap long_of e in omega (arith, z)) in
+        let eb : more (bad h) 1 ≡ bad (taking c (HostMsg bs) ps ∷ h) = (let z = ap (λ o. one_if (is_none o)) e in omega (arith, z, g.few, tally-le (λ s. is_bad s.taken) h)) in
+        let ee : expired h ≡ expired (taking c (HostMsg bs) ps ∷ h) = (let z = ap (λ o. one_if (is_expired o)) e in omega (arith, z)) in
+        let en : noroute net.parts d h ≡ noroute net.parts d (taking c (HostMsg bs) ps ∷ h) = (let z = ap (λ o. one_if (is_noroute net.parts d o)) e in omega (arith, z)) in record {
+          stands = stands net table u d p Ingress (taking c (HostMsg bs) ps ∷ h) (more (bad h) 1) (expired h) (noroute net.parts d h) (regs net u h (more (bad h) 1) (expired h) (noroute net.parts d h) saved) g.actor
+              (quiet-moves net table.ring u c (HostMsg bs) ps h (more (bad h) 1) (expired h) (noroute net.parts d h) (packets h) (bytes h) saved refl refl x y g.keeps) eb ee en;
+          sent = tt;
+        }
+
+    of_routes : (q : Packet) → packet_of bs ≡ Some q
+        → (v : Moves net table.ring u (taking c (HostMsg bs) ps ∷ h) (bad h) (expired h) (noroute net.parts d h) (counted_by q.len (regs net u h (bad h) (expired h) (noroute net.parts d h) saved)))
+        → Routes net table.ring us told u d (taking c (HostMsg bs) ps ∷ h) (bad h) (expired h) (noroute net.parts d h) v.saved q
+        (routed (wires_at net u d Ingress table) q (regs net u (taking c (HostMsg bs) ps ∷ h) (bad h) (expired h) (noroute net.parts d h) v.saved))
+        → Ends net table u (unit_at d p Ingress) us told (taking c (HostMsg bs) ps ∷ h) (route net u d (id (taking c (HostMsg bs) ps ∷ h)) q) (framed (state_at net table u d Ingress h saved) (Some q))
+    of_routes q e v r = let f = ap (routed (wires_at net u d Ingress table) q) v.is in
+        let eb : bad h ≡ bad (taking c (HostMsg bs) ps ∷ h) = (let z = ap (λ o. one_if (is_none o)) e in omega (arith, z)) in record {
+          stands = stands net table u d p Ingress (taking c (HostMsg bs) ps ∷ h) (bad h) (one_if (q.hops == 0) + expired h) (one_if (not (q.hops == 0) && is_none (next_port net.parts d q.dst)) + noroute net.parts d h)
+              (routed (wires_at net u d Ingress table) q (counted_by q.len (regs net u h (bad h) (expired h) (noroute net.parts d h) saved))).state g.actor
+              (record { saved = v.saved; is = ap (λ a. a.state) f ∙ r.state; keeps = v.keeps }) eb
+              (sym (ap (λ o. one_if (is_expired o) + expired h) e)) (sym (ap (λ o. one_if (is_noroute net.parts d o) + noroute net.parts d h) e));
+          sent = subst (λ a. AreSent net table.ring us u told (route net u d (id (taking c (HostMsg bs) ps ∷ h)) q) a.puts) (sym f) r.sent;
+        }
+
+    of_plain : (q : Packet) → packet_of bs ≡ Some q
+        → Ends net table u (unit_at d p Ingress) us told (taking c (HostMsg bs) ps ∷ h) (route net u d (id (taking c (HostMsg bs) ps ∷ h)) q) (framed (state_at net table u d Ingress h saved) (Some q))
+    of_plain q e =
+        let room = g.room in let rp = room.packets in let rb = room.bytes in
+        let x : more (packets h) 1 ≡ packets (taking c (HostMsg bs) ps ∷ h) = (let z = ap one_of e in omega (arith, z, rp)) in
+        let y : more (bytes h) q.len ≡ bytes (taking c (HostMsg bs) ps ∷ h) = (let z = ap long_of e in omega (arith, z, rb)) in
+        let v = quiet-moves net table.ring u c (HostMsg bs) ps h (bad h) (expired h) (noroute net.parts d h) (more (packets h) 1) (more (bytes h) q.len) saved refl refl x y g.keeps in
+        of_routes q e v (routes net table.ring us told u d (taking c (HostMsg bs) ps ∷ h) (bad h) (expired h) (noroute net.parts d h) v.saved q table e_room n_room)
+
+    by_packet : (o : Option Packet) → packet_of bs ≡ o
+        → Ends net table u (unit_at d p Ingress) us told (taking c (HostMsg bs) ps ∷ h) (route_frame net u d (id (taking c (HostMsg bs) ps ∷ h)) (packet_of bs) ++ []) (framed (state_at net table u d Ingress h saved) o)
+    by_packet None e = subst (λ o. Ends net table u (unit_at d p Ingress) us told (taking c (HostMsg bs) ps ∷ h) (route_frame net u d (id (taking c (HostMsg bs) ps ∷ h)) o ++ []) (framed (state_at net table u d Ingress h saved) None)) (sym e) (of_bad e)
+    by_packet (Some q) e = let a = of_plain q e in
+        subst (λ o. Ends net table u (unit_at d p Ingress) us told (taking c (HostMsg bs) ps ∷ h) (route_frame net u d (id (taking c (HostMsg bs) ps ∷ h)) o ++ []) (framed (state_at net table u d Ingress h saved) (Some q))) (sym e)
+        (record { stands = a.stands; sent = sent-nil net table.ring us u told (route net u d (id (taking c (HostMsg bs) ps ∷ h)) q) (framed (state_at net table u d Ingress h saved) (Some q)).puts a.sent })
+
+-- Polls.
+
+-- the dump of registers after a step
+dump-is : (net : Net) (ring u : ℕ) (h : History) (b e n : ℕ) (r : Registers) → Moves net ring u h b e n r → IsDumpOf net ring u h (dump_of r)
+dump-is net ring u h b e n r m = subst (λ r. IsDumpOf net ring u h (dump_of r)) (sym m.is) (record {
+  id = refl;
+  cpu = refl;
+  last = refl;
+  size = length-view m.saved.size m.saved.entries ∙ m.keeps.size;
+  shown = list-shown m.saved (calls (data_channels net u) h) m.keeps.listed;
+})
+
+pub poll-dump : (net : Net) (table : Snapshot) (u d p : ℕ) (side : Side) (us : ℕ → History) (told : ℕ → ℕ) (c : ℕ) (ps : List Put) (h : History) (saved : Listed)
+    → IsGiven net table u d p side c h saved PollMsg → us u ≡ taking c PollMsg ps ∷ h
+    → Ends net table u (unit_at d p side) us told (taking c PollMsg ps ∷ h) (send_all (DumpMsg (suc (length h))) (links_out net u DumpSort))
+    (take_at entrance.Poll (state_at net table u d side h saved) wire.Poll)
+poll-dump net table u d p side us told c ps h saved g now = record {
+  stands = stands net table u d p side (taking c PollMsg ps ∷ h) (dropped side (bad h)) (dropped side (expired h)) (dropped side (noroute net.parts d h)) (regs net u h (dropped side (bad h)) (dropped side (expired h)) (dropped side (noroute net.parts d h)) saved) g.actor moves (same side (bad h)) (same side (expired h)) (same side (noroute net.parts d h));
+  sent = sort-sent net table.ring us u told (DumpMsg (suc (length h))) (wire.Dump (dump_of (regs net u h (dropped side (bad h)) (dropped side (expired h)) (dropped side (noroute net.parts d h)) saved))) DumpSort (wires_at net u d side table) refl
+      (record { dump = dump_of (regs net u h (dropped side (bad h)) (dropped side (expired h)) (dropped side (noroute net.parts d h)) saved); is = refl; of = subst (λ k. IsDumpOf net table.ring u k (dump_of (regs net u h (dropped side (bad h)) (dropped side (expired h)) (dropped side (noroute net.parts d h)) saved))) (sym whole) (dump-is net table.ring u (taking c PollMsg ps ∷ h) (dropped side (bad h)) (dropped side (expired h)) (dropped side (noroute net.parts d h)) (regs net u h (dropped side (bad h)) (dropped side (expired h)) (dropped side (noroute net.parts d h)) saved) moves) });
+}
+  where
+    same : (side : Side) (n : ℕ) → dropped side n ≡ dropped side (0 + n)
+    same Ingress n = omega arith
+    same Egress n = refl
+
+    moves : Moves net table.ring u (taking c PollMsg ps ∷ h) (dropped side (bad h)) (dropped side (expired h)) (dropped side (noroute net.parts d h)) (regs net u h (dropped side (bad h)) (dropped side (expired h)) (dropped side (noroute net.parts d h)) saved)
+    moves = let x : packets h ≡ packets h + 0 = omega arith in let y : bytes h ≡ bytes h + 0 = omega arith in
+        quiet-moves net table.ring u c PollMsg ps h (dropped side (bad h)) (dropped side (expired h)) (dropped side (noroute net.parts d h)) (packets h) (bytes h) saved refl refl x y g.keeps
+
+    whole : first (suc (length h)) (us u) ≡ taking c PollMsg ps ∷ h
+    whole = ap (first (suc (length h))) now ∙ ap (λ t. if t then taking c PollMsg ps ∷ h else first (suc (length h)) h) (lt-ltb (length h) (suc (length h)) (omega arith))

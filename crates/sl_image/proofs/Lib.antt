@@ -19,3 +19,4 @@ pub mod UnitSent
 pub mod UnitRegisters
 pub mod UnitTurns
 pub mod UnitMessages
+pub mod UnitSteps

@@ -1,0 +1,109 @@
+-- A unit's turn in a world, by its machine.
+use Rattle.std.proofs.Common.{◌≡◌, ℕ, suc, ◌+◌, ◌*◌, ◌^◌, ◌<◌, ◌≤◌, List, [], ◌∷◌, ◌++◌, length, refl, sym, ap, subst, ◌∙◌, Option, Some, None, arith, inl, inr}
+use Rattle.std.specs.Prelude.{◌⊎◌, true, Bool, slice_get, map, unwrap_or, option_map, option_and_then}
+use Rattle.std.proofs.lemmas.List.{length-map, length-set}
+use Rattle.std.proofs.lemmas.Option.{get_or_from_slice_get, slice_get_within}
+use Rattle.sl_machine.specs.Machine.{After}
+use Rattle.sl_net.specs.declared.actor.Side.{Side}
+use Rattle.sl_net.specs.declared.actor.Side.TheVariants.{Ingress, Egress}
+use Rattle.sl_net.specs.declared.actor.Sort.{Sort}
+use Rattle.sl_net.specs.declared.actor.Sort.TheVariants.{FromHost, Cable, Crossbar, Init, Poll}
+use Rattle.sl_net.specs.declared.actor.ActorId.TheVariants.{Unit as OfUnit}
+use Rattle.sl_net.specs.declared.actor.UnitId.{UnitId}
+use Rattle.sl_net.specs.declared.input.Snapshot.{Snapshot}
+use Rattle.sl_net.specs.Net.{Net, actor_of, link_of, link_at, links_into, data_channels, choices_of}
+use Rattle.sl_net.specs.Wired.{IsNet, IsWired, unit_receives, receives}
+use Rattle.sl_net.proofs.Lists.{Member, each-of, each-at}
+use Rattle.sl_net.proofs.Sorts.{IsChoice, each-choice, of-choice, is-into}
+use Rattle.sl_saves.specs.Keeping.{Listed}
+use Rattle.sl_wire.specs.declared.message.Msg.{Msg}
+use Rattle.sl_wire.specs.declared.message.Msg.TheVariants as wire
+use Rattle.sl_unit.specs.Wires.{entrance_at}
+use Rattle.sl_unit.specs.Made.{entrance, is_own}
+use Rattle.sl_unit.specs.Step.{UnitState, take_at, unit_take}
+use Rattle.sl_unit.proofs.Numbers.{entrances_are}
+use Rattle.sl_cut.specs.declared.message.Message.{Message}
+use Rattle.sl_cut.specs.declared.message.Message.TheVariants.{Host as HostMsg, Data, Probe as ProbeMsg, Init as InitMsg, Poll as PollMsg}
+use Rattle.sl_cut.specs.declared.message.Step.{Step}
+use Rattle.sl_cut.specs.History.{History, World, Losses, history, stamp_of, stamp_taken, id, taken}
+use Rattle.sl_cut.specs.Setup.{Setup}
+use Rattle.sl_cut.specs.Puts.{unit_puts, is_own_port}
+use Rattle.sl_cut.specs.World.{Entry, start, taking, next_step, after, turn, run, world, carried}
+use Rattle.sl_cut.specs.Fit.{fits, fits_link}
+use Rattle.sl_cut.proofs.Collected.{IsChannel, each-channel}
+use Rattle.sl_image.specs.Messages.{IsMessage}
+use Rattle.sl_image.proofs.Settled.{is-channel}
+use Rattle.sl_image.proofs.UnitTurns.{wires_at, Ends}
+use Rattle.sl_image.proofs.UnitMessages.{IsGiven, unit_at, state_at, place, host-frame, cable-data, cable-probe, init-stamp, crossbar-data, crossbar-probe, poll-dump}
+
+-- What comes by a choice.
+
+came-by : (net : Net) (table : Snapshot) (u d p : ℕ) (side : Side) (c l : ℕ) → actor_of net u ≡ OfUnit (unit_at d p side) → slice_get (links_into net u) c ≡ Some l
+    → entrance_at (wires_at net u d side table) c ≡ entrance (link_of net l).sort (place net u c) (is_own_port net d p l)
+came-by net table u d p side c l q k = let at = get_or_from_slice_get (links_into net u) c l 0 k in
+    entrances_are net u c (slice_get_within (links_into net u) c l k)
+    ∙ (λ j. entrance (link_of net (at j)).sort (place net u c) (is_own (q j) (actor_of net (link_of net (at j)).from)))
+
+-- a data channel is no choice of initiations
+no-init : (net : Net) (u c l : ℕ) → slice_get (links_into net u) c ≡ Some l → ((link_of net l).sort ≡ Init → ⊥) → Member c (choices_of net u Init) → ⊥
+no-init net u c l k n m = n (ap (λ l. (link_of net l).sort) (sym (get_or_from_slice_get (links_into net u) c l 0 k)) ∙ (each-at (IsChoice net u Init) c (choices_of net u Init) (each-choice net u Init) m).sort)
+
+no-channel : (net : Net) (u c l : ℕ) → slice_get (links_into net u) c ≡ Some l → (link_of net l).sort ≡ Init → Member c (data_channels net u) → ⊥
+no-channel net u c l k n m = of_channel (each-at (IsChannel net u) c (data_channels net u) (each-channel net u) m)
+  where
+    of_channel : IsChannel net u c → ⊥
+    of_channel i = let e : i.link ≡ l = cc (i.into, k) in by_sort (ap (λ l. (link_of net l).sort) e ∙ n) i.data_sort
+      where
+        by_sort : (link_of net i.link).sort ≡ Init → ((link_of net i.link).sort ≡ Cable) ⊎ ((link_of net i.link).sort ≡ Crossbar) → ⊥
+        by_sort x (inl y) = let z : Init ≡ Cable = sym x ∙ y in cc
+        by_sort x (inr y) = let z : Init ≡ Crossbar = sym x ∙ y in cc
+
+is-init : (net : Net) (u c l : ℕ) → slice_get (links_into net u) c ≡ Some l → (link_of net l).sort ≡ Init → Member c (choices_of net u Init)
+is-init net u c l k n = of-choice net u Init (λ c. Member c (choices_of net u Init)) c l (each-of (λ c. Member c (choices_of net u Init)) (choices_of net u Init) (λ c m. m)) k n
+
+-- A message of each kind.
+
+-- the goal for a message that comes by a link of a sort
+abbrev Goes : Net → Snapshot → ℕ → ℕ → ℕ → Side → (ℕ → History) → (ℕ → ℕ) → ℕ → ℕ → History → Listed → Sort → Message → Msg → Type 0
+Goes net table u d p side us told c l h saved t m x = Ends net table u (unit_at d p side) us told (taking c m (unit_puts net u (unit_at d p side) h c l m) ∷ h) (unit_puts net u (unit_at d p side) h c l m)
+    (take_at (entrance t (place net u c) (is_own_port net d p l)) (state_at net table u d side h saved) x)
+
+ingress-goes : (net : Net) (table : Snapshot) (u d p : ℕ) (us vs : ℕ → History) (told was : ℕ → ℕ) (a c l : ℕ) (h : History) (saved : Listed) (t : Sort) (m : Message) (x : Msg)
+    → IsGiven net table u d p Ingress c h saved m → slice_get (links_into net u) c ≡ Some l → (link_of net l).sort ≡ t → unit_receives Ingress t ≡ true → fits t m ≡ true → IsMessage net table.ring vs a was m x
+    → us u ≡ taking c m (unit_puts net u (unit_at d p Ingress) h c l m) ∷ h → Goes net table u d p Ingress us told c l h saved t m x
+ingress-goes net table u d p us vs told was a c l h saved FromHost (HostMsg bs) x g k s r f e now = subst (Goes net table u d p Ingress us told c l h saved FromHost (HostMsg bs)) (sym e)
+    (host-frame net table u d p us told c bs (unit_puts net u (unit_at d p Ingress) h c l (HostMsg bs)) h saved g)
+ingress-goes net table u d p us vs told was a c l h saved Cable (Data j q) x g k s r f e now = subst (Goes net table u d p Ingress us told c l h saved Cable (Data j q)) (sym e)
+    (cable-data net table u d p us told c j q (unit_puts net u (unit_at d p Ingress) h c l (Data j q)) h saved g (is-channel net u c l k (inl s)) (no-init net u c l k (λ z. let y : Cable ≡ Init = sym s ∙ z in cc)))
+ingress-goes net table u d p us vs told was a c l h saved Cable (ProbeMsg j) x g k s r f e now = subst (Goes net table u d p Ingress us told c l h saved Cable (ProbeMsg j)) (sym e)
+    (cable-probe net table u d p us told c j (unit_puts net u (unit_at d p Ingress) h c l (ProbeMsg j)) h saved g (is-channel net u c l k (inl s)) (no-init net u c l k (λ z. let y : Cable ≡ Init = sym s ∙ z in cc)))
+ingress-goes net table u d p us vs told was a c l h saved Init (InitMsg j) x g k s r f e now = subst (Goes net table u d p Ingress us told c l h saved Init (InitMsg j)) (sym e)
+    (init-stamp net table u d p us told c j (unit_puts net u (unit_at d p Ingress) h c l (InitMsg j)) h saved g (is-init net u c l k s) (no-channel net u c l k s))
+ingress-goes net table u d p us vs told was a c l h saved Poll PollMsg x g k s r f e now = subst (Goes net table u d p Ingress us told c l h saved Poll PollMsg) (sym e)
+    (poll-dump net table u d p Ingress us told c (unit_puts net u (unit_at d p Ingress) h c l PollMsg) h saved g now)
+ingress-goes net table u d p us vs told was a c l h saved _ _ x g k s r f e now = absurd cc
+
+egress-goes : (net : Net) (table : Snapshot) (u d p : ℕ) (us vs : ℕ → History) (told was : ℕ → ℕ) (a c l : ℕ) (h : History) (saved : Listed) (t : Sort) (m : Message) (x : Msg)
+    → IsGiven net table u d p Egress c h saved m → slice_get (links_into net u) c ≡ Some l → (link_of net l).sort ≡ t → unit_receives Egress t ≡ true → fits t m ≡ true → IsMessage net table.ring vs a was m x
+    → us u ≡ taking c m (unit_puts net u (unit_at d p Egress) h c l m) ∷ h → Goes net table u d p Egress us told c l h saved t m x
+egress-goes net table u d p us vs told was a c l h saved Crossbar (Data j q) x g k s r f e now = subst (Goes net table u d p Egress us told c l h saved Crossbar (Data j q)) (sym e)
+    (crossbar-data net table u d p us told c j (is_own_port net d p l) q (unit_puts net u (unit_at d p Egress) h c l (Data j q)) h saved g (is-channel net u c l k (inr s)) (no-init net u c l k (λ z. let y : Crossbar ≡ Init = sym s ∙ z in cc)))
+egress-goes net table u d p us vs told was a c l h saved Crossbar (ProbeMsg j) x g k s r f e now = subst (Goes net table u d p Egress us told c l h saved Crossbar (ProbeMsg j)) (sym e)
+    (crossbar-probe net table u d p us told c j (is_own_port net d p l) (unit_puts net u (unit_at d p Egress) h c l (ProbeMsg j)) h saved g (is-channel net u c l k (inr s)) (no-init net u c l k (λ z. let y : Crossbar ≡ Init = sym s ∙ z in cc)))
+egress-goes net table u d p us vs told was a c l h saved Poll PollMsg x g k s r f e now = subst (Goes net table u d p Egress us told c l h saved Poll PollMsg) (sym e)
+    (poll-dump net table u d p Egress us told c (unit_puts net u (unit_at d p Egress) h c l PollMsg) h saved g now)
+egress-goes net table u d p us vs told was a c l h saved _ _ x g k s r f e now = absurd cc
+
+-- what a unit takes
+pub goes : (net : Net) (table : Snapshot) (u d p : ℕ) (side : Side) (us vs : ℕ → History) (told was : ℕ → ℕ) (a c l : ℕ) (h : History) (saved : Listed) (m : Message) (x : Msg)
+    → IsGiven net table u d p side c h saved m → slice_get (links_into net u) c ≡ Some l → unit_receives side (link_of net l).sort ≡ true → fits_link net l m ≡ true → IsMessage net table.ring vs a was m x
+    → us u ≡ taking c m (unit_puts net u (unit_at d p side) h c l m) ∷ h
+    → Ends net table u (unit_at d p side) us told (taking c m (unit_puts net u (unit_at d p side) h c l m) ∷ h) (unit_puts net u (unit_at d p side) h c l m) (unit_take (state_at net table u d side h saved) c x)
+goes net table u d p side us vs told was a c l h saved m x g k r f e now =
+    subst (λ t. Ends net table u (unit_at d p side) us told (taking c m (unit_puts net u (unit_at d p side) h c l m) ∷ h) (unit_puts net u (unit_at d p side) h c l m) (take_at t (state_at net table u d side h saved) x))
+    (sym (came-by net table u d p side c l g.actor k)) (by_side side g r now)
+  where
+    by_side : (side : Side) → IsGiven net table u d p side c h saved m → unit_receives side (link_of net l).sort ≡ true → us u ≡ taking c m (unit_puts net u (unit_at d p side) h c l m) ∷ h
+        → Goes net table u d p side us told c l h saved (link_of net l).sort m x
+    by_side Ingress g r now = ingress-goes net table u d p us vs told was a c l h saved (link_of net l).sort m x g k refl r f e now
+    by_side Egress g r now = egress-goes net table u d p us vs told was a c l h saved (link_of net l).sort m x g k refl r f e now

@@ -20,3 +20,4 @@ pub mod UnitRegisters
 pub mod UnitTurns
 pub mod UnitMessages
 pub mod UnitSteps
+pub mod UnitWorlds

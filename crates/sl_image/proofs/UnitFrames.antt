@@ -1,6 +1,6 @@
 -- Plain frames are the same by their fields and by their columns.
-use Rattle.std.proofs.Common.{◌≡◌, ℕ, zero, suc, ◌+◌, ◌*◌, ◌<◌, ◌≤◌, List, [], ◌∷◌, ◌++◌, length, refl, sym, ap, subst, ◌∙◌, Option, Some, None, arith, inl, inr}
-use Rattle.std.specs.Prelude.{◌⊎◌, true, false, Bool, not, ◌&&◌, ◌||◌, nat_eq, ◌==◌, if◌then◌else◌, take, drop, slice_index, slice_range, Result, Ok, Err}
+use Rattle.std.proofs.Common.{◌≡◌, ℕ, ◌+◌, ◌*◌, List, [], ◌∷◌, length, refl, sym, ap, ◌∙◌, Some, None, arith, inl, inr}
+use Rattle.std.specs.Prelude.{◌⊎◌, true, false, Bool, not, ◌&&◌, ◌||◌, ◌==◌, if◌then◌else◌, take, drop, slice_index, slice_range, Result, Ok, Err}
 use Rattle.std.specs.List.{list_all}
 use Rattle.std.proofs.lemmas.Bool.{eq-eqb, ne_eqb}
 use Rattle.std.proofs.lemmas.Bool.Decides.{eqb_tells}
@@ -11,10 +11,10 @@ use Rattle.sl_wire.specs.declared.frame.Kind.TheVariants.{Plain, Carried, Probe,
 use Rattle.sl_wire.specs.declared.frame.Header.{Header}
 use Rattle.sl_wire.specs.declared.frame.WireFault.{WireFault}
 use Rattle.sl_wire.specs.declared.frame.WireFault.TheVariants.{E1, E2, E3, E4}
-use Rattle.sl_wire.specs.Frames.{frame, decoded, kind_of, kind_decoded, columns_decoded, id_fits, channel_fits, packet_fits, number, packet_of, header_of, all_zero}
-use Rattle.sl_unit.specs.Step.{plain_of, plain_packet, plain_header}
+use Rattle.sl_wire.specs.Frames.{frame, decoded, kind_of, kind_decoded, id_fits, channel_fits, packet_fits, number, packet_of, header_of, all_zero}
+use Rattle.sl_unit.specs.Step.{plain_of, plain_packet}
 use Rattle.sl_unit.specs.Step.{plain_frame as unit_frame}
-use Rattle.sl_cut.specs.Frame.{plain_frame, is_plain, packet_at, number_at}
+use Rattle.sl_cut.specs.Frame.{plain_frame, packet_at, number_at}
 use Rattle.sl_cut.specs.Frame.{packet_of as cut_packet}
 
 pub frame-is : (p : Packet) → unit_frame p ≡ plain_frame p

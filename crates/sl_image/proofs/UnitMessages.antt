@@ -1,8 +1,7 @@
 -- A unit's machine takes a message, of each kind, as the unit's history says.
-use Rattle.std.proofs.Common.{◌≡◌, ℕ, suc, ◌+◌, ◌-◌, ◌^◌, ◌<◌, ◌≤◌, List, [], ◌∷◌, ◌++◌, length, refl, sym, ap, subst, ◌∙◌, Option, Some, None, arith}
-use Rattle.std.specs.Prelude.{true, false, Bool, not, ◌&&◌, slice_index_or, ◌==◌, if◌then◌else◌, is_none, unwrap_or, option_map, nat_lt}
+use Rattle.std.proofs.Common.{◌≡◌, ℕ, suc, ◌+◌, ◌^◌, ◌<◌, ◌≤◌, List, [], ◌∷◌, ◌++◌, length, refl, sym, ap, subst, ◌∙◌, Option, Some, None, arith}
+use Rattle.std.specs.Prelude.{true, false, Bool, not, ◌&&◌, slice_index_or, ◌==◌, if◌then◌else◌, is_none, unwrap_or, option_map}
 use Rattle.std.proofs.lemmas.Bool.{lt-ltb}
-use Rattle.sl_machine.specs.Machine.{After}
 use Rattle.sl_net.specs.declared.actor.Side.{Side}
 use Rattle.sl_net.specs.declared.actor.Side.TheVariants.{Ingress, Egress}
 use Rattle.sl_net.specs.declared.actor.Sort.TheVariants.{ToHost, Cable as CableSort, Crossbar as CrossbarSort, Init as InitSort, Dump as DumpSort}
@@ -15,28 +14,27 @@ use Rattle.sl_net.proofs.Lists.{Member}
 use Rattle.sl_route.specs.Route.{next_port}
 use Rattle.sl_saves.specs.Keeping.{Listed}
 use Rattle.sl_saves.proofs.Lists.{list-shown, length-view}
-use Rattle.sl_wire.specs.declared.message.Msg.{Msg}
 use Rattle.sl_wire.specs.declared.message.Msg.TheVariants as wire
 use Rattle.sl_unit.specs.declared.wires.Entrance.TheVariants as entrance
 use Rattle.sl_unit.specs.declared.wires.Way.TheVariants.{All}
 use Rattle.sl_unit.specs.declared.registers.Channel.TheVariants.{Cpu, Upstream}
 use Rattle.sl_unit.specs.Registers.{Registers, more, dump_of, after_stamp, after_data}
 use Rattle.sl_unit.specs.Registers.{counted as counted_by}
-use Rattle.sl_unit.specs.Step.{UnitState, take_at, framed, routed, passed, probed, initiated, absorbed, stamped, dumped, send}
+use Rattle.sl_unit.specs.Step.{UnitState, take_at, framed, routed, passed, probed, initiated, absorbed, send}
 use Rattle.sl_unit.specs.Step.{plain_frame as unit_frame}
 use Rattle.sl_cut.specs.declared.message.Message.{Message}
 use Rattle.sl_cut.specs.declared.message.Message.TheVariants.{Host as HostMsg, Data, Probe as ProbeMsg, Init as InitMsg, Poll as PollMsg, Dump as DumpMsg}
 use Rattle.sl_cut.specs.declared.message.Put.{Put}
 use Rattle.sl_cut.specs.declared.message.Step.{Step}
-use Rattle.sl_cut.specs.Words.{weigh, tally}
+use Rattle.sl_cut.specs.Words.{tally}
 use Rattle.sl_cut.specs.World.{taking}
 use Rattle.sl_cut.specs.History.{History, stamp_of, id, last, first}
-use Rattle.sl_cut.specs.Counting.{packets, bytes, bad, expired, noroute, counted, counted_in, is_bad, is_expired, is_noroute}
+use Rattle.sl_cut.specs.Counting.{packets, bytes, bad, expired, noroute, counted, is_bad, is_expired, is_noroute}
 use Rattle.sl_cut.specs.Frame.{packet_of, plain_frame}
 use Rattle.sl_cut.specs.Puts.{send_all, route, route_frame, notice_puts}
 use Rattle.sl_image.specs.Calls.{calls}
 use Rattle.sl_image.specs.Window.{IsTakeable}
-use Rattle.sl_image.specs.Messages.{AreSent, IsDumpOf, SaysDump, eight, lasts, cpu_last}
+use Rattle.sl_image.specs.Messages.{AreSent, IsDumpOf, eight, lasts, cpu_last}
 use Rattle.sl_image.specs.UnitImage.{IsUnitOf, Keeps, dropped}
 use Rattle.sl_image.proofs.UnitLasts.{lasts-at, first-only}
 use Rattle.sl_image.proofs.UnitFrames.{frame-is, plain-is}

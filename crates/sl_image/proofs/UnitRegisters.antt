@@ -1,8 +1,8 @@
 -- What a step makes of the registers of a unit.
 --     regs net u h bad expired noroute saved     the registers that stand for the history h, with these drops and saved entries
 --     Moves ..                                   registers are such, and their saved entries keep the calls of h
-use Rattle.std.proofs.Common.{◌≡◌, ℕ, zero, suc, ◌+◌, ◌-◌, ◌*◌, ◌^◌, ◌<◌, ◌≤◌, List, [], ◌∷◌, ◌++◌, length, refl, sym, ap, subst, ◌∙◌, Option, Some, None, arith, inl, inr}
-use Rattle.std.specs.Prelude.{◌⊎◌, true, false, Bool, max, min, map, nat_lt, if◌then◌else◌, set, unwrap_or, option_map}
+use Rattle.std.proofs.Common.{◌≡◌, ℕ, ◌+◌, ◌-◌, ◌^◌, ◌<◌, ◌≤◌, List, [], ◌∷◌, ◌++◌, length, refl, sym, ap, subst, ◌∙◌, Some, None, arith, inl, inr}
+use Rattle.std.specs.Prelude.{◌⊎◌, max, map, if◌then◌else◌, unwrap_or, option_map}
 use Rattle.std.proofs.lemmas.Bool.{lt-ltb, le-ltb, cases_lt}
 use Rattle.sl_net.specs.declared.actor.Sort.TheVariants.{Init}
 use Rattle.sl_net.specs.declared.actor.UnitId.{UnitId}
@@ -15,11 +15,11 @@ use Rattle.sl_saves.proofs.Lists.{list-adopt, list-credit}
 use Rattle.sl_unit.specs.declared.registers.Channel.TheVariants.{Cpu, Upstream}
 use Rattle.sl_unit.specs.Registers.{Registers, more, adopted, credited, seen, counted, after_stamp, after_data}
 use Rattle.sl_cut.specs.declared.message.Message.{Message}
-use Rattle.sl_cut.specs.declared.message.Message.TheVariants.{Host, Data, Probe as ProbeMsg, Init as InitMsg, Poll as PollMsg}
+use Rattle.sl_cut.specs.declared.message.Message.TheVariants.{Data, Probe as ProbeMsg, Init as InitMsg}
 use Rattle.sl_cut.specs.declared.message.Put.{Put}
 use Rattle.sl_cut.specs.declared.message.Step.{Step}
 use Rattle.sl_cut.specs.World.{taking}
-use Rattle.sl_cut.specs.History.{History, stamp_of, id, last}
+use Rattle.sl_cut.specs.History.{History, stamp_of, id}
 use Rattle.sl_cut.specs.Counting.{packets, bytes, bad, expired, noroute}
 use Rattle.sl_cut.specs.Counting.{counted_in}
 use Rattle.sl_image.specs.Calls.{calls, credit, credits_in}
@@ -27,7 +27,7 @@ use Rattle.sl_image.specs.Messages.{eight, lasts, cpu_last}
 use Rattle.sl_image.specs.UnitImage.{Keeps, HasRegisters, dropped}
 use Rattle.sl_image.proofs.Entries.{calls-rise, calls-stay}
 use Rattle.sl_image.proofs.Settled.{place-lt}
-use Rattle.sl_image.proofs.UnitLasts.{last-here, lasts-set, lasts-there, lasts-same, first-there, first-same, first-only, lasts_of, first_of_choices}
+use Rattle.sl_image.proofs.UnitLasts.{last-here, lasts-set, lasts-there, lasts-same, first-there, first-same, first-only}
 
 abbrev pub regs : Net → ℕ → History → ℕ → ℕ → ℕ → Listed → Registers
 regs net u h b e n saved = record {

@@ -1,12 +1,10 @@
 -- Puts of a machine that stand for those of a step.
-use Rattle.std.proofs.Common.{◌≡◌, ℕ, zero, suc, List, [], ◌∷◌, ◌++◌, length, refl, sym, ap, subst, ◌∙◌, append-nil}
+use Rattle.std.proofs.Common.{◌≡◌, ℕ, List, [], ◌∷◌, ◌++◌, refl, sym, ap, subst, ◌∙◌, append-nil}
 use Rattle.std.specs.Prelude.{map, true, false, Bool, if◌then◌else◌}
 use Rattle.sl_net.specs.declared.actor.Sort.{Sort}
-use Rattle.sl_net.specs.declared.input.Packet.{Packet}
 use Rattle.sl_net.specs.Net.{Net, links_out}
 use Rattle.sl_net.specs.Wires.{out_of}
 use Rattle.sl_wire.specs.declared.message.Msg.{Msg}
-use Rattle.sl_wire.specs.declared.message.Msg.TheVariants as wire
 use Rattle.sl_unit.specs.declared.wires.Way.TheVariants.{All, Toward}
 use Rattle.sl_unit.specs.Wires.{Wires, outs}
 use Rattle.sl_unit.specs.Made.{exits_of}
@@ -14,7 +12,6 @@ use Rattle.sl_unit.specs.Step.{Sent, send}
 use Rattle.sl_unit.specs.Step.{send_all as sent_all}
 use Rattle.sl_unit.proofs.Numbers.{sorts_are, toward_are}
 use Rattle.sl_cut.specs.declared.message.Message.{Message}
-use Rattle.sl_cut.specs.declared.message.Message.TheVariants.{Data}
 use Rattle.sl_cut.specs.declared.message.Put.{Put}
 use Rattle.sl_cut.specs.History.{History}
 use Rattle.sl_cut.specs.Puts.{send_all, crossbar_to}

@@ -1,34 +1,28 @@
 -- A unit's turn in a world, by its machine.
-use Rattle.std.proofs.Common.{◌≡◌, ℕ, suc, ◌+◌, ◌*◌, ◌^◌, ◌<◌, ◌≤◌, List, [], ◌∷◌, ◌++◌, length, refl, sym, ap, subst, ◌∙◌, Option, Some, None, arith, inl, inr}
-use Rattle.std.specs.Prelude.{◌⊎◌, true, Bool, slice_get, map, unwrap_or, option_map, option_and_then}
-use Rattle.std.proofs.lemmas.List.{length-map, length-set}
+use Rattle.std.proofs.Common.{◌≡◌, ℕ, ◌∷◌, refl, sym, ap, subst, ◌∙◌, Some, inl, inr}
+use Rattle.std.specs.Prelude.{◌⊎◌, true, slice_get}
 use Rattle.std.proofs.lemmas.Option.{get_or_from_slice_get, slice_get_within}
-use Rattle.sl_machine.specs.Machine.{After}
 use Rattle.sl_net.specs.declared.actor.Side.{Side}
 use Rattle.sl_net.specs.declared.actor.Side.TheVariants.{Ingress, Egress}
 use Rattle.sl_net.specs.declared.actor.Sort.{Sort}
 use Rattle.sl_net.specs.declared.actor.Sort.TheVariants.{FromHost, Cable, Crossbar, Init, Poll}
 use Rattle.sl_net.specs.declared.actor.ActorId.TheVariants.{Unit as OfUnit}
-use Rattle.sl_net.specs.declared.actor.UnitId.{UnitId}
 use Rattle.sl_net.specs.declared.input.Snapshot.{Snapshot}
-use Rattle.sl_net.specs.Net.{Net, actor_of, link_of, link_at, links_into, data_channels, choices_of}
-use Rattle.sl_net.specs.Wired.{IsNet, IsWired, unit_receives, receives}
+use Rattle.sl_net.specs.Net.{Net, actor_of, link_of, links_into, data_channels, choices_of}
+use Rattle.sl_net.specs.Wired.{unit_receives}
 use Rattle.sl_net.proofs.Lists.{Member, each-of, each-at}
-use Rattle.sl_net.proofs.Sorts.{IsChoice, each-choice, of-choice, is-into}
+use Rattle.sl_net.proofs.Sorts.{IsChoice, each-choice, of-choice}
 use Rattle.sl_saves.specs.Keeping.{Listed}
 use Rattle.sl_wire.specs.declared.message.Msg.{Msg}
-use Rattle.sl_wire.specs.declared.message.Msg.TheVariants as wire
 use Rattle.sl_unit.specs.Wires.{entrance_at}
 use Rattle.sl_unit.specs.Made.{entrance, is_own}
-use Rattle.sl_unit.specs.Step.{UnitState, take_at, unit_take}
+use Rattle.sl_unit.specs.Step.{take_at, unit_take}
 use Rattle.sl_unit.proofs.Numbers.{entrances_are}
 use Rattle.sl_cut.specs.declared.message.Message.{Message}
 use Rattle.sl_cut.specs.declared.message.Message.TheVariants.{Host as HostMsg, Data, Probe as ProbeMsg, Init as InitMsg, Poll as PollMsg}
-use Rattle.sl_cut.specs.declared.message.Step.{Step}
-use Rattle.sl_cut.specs.History.{History, World, Losses, history, stamp_of, stamp_taken, id, taken}
-use Rattle.sl_cut.specs.Setup.{Setup}
+use Rattle.sl_cut.specs.History.{History}
 use Rattle.sl_cut.specs.Puts.{unit_puts, is_own_port}
-use Rattle.sl_cut.specs.World.{Entry, start, taking, next_step, after, turn, run, world, carried}
+use Rattle.sl_cut.specs.World.{taking}
 use Rattle.sl_cut.specs.Fit.{fits, fits_link}
 use Rattle.sl_cut.proofs.Collected.{IsChannel, each-channel}
 use Rattle.sl_image.specs.Messages.{IsMessage}

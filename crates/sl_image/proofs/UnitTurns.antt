@@ -1,7 +1,7 @@
 -- What a unit's machine makes of a message, against the puts of the step.
 --     Ends ..     the state after a message stands for the history after the step, and the puts for its puts
-use Rattle.std.proofs.Common.{◌≡◌, ℕ, zero, suc, ◌+◌, ◌-◌, ◌^◌, ◌<◌, ◌≤◌, List, [], ◌∷◌, ◌++◌, length, refl, sym, ap, subst, ◌∙◌, Option, Some, None, arith, inl, inr}
-use Rattle.std.specs.Prelude.{◌⊎◌, true, false, Bool, ◌&&◌, not, nat_le, ◌==◌, if◌then◌else◌, map, is_none, slice_get, option_and_then}
+use Rattle.std.proofs.Common.{◌≡◌, ℕ, ◌+◌, ◌-◌, ◌^◌, ◌<◌, ◌≤◌, List, [], ◌++◌, length, refl, sym, ap, subst, ◌∙◌, Option, Some, None, arith, inl, inr}
+use Rattle.std.specs.Prelude.{◌⊎◌, true, false, Bool, ◌&&◌, not, ◌==◌, if◌then◌else◌, map, is_none, slice_get, option_and_then}
 use Rattle.std.proofs.lemmas.Bool.{le-leb, cases_lt}
 use Rattle.std.proofs.lemmas.List.{length-map}
 use Rattle.std.proofs.lemmas.Option.{slice_get-get_or, slice_get_past}
@@ -13,12 +13,11 @@ use Rattle.sl_net.specs.declared.actor.ActorId.TheVariants.{Unit as OfUnit}
 use Rattle.sl_net.specs.declared.actor.UnitId.{UnitId}
 use Rattle.sl_net.specs.declared.input.Packet.{Packet}
 use Rattle.sl_net.specs.declared.input.Snapshot.{Snapshot}
-use Rattle.sl_net.specs.declared.parts.PortRef.{PortRef}
 use Rattle.sl_net.specs.Parts.{Parts, below}
 use Rattle.sl_net.specs.Net.{Net, actor_of, links_out}
 use Rattle.sl_net.proofs.Counting.{at_below, length_numbers}
 use Rattle.sl_route.specs.Least.{least}
-use Rattle.sl_route.specs.Route.{next_port, host_port, least_walks, first_port}
+use Rattle.sl_route.specs.Route.{next_port, least_walks, first_port}
 use Rattle.sl_saves.specs.Keeping.{Listed}
 use Rattle.sl_wire.specs.declared.message.Msg.{Msg}
 use Rattle.sl_wire.specs.declared.message.Msg.TheVariants as wire
@@ -27,7 +26,7 @@ use Rattle.sl_unit.specs.Wires.{Wires, port_to}
 use Rattle.sl_unit.specs.Registers.{Registers, more, last_on, is_near}
 use Rattle.sl_unit.specs.Made.{device_of, entrances_of, exits_of, ports_of}
 use Rattle.sl_unit.specs.declared.wires.Way.TheVariants.{All}
-use Rattle.sl_unit.specs.Step.{UnitState, Sent, onward, routed, stamped, notices, ignored, send}
+use Rattle.sl_unit.specs.Step.{UnitState, onward, routed, stamped, notices, ignored, send}
 use Rattle.sl_cut.specs.declared.message.Message.TheVariants.{Data, Notice as NoticeMsg}
 use Rattle.sl_cut.specs.declared.message.Put.{Put}
 use Rattle.sl_cut.specs.History.{History, id, last}
@@ -92,9 +91,10 @@ routes net ring us told u d h b e n saved p t room more_room = of_port (by_hops 
         (if z then record { state = record (regs net u h b e n saved) { expired = more e 1 }; puts = [] } else onward (wires_at net u d Ingress t) p (regs net u h b e n saved) o).puts
     by_hops true o = let x : more e 1 ≡ 1 + e = omega (arith, room) in let y : n ≡ 0 + n = omega arith in (λ j. regs net u h b (x j) (y j) saved, tt)
     by_hops false None = let x : e ≡ 0 + e = omega arith in let y : more n 1 ≡ 1 + n = omega (arith, more_room) in (λ j. regs net u h b (x j) (y j) saved, tt)
-    by_hops false (Some port) = let x : e ≡ 0 + e = omega arith in let y : n ≡ 0 + n = omega arith in
-        (λ j. regs net u h b (x j) (y j) saved,
-        toward-sent net ring us u told (Data (id h) (record p { hops = p.hops - 1 })) (wire.Data (id h) (record p { hops = p.hops - 1 })) d port (wires_at net u d Ingress t) refl refl)
+    by_hops false (Some port) = let x : e ≡ 0 + e = omega arith in let y : n ≡ 0 + n = omega arith in (
+      λ j. regs net u h b (x j) (y j) saved,
+      toward-sent net ring us u told (Data (id h) (record p { hops = p.hops - 1 })) (wire.Data (id h) (record p { hops = p.hops - 1 })) d port (wires_at net u d Ingress t) refl refl,
+    )
 
     of_port : ((if p.hops == 0 then record { state = record (regs net u h b e n saved) { expired = more e 1 }; puts = [] } else onward (wires_at net u d Ingress t) p (regs net u h b e n saved) (next_port net.parts d p.dst)).state
         ≡ regs net u h b (one_if (p.hops == 0) + e) (one_if (not (p.hops == 0) && is_none (next_port net.parts d p.dst)) + n) saved)

@@ -1,9 +1,10 @@
 // A unit's history as saved entries and rows: laws of what a unit saves, of the rows that are read
-// from it, and of the findings that collected rows give.
+// from it, of the findings that collected rows give, and of the machines that stand for histories.
 #![tactic(auto)]
 
 mod laws;
 mod reports;
+mod units;
 mod worlds;
 
 pub use laws::{
@@ -13,6 +14,7 @@ pub use laws::{
 pub use reports::{
     brought_rows_are_read, dones_bring_rows, dones_tell_dumps, dumps_answer_polls, dumps_bring_rows,
 };
+pub use units::{new_units_stand, unit_counts_are_told, units_stay, units_take_messages};
 pub use worlds::{
     accounts_give_findings, calls_are_in_window, packets_are_short, rows_are_final, rows_are_held,
     rows_are_of_the_world, stamps_are_in_window,

@@ -1,0 +1,70 @@
+// Laws of the machines of units: each stands for its unit's history, whatever the schedule. The
+// functions do nothing: their contracts are the laws, and the proofs are in proofs/.
+ghost use Rattle.std.specs.Prelude.{◌≡◌, ℕ, ◌^◌, ◌<◌, List, [], length, Some, None};
+ghost use Rattle.sl_net.specs.declared.actor.ActorId.TheVariants.{Unit as OfUnit};
+ghost use Rattle.sl_net.specs.declared.actor.Side.TheVariants.{Ingress, Egress};
+ghost use Rattle.sl_net.specs.declared.actor.UnitId.{UnitId};
+ghost use Rattle.sl_net.specs.declared.input.Snapshot.{Snapshot};
+ghost use Rattle.sl_net.specs.Net.{Net, actor_of};
+ghost use Rattle.sl_net.specs.Wired.{IsNet};
+ghost use Rattle.sl_wire.specs.declared.message.Msg.{Msg};
+ghost use Rattle.sl_unit.specs.Made.{IsRanged, ingress_state, egress_state};
+ghost use Rattle.sl_unit.specs.Step.{UnitState, unit_rules};
+ghost use Rattle.sl_unit.specs.Units.{shown_counts};
+ghost use Rattle.sl_cut.specs.declared.message.Message.{Message};
+ghost use Rattle.sl_cut.specs.declared.message.Step.{Step};
+ghost use Rattle.sl_cut.specs.History.{History, Losses, history};
+ghost use Rattle.sl_cut.specs.Counting.{packets, bytes, bad, expired, noroute};
+ghost use Rattle.sl_cut.specs.Setup.{Setup};
+ghost use Rattle.sl_cut.specs.World.{Entry, next_step, turn, world};
+ghost use Rattle.sl_image.specs.Messages.{IsMessage};
+ghost use Rattle.sl_image.specs.Short.{SendsShort};
+ghost use Rattle.sl_image.specs.UnitImage.{IsTableOf, IsUnitOf, Follows, dropped};
+
+use sl_net::nets_are_wired;
+
+/// The state of a new unit stands for the empty history.
+pub fn new_units_stand()
+    ensures ingress { (net : Net) (table : Snapshot) (u : ℕ) (i : UnitId) → IsRanged table → i.side ≡ Ingress
+        → IsUnitOf net table u i [] (ingress_state net u table) }
+    ensures egress { (net : Net) (table : Snapshot) (u : ℕ) (i : UnitId) → IsRanged table → i.side ≡ Egress
+        → IsUnitOf net table u i [] (egress_state net u table) }
+{}
+
+/// Where the state of a unit stands for its history, and a message stands for the one that its next
+/// step takes, the state after the machine takes it stands for the history after the step, and
+/// what the machine puts stands for the step's puts. Each step of a unit takes a message, by the
+/// choice of its entry, and its machine has no actions.
+pub fn units_take_messages()
+    ensures follows { (s : Setup) (table : Snapshot) (lost : Losses) (es : List Entry) (u c a : ℕ) (i : UnitId) (step : Step) (m : Message)
+        (x : Msg) (state : UnitState) (us : ℕ → History) (was told : ℕ → ℕ) → IsNet s.net → IsTableOf s table → SendsShort s → length es < 2 ^ 40
+        → actor_of s.net u ≡ OfUnit i → next_step s lost (world s lost es) (u, c) ≡ Some step → step.taken ≡ Some m
+        → IsMessage s.net table.ring us a was m x → IsUnitOf s.net table u i (history (world s lost es) u) state
+        → Follows s.net table u i (λ b. history (turn s lost (world s lost es) (u, c)) b) told step.puts (unit_rules.take state c x) }
+    ensures choice { (s : Setup) (lost : Losses) (es : List Entry) (u c : ℕ) (step : Step)
+        → next_step s lost (world s lost es) (u, c) ≡ Some step → step.choice ≡ c }
+    ensures takes { (s : Setup) (lost : Losses) (es : List Entry) (u c : ℕ) (i : UnitId) (step : Step) → actor_of s.net u ≡ OfUnit i
+        → next_step s lost (world s lost es) (u, c) ≡ Some step → step.taken ≡ None → ⊥ }
+    ensures acts { (state : UnitState) (action : ℕ) → unit_rules.act state action ≡ None }
+{
+    nets_are_wired()
+}
+
+/// In the turn of another actor the state of a unit stands for its history as before.
+pub fn units_stay()
+    ensures { (s : Setup) (table : Snapshot) (lost : Losses) (es : List Entry) (u : ℕ) (i : UnitId) (e : Entry) (state : UnitState)
+        → (u ≡ e.0 → ⊥) → IsUnitOf s.net table u i (history (world s lost es) u) state
+        → IsUnitOf s.net table u i (history (turn s lost (world s lost es) e) u) state }
+{}
+
+/// What a unit shows that it counted is what its history says.
+pub fn unit_counts_are_told()
+    ensures { (net : Net) (table : Snapshot) (u : ℕ) (i : UnitId) (h : History) (state : UnitState) → IsUnitOf net table u i h state
+        → shown_counts state.registers ≡ record {
+          packets = packets h;
+          bytes = bytes h;
+          bad = dropped i.side (bad h);
+          expired = dropped i.side (expired h);
+          noroute = dropped i.side (noroute net.parts i.device h);
+        } }
+{}

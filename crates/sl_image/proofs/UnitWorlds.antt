@@ -33,7 +33,7 @@ use Rattle.sl_cut.proofs.Sizes.{history_size, world_size}
 use Rattle.sl_image.specs.Messages.{IsMessage, AreSent}
 use Rattle.sl_image.specs.Short.{TakesShort, SendsShort}
 use Rattle.sl_image.specs.Window.{IsTakeable}
-use Rattle.sl_image.specs.UnitImage.{IsTableOf, IsUnitOf, HasRegisters, Follows, dropped, new_state}
+use Rattle.sl_image.specs.UnitImage.{IsUnitOf, HasRegisters, FollowsStep, dropped, new_state}
 use Rattle.sl_image.proofs.Channels.{few-channels, init-choices}
 use Rattle.sl_image.proofs.Fits.{few-packets, few-bytes}
 use Rattle.sl_image.proofs.Shorts.{all-short}
@@ -115,7 +115,7 @@ is-turn s lost es u c i step m q n e = of_takes (unit-takes s lost (world s lost
               (each-lost (λ m. fits_link s.net t.took.link m ≡ true) (lost t.took.link) 0 (put t.took.link (history (world s lost es) from)) (put-fits s from t.took.link (history (world s lost es) from) ((ran s lost es).made from))) t.found);
         }
 
-given : (s : Setup) (table : Snapshot) (lost : Losses) (es : List Entry) (u c : ℕ) (i : UnitId) (step : Step) (m : Message) (st : UnitState) → IsNet s.net → IsWired s.net → IsTableOf s table → SendsShort s → length es < 2 ^ 40
+given : (s : Setup) (table : Snapshot) (lost : Losses) (es : List Entry) (u c : ℕ) (i : UnitId) (step : Step) (m : Message) (st : UnitState) → IsNet s.net → IsWired s.net → s.window ≡ table.window → SendsShort s → length es < 2 ^ 40
     → actor_of s.net u ≡ OfUnit i → next_step s lost (world s lost es) (u, c) ≡ Some step → step.taken ≡ Some m → IsUnitOf s.net table u i (history (world s lost es) u) st
     → IsGiven s.net table u i.device i.port i.side c (history (world s lost es) u) st.registers.saved m
 given s table lost es u c i step m st net wired t short few q n e stands = record {
@@ -127,7 +127,7 @@ given s table lost es u c i step m st net wired t short few q n e stands = recor
     bytes = omega (arith, steps, few, len, few-bytes (history (world s lost es) u) (all-short s lost es u short));
   };
   few = omega (arith, steps, few);
-  near = λ k z. subst (λ w. IsTakeable w c (history (world s lost es) u) k) t.window (subst (λ d. IsTakeable s.window d (history (world s lost es) u) k) (choice-is-entry s lost (world s lost es) (u, c) step n)
+  near = λ k z. subst (λ w. IsTakeable w c (history (world s lost es) u) k) t (subst (λ d. IsTakeable s.window d (history (world s lost es) u) k) (choice-is-entry s lost (world s lost es) (u, c) step n)
       (next-takeable s lost (world s lost es) u i step k wired (ran s lost es) (in-window s lost es wired) q (next-view s lost (world s lost es) (u, c) step n) (ap (option_and_then stamp_of) e ∙ z)));
 }
   where
@@ -141,9 +141,9 @@ given s table lost es u c i step m st net wired t short few q n e stands = recor
     len = subst (λ o. unwrap_or (option_map (λ p. p.len) (option_and_then counted_in o)) 0 < 2 ^ 16) e (subst TakesShort new (all-short s lost (es ++ (u, c) ∷ []) u short)).0
 
 pub takes-follow : (s : Setup) (table : Snapshot) (lost : Losses) (es : List Entry) (u c : ℕ) (i : UnitId) (step : Step) (m : Message) (x : Msg) (st : UnitState) (vs : ℕ → History) (a : ℕ) (was told : ℕ → ℕ)
-    → IsNet s.net → IsWired s.net → IsTableOf s table → SendsShort s → length es < 2 ^ 40
+    → IsNet s.net → IsWired s.net → s.window ≡ table.window → SendsShort s → length es < 2 ^ 40
     → actor_of s.net u ≡ OfUnit i → next_step s lost (world s lost es) (u, c) ≡ Some step → step.taken ≡ Some m → IsMessage s.net table.ring vs a was m x → IsUnitOf s.net table u i (history (world s lost es) u) st
-    → Follows s.net table u i (λ b. history (turn s lost (world s lost es) (u, c)) b) told step.puts (unit_take st c x)
+    → FollowsStep s.net table u i (λ b. history (turn s lost (world s lost es) (u, c)) b) told step.puts (unit_take st c x)
 takes-follow s table lost es u c i step m x st vs a was told net wired t short few q n e y stands = of_turn (is-turn s lost es u c i step m q n e)
   where
     state : st ≡ state_at s.net table u i.device i.side (history (world s lost es) u) st.registers.saved
@@ -154,13 +154,13 @@ takes-follow s table lost es u c i step m x st vs a was told net wired t short f
     receives_it l k = let o = is-into s.net u c l k in
         subst (λ b. receives b (link_of s.net l).sort ≡ true) (ap (actor_of s.net) o.to ∙ q) (wired.receiver l o.is_link)
 
-    of_turn : IsTurn s lost es u c i step m → Follows s.net table u i (λ b. history (turn s lost (world s lost es) (u, c)) b) told step.puts (unit_take st c x)
+    of_turn : IsTurn s lost es u c i step m → FollowsStep s.net table u i (λ b. history (turn s lost (world s lost es) (u, c)) b) told step.puts (unit_take st c x)
     of_turn z =
         let now : history (turn s lost (world s lost es) (u, c)) u ≡ taking c m (unit_puts s.net u i (history (world s lost es) u) c z.link m) ∷ history (world s lost es) u =
         turned s lost es (u, c) step n ∙ ap (λ v. v ∷ history (world s lost es) u) z.step_is in
         let ends = goes s.net table u i.device i.port i.side (λ b. history (turn s lost (world s lost es) (u, c)) b) vs told was a c z.link (history (world s lost es) u) st.registers.saved m x
         (given s table lost es u c i step m st net wired t short few q n e stands) z.into (receives_it z.link z.into) z.fits y now in
-        subst (λ st. Follows s.net table u i (λ b. history (turn s lost (world s lost es) (u, c)) b) told step.puts (unit_take st c x)) (sym state)
+        subst (λ st. FollowsStep s.net table u i (λ b. history (turn s lost (world s lost es) (u, c)) b) told step.puts (unit_take st c x)) (sym state)
         (record {
           stands = subst (λ h. IsUnitOf s.net table u i h (unit_take (state_at s.net table u i.device i.side (history (world s lost es) u) st.registers.saved) c x).state) (sym now) ends.stands;
           sent = subst (λ ps. AreSent s.net table.ring (λ b. history (turn s lost (world s lost es) (u, c)) b) u told ps (unit_take (state_at s.net table u i.device i.side (history (world s lost es) u) st.registers.saved) c x).puts)

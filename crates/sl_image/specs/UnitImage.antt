@@ -1,7 +1,7 @@
 -- What the machine of a unit stands for. table is the snapshot table, u the unit's number, i the unit, h its history.
 --     Keeps ring saved calls         the entries that a machine saved keep what some calls saved
 --     IsUnitOf net table u i h m     the state m stands for the history h
---     Follows ..                     the state after a step stands for the history after it, and the puts for its puts
+--     FollowsStep ..                 the state after a step stands for the history after it, and the puts for its puts
 use Rattle.std.specs.Prelude.{◌≡◌, ℕ, List}
 use Rattle.sl_machine.specs.Machine.{After}
 use Rattle.sl_net.specs.declared.actor.Side.{Side}
@@ -14,18 +14,12 @@ use Rattle.sl_saves.specs.Keeping.{Listed, IsListed}
 use Rattle.sl_wire.specs.declared.message.Msg.{Msg}
 use Rattle.sl_unit.specs.Registers.{Registers}
 use Rattle.sl_unit.specs.Step.{UnitState}
-use Rattle.sl_unit.specs.Made.{IsRanged, ingress_state, egress_state}
+use Rattle.sl_unit.specs.Made.{ingress_state, egress_state}
 use Rattle.sl_cut.specs.declared.message.Put.{Put}
 use Rattle.sl_cut.specs.History.{History, id}
 use Rattle.sl_cut.specs.Counting.{packets, bytes, bad, expired, noroute}
-use Rattle.sl_cut.specs.Setup.{Setup}
 use Rattle.sl_image.specs.Calls.{calls}
 use Rattle.sl_image.specs.Messages.{eight, lasts, cpu_last, AreSent}
-
--- a snapshot table in its ranges, of the setup's window
-pub record IsTableOf (s : Setup) (table : Snapshot) : Type 0 where
-  pub window : s.window ≡ table.window
-  pub ranged : IsRanged table
 
 -- they are shown in views of as many slots as the ring has
 pub record Keeps (ring : ℕ) (saved : Listed) (calls : List Call) : Type 0 where
@@ -59,7 +53,7 @@ pub record IsUnitOf (net : Net) (table : Snapshot) (u : ℕ) (i : UnitId) (h : H
   pub window : m.window ≡ table.window
   pub registers : HasRegisters net table.ring u i h m.registers
 
--- us gives the history of each actor after the step, ps the puts of the step
-pub record Follows (net : Net) (table : Snapshot) (u : ℕ) (i : UnitId) (us : ℕ → History) (told : ℕ → ℕ) (ps : List Put) (after : After UnitState Msg) : Type 0 where
+-- us gives the history of each actor after the step, ps the puts of the step; a unit tells of no other, so told doesn't matter
+pub record FollowsStep (net : Net) (table : Snapshot) (u : ℕ) (i : UnitId) (us : ℕ → History) (told : ℕ → ℕ) (ps : List Put) (after : After UnitState Msg) : Type 0 where
   pub stands : IsUnitOf net table u i (us u) after.state
   pub sent : AreSent net table.ring us u told ps after.puts

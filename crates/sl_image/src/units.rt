@@ -1,11 +1,11 @@
 // Laws of the machines of units: each stands for its unit's history, whatever the schedule. The
 // functions do nothing: their contracts are the laws, and the proofs are in proofs/.
-ghost use Rattle.std.specs.Prelude.{◌≡◌, ℕ, ◌^◌, ◌<◌, List, [], length, Some, None};
+ghost use Rattle.std.specs.Prelude.{◌≡◌, ℕ, ◌^◌, ◌<◌, List, [], length, slice_get, Some, None, IsSome};
 ghost use Rattle.sl_net.specs.declared.actor.ActorId.TheVariants.{Unit as OfUnit};
 ghost use Rattle.sl_net.specs.declared.actor.Side.TheVariants.{Ingress, Egress};
 ghost use Rattle.sl_net.specs.declared.actor.UnitId.{UnitId};
 ghost use Rattle.sl_net.specs.declared.input.Snapshot.{Snapshot};
-ghost use Rattle.sl_net.specs.Net.{Net, actor_of};
+ghost use Rattle.sl_net.specs.Net.{Net, actor_of, links_into};
 ghost use Rattle.sl_net.specs.Wired.{IsNet};
 ghost use Rattle.sl_wire.specs.declared.message.Msg.{Msg};
 ghost use Rattle.sl_unit.specs.Made.{IsRanged, ingress_state, egress_state};
@@ -19,7 +19,7 @@ ghost use Rattle.sl_cut.specs.Setup.{Setup};
 ghost use Rattle.sl_cut.specs.World.{Entry, next_step, turn, world};
 ghost use Rattle.sl_image.specs.Messages.{IsMessage};
 ghost use Rattle.sl_image.specs.Short.{SendsShort};
-ghost use Rattle.sl_image.specs.UnitImage.{IsTableOf, IsUnitOf, Follows, dropped};
+ghost use Rattle.sl_image.specs.UnitImage.{IsUnitOf, FollowsStep, dropped};
 
 use sl_net::nets_are_wired;
 
@@ -33,18 +33,20 @@ pub fn new_units_stand()
 
 /// Where the state of a unit stands for its history, and a message stands for the one that its next
 /// step takes, the state after the machine takes it stands for the history after the step, and
-/// what the machine puts stands for the step's puts. Each step of a unit takes a message, by the
-/// choice of its entry, and its machine has no actions.
+/// what the machine puts stands for the step's puts. Each step of a unit takes a message, from
+/// the link of its entry's choice, and its machine has no actions.
 pub fn units_take_messages()
     ensures follows { (s : Setup) (table : Snapshot) (lost : Losses) (es : List Entry) (u c a : ℕ) (i : UnitId) (step : Step) (m : Message)
-        (x : Msg) (state : UnitState) (us : ℕ → History) (was told : ℕ → ℕ) → IsNet s.net → IsTableOf s table → SendsShort s → length es < 2 ^ 40
+        (x : Msg) (state : UnitState) (us : ℕ → History) (was told : ℕ → ℕ) → IsNet s.net → s.window ≡ table.window → SendsShort s → length es < 2 ^ 40
         → actor_of s.net u ≡ OfUnit i → next_step s lost (world s lost es) (u, c) ≡ Some step → step.taken ≡ Some m
         → IsMessage s.net table.ring us a was m x → IsUnitOf s.net table u i (history (world s lost es) u) state
-        → Follows s.net table u i (λ b. history (turn s lost (world s lost es) (u, c)) b) told step.puts (unit_rules.take state c x) }
+        → FollowsStep s.net table u i (λ b. history (turn s lost (world s lost es) (u, c)) b) told step.puts (unit_rules.take state c x) }
     ensures choice { (s : Setup) (lost : Losses) (es : List Entry) (u c : ℕ) (step : Step)
         → next_step s lost (world s lost es) (u, c) ≡ Some step → step.choice ≡ c }
     ensures takes { (s : Setup) (lost : Losses) (es : List Entry) (u c : ℕ) (i : UnitId) (step : Step) → actor_of s.net u ≡ OfUnit i
-        → next_step s lost (world s lost es) (u, c) ≡ Some step → step.taken ≡ None → ⊥ }
+        → next_step s lost (world s lost es) (u, c) ≡ Some step → IsSome step.taken }
+    ensures link { (s : Setup) (lost : Losses) (es : List Entry) (u c : ℕ) (i : UnitId) (step : Step) → actor_of s.net u ≡ OfUnit i
+        → next_step s lost (world s lost es) (u, c) ≡ Some step → IsSome (slice_get (links_into s.net u) c) }
     ensures acts { (state : UnitState) (action : ℕ) → unit_rules.act state action ≡ None }
 {
     nets_are_wired()

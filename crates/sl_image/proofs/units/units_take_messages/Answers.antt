@@ -1,3 +1,6 @@
+use Rattle.std.proofs.Common.{sym, ap, subst, ◌∙◌, refl}
+use Rattle.std.specs.Prelude.{slice_get, IsSome}
+use Rattle.sl_net.specs.Net.{links_into}
 use Rattle.sl_cut.specs.World.{world}
 use Rattle.sl_cut.proofs.Ran.{next-view}
 use Rattle.sl_image.proofs.UnitWorlds.{takes-follow, choice-is-entry, unit-takes}
@@ -11,4 +14,9 @@ pub returns-clause-choice : goal.returns-clause-choice
 returns-clause-choice c s lost es u k step n = choice-is-entry s lost (world s lost es) (u, k) step n
 
 pub returns-clause-takes : goal.returns-clause-takes
-returns-clause-takes c s lost es u k i step q n e = let t = unit-takes s lost (world s lost es) u i step q (next-view s lost (world s lost es) (u, k) step n) in cc (t.took.taken, e)
+returns-clause-takes c s lost es u k i step q n = let t = unit-takes s lost (world s lost es) u i step q (next-view s lost (world s lost es) (u, k) step n) in
+    subst IsSome (sym t.took.taken) refl
+
+pub returns-clause-link : goal.returns-clause-link
+returns-clause-link c s lost es u k i step q n = let t = unit-takes s lost (world s lost es) u i step q (next-view s lost (world s lost es) (u, k) step n) in
+    subst IsSome (sym (ap (slice_get (links_into s.net u)) (sym (choice-is-entry s lost (world s lost es) (u, k) step n)) ∙ t.took.into)) refl

@@ -8,7 +8,9 @@ pub mod Settled
 pub mod Totals
 pub mod Channels
 pub mod Windows
+pub mod Carried
 pub mod Shorts
+pub mod Fields
 pub mod Brought
 pub mod Polls
 pub mod Accounts

@@ -8,3 +8,4 @@ pub mod Polls
 pub mod Accounts
 pub mod Messages
 pub mod UnitImage
+pub mod Fields

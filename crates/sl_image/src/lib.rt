@@ -14,7 +14,9 @@ pub use laws::{
 pub use reports::{
     brought_rows_are_read, dones_bring_rows, dones_tell_dumps, dumps_answer_polls, dumps_bring_rows,
 };
-pub use units::{new_units_stand, unit_counts_are_told, units_stay, units_take_messages};
+pub use units::{
+    new_units_stand, packets_have_fields, unit_counts_are_told, units_stay, units_take_messages,
+};
 pub use worlds::{
     accounts_give_findings, calls_are_in_window, packets_are_short, rows_are_final, rows_are_held,
     rows_are_of_the_world, stamps_are_in_window,

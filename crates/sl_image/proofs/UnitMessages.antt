@@ -54,13 +54,12 @@ pub record IsGiven (net : Net) (table : Snapshot) (u d p : ℕ) (side : Side) (c
 abbrev pub unit_at : ℕ → ℕ → Side → UnitId
 unit_at d p side = record { device = d; port = p; side = side }
 
--- the state that stands for h, with these saved entries
+-- the registers and the state that stand for h, with these saved entries
+abbrev pub regs_at : Net → ℕ → ℕ → Side → History → Listed → Registers
+regs_at net u d side h saved = regs net u h (dropped side (bad h)) (dropped side (expired h)) (dropped side (noroute net.parts d h)) saved
+
 abbrev pub state_at : Net → Snapshot → ℕ → ℕ → Side → History → Listed → UnitState
-state_at net table u d side h saved = record {
-  wires = wires_at net u d side table;
-  window = table.window;
-  registers = regs net u h (dropped side (bad h)) (dropped side (expired h)) (dropped side (noroute net.parts d h)) saved;
-}
+state_at net table u d side h saved = record { wires = wires_at net u d side table; window = table.window; registers = regs_at net u d side h saved }
 
 tally-le : (t : Step → Bool) (h : History) → tally t h ≤ length h
 tally-le t [] = omega arith
@@ -88,21 +87,21 @@ pub cable-data : (net : Net) (table : Snapshot) (u d p : ℕ) (us : ℕ → Hist
 cable-data net table u d p us told c k q ps h saved g m out =
     of_moves (data-moves net table.ring u c k q ps h (bad h) (expired h) (noroute net.parts d h) saved g.chans g.room m out g.keeps)
   where
-    of_routes : (v : Moves net table.ring u (taking c (Data k q) ps ∷ h) (bad h) (expired h) (noroute net.parts d h) (after_data (place net u c) k q (regs net u h (bad h) (expired h) (noroute net.parts d h) saved)))
+    of_routes : (v : Moves net table.ring u (taking c (Data k q) ps ∷ h) (bad h) (expired h) (noroute net.parts d h) (after_data (place net u c) k q (regs_at net u d Ingress h saved)))
         → Routes net table.ring us told u d (taking c (Data k q) ps ∷ h) (bad h) (expired h) (noroute net.parts d h) v.saved q
         (routed (wires_at net u d Ingress table) q (regs net u (taking c (Data k q) ps ∷ h) (bad h) (expired h) (noroute net.parts d h) v.saved))
         → Ends net table u (unit_at d p Ingress) us told (taking c (Data k q) ps ∷ h) (route net u d (id (taking c (Data k q) ps ∷ h)) q ++ (notice_puts net u (last c h) (Some k) ++ []))
         (take_at (entrance.Cable (place net u c)) (state_at net table u d Ingress h saved) (wire.Data k q))
     of_routes v r = let e = ap (routed (wires_at net u d Ingress table) q) v.is in let lo = lasts-at (data_channels net u) c h m g.chans.few in let z : bad h ≡ 0 + bad h = omega arith in
         stamped-ends net table u (unit_at d p Ingress) us told (taking c (Data k q) ps ∷ h) (route net u d (id (taking c (Data k q) ps ∷ h)) q) (last c h) k (state_at net table u d Ingress h saved) (Upstream (place net u c))
-        (routed (wires_at net u d Ingress table) q (after_data (place net u c) k q (regs net u h (bad h) (expired h) (noroute net.parts d h) saved)))
+        (routed (wires_at net u d Ingress table) q (after_data (place net u c) k q (regs_at net u d Ingress h saved)))
         refl lo (takeable-near table.window c k (slice_index_or (eight (lasts net u h)) (place net u c) 0) h lo (g.near k refl))
         (stands net table u d p Ingress (taking c (Data k q) ps ∷ h) (bad h) (one_if (q.hops == 0) + expired h) (one_if (not (q.hops == 0) && is_none (next_port net.parts d q.dst)) + noroute net.parts d h)
-        (routed (wires_at net u d Ingress table) q (after_data (place net u c) k q (regs net u h (bad h) (expired h) (noroute net.parts d h) saved))).state g.actor
+        (routed (wires_at net u d Ingress table) q (after_data (place net u c) k q (regs_at net u d Ingress h saved))).state g.actor
         (record { saved = v.saved; is = ap (λ a. a.state) e ∙ r.state; keeps = v.keeps }) z refl refl)
         (subst (λ a. AreSent net table.ring us u told (route net u d (id (taking c (Data k q) ps ∷ h)) q) a.puts) (sym e) r.sent)
 
-    of_moves : Moves net table.ring u (taking c (Data k q) ps ∷ h) (bad h) (expired h) (noroute net.parts d h) (after_data (place net u c) k q (regs net u h (bad h) (expired h) (noroute net.parts d h) saved))
+    of_moves : Moves net table.ring u (taking c (Data k q) ps ∷ h) (bad h) (expired h) (noroute net.parts d h) (after_data (place net u c) k q (regs_at net u d Ingress h saved))
         → Ends net table u (unit_at d p Ingress) us told (taking c (Data k q) ps ∷ h) (route net u d (id (taking c (Data k q) ps ∷ h)) q ++ (notice_puts net u (last c h) (Some k) ++ []))
         (take_at (entrance.Cable (place net u c)) (state_at net table u d Ingress h saved) (wire.Data k q))
     of_moves v = of_routes v (routes net table.ring us told u d (taking c (Data k q) ps ∷ h) (bad h) (expired h) (noroute net.parts d h) v.saved q table
@@ -115,15 +114,15 @@ pub cable-probe : (net : Net) (table : Snapshot) (u d p : ℕ) (us : ℕ → His
 cable-probe net table u d p us told c k ps h saved g m out =
     of_moves (probe-moves net table.ring u c k ps h (bad h) (expired h) (noroute net.parts d h) saved g.chans m out g.keeps)
   where
-    of_moves : Moves net table.ring u (taking c (ProbeMsg k) ps ∷ h) (bad h) (expired h) (noroute net.parts d h) (after_stamp (Upstream (place net u c)) k (regs net u h (bad h) (expired h) (noroute net.parts d h) saved))
+    of_moves : Moves net table.ring u (taking c (ProbeMsg k) ps ∷ h) (bad h) (expired h) (noroute net.parts d h) (after_stamp (Upstream (place net u c)) k (regs_at net u d Ingress h saved))
         → Ends net table u (unit_at d p Ingress) us told (taking c (ProbeMsg k) ps ∷ h) ([] ++ (notice_puts net u (last c h) (Some k) ++ []))
         (take_at (entrance.Cable (place net u c)) (state_at net table u d Ingress h saved) (wire.Probe k))
     of_moves v = let lo = lasts-at (data_channels net u) c h m g.chans.few in let x : bad h ≡ 0 + bad h = omega arith in let y : expired h ≡ 0 + expired h = omega arith in let z : noroute net.parts d h ≡ 0 + noroute net.parts d h = omega arith in
         stamped-ends net table u (unit_at d p Ingress) us told (taking c (ProbeMsg k) ps ∷ h) [] (last c h) k (state_at net table u d Ingress h saved) (Upstream (place net u c))
-        (absorbed (after_stamp (Upstream (place net u c)) k (regs net u h (bad h) (expired h) (noroute net.parts d h) saved)))
+        (absorbed (after_stamp (Upstream (place net u c)) k (regs_at net u d Ingress h saved)))
         refl lo (takeable-near table.window c k (slice_index_or (eight (lasts net u h)) (place net u c) 0) h lo (g.near k refl))
         (stands net table u d p Ingress (taking c (ProbeMsg k) ps ∷ h) (bad h) (expired h) (noroute net.parts d h)
-        (after_stamp (Upstream (place net u c)) k (regs net u h (bad h) (expired h) (noroute net.parts d h) saved)) g.actor v x y z) tt
+        (after_stamp (Upstream (place net u c)) k (regs_at net u d Ingress h saved)) g.actor v x y z) tt
 
 -- Initiations.
 
@@ -134,16 +133,16 @@ pub init-stamp : (net : Net) (table : Snapshot) (u d p : ℕ) (us : ℕ → Hist
 init-stamp net table u d p us told c k ps h saved g m out =
     of_moves (init-moves net table.ring u c k ps h (bad h) (expired h) (noroute net.parts d h) saved g.chans m out g.keeps)
   where
-    of_moves : Moves net table.ring u (taking c (InitMsg k) ps ∷ h) (bad h) (expired h) (noroute net.parts d h) (after_stamp Cpu k (regs net u h (bad h) (expired h) (noroute net.parts d h) saved))
+    of_moves : Moves net table.ring u (taking c (InitMsg k) ps ∷ h) (bad h) (expired h) (noroute net.parts d h) (after_stamp Cpu k (regs_at net u d Ingress h saved))
         → Ends net table u (unit_at d p Ingress) us told (taking c (InitMsg k) ps ∷ h) (send_all (ProbeMsg (id (taking c (InitMsg k) ps ∷ h))) (links_out net u CrossbarSort) ++ (notice_puts net u (last c h) (Some k) ++ []))
         (take_at entrance.Init (state_at net table u d Ingress h saved) (wire.Init k))
     of_moves v = let lo = first-only (choices_of net u InitSort) c h m g.chans.inits in let x : bad h ≡ 0 + bad h = omega arith in let y : expired h ≡ 0 + expired h = omega arith in let z : noroute net.parts d h ≡ 0 + noroute net.parts d h = omega arith in
         stamped-ends net table u (unit_at d p Ingress) us told (taking c (InitMsg k) ps ∷ h) (send_all (ProbeMsg (id (taking c (InitMsg k) ps ∷ h))) (links_out net u CrossbarSort)) (last c h) k (state_at net table u d Ingress h saved) Cpu
-        (initiated (wires_at net u d Ingress table) (after_stamp Cpu k (regs net u h (bad h) (expired h) (noroute net.parts d h) saved)))
+        (initiated (wires_at net u d Ingress table) (after_stamp Cpu k (regs_at net u d Ingress h saved)))
         refl lo (takeable-near table.window c k (cpu_last net u h) h lo (g.near k refl))
         (stands net table u d p Ingress (taking c (InitMsg k) ps ∷ h) (bad h) (expired h) (noroute net.parts d h)
-        (after_stamp Cpu k (regs net u h (bad h) (expired h) (noroute net.parts d h) saved)) g.actor v x y z)
-        (sort-sent net table.ring us u told (ProbeMsg (id (taking c (InitMsg k) ps ∷ h))) (wire.Probe (after_stamp Cpu k (regs net u h (bad h) (expired h) (noroute net.parts d h) saved)).id) CrossbarSort (wires_at net u d Ingress table) refl
+        (after_stamp Cpu k (regs_at net u d Ingress h saved)) g.actor v x y z)
+        (sort-sent net table.ring us u told (ProbeMsg (id (taking c (InitMsg k) ps ∷ h))) (wire.Probe (after_stamp Cpu k (regs_at net u d Ingress h saved)).id) CrossbarSort (wires_at net u d Ingress table) refl
         (ap (λ r. wire.Probe r.id) v.is))
 
 -- Data packets and probes of the crossbar.
@@ -155,19 +154,19 @@ pub crossbar-data : (net : Net) (table : Snapshot) (u d p : ℕ) (us : ℕ → H
     (take_at (entrance.Crossbar (place net u c) own) (state_at net table u d Egress h saved) (wire.Data k q))
 crossbar-data net table u d p us told c k own q ps h saved g m out = of_moves (data-moves net table.ring u c k q ps h 0 0 0 saved g.chans g.room m out g.keeps)
   where
-    of_moves : Moves net table.ring u (taking c (Data k q) ps ∷ h) 0 0 0 (after_data (place net u c) k q (regs net u h 0 0 0 saved))
+    of_moves : Moves net table.ring u (taking c (Data k q) ps ∷ h) 0 0 0 (after_data (place net u c) k q (regs_at net u d Egress h saved))
         → Ends net table u (unit_at d p Egress) us told (taking c (Data k q) ps ∷ h)
         ((send_all (Data (id (taking c (Data k q) ps ∷ h)) q) (links_out net u CableSort) ++ send_all (HostMsg (plain_frame q)) (links_out net u ToHost)) ++ (notice_puts net u (last c h) (Some k) ++ []))
         (take_at (entrance.Crossbar (place net u c) own) (state_at net table u d Egress h saved) (wire.Data k q))
     of_moves v = let lo = lasts-at (data_channels net u) c h m g.chans.few in
         stamped-ends net table u (unit_at d p Egress) us told (taking c (Data k q) ps ∷ h) (send_all (Data (id (taking c (Data k q) ps ∷ h)) q) (links_out net u CableSort) ++ send_all (HostMsg (plain_frame q)) (links_out net u ToHost))
         (last c h) k (state_at net table u d Egress h saved) (Upstream (place net u c))
-        (passed (wires_at net u d Egress table) q (after_data (place net u c) k q (regs net u h 0 0 0 saved)))
+        (passed (wires_at net u d Egress table) q (after_data (place net u c) k q (regs_at net u d Egress h saved)))
         refl lo (takeable-near table.window c k (slice_index_or (eight (lasts net u h)) (place net u c) 0) h lo (g.near k refl))
-        (stands net table u d p Egress (taking c (Data k q) ps ∷ h) 0 0 0 (after_data (place net u c) k q (regs net u h 0 0 0 saved)) g.actor v refl refl refl)
+        (stands net table u d p Egress (taking c (Data k q) ps ∷ h) 0 0 0 (after_data (place net u c) k q (regs_at net u d Egress h saved)) g.actor v refl refl refl)
         (sent-append net table.ring us u told (send_all (Data (id (taking c (Data k q) ps ∷ h)) q) (links_out net u CableSort)) (send_all (HostMsg (plain_frame q)) (links_out net u ToHost))
-        (send (wires_at net u d Egress table) (All CableSort) (wire.Data (after_data (place net u c) k q (regs net u h 0 0 0 saved)).id q)) (send (wires_at net u d Egress table) (All ToHost) (wire.Host (unit_frame q)))
-        (sort-sent net table.ring us u told (Data (id (taking c (Data k q) ps ∷ h)) q) (wire.Data (after_data (place net u c) k q (regs net u h 0 0 0 saved)).id q) CableSort (wires_at net u d Egress table) refl (ap (λ r. wire.Data r.id q) v.is))
+        (send (wires_at net u d Egress table) (All CableSort) (wire.Data (after_data (place net u c) k q (regs_at net u d Egress h saved)).id q)) (send (wires_at net u d Egress table) (All ToHost) (wire.Host (unit_frame q)))
+        (sort-sent net table.ring us u told (Data (id (taking c (Data k q) ps ∷ h)) q) (wire.Data (after_data (place net u c) k q (regs_at net u d Egress h saved)).id q) CableSort (wires_at net u d Egress table) refl (ap (λ r. wire.Data r.id q) v.is))
         (sort-sent net table.ring us u told (HostMsg (plain_frame q)) (wire.Host (unit_frame q)) ToHost (wires_at net u d Egress table) refl (ap wire.Host (frame-is q))))
 
 pub crossbar-probe : (net : Net) (table : Snapshot) (u d p : ℕ) (us : ℕ → History) (told : ℕ → ℕ) (c k : ℕ) (own : Bool) (ps : List Put) (h : History) (saved : Listed)
@@ -177,18 +176,18 @@ pub crossbar-probe : (net : Net) (table : Snapshot) (u d p : ℕ) (us : ℕ → 
     (take_at (entrance.Crossbar (place net u c) own) (state_at net table u d Egress h saved) (wire.Probe k))
 crossbar-probe net table u d p us told c k own ps h saved g m out = of_moves (probe-moves net table.ring u c k ps h 0 0 0 saved g.chans m out g.keeps)
   where
-    of_moves : Moves net table.ring u (taking c (ProbeMsg k) ps ∷ h) 0 0 0 (after_stamp (Upstream (place net u c)) k (regs net u h 0 0 0 saved))
+    of_moves : Moves net table.ring u (taking c (ProbeMsg k) ps ∷ h) 0 0 0 (after_stamp (Upstream (place net u c)) k (regs_at net u d Egress h saved))
         → Ends net table u (unit_at d p Egress) us told (taking c (ProbeMsg k) ps ∷ h)
         ((if own then send_all (ProbeMsg (id (taking c (ProbeMsg k) ps ∷ h))) (links_out net u CableSort) else []) ++ (notice_puts net u (last c h) (Some k) ++ []))
         (take_at (entrance.Crossbar (place net u c) own) (state_at net table u d Egress h saved) (wire.Probe k))
     of_moves v = let lo = lasts-at (data_channels net u) c h m g.chans.few in
         stamped-ends net table u (unit_at d p Egress) us told (taking c (ProbeMsg k) ps ∷ h) (if own then send_all (ProbeMsg (id (taking c (ProbeMsg k) ps ∷ h))) (links_out net u CableSort) else [])
         (last c h) k (state_at net table u d Egress h saved) (Upstream (place net u c))
-        (probed (wires_at net u d Egress table) own (after_stamp (Upstream (place net u c)) k (regs net u h 0 0 0 saved)))
+        (probed (wires_at net u d Egress table) own (after_stamp (Upstream (place net u c)) k (regs_at net u d Egress h saved)))
         refl lo (takeable-near table.window c k (slice_index_or (eight (lasts net u h)) (place net u c) 0) h lo (g.near k refl))
-        (stands net table u d p Egress (taking c (ProbeMsg k) ps ∷ h) 0 0 0 (after_stamp (Upstream (place net u c)) k (regs net u h 0 0 0 saved)) g.actor v refl refl refl)
-        (sent-if net table.ring us u told own (send_all (ProbeMsg (id (taking c (ProbeMsg k) ps ∷ h))) (links_out net u CableSort)) (send (wires_at net u d Egress table) (All CableSort) (wire.Probe (after_stamp (Upstream (place net u c)) k (regs net u h 0 0 0 saved)).id))
-        (sort-sent net table.ring us u told (ProbeMsg (id (taking c (ProbeMsg k) ps ∷ h))) (wire.Probe (after_stamp (Upstream (place net u c)) k (regs net u h 0 0 0 saved)).id) CableSort (wires_at net u d Egress table) refl (ap (λ r. wire.Probe r.id) v.is)))
+        (stands net table u d p Egress (taking c (ProbeMsg k) ps ∷ h) 0 0 0 (after_stamp (Upstream (place net u c)) k (regs_at net u d Egress h saved)) g.actor v refl refl refl)
+        (sent-if net table.ring us u told own (send_all (ProbeMsg (id (taking c (ProbeMsg k) ps ∷ h))) (links_out net u CableSort)) (send (wires_at net u d Egress table) (All CableSort) (wire.Probe (after_stamp (Upstream (place net u c)) k (regs_at net u d Egress h saved)).id))
+        (sort-sent net table.ring us u told (ProbeMsg (id (taking c (ProbeMsg k) ps ∷ h))) (wire.Probe (after_stamp (Upstream (place net u c)) k (regs_at net u d Egress h saved)).id) CableSort (wires_at net u d Egress table) refl (ap (λ r. wire.Probe r.id) v.is)))
 
 -- Frames of the host.
 
@@ -224,14 +223,14 @@ host-frame net table u d p us told c bs ps h saved g = subst (λ o. Ends net tab
         }
 
     of_routes : (q : Packet) → packet_of bs ≡ Some q
-        → (v : Moves net table.ring u (taking c (HostMsg bs) ps ∷ h) (bad h) (expired h) (noroute net.parts d h) (counted_by q.len (regs net u h (bad h) (expired h) (noroute net.parts d h) saved)))
+        → (v : Moves net table.ring u (taking c (HostMsg bs) ps ∷ h) (bad h) (expired h) (noroute net.parts d h) (counted_by q.len (regs_at net u d Ingress h saved)))
         → Routes net table.ring us told u d (taking c (HostMsg bs) ps ∷ h) (bad h) (expired h) (noroute net.parts d h) v.saved q
         (routed (wires_at net u d Ingress table) q (regs net u (taking c (HostMsg bs) ps ∷ h) (bad h) (expired h) (noroute net.parts d h) v.saved))
         → Ends net table u (unit_at d p Ingress) us told (taking c (HostMsg bs) ps ∷ h) (route net u d (id (taking c (HostMsg bs) ps ∷ h)) q) (framed (state_at net table u d Ingress h saved) (Some q))
     of_routes q e v r = let f = ap (routed (wires_at net u d Ingress table) q) v.is in
         let eb : bad h ≡ bad (taking c (HostMsg bs) ps ∷ h) = (let z = ap (λ o. one_if (is_none o)) e in omega (arith, z)) in record {
           stands = stands net table u d p Ingress (taking c (HostMsg bs) ps ∷ h) (bad h) (one_if (q.hops == 0) + expired h) (one_if (not (q.hops == 0) && is_none (next_port net.parts d q.dst)) + noroute net.parts d h)
-              (routed (wires_at net u d Ingress table) q (counted_by q.len (regs net u h (bad h) (expired h) (noroute net.parts d h) saved))).state g.actor
+              (routed (wires_at net u d Ingress table) q (counted_by q.len (regs_at net u d Ingress h saved))).state g.actor
               (record { saved = v.saved; is = ap (λ a. a.state) f ∙ r.state; keeps = v.keeps }) eb
               (sym (ap (λ o. one_if (is_expired o) + expired h) e)) (sym (ap (λ o. one_if (is_noroute net.parts d o) + noroute net.parts d h) e));
           sent = subst (λ a. AreSent net table.ring us u told (route net u d (id (taking c (HostMsg bs) ps ∷ h)) q) a.puts) (sym f) r.sent;
@@ -270,16 +269,16 @@ pub poll-dump : (net : Net) (table : Snapshot) (u d p : ℕ) (side : Side) (us :
     → Ends net table u (unit_at d p side) us told (taking c PollMsg ps ∷ h) (send_all (DumpMsg (suc (length h))) (links_out net u DumpSort))
     (take_at entrance.Poll (state_at net table u d side h saved) wire.Poll)
 poll-dump net table u d p side us told c ps h saved g now = record {
-  stands = stands net table u d p side (taking c PollMsg ps ∷ h) (dropped side (bad h)) (dropped side (expired h)) (dropped side (noroute net.parts d h)) (regs net u h (dropped side (bad h)) (dropped side (expired h)) (dropped side (noroute net.parts d h)) saved) g.actor moves (same side (bad h)) (same side (expired h)) (same side (noroute net.parts d h));
-  sent = sort-sent net table.ring us u told (DumpMsg (suc (length h))) (wire.Dump (dump_of (regs net u h (dropped side (bad h)) (dropped side (expired h)) (dropped side (noroute net.parts d h)) saved))) DumpSort (wires_at net u d side table) refl
-      (record { dump = dump_of (regs net u h (dropped side (bad h)) (dropped side (expired h)) (dropped side (noroute net.parts d h)) saved); is = refl; of = subst (λ k. IsDumpOf net table.ring u k (dump_of (regs net u h (dropped side (bad h)) (dropped side (expired h)) (dropped side (noroute net.parts d h)) saved))) (sym whole) (dump-is net table.ring u (taking c PollMsg ps ∷ h) (dropped side (bad h)) (dropped side (expired h)) (dropped side (noroute net.parts d h)) (regs net u h (dropped side (bad h)) (dropped side (expired h)) (dropped side (noroute net.parts d h)) saved) moves) });
+  stands = stands net table u d p side (taking c PollMsg ps ∷ h) (dropped side (bad h)) (dropped side (expired h)) (dropped side (noroute net.parts d h)) (regs_at net u d side h saved) g.actor moves (same side (bad h)) (same side (expired h)) (same side (noroute net.parts d h));
+  sent = sort-sent net table.ring us u told (DumpMsg (suc (length h))) (wire.Dump (dump_of (regs_at net u d side h saved))) DumpSort (wires_at net u d side table) refl
+      (record { dump = dump_of (regs_at net u d side h saved); is = refl; of = subst (λ k. IsDumpOf net table.ring u k (dump_of (regs_at net u d side h saved))) (sym whole) (dump-is net table.ring u (taking c PollMsg ps ∷ h) (dropped side (bad h)) (dropped side (expired h)) (dropped side (noroute net.parts d h)) (regs_at net u d side h saved) moves) });
 }
   where
     same : (side : Side) (n : ℕ) → dropped side n ≡ dropped side (0 + n)
     same Ingress n = omega arith
     same Egress n = refl
 
-    moves : Moves net table.ring u (taking c PollMsg ps ∷ h) (dropped side (bad h)) (dropped side (expired h)) (dropped side (noroute net.parts d h)) (regs net u h (dropped side (bad h)) (dropped side (expired h)) (dropped side (noroute net.parts d h)) saved)
+    moves : Moves net table.ring u (taking c PollMsg ps ∷ h) (dropped side (bad h)) (dropped side (expired h)) (dropped side (noroute net.parts d h)) (regs_at net u d side h saved)
     moves = let x : packets h ≡ packets h + 0 = omega arith in let y : bytes h ≡ bytes h + 0 = omega arith in
         quiet-moves net table.ring u c PollMsg ps h (dropped side (bad h)) (dropped side (expired h)) (dropped side (noroute net.parts d h)) (packets h) (bytes h) saved refl refl x y g.keeps
 

@@ -13,7 +13,6 @@ state_of packets raws sent delivered = record { messages = messages packets raws
 
 -- a host that is ready to inject has its next message, and the messages are few enough to be counted
 pub record IsKept (packets : List Packet) (raws : List (List ℕ)) (sent : ℕ) (next : Option (List ℕ)) (prepared : Option ℕ) : Type 0 where
-  pub few_packets : length packets ≤ 2 ^ 60
-  pub few_raws : length raws ≤ 2 ^ 60
+  pub few : length packets + length raws < 2 ^ 64
   pub counted : sent ≤ length packets + length raws
   pub prepared_next : prepared ≡ Some 1 → next ≡ slice_get (messages packets raws) sent

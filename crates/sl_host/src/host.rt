@@ -15,9 +15,6 @@ use std::marker::Model;
 /// The choice by which a host sends its next frame. The choice 0 takes from its link.
 const INJECT: u32 = 1;
 
-/// More frames than fit any memory.
-const MOST_FRAMES: usize = 1 << 60;
-
 /// A host: it sends the packets of its flows and then its raw frames, and counts the frames that
 /// it takes.
 #[derive(Drop)]
@@ -51,9 +48,6 @@ impl Host {
     {
         let packets = packets_of(alloc, host, input.flows.as_slice())?;
         let raws = raws_of(alloc, input.raws.as_slice(), host).map_err(|_| Memory)?;
-        if packets.len() > MOST_FRAMES || raws.len() > MOST_FRAMES {
-            return Err(Memory);
-        }
         Ok(Host {
             packets,
             raws,

@@ -1,0 +1,4 @@
+pub mod Least
+pub mod Observer
+pub mod Floors
+pub mod Kept

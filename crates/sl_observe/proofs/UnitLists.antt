@@ -1,8 +1,8 @@
 -- The list of the units, with one of them changed.
-use Rattle.std.proofs.Common.{◌≡◌, ℕ, ◌+◌, ◌<◌, ◌≤◌, List, [], ◌∷◌, length, refl, sym, ap, ◌∙◌, map, set, get_or, replicate, arith}
+use Rattle.std.proofs.Common.{◌≡◌, ℕ, ◌+◌, ◌<◌, ◌≤◌, List, [], ◌∷◌, ◌++◌, length, take, refl, sym, ap, ◌∙◌, map, set, get_or, replicate, arith}
 use Rattle.std.proofs.Common.{subst, get_or-set_same}
 use Rattle.std.specs.Prelude.{filter, cond, Bool, true, false, Option, Some, None}
-use Rattle.std.proofs.lemmas.List.{map-set, set-get_or, get_or-map, length-map}
+use Rattle.std.proofs.lemmas.List.{map-set, set-get_or, get_or-map, length-map, map_push, map_more}
 use Rattle.sl_net.specs.Parts.{below}
 use Rattle.sl_net.specs.declared.actor.ActorId.TheVariants.{Unit as OfUnit}
 use Rattle.sl_net.specs.declared.actor.UnitId.{UnitId}
@@ -47,14 +47,21 @@ floors_kept us vs floors k x u h e f g =
     ∙ sym (ap floors_of f)
 
 -- a unit is listed by what the net says of it
-pub first_unit_is : (net : Net) (ids : List UnitId) (k : ℕ) (i : UnitId) (channels : ℕ) → AreUnits net (units net) ids → k < length ids → k < length (units net) → i ≡ get_or ids k i
-    → channels ≡ length (upstream_of net (get_or (units net) k 0)) → new_unit i.device channels ≡ first_unit net (get_or (units net) k 0)
-first_unit_is net ids k i channels same h m at e =
+pub first_unit_is : (net : Net) (ids : List UnitId) (k : ℕ) (none : UnitId) (channels : ℕ) → AreUnits net (units net) ids → k < length ids → k < length (units net)
+    → channels ≡ length (upstream_of net (get_or (units net) k 0)) → new_unit (get_or ids k none).device channels ≡ first_unit net (get_or (units net) k 0)
+first_unit_is net ids k none channels same h m e =
     let u = get_or (units net) k 0 in
-    let actor : OfUnit i ≡ actor_of net u =
-    ap OfUnit at ∙ sym (get_or-map OfUnit ids k i nobody h) ∙ ap (λ actors. get_or actors k nobody) same ∙ get_or-map (actor_of net) (units net) k 0 nobody m
+    let actor : OfUnit (get_or ids k none) ≡ actor_of net u =
+    sym (get_or-map OfUnit ids k none nobody h) ∙ ap (λ actors. get_or actors k nobody) same ∙ get_or-map (actor_of net) (units net) k 0 nobody m
     in
     ap (λ d. new_unit d channels) (ap device_of actor) ∙ ap (new_unit (device_of (actor_of net u))) (e ∙ length-map (data_channels net u) (sender_by net u))
+
+pub listed_more : (net : Net) (ids : List UnitId) (k : ℕ) (none : UnitId) (channels : ℕ) (us : List Collected) (u : Collected) → AreUnits net (units net) ids → k < length ids → k < length (units net)
+    → channels ≡ length (upstream_of net (get_or (units net) k 0)) → u.state ≡ new_unit (get_or ids k none).device channels → states us ≡ map (first_unit net) (take k (units net))
+    → states (us ++ u ∷ []) ≡ map (first_unit net) (take (k + 1) (units net))
+listed_more net ids k none channels us u same h m e made so_far =
+    map_push state_in us u ∙ ap (λ ws. ws ++ u.state ∷ []) so_far ∙ ap (λ w. map (first_unit net) (take k (units net)) ++ w ∷ []) (made ∙ first_unit_is net ids k none channels same h m e)
+    ∙ sym (map_more (first_unit net) (units net) k 0 m)
 
 -- Room.
 

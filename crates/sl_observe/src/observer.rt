@@ -147,8 +147,9 @@ impl Observer {
         if self.issued >= self.snapshot.count || self.issued >= most {
             return false;
         }
-        self.issued += 1;
-        begin_all(out, self.outs, self.issued);
+        let next = self.issued + 1;
+        self.issued = next;
+        begin_all(out, self.outs, next);
         true
     }
 

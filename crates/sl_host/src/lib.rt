@@ -3,8 +3,10 @@
 
 mod frames;
 mod host;
+mod laws;
 
 pub use host::Host;
+pub use laws::frames_are_sent_in_order;
 
 #[cfg(test)]
 mod tests;

@@ -1,3 +1,4 @@
 pub mod Trees
 pub mod Begins
 pub mod UnitLists
+pub mod Runs

@@ -2,3 +2,4 @@ pub mod Least
 pub mod Observer
 pub mod Floors
 pub mod Kept
+pub mod Turns

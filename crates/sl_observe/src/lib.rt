@@ -2,11 +2,13 @@
 #![tactic(auto)]
 
 mod floors;
+mod laws;
 mod observer;
 mod spans;
 mod unit;
 mod units;
 
+pub use laws::{issues_are_bounded, rows_stay};
 pub use observer::Observer;
 pub use unit::Seen;
 

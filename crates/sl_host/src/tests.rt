@@ -118,10 +118,15 @@ const FIRST: &[u8] = b"\0\0\0\0\0\0\0\0\0\0\0\0\0d\x08\x01\0\0\0\0\0\0\0\0";
 
 const SECOND: &[u8] = b"\0\0\0\0\0\0\0\0\0\0\0\x01\0d\x08\x01\0\0\0\0\0\0\0\0";
 
+/// Gives a value back that may go to another thread.
+fn sent<T: Send>(value: T) -> T {
+    value
+}
+
 /// The first host.
 fn host(alloc: Global) -> Result<Host, Fail> {
     let input = input(alloc)?;
-    Ok(Host::new(alloc, 0, &input)?)
+    Ok(sent(Host::new(alloc, 0, &input)?))
 }
 
 #[test]

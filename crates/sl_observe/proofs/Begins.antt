@@ -1,9 +1,9 @@
 -- A begin on each link: one more, how many there are, and that they fit.
-use Rattle.std.proofs.Common.{◌≡◌, ℕ, zero, suc, ◌+◌, ◌<◌, ◌≤◌, List, [], ◌∷◌, ◌++◌, length, refl, ap, ◌∙◌, map, arith}
+use Rattle.std.proofs.Common.{◌≡◌, ℕ, zero, suc, ◌+◌, ◌<◌, ◌≤◌, [], ◌∷◌, ◌++◌, length, refl, ap, ◌∙◌, map, arith}
 use Rattle.std.specs.Prelude.{true, false, not, ◌==◌, ◌||◌, ◌&&◌, nat_lt}
 use Rattle.std.proofs.lemmas.Bool.Decides.{nat_tests}
 use Rattle.sl_machine.specs.Machine.{puts_on, is_fitting}
-use Rattle.sl_net.specs.Parts.{numbers_from, below}
+use Rattle.sl_net.specs.Parts.{numbers_from}
 use Rattle.sl_net.proofs.Counting.{map_below_more, length_below}
 use Rattle.sl_wire.specs.declared.message.Msg.{Msg}
 use Rattle.sl_wire.specs.declared.message.Msg.TheVariants.{Begin}

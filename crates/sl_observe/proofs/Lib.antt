@@ -2,3 +2,4 @@ pub mod Trees
 pub mod Begins
 pub mod UnitLists
 pub mod Runs
+pub mod Links

@@ -1,12 +1,12 @@
 -- The observer over any turns.
-use Rattle.std.proofs.Common.{◌≡◌, ℕ, zero, suc, ◌+◌, ◌-◌, ◌<◌, ◌≤◌, ◌⊎◌, inl, inr, List, [], ◌∷◌, ◌++◌, length, refl, sym, ap, ◌∙◌, subst, map, set, get_or, get_or-set_same, get_or-set_other, arith}
+use Rattle.std.proofs.Common.{◌≡◌, ℕ, zero, suc, ◌+◌, ◌-◌, ◌<◌, ◌≤◌, ◌⊎◌, inl, inr, List, [], ◌∷◌, ◌++◌, length, refl, sym, ap, ◌∙◌, subst, map, set, get_or-set_same, get_or-set_other, arith}
 use Rattle.std.specs.Prelude.{Bool, true, false, cond, ◌&&◌, ◌==◌, Option, Some, None, slice_get, nat_lt, nat_le}
 use Rattle.std.specs.List.{All}
 use Rattle.std.proofs.lemmas.Bool.{cases_eq, cases_lt, and_parts, ltb-true, leb-true}
 use Rattle.std.proofs.lemmas.List.{set_past}
 use Rattle.std.proofs.lemmas.List.Elements.{All-nil, All-cons}
 use Rattle.sl_machine.specs.Machine.{After}
-use Rattle.sl_net.specs.Parts.{numbers_from, below}
+use Rattle.sl_net.specs.Parts.{numbers_from}
 use Rattle.sl_saves.specs.declared.entry.Saved.{Saved}
 use Rattle.sl_wire.specs.declared.message.Done.{Done as Report}
 use Rattle.sl_wire.specs.declared.message.Msg.{Msg}

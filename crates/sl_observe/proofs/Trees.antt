@@ -1,7 +1,7 @@
 -- Trees of minima: the node 1 is the least of the numbers.
 use Rattle.std.proofs.Common.{◌≡◌, ◌≢◌, ℕ, zero, suc, ◌+◌, ◌-◌, ◌*◌, ◌/◌, ◌%◌, ◌<◌, ◌≤◌, ◌⊎◌, inl, inr, List, [], ◌∷◌, length, refl, sym, ap, ◌∙◌, subst, drop, get_or, set, replicate, arith}
 use Rattle.std.specs.Prelude.{min, Some, None}
-use Rattle.std.proofs.lemmas.List.{get_or-drop, length-drop, drop-replicate, get_or-replicate, length-replicate, nil_from_length, get_or-set_other, get_or-set_same}
+use Rattle.std.proofs.lemmas.List.{get_or-drop, length-drop, drop-replicate, length-replicate, nil_from_length, get_or-set_other, get_or-set_same}
 use Rattle.std.proofs.lemmas.Bool.{cases_lt, cases_eq}
 use Rattle.sl_observe.specs.Least.{least, least_of}
 use Rattle.sl_observe.specs.Floors.{IsTree, IsLesserOfChildren}

@@ -3,11 +3,24 @@
 ghost use Rattle.std.specs.Prelude.{◌≡◌, ◌≤◌, ◌+◌, ◌⊎◌, ℕ, List, Some};
 ghost use Rattle.std.specs.List.{All};
 ghost use Rattle.sl_machine.specs.Machine.{After};
+ghost use Rattle.sl_net.specs.Net.{Net, links_from, links_out};
+ghost use Rattle.sl_net.specs.Wired.{IsNet};
+ghost use Rattle.sl_net.specs.declared.actor.Sort.TheVariants.{Begin as BeginSort};
 ghost use Rattle.sl_saves.specs.declared.entry.Saved.{Saved};
 ghost use Rattle.sl_wire.specs.declared.message.Msg.{Msg};
 ghost use Rattle.sl_wire.specs.declared.message.Msg.TheVariants.{Begin};
 ghost use Rattle.sl_observe.specs.Observer.{ObserverState, unit_at, saved_of, floor_of, observer_act};
 ghost use Rattle.sl_observe.specs.Turns.{Turn, after};
+
+use sl_net::nets_are_wired;
+
+/// Each link that leads from the observer carries begins. So a begin on each of them is one to each
+/// control plane.
+pub fn begins_take_all_links()
+    ensures { (net : Net) → IsNet net → links_out net 0 BeginSort ≡ links_from net 0 }
+{
+    nets_are_wired();
+}
 
 /// A row that was collected stays as it is, whatever comes later.
 pub fn rows_stay()

@@ -97,6 +97,13 @@ fn net(alloc: Global) -> Result<Net, Fail> {
     Ok(Net::build(alloc, parts).map_err(|_| "refused")?)
 }
 
+/// Gives a value back that may go to another thread.
+fn sent<T: Send>(value: T) -> T
+    ensures { result ≡ value }
+{
+    value
+}
+
 /// An observer of three snapshots in a window of two, with one retry.
 fn make_bench(alloc: Global) -> Result<Bench, Fail> {
     let snapshot = Snapshot {
@@ -107,7 +114,7 @@ fn make_bench(alloc: Global) -> Result<Bench, Fail> {
         retries: 1,
     };
     let net = net(alloc)?;
-    let observer = Observer::new(alloc, &net, &snapshot)?;
+    let observer = sent(Observer::new(alloc, &net, &snapshot)?);
     if net.actors().is_empty() {
         return Err(Fail::from("no actor"));
     }

@@ -1,9 +1,8 @@
 // The units that the observer knows, in order.
-ghost use Rattle.std.specs.Prelude.{◌≡◌, ◌<◌, ◌≤◌, ℕ, length, map, IfOk, OnOk};
+ghost use Rattle.std.specs.Prelude.{◌≡◌, ◌<◌, ◌≤◌, ℕ, length, map, slice_set, IfOk, OnOk};
 ghost use Rattle.sl_net.specs.Net.{units};
 ghost use Rattle.sl_observe.specs.Observer.{first_unit, floors_of, unit_at, heard, units_after};
 ghost use Rattle.sl_observe.specs.Kept.{states, collected_at, HasRoom, HaveSpans};
-ghost use Rattle.std.specs.Prelude.{slice_set};
 
 use crate::floors::Floors;
 use crate::spans::Span;
@@ -17,9 +16,10 @@ use std::alloc::{AllocError, Global};
 pub fn list_units(alloc: Global, net: &Net) -> Result<Vec<Collected>, AllocError>
     ensures { IfOk result (λ listed. states listed.items ≡ map (first_unit net.now) (units net.now)) }
 {
-    let mut listed = Vec::new(alloc);
+    // A net has few actors, so the places of its units fit 32 bits.
+    let _ = net.actors();
     let ids = net.units();
-    let actors = net.actors().len();
+    let mut listed = Vec::new(alloc);
     for (place, id) in ids.iter().enumerate() {
         let channels = net.upstream(place as u32).len();
         listed.push(Collected::new(alloc, id.device, channels))?;

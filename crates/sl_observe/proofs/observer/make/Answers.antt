@@ -1,4 +1,4 @@
-use Rattle.std.proofs.Common.{◌≡◌, ap, ◌∙◌, subst, length, arith}
+use Rattle.std.proofs.Common.{◌≡◌, subst, length, arith}
 use Rattle.sl_observe.specs.Kept.{HaveSpans, states}
 use Rattle.sl_observe.proofs.UnitLists.{first_kept}
 use Rattle.sl_observe.proofs.observer.make.Goals as goal

@@ -1,4 +1,4 @@
-use Rattle.std.proofs.Common.{◌≡◌, ◌<◌, ap, ◌∙◌, length, arith}
+use Rattle.std.proofs.Common.{◌<◌, ap, ◌∙◌, length, arith}
 use Rattle.sl_observe.specs.Observer.{unit_at, heard}
 use Rattle.sl_observe.specs.Kept.{states}
 use Rattle.sl_observe.proofs.UnitLists.{floors_kept, length_states}

@@ -1,4 +1,4 @@
-use Rattle.std.proofs.Common.{◌≡◌, ap, sym, ◌∙◌, set}
+use Rattle.std.proofs.Common.{ap, sym, ◌∙◌, set}
 use Rattle.std.proofs.lemmas.List.{get_or_read}
 use Rattle.sl_observe.specs.Observer.{new_unit, heard}
 use Rattle.sl_observe.specs.Kept.{states}

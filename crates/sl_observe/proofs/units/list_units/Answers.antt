@@ -1,4 +1,4 @@
-use Rattle.std.proofs.Common.{◌≡◌, ◌<◌, ap, ◌∙◌, length, arith}
+use Rattle.std.proofs.Common.{◌<◌, ap, ◌∙◌, length, arith}
 use Rattle.sl_net.specs.Net.{units}
 use Rattle.sl_observe.specs.Kept.{states}
 use Rattle.sl_observe.proofs.UnitLists.{listed_more}

@@ -1,0 +1,5 @@
+pub mod Outs
+pub mod Ways
+pub mod Fitting
+pub mod Channels
+pub mod Numbers

@@ -1,0 +1,20 @@
+use Rattle.std.proofs.Common.{◌≡◌, ◌++◌, ◌+◌, length}
+use Rattle.std.specs.Prelude.{filter}
+use Rattle.std.specs.List.{All}
+use Rattle.sl_net.specs.declared.actor.Sort.TheVariants as sort
+use Rattle.sl_net.specs.Parts.{below}
+use Rattle.sl_wire.specs.declared.message.Msg.TheVariants.{Dump}
+use Rattle.sl_unit.specs.declared.wires.Way.TheVariants.{All as AllOf}
+use Rattle.sl_unit.specs.Wires.{is_out}
+use Rattle.sl_unit.specs.Registers.{dump_of}
+use Rattle.sl_unit.specs.Room.{registers_of}
+use Rattle.sl_unit.specs.Step.{send_all}
+use Rattle.sl_unit.proofs.puts.put_dumps.Given as goal
+
+abbrev pub invariant-loop-i : goal.invariant-loop-i
+invariant-loop-i l = record {
+  items : l.out.items ≡ l.fn.out.items ++ send_all (Dump (dump_of (registers_of l.registers))) (filter (is_out (AllOf sort.Dump) l.exits) (below l.i));
+  room : l.out.room ≡ l.fn.out.room;
+  left : length l.views.items + length (filter (is_out (AllOf sort.Dump) l.exits) (below l.i)) ≡ length l.fn.views.items;
+  sized : All (λ view. length view.slots ≡ (registers_of l.registers).saved.size) l.views.items;
+}

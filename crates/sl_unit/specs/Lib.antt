@@ -1,0 +1,7 @@
+pub mod Wires
+pub mod Registers
+pub mod Step
+pub mod Made
+pub mod Units
+pub mod Notes
+pub mod Room

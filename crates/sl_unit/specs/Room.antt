@@ -1,0 +1,43 @@
+-- What the registers of a unit stand for, and the room that a turn needs.
+use Rattle.std.specs.Prelude.{◌≡◌, ℕ, true, List, length}
+use Rattle.std.specs.List.{All}
+use Rattle.sl_net.specs.declared.actor.Sort.TheVariants.{ToHost, Dump as DumpSort}
+use Rattle.sl_saves.specs.declared.entry.View.{View}
+use Rattle.sl_saves.specs.Lists.{list_kept, ListHasRoom}
+use Rattle.sl_unit.specs.declared.wires.Way.TheVariants.{All as AllOf}
+use Rattle.sl_unit.specs.declared.registers.Registers.{Registers as Declared}
+use Rattle.sl_unit.specs.Wires.{Wires, outs, entrance_at, is_poll}
+use Rattle.sl_unit.specs.Registers.{Registers}
+use Rattle.sl_unit.specs.Step.{UnitState}
+
+abbrev pub registers_of : Declared → Registers
+registers_of r = record {
+  id = r.id;
+  cpu = r.cpu;
+  last = r.last;
+  packets = r.packets;
+  bytes = r.bytes;
+  bad = r.bad;
+  expired = r.expired;
+  noroute = r.noroute;
+  saved = list_kept r.saves;
+}
+
+abbrev pub state_of : Wires → Declared → UnitState
+state_of wires r = record { wires = wires; window = r.window; registers = registers_of r }
+
+-- there are as many frames of 24 bytes as there are links to hosts
+pub record HasFrames (w : Wires) (frames : List (List ℕ)) : Type 0 where
+  pub many : length frames ≡ length (outs (AllOf ToHost) w.exits)
+  pub sized : All (λ frame. length frame ≡ 24) frames
+
+-- there are as many views of so many slots as there are links of dumps
+pub record HasViews (w : Wires) (size : ℕ) (views : List View) : Type 0 where
+  pub many : length views ≡ length (outs (AllOf DumpSort) w.exits)
+  pub sized : All (λ view. length view.slots ≡ size) views
+
+-- the room for a turn of the choice c
+pub record HasRoom (w : Wires) (r : Declared) (frames : List (List ℕ)) (views : List View) (c : ℕ) : Type 0 where
+  pub saves : ListHasRoom r.saves
+  pub frames_are : HasFrames w frames
+  pub views_are : is_poll (entrance_at w c) ≡ true → HasViews w (registers_of r).saved.size views

@@ -1,0 +1,183 @@
+// The links of a unit in a net.
+ghost use Rattle.std.specs.Prelude.{◌≡◌, ◌<◌, ◌≤◌, ◌^◌, ◌++◌, ◌∷◌, [], ℕ, cond, OnOk, IfOk, IsSome, length};
+ghost use Rattle.std.specs.List.{All};
+ghost use Rattle.sl_net.specs.Net.{actor_of, choices_of, data_channels, place_in};
+ghost use Rattle.sl_route.specs.Routes.{IsRoutesOf};
+ghost use Rattle.sl_unit.specs.Wires.{IsSmall};
+ghost use Rattle.sl_unit.specs.Made.{side_of, device_of, is_own, entrance, entrances_of, exits_of, ports_of, wires_of};
+
+use crate::wires::{Entrance, Exit, Wires};
+use sl_ids::Width;
+use sl_net::{ActorId, Net, Side, Sort};
+use sl_route::Routes;
+use std::alloc::{AllocError, Global};
+
+/// Adds the number at the end where it passes.
+fn push_if(numbers: &mut Vec<u32>, passes: bool, number: u32) -> Result<(), AllocError>
+    ensures { OnOk result (numbers.new.items ≡ numbers.old.items ++ cond passes (number ∷ []) []) }
+{
+    if passes {
+        numbers.push(number)?;
+    }
+    Ok(())
+}
+
+/// Adds the choices of an actor that take from links of a sort.
+fn add_choices(choices: &mut Vec<u32>, net: &Net, actor: u32, sort: Sort) -> Result<(), AllocError>
+    requires { actor < length net.now.actors }
+    ensures { OnOk result (choices.new.items ≡ choices.old.items ++ choices_of net.now actor sort) }
+{
+    let links = net.links_into(actor);
+    for choice in 0..links.len() {
+        let passes = net.link(links[choice]).sort.is(sort);
+        push_if(choices, passes, choice as u32)?;
+    }
+    Ok(())
+}
+
+/// The choices by which a unit takes from its data channels.
+#[tactic(auto, using(crate::proofs::Channels::channels_few))]
+fn list_channels(alloc: Global, net: &Net, actor: u32) -> Result<Vec<u32>, AllocError>
+    requires actor { actor < length net.now.actors }
+    requires unit { IsSome (side_of (actor_of net.now actor)) }
+    ensures channels { IfOk result (λ channels. channels.items ≡ data_channels net.now actor) }
+    ensures few { length (data_channels net.now actor) ≤ 8 }
+{
+    let _parts = net.parts();
+    let _unit = net.actor(actor);
+    let mut channels = Vec::new(alloc);
+    add_choices(&mut channels, net, actor, Sort::Cable)?;
+    add_choices(&mut channels, net, actor, Sort::Crossbar)?;
+    Ok(channels)
+}
+
+/// The place of a number in a list, or how many there are where it is none of them.
+fn place_in(numbers: &[u32], number: u32) -> usize
+    ensures place { result ≡ place_in 0 number numbers.now }
+    ensures most { result ≤ length numbers.now }
+{
+    let mut place = 0;
+    for other in numbers {
+        if *other == number {
+            return place;
+        }
+        place += 1;
+    }
+    place
+}
+
+/// Whether an actor is the ingress unit of the port of a unit.
+fn is_own(unit: ActorId, other: ActorId) -> bool
+    ensures { result ≡ is_own unit other }
+{
+    match (unit, other) {
+        (ActorId::Unit(unit), ActorId::Unit(other)) => match other.side {
+            Side::Ingress => other.device == unit.device && other.port == unit.port,
+            Side::Egress => false,
+        },
+        _ => false,
+    }
+}
+
+/// What comes by a link of a sort.
+fn entrance(sort: Sort, channel: u32, own: bool) -> Entrance
+    ensures { result ≡ entrance sort channel own }
+{
+    match sort {
+        Sort::FromHost => Entrance::Host,
+        Sort::Cable => Entrance::Cable(channel),
+        Sort::Crossbar => Entrance::Crossbar { channel, own },
+        Sort::Init => Entrance::Init,
+        Sort::Poll => Entrance::Poll,
+        _ => Entrance::Other,
+    }
+}
+
+/// The device of a unit.
+pub fn device_of(actor: ActorId) -> u32
+    ensures { result ≡ device_of actor }
+{
+    match actor {
+        ActorId::Unit(unit) => unit.device,
+        _ => 0,
+    }
+}
+
+/// What comes to a unit by each choice.
+#[tactic(auto, using(crate::proofs::Channels::entrances_small))]
+fn list_entrances(alloc: Global, net: &Net, actor: u32) -> Result<Vec<Entrance>, AllocError>
+    requires actor { actor < length net.now.actors }
+    requires unit { IsSome (side_of (actor_of net.now actor)) }
+    ensures entrances { IfOk result (λ entrances. entrances.items ≡ entrances_of net.now actor) }
+    ensures small { IfOk result (λ entrances. All IsSmall entrances.items) }
+{
+    let channels = list_channels(alloc, net, actor)?;
+    let unit = net.actor(actor);
+    let links = net.links_into(actor);
+    let mut entrances = Vec::new(alloc);
+    for choice in 0..links.len() {
+        let link = net.link(links[choice]);
+        let place = place_in(channels.as_slice(), choice as u32) as u32;
+        let own = is_own(unit, net.actor(link.from));
+        entrances.push(entrance(link.sort, place, own))?;
+    }
+    Ok(entrances)
+}
+
+/// The outgoing links of a unit, by their numbers.
+fn list_exits(alloc: Global, net: &Net, actor: u32) -> Result<Vec<Exit>, AllocError>
+    requires { actor < length net.now.actors }
+    ensures exits { IfOk result (λ exits. exits.items ≡ exits_of net.now actor) }
+    ensures few { IfOk result (λ exits. length exits.items < 2 ^ 32) }
+{
+    let mut exits = Vec::new(alloc);
+    for number in net.links_from(actor) {
+        let link = net.link(*number);
+        exits.push(Exit {
+            sort: link.sort,
+            to: net.actor(link.to),
+        })?;
+    }
+    Ok(exits)
+}
+
+/// The next port of a device to each host.
+pub fn list_ports(
+    alloc: Global,
+    net: &Net,
+    routes: &Routes,
+    device: u32,
+) -> Result<Vec<Option<u8>>, AllocError>
+    requires device { device < length net.now.parts.devices }
+    requires routes { IsRoutesOf net.now routes.now }
+    ensures { IfOk result (λ ports. ports.items ≡ ports_of net.now device) }
+{
+    let mut ports = Vec::new(alloc);
+    for host in 0..net.parts().hosts.len() {
+        ports.push(routes.next_port(device, host as u32))?;
+    }
+    Ok(ports)
+}
+
+/// The links of a unit, with the next ports to hosts.
+pub fn make_wires(
+    alloc: Global,
+    net: &Net,
+    actor: u32,
+    ports: Vec<Option<u8>>,
+    width: Width,
+) -> Result<Wires, AllocError>
+    requires actor { actor < length net.now.actors }
+    requires unit { IsSome (side_of (actor_of net.now actor)) }
+    ensures { IfOk result (λ wires. wires ≡ wires_of net.now actor ports.items width.bits) }
+{
+    let entrances = list_entrances(alloc, net, actor)?;
+    let exits = list_exits(alloc, net, actor)?;
+    Ok(Wires {
+        device: device_of(net.actor(actor)),
+        entrances,
+        exits,
+        ports,
+        width,
+    })
+}

@@ -1,0 +1,165 @@
+// The messages that a unit puts.
+ghost use Rattle.std.specs.Prelude.{◌≡◌, ◌+◌, ◌≤◌, ◌<◌, ◌^◌, ◌++◌, ◌∷◌, ℕ, [], length, cond, true};
+ghost use Rattle.std.specs.List.{All};
+ghost use Rattle.sl_wire.specs.declared.message.Msg.TheVariants.{Host, Dump};
+ghost use Rattle.sl_unit.specs.Wires.{outs};
+ghost use Rattle.sl_unit.specs.Step.{send_all, plain_frame};
+ghost use Rattle.sl_unit.specs.Notes.{message_of};
+ghost use Rattle.sl_unit.specs.Registers.{dump_of};
+ghost use Rattle.sl_unit.specs.Room.{registers_of};
+
+use crate::registers::Registers;
+use crate::wires::{Exit, Way};
+use sl_ids::{Wid, Width};
+use sl_machine::Outputs;
+use sl_net::{Bytes, Packet, Sort};
+use sl_saves::View;
+use sl_wire::{Header, Kind, Msg, encode};
+
+/// A message that can go on several links: a data packet and a probe with their stamps, and a
+/// notice.
+#[derive(Clone, Copy)]
+pub enum Note {
+    Data(u64, Packet),
+    Probe(u64),
+    Notice,
+}
+
+impl Note {
+    fn message(self) -> Msg
+        ensures { result ≡ message_of self }
+    {
+        match self {
+            Note::Data(stamp, packet) => Msg::Data(stamp, packet),
+            Note::Probe(stamp) => Msg::Probe(stamp),
+            Note::Notice => Msg::Notice,
+        }
+    }
+}
+
+/// Puts the message on an outgoing link where it goes there.
+fn put_if(out: &mut Outputs<Msg>, goes: bool, link: u32, note: Note)
+    requires room { goes ≡ true → length out.old.items < out.old.room }
+    ensures items { out.new.items ≡ out.old.items ++ cond goes ((link, message_of note) ∷ []) [] }
+    ensures room { out.new.room ≡ out.old.room }
+{
+    if goes {
+        out.put(link, note.message());
+    }
+}
+
+/// Puts the message on each outgoing link of a way.
+pub fn put_on(exits: &[Exit], way: Way, note: Note, out: &mut Outputs<Msg>)
+    requires few { length exits.now < 2 ^ 32 }
+    requires room { length out.old.items + length (outs way exits.now) ≤ out.old.room }
+    ensures items { out.new.items ≡ out.old.items ++ send_all (message_of note) (outs way exits.now) }
+    ensures room { out.new.room ≡ out.old.room }
+{
+    for i in 0..exits.len() {
+        put_if(out, exits[i].leads(way), i as u32, note);
+    }
+}
+
+/// Writes the plain frame of a packet over a frame.
+fn write_plain(frame: &mut Bytes, width: Width, packet: &Packet)
+    requires { length frame.old ≡ 24 }
+    ensures { frame.new ≡ plain_frame packet.now }
+{
+    let header = Header {
+        kind: Kind::Plain,
+        id: Wid { raw: 0 },
+        channel: 0,
+    };
+    let plain = encode(width, &header, packet);
+    frame.items.as_mut_slice().copy_from_slice(&plain.bytes);
+}
+
+/// Puts a packet, as a plain frame, on an outgoing link where it goes there.
+fn put_frame_if(
+    out: &mut Outputs<Msg>,
+    goes: bool,
+    link: u32,
+    width: Width,
+    packet: &Packet,
+    frames: &mut Vec<Bytes>,
+)
+    requires room { goes ≡ true → length out.old.items < out.old.room }
+    requires some { goes ≡ true → 0 < length frames.old.items }
+    requires sized { All (λ frame. length frame ≡ 24) frames.old.items }
+    ensures items { out.new.items ≡ out.old.items ++ cond goes ((link, Host (plain_frame packet.now)) ∷ []) [] }
+    ensures room { out.new.room ≡ out.old.room }
+    ensures left { length frames.new.items + cond goes 1 0 ≡ length frames.old.items }
+    ensures still { All (λ frame. length frame ≡ 24) frames.new.items }
+{
+    if goes {
+        if let Some(mut frame) = frames.pop() {
+            write_plain(&mut frame, width, packet);
+            out.put(link, Msg::Host(frame));
+        }
+    }
+}
+
+/// Puts a packet, as a plain frame, on each link to a host.
+pub fn put_frames(
+    exits: &[Exit],
+    width: Width,
+    packet: &Packet,
+    frames: &mut Vec<Bytes>,
+    out: &mut Outputs<Msg>,
+)
+    requires few { length exits.now < 2 ^ 32 }
+    requires room { length out.old.items + length (outs (Way.All Sort.ToHost) exits.now) ≤ out.old.room }
+    requires frames { length frames.old.items ≡ length (outs (Way.All Sort.ToHost) exits.now) }
+    requires sized { All (λ frame. length frame ≡ 24) frames.old.items }
+    ensures items { out.new.items ≡ out.old.items ++ send_all (Host (plain_frame packet.now)) (outs (Way.All Sort.ToHost) exits.now) }
+    ensures room { out.new.room ≡ out.old.room }
+    ensures still { All (λ frame. length frame ≡ 24) frames.new.items }
+{
+    for i in 0..exits.len() {
+        let goes = exits[i].leads(Way::All(Sort::ToHost));
+        put_frame_if(out, goes, i as u32, width, packet, frames);
+    }
+}
+
+/// Puts a dump of the registers on an outgoing link where it goes there.
+fn put_dump_if(
+    out: &mut Outputs<Msg>,
+    goes: bool,
+    link: u32,
+    registers: &Registers,
+    views: &mut Vec<View>,
+)
+    requires room { goes ≡ true → length out.old.items < out.old.room }
+    requires some { goes ≡ true → 0 < length views.old.items }
+    requires sized { All (λ view. length view.slots ≡ (registers_of registers.now).saved.size) views.old.items }
+    ensures items { out.new.items ≡ out.old.items ++ cond goes ((link, Dump (dump_of (registers_of registers.now))) ∷ []) [] }
+    ensures room { out.new.room ≡ out.old.room }
+    ensures left { length views.new.items + cond goes 1 0 ≡ length views.old.items }
+    ensures still { All (λ view. length view.slots ≡ (registers_of registers.now).saved.size) views.new.items }
+{
+    if goes {
+        if let Some(view) = views.pop() {
+            out.put(link, Msg::Dump(registers.dump_in(view)));
+        }
+    }
+}
+
+/// Puts a dump of the registers on each link of dumps.
+pub fn put_dumps(
+    exits: &[Exit],
+    registers: &Registers,
+    views: &mut Vec<View>,
+    out: &mut Outputs<Msg>,
+)
+    requires few { length exits.now < 2 ^ 32 }
+    requires room { length out.old.items + length (outs (Way.All Sort.Dump) exits.now) ≤ out.old.room }
+    requires views { length views.old.items ≡ length (outs (Way.All Sort.Dump) exits.now) }
+    requires sized { All (λ view. length view.slots ≡ (registers_of registers.now).saved.size) views.old.items }
+    ensures items { out.new.items ≡ out.old.items ++ send_all (Dump (dump_of (registers_of registers.now))) (outs (Way.All Sort.Dump) exits.now) }
+    ensures room { out.new.room ≡ out.old.room }
+{
+    for i in 0..exits.len() {
+        let goes = exits[i].leads(Way::All(Sort::Dump));
+        put_dump_if(out, goes, i as u32, registers, views);
+    }
+}

@@ -1,0 +1,207 @@
+// Units as machines.
+ghost use Rattle.std.specs.Prelude.{◌≡◌, ◌<◌, ◌≤◌, ℕ, Some, None, IfOk, length, slice_index};
+ghost use Rattle.std.specs.List.{All};
+ghost use Rattle.sl_unit.specs.Room.{HasRoom};
+
+use crate::make::{device_of, list_ports, make_wires};
+use crate::registers::Registers;
+use crate::room::{make_frames, make_views};
+use crate::step::{
+    take_cable_data, take_cable_probe, take_crossbar_data, take_crossbar_probe, take_frame,
+    take_init, take_poll,
+};
+use crate::wires::{Entrance, Wires};
+use sl_ids::Width;
+use sl_machine::{Machine, Memory, Outputs};
+use sl_net::{Bytes, Net, Side, Snapshot};
+use sl_route::Routes;
+use sl_saves::View;
+use sl_wire::{Msg, PlainDump};
+use std::alloc::Global;
+
+/// A processing unit. An ingress unit handles what comes in from the cable or the host of its
+/// port, an egress unit what goes out to it.
+#[derive(Drop)]
+pub struct Unit {
+    wires: Wires,
+    registers: Registers,
+    frames: Vec<Bytes>,
+    views: Vec<View>,
+    prepared: Option<u32>,
+    ghost sized: { All (λ frame. length frame ≡ 24) frames.items },
+    ghost ready: { (c : ℕ) → prepared ≡ Some c → HasRoom wires registers frames.items views.items c },
+}
+
+/// What a unit counted: data packets and their bytes, and the packets that it dropped since they
+/// were no plain frames, had no hop left, or had no route.
+#[derive(Clone, Copy, Debug, PartialEq, Eq)]
+pub struct UnitCounts {
+    pub packets: u64,
+    pub bytes: u64,
+    pub bad: u64,
+    pub expired: u64,
+    pub noroute: u64,
+}
+
+impl Unit {
+    ghost use Rattle.sl_net.specs.Net.{units};
+    ghost use Rattle.sl_route.specs.Routes.{IsRoutesOf};
+    ghost use Rattle.sl_unit.specs.Registers.{dump_of};
+    ghost use Rattle.sl_unit.specs.Made.{IsRanged, side_of, unit_at, first_state, ingress_state, egress_state};
+    ghost use Rattle.sl_unit.specs.Units.{unit_state, unit_ready, shown_counts};
+
+    /// A new unit with these links.
+    fn make(alloc: Global, wires: Wires, snapshot: &Snapshot) -> Result<Unit, Memory>
+        requires { IsRanged snapshot.now }
+        ensures state { IfOk result (λ unit. unit_state unit ≡ first_state wires snapshot.now) }
+        ensures ready { IfOk result (λ unit. unit_ready unit ≡ None) }
+    {
+        let registers = Registers::new(alloc, snapshot.window, snapshot.ring)?;
+        Ok(Unit {
+            wires,
+            registers,
+            frames: Vec::new(alloc),
+            views: Vec::new(alloc),
+            prepared: None,
+        })
+    }
+
+    /// A new ingress unit: that at a place among the units of a net, with the net's routes.
+    pub fn ingress(
+        alloc: Global,
+        net: &Net,
+        routes: &Routes,
+        unit: u32,
+        snapshot: &Snapshot,
+    ) -> Result<Unit, Memory>
+        requires unit { unit < length (units net.now) }
+        requires side { side_of (unit_at net.now unit) ≡ Some Side.Ingress }
+        requires routes { IsRoutesOf net.now routes.now }
+        requires snapshot { IsRanged snapshot.now }
+        ensures state { IfOk result (λ made. unit_state made ≡ ingress_state net.now (slice_index (units net.now) unit) snapshot.now) }
+        ensures ready { IfOk result (λ made. unit_ready made ≡ None) }
+    {
+        let actor = net.unit_actor(unit);
+        let device = device_of(net.actor(actor));
+        let width = Width {
+            bits: snapshot.width,
+        };
+        let ports = list_ports(alloc, net, routes, device).map_err(|_| Memory)?;
+        let wires = make_wires(alloc, net, actor, ports, width).map_err(|_| Memory)?;
+        Unit::make(alloc, wires, snapshot)
+    }
+
+    /// A new egress unit: that at a place among the units of a net.
+    pub fn egress(alloc: Global, net: &Net, unit: u32, snapshot: &Snapshot) -> Result<Unit, Memory>
+        requires unit { unit < length (units net.now) }
+        requires side { side_of (unit_at net.now unit) ≡ Some Side.Egress }
+        requires snapshot { IsRanged snapshot.now }
+        ensures state { IfOk result (λ made. unit_state made ≡ egress_state net.now (slice_index (units net.now) unit) snapshot.now) }
+        ensures ready { IfOk result (λ made. unit_ready made ≡ None) }
+    {
+        let actor = net.unit_actor(unit);
+        let width = Width {
+            bits: snapshot.width,
+        };
+        let wires = make_wires(alloc, net, actor, Vec::new(alloc), width).map_err(|_| Memory)?;
+        Unit::make(alloc, wires, snapshot)
+    }
+
+    /// What the unit counted so far.
+    pub fn counts(&self) -> UnitCounts
+        ensures { result ≡ shown_counts (unit_state self.now).registers }
+    {
+        let registers = &self.registers;
+        UnitCounts {
+            packets: registers.packets,
+            bytes: registers.bytes,
+            bad: registers.bad,
+            expired: registers.expired,
+            noroute: registers.noroute,
+        }
+    }
+
+    /// All registers.
+    pub fn dump(&self) -> Result<PlainDump, Memory>
+        ensures { IfOk result (λ dump. dump ≡ dump_of (unit_state self.now).registers) }
+    {
+        self.registers.dump()
+    }
+}
+
+#[cfg(test)]
+impl Unit {
+    ghost use Rattle.sl_unit.specs.Units.{unit_counts};
+
+    /// How many incoming links it has.
+    pub fn ins(&self) -> usize
+        ensures { result ≡ (unit_counts self.now).ins }
+    {
+        self.wires.entrance_count()
+    }
+
+    /// How many outgoing links it has.
+    pub fn outs(&self) -> u32
+        ensures { result ≡ (unit_counts self.now).outs }
+    {
+        self.wires.exits().len() as u32
+    }
+}
+
+impl Machine for Unit {
+    ghost use Rattle.sl_unit.specs.Step.{UnitState, unit_rules};
+    ghost use Rattle.sl_unit.specs.Units.{unit_state, unit_counts, unit_ready};
+
+    type Msg = Msg;
+
+    ghost State = { UnitState };
+
+    ghost state = { unit_state };
+
+    ghost rules = { unit_rules };
+
+    ghost counts = { unit_counts };
+
+    ghost ready_for = { unit_ready };
+
+    fn ready(&mut self, choice: u32) -> Result<(), Memory> {
+        self.prepared = None;
+        self.registers.make_room()?;
+        make_frames(&self.wires, &mut self.frames)?;
+        if let Entrance::Poll = self.wires.entrance(choice) {
+            make_views(&self.wires, &self.registers, &mut self.views)?;
+        }
+        self.prepared = Some(choice);
+        Ok(())
+    }
+
+    fn take(&mut self, link: u32, m: Msg, out: &mut Outputs<Msg>) {
+        self.prepared = None;
+        let wires = &self.wires;
+        let registers = &mut self.registers;
+        match (wires.entrance(link), m) {
+            (Entrance::Host, Msg::Host(bytes)) => take_frame(wires, registers, &bytes, out),
+            (Entrance::Cable(place), Msg::Data(stamp, packet)) => {
+                take_cable_data(wires, registers, place, stamp, packet, out);
+            }
+            (Entrance::Cable(place), Msg::Probe(stamp)) => {
+                take_cable_probe(wires, registers, place, stamp, out);
+            }
+            (Entrance::Crossbar { channel, own }, Msg::Data(stamp, packet)) => {
+                let frames = &mut self.frames;
+                take_crossbar_data(wires, registers, channel, own, stamp, &packet, frames, out);
+            }
+            (Entrance::Crossbar { channel, own }, Msg::Probe(stamp)) => {
+                take_crossbar_probe(wires, registers, channel, own, stamp, out);
+            }
+            (Entrance::Init, Msg::Init(stamp)) => take_init(wires, registers, stamp, out),
+            (Entrance::Poll, Msg::Poll) => take_poll(wires, registers, &mut self.views, out),
+            _ => {}
+        }
+    }
+
+    fn act(&mut self, _action: u32, _out: &mut Outputs<Msg>) -> bool {
+        self.prepared = None;
+        false
+    }
+}

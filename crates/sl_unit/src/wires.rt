@@ -1,0 +1,136 @@
+// What a unit knows of its links.
+ghost use Rattle.std.specs.Prelude.{◌≡◌, ◌<◌, ◌^◌, ℕ, length};
+ghost use Rattle.sl_net.specs.Net.{same_actor, egress};
+ghost use Rattle.sl_unit.specs.Wires.{IsSmall, entrance_at, leads, port_to};
+
+use sl_ids::Width;
+use sl_net::{ActorId, Side, Sort};
+use std::marker::Model;
+
+/// What comes by a choice. A data channel has its place among the unit's data channels.
+#[derive(Clone, Copy)]
+pub enum Entrance {
+    /// Frames of the host.
+    Host,
+    /// Data packets and probes of the cable.
+    Cable(u32),
+    /// Data packets and probes of an ingress unit of the device, maybe of the unit's own port.
+    Crossbar { channel: u32, own: bool },
+    /// Initiations.
+    Init,
+    /// Polls.
+    Poll,
+    /// Nothing that a unit takes.
+    Other,
+}
+
+/// An outgoing link: its sort, and the actor to which it leads.
+#[derive(Clone, Copy)]
+pub struct Exit {
+    pub sort: Sort,
+    pub to: ActorId,
+}
+
+/// The outgoing links on which a message goes: all of a sort, or the crossbar link to the egress
+/// unit of a port.
+#[derive(Clone, Copy)]
+pub enum Way {
+    All(Sort),
+    Toward { device: u32, port: u32 },
+}
+
+impl Exit {
+    /// Whether the actor is the egress unit of the port.
+    fn reaches(self, device: u32, port: u32) -> bool
+        ensures { result ≡ same_actor self.to (egress device port) }
+    {
+        match self.to {
+            ActorId::Unit(unit) => match unit.side {
+                Side::Ingress => false,
+                Side::Egress => unit.device == device && unit.port == port,
+            },
+            _ => false,
+        }
+    }
+
+    /// Whether a message goes on this link.
+    pub fn leads(self, way: Way) -> bool
+        ensures { result ≡ leads way self }
+    {
+        match way {
+            Way::All(sort) => self.sort.is(sort),
+            Way::Toward { device, port } => {
+                self.sort.is(Sort::Crossbar) && self.reaches(device, port)
+            }
+        }
+    }
+}
+
+/// The links of a unit: what comes by each choice, the outgoing links by their numbers, the next
+/// port to each host, and the width of wrapped ids.
+#[derive(Drop)]
+pub struct Wires {
+    pub device: u32,
+    pub entrances: Vec<Entrance>,
+    pub exits: Vec<Exit>,
+    pub ports: Vec<Option<u8>>,
+    pub width: Width,
+}
+
+impl Model for Wires {
+    ghost use Rattle.sl_unit.specs.Wires.{Wires, IsUsable};
+
+    ghost Value = { Wires };
+
+    ghost view = { λ w. record { device = w.device; entrances = w.entrances.items; exits = w.exits.items; ports = w.ports.items; bits = w.width.bits } };
+
+    ghost invariant = { λ w. IsUsable (record { device = w.device; entrances = w.entrances.items; exits = w.exits.items; ports = w.ports.items; bits = w.width.bits }) };
+}
+
+impl Wires {
+    /// What comes by a choice.
+    pub fn entrance(&self, choice: u32) -> Entrance
+        requires { choice < length self.now.entrances }
+        ensures entrance { result ≡ entrance_at self.now choice }
+        ensures small { IsSmall result }
+    {
+        self.entrances[choice as usize]
+    }
+
+    /// How many choices there are.
+    #[cfg(test)]
+    pub fn entrance_count(&self) -> usize
+        ensures { result ≡ length self.now.entrances }
+    {
+        self.entrances.len()
+    }
+
+    /// The outgoing links.
+    pub fn exits(&self) -> &[Exit]
+        ensures now { result.now ≡ self.now.exits }
+        ensures few { length result.now < 2 ^ 32 }
+    {
+        self.exits.as_slice()
+    }
+
+    /// The device's number.
+    pub fn device(&self) -> u32
+        ensures { result ≡ self.now.device }
+    {
+        self.device
+    }
+
+    /// The width of wrapped ids.
+    pub fn width(&self) -> Width
+        ensures { result.bits ≡ self.now.bits }
+    {
+        self.width
+    }
+
+    /// The next port to a host.
+    pub fn port_to(&self, host: u16) -> Option<u8>
+        ensures { result ≡ port_to self.now host }
+    {
+        *self.ports.get(host as usize)?
+    }
+}

@@ -1,0 +1,101 @@
+// The machine of a control plane.
+ghost use Rattle.std.specs.Prelude.{◌≡◌, ℕ, None};
+
+use crate::known::Known;
+use crate::units::{answer_all, ask_all, is_swept, put_inits};
+use sl_machine::{Machine, Memory, Outputs};
+use sl_saves::Saved;
+use sl_wire::Msg;
+use std::marker::Model;
+use std::mem;
+
+/// The choice by which a control plane takes Begins.
+const BEGIN: u32 = 0;
+
+/// A control plane. It passes each Begin on to the ingress units of its device, polls a unit that
+/// has news, and reports to the observer what the unit's registers tell.
+#[derive(Drop)]
+pub struct Control {
+    links: u32,
+    outs: u32,
+    inits: Vec<u32>,
+    done: u32,
+    ring: u16,
+    units: Vec<Known>,
+    rows: Vec<(u64, Saved)>,
+    prepared: Option<u32>,
+}
+
+impl Model for Control {
+    ghost use Rattle.std.specs.Prelude.{◌≡◌, [], Option, Some};
+    ghost use Rattle.std.specs.Vec.{vec_capacity};
+    ghost use Rattle.sl_control.specs.Control.{ControlView};
+    ghost use Rattle.sl_control.specs.Joined.{IsJoined, HasRoom};
+
+    ghost Value = { ControlView };
+
+    ghost view = { λ a. record {
+      state = record { wires = record { begin = 0; sweep = a.links; inits = a.inits.items; done = a.done; ring = a.ring }; units = a.units.items };
+      counts = record { ins = a.links; outs = a.outs; actions = 1 };
+      ready = a.prepared;
+    } };
+
+    ghost invariant = { λ a. IsJoined a.outs a.inits.items a.done a.units.items × HasRoom a.ring a.prepared a.rows.items (vec_capacity a.rows) };
+}
+
+impl Machine for Control {
+    ghost use Rattle.sl_control.specs.Control.{ControlState, control_rules};
+
+    type Msg = Msg;
+
+    ghost State = { ControlState };
+
+    ghost state = { λ c. c.state };
+
+    ghost rules = { control_rules };
+
+    ghost counts = { λ c. c.counts };
+
+    ghost ready_for = { λ c. c.ready };
+
+    /// Makes room for the rows of a dump.
+    fn ready(&mut self, choice: u32) -> Result<(), Memory> {
+        self.prepared = None;
+        if self.rows.reserve(self.ring as usize).is_err() {
+            return Err(Memory);
+        }
+        self.prepared = Some(choice);
+        Ok(())
+    }
+
+    fn take(&mut self, link: u32, m: Msg, out: &mut Outputs<Msg>) {
+        self.prepared = None;
+        match m {
+            Msg::Begin(number) => put_inits(&self.inits, link == BEGIN, number, out),
+            Msg::Notice => ask_all(&mut self.units, Some(link), out),
+            Msg::Dump(dump) => {
+                let empty = Vec::new(*self.rows.allocator());
+                let rows = mem::replace(&mut self.rows, empty);
+                answer_all(
+                    &mut self.units,
+                    self.ring,
+                    self.done,
+                    link,
+                    &dump,
+                    rows,
+                    out,
+                );
+            }
+            _ => {}
+        }
+    }
+
+    fn act(&mut self, action: u32, out: &mut Outputs<Msg>) -> bool {
+        self.prepared = None;
+        if action != self.links || is_swept(&self.units) {
+            return false;
+        }
+        ask_all(&mut self.units, None, out);
+        true
+    }
+}

@@ -1,0 +1,10 @@
+// Control planes: they start snapshots in their devices, poll the units that have news, and
+// report to the observer what each unit saved.
+#![tactic(auto)]
+
+mod control;
+mod known;
+mod rows;
+mod units;
+
+pub use control::Control;

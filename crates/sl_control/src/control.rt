@@ -1,11 +1,15 @@
 // The machine of a control plane.
-ghost use Rattle.std.specs.Prelude.{◌≡◌, ℕ, None};
+ghost use Rattle.std.specs.Prelude.{◌≡◌, ◌<◌, ℕ, None, IfOk, length};
+ghost use Rattle.sl_control.specs.Wires.{control_of, first_control, control_counts};
 
 use crate::known::Known;
 use crate::units::{answer_all, ask_all, is_swept, put_inits};
+use crate::wires::{control_of, first_of, outs_of, units_of};
 use sl_machine::{Machine, Memory, Outputs};
+use sl_net::{Net, Snapshot, Sort, nets_are_wired};
 use sl_saves::Saved;
 use sl_wire::Msg;
+use std::alloc::{AllocError, Global};
 use std::marker::Model;
 use std::mem;
 
@@ -41,6 +45,48 @@ impl Model for Control {
     } };
 
     ghost invariant = { λ a. IsJoined a.outs a.inits.items a.done a.units.items × HasRoom a.ring a.prepared a.rows.items (vec_capacity a.rows) };
+}
+
+impl Control {
+    /// The control plane of a device, by its place in the net.
+    pub fn new(
+        alloc: Global,
+        net: &Net,
+        device: u32,
+        snapshot: &Snapshot,
+    ) -> Result<Control, Memory>
+        requires { device < length net.now.parts.devices }
+        ensures state { IfOk result (λ c. c.state ≡ first_control net.now (control_of net.now device) snapshot.now.ring) }
+        ensures counts { IfOk result (λ c. c.counts ≡ control_counts net.now (control_of net.now device)) }
+        ensures ready { IfOk result (λ c. c.ready ≡ None) }
+    {
+        match Control::make(alloc, net, control_of(net, device), snapshot.ring) {
+            Ok(control) => Ok(control),
+            Err(_) => Err(Memory),
+        }
+    }
+
+    /// The control plane that an actor is.
+    fn make(alloc: Global, net: &Net, actor: u32, ring: u16) -> Result<Control, AllocError>
+        requires { actor < length net.now.actors }
+        ensures state { IfOk result (λ c. c.state ≡ first_control net.now actor ring) }
+        ensures counts { IfOk result (λ c. c.counts ≡ control_counts net.now actor) }
+        ensures ready { IfOk result (λ c. c.ready ≡ None) }
+    {
+        let _parts = net.parts();
+        nets_are_wired();
+        let dones = outs_of(alloc, net, actor, Sort::Done)?;
+        Ok(Control {
+            links: net.links_into(actor).len() as u32,
+            outs: net.links_from(actor).len() as u32,
+            inits: outs_of(alloc, net, actor, Sort::Init)?,
+            done: first_of(&dones),
+            ring,
+            units: units_of(alloc, net, actor)?,
+            rows: Vec::new(alloc),
+            prepared: None,
+        })
+    }
 }
 
 impl Machine for Control {

@@ -6,5 +6,6 @@ mod control;
 mod known;
 mod rows;
 mod units;
+mod wires;
 
 pub use control::Control;

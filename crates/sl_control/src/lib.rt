@@ -5,6 +5,8 @@
 mod control;
 mod known;
 mod rows;
+#[cfg(test)]
+mod tests;
 mod units;
 mod wires;
 

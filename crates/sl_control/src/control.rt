@@ -4,9 +4,9 @@ ghost use Rattle.sl_control.specs.Wires.{control_of, first_control, control_coun
 
 use crate::known::Known;
 use crate::units::{answer_all, ask_all, is_swept, put_inits};
-use crate::wires::{control_of, first_of, outs_of, units_of};
+use crate::wires::{control_of, done_of, inits_of, units_of};
 use sl_machine::{Machine, Memory, Outputs};
-use sl_net::{Net, Snapshot, Sort, nets_are_wired};
+use sl_net::{Net, Snapshot, nets_are_wired};
 use sl_saves::Saved;
 use sl_wire::Msg;
 use std::alloc::{AllocError, Global};
@@ -73,14 +73,14 @@ impl Control {
         ensures counts { IfOk result (λ c. c.counts ≡ control_counts net.now actor) }
         ensures ready { IfOk result (λ c. c.ready ≡ None) }
     {
+        // A net is that of its parts, so it is wired as such nets are.
         let _parts = net.parts();
         nets_are_wired();
-        let dones = outs_of(alloc, net, actor, Sort::Done)?;
         Ok(Control {
             links: net.links_into(actor).len() as u32,
             outs: net.links_from(actor).len() as u32,
-            inits: outs_of(alloc, net, actor, Sort::Init)?,
-            done: first_of(&dones),
+            inits: inits_of(alloc, net, actor)?,
+            done: done_of(alloc, net, actor)?,
             ring,
             units: units_of(alloc, net, actor)?,
             rows: Vec::new(alloc),

@@ -11,3 +11,4 @@ mod units;
 mod wires;
 
 pub use control::Control;
+pub use known::{Known, UnitWires};

@@ -178,6 +178,13 @@ fn made(alloc: Global, net: &Net) -> Result<Control, Memory>
     Control::new(alloc, net, 0, &snapshot)
 }
 
+/// Gives a value back that may go to another thread.
+fn sent<T: Send>(value: T) -> T
+    ensures { result ≡ value }
+{
+    value
+}
+
 #[test]
 fn turns_of_a_control_plane(rt: HostRuntime) -> Result<(), Fail> {
     let alloc = rt.alloc();
@@ -185,7 +192,7 @@ fn turns_of_a_control_plane(rt: HostRuntime) -> Result<(), Fail> {
     if net.parts().devices.is_empty() {
         return Err("no device".into());
     }
-    let mut control = made(alloc, &net)?;
+    let mut control = sent(made(alloc, &net)?);
     assert_eq!(rt; first_wrong(alloc, &net, &mut control, &TURNS)?, None);
     Ok(())
 }

@@ -47,9 +47,9 @@ pub fn put_inits(outs: &[u32], passes: bool, number: u64, out: &mut Outputs<Msg>
 fn find_dump(units: &[Known], choice: u32) -> Option<usize>
     ensures { MatchOption result (AllByRecursion (λ r. r.wires.dump ≡ choice → ⊥) units.now) (λ i. IsDumpOf choice i units.now) }
 {
-    for i in 0..units.len() {
-        if units[i].wires.dump == choice {
-            return Some(i);
+    for place in 0..units.len() {
+        if units[place].wires.dump == choice {
+            return Some(place);
         }
     }
     None

@@ -42,6 +42,7 @@ pub fn control_of(net: &Net, device: u32) -> u32
     ensures within { result < length net.now.actors }
     ensures control { actor_of net.now result ≡ ActorId.Control device }
 {
+    // A net is that of its parts, and these have the device.
     let _parts = net.parts();
     place_of(net.actors(), device) as u32
 }
@@ -67,7 +68,7 @@ fn add_out(outs: &mut Vec<u32>, net: &Net, link: u32, passes: bool) -> Result<()
 }
 
 /// The places of an actor's links of a sort among its outgoing links.
-pub fn outs_of(alloc: Global, net: &Net, actor: u32, sort: Sort) -> Result<Vec<u32>, AllocError>
+fn outs_of(alloc: Global, net: &Net, actor: u32, sort: Sort) -> Result<Vec<u32>, AllocError>
     requires { actor < length net.now.actors }
     ensures { IfOk result (λ outs. outs.items ≡ outs_of net.now actor sort) }
 {
@@ -76,6 +77,22 @@ pub fn outs_of(alloc: Global, net: &Net, actor: u32, sort: Sort) -> Result<Vec<u
         add_out(&mut outs, net, *link, net.link(*link).sort.is(sort))?;
     }
     Ok(outs)
+}
+
+/// The places of the links for initiations, ports ascending.
+pub fn inits_of(alloc: Global, net: &Net, actor: u32) -> Result<Vec<u32>, AllocError>
+    requires { actor < length net.now.actors }
+    ensures { IfOk result (λ outs. outs.items ≡ outs_of net.now actor Sort.Init) }
+{
+    outs_of(alloc, net, actor, Sort::Init)
+}
+
+/// The place of the link for Dones, or 0 where there is none.
+pub fn done_of(alloc: Global, net: &Net, actor: u32) -> Result<u32, AllocError>
+    requires { actor < length net.now.actors }
+    ensures { IfOk result (λ out. out ≡ slice_index_or (outs_of net.now actor Sort.Done) 0 0) }
+{
+    Ok(first_of(&outs_of(alloc, net, actor, Sort::Done)?))
 }
 
 /// Adds a number where it passes.
@@ -105,7 +122,7 @@ fn choices_of(alloc: Global, net: &Net, actor: u32, sort: Sort) -> Result<Vec<u3
 }
 
 /// The first number, or 0 where there is none.
-pub fn first_of(numbers: &[u32]) -> u32
+fn first_of(numbers: &[u32]) -> u32
     ensures { result ≡ slice_index_or numbers.now 0 0 }
 {
     match numbers.first() {

@@ -63,7 +63,7 @@ impl Known {
     }
 
     /// What a notice by this choice, or without one a sweep, does to it.
-    pub fn ask_by(&mut self, notice: Option<u32>, out: &mut Outputs<Msg>)
+    pub(crate) fn ask_by(&mut self, notice: Option<u32>, out: &mut Outputs<Msg>)
         requires { length out.old.items < out.old.room }
         ensures known { self.new ≡ ask_by notice self.old }
         ensures puts { out.new.items ≡ out.old.items ++ ask_puts notice self.old }
@@ -94,7 +94,7 @@ impl Known {
     }
 
     /// Reads the rows that a dump brings, and answers whether it can be read.
-    pub fn read(&self, ring: u16, dump: &PlainDump, rows: &mut Vec<(u64, Saved)>) -> bool
+    pub(crate) fn read(&self, ring: u16, dump: &PlainDump, rows: &mut Vec<(u64, Saved)>) -> bool
         requires empty { rows.old.items ≡ [] }
         requires room { ring ≤ vec_capacity rows.old }
         ensures read { result ≡ is_read ring dump.now self.now }
@@ -144,7 +144,7 @@ impl Known {
     }
 
     /// Reports the rows of a dump, and polls again where that was asked for.
-    pub fn answer(
+    pub(crate) fn answer(
         &mut self,
         done: u32,
         dump: &PlainDump,

@@ -40,34 +40,41 @@ fn example(alloc: Global) -> Result<Net, Fail> {
 }
 
 /// A view of three slots of a unit that went from 0 to a number in one step.
-fn view_at(alloc: Global, id: u16) -> Result<View, Memory> {
+fn view_at(alloc: Global, id: u32) -> Result<View, Memory> {
     let mut saves = ListSaves::new(alloc, 3, 3)?;
     saves.ready()?;
     if id >= 1 && id <= 3 {
-        saves.adopt(id, 5, 500);
+        saves.adopt(id as u16, 5, 500);
     }
     saves.view()
 }
 
-fn dump(alloc: Global, id: u16, cpu: u64, seen: u64) -> Result<Msg, Memory> {
-    Ok(Msg::Dump(PlainDump {
-        id: u64::from(id),
-        cpu,
-        last: [seen; 8],
-        view: view_at(alloc, id)?,
-    }))
-}
+const BEGIN: u32 = 0;
 
-fn message(alloc: Global, kind: u8, id: u16, cpu: u64, seen: u64) -> Result<Msg, Memory> {
+const NOTICE: u32 = 1;
+
+const DUMP: u32 = 2;
+
+const SWEEP: u32 = 3;
+
+/// A message of a kind: the number of a Begin, or the id of a dump with its last-seen id of the
+/// control plane and those of its channels.
+fn message(alloc: Global, kind: u32, id: u32, cpu: u32, seen: u32) -> Result<Msg, Memory> {
     match kind {
         BEGIN => Ok(Msg::Begin(u64::from(id))),
-        DUMP => dump(alloc, id, cpu, seen),
+        DUMP => Ok(Msg::Dump(PlainDump {
+            id: u64::from(id),
+            cpu: u64::from(cpu),
+            last: [u64::from(seen); 8],
+            view: view_at(alloc, id)?,
+        })),
         _ => Ok(Msg::Notice),
     }
 }
 
-/// A put in numbers: 100 and the number of an initiation, 1 for a poll; of a Done 1000 times the
-/// unit and 1, 100 times its rows, ten times its floor, and its first last-seen id.
+/// A message as a number below 10,000: 100 and the number of an initiation, 1 for a poll; of a
+/// Done 1000 times the unit and 1, 100 times its rows, ten times its floor, and its first
+/// last-seen id.
 fn coded(m: &Msg) -> u64 {
     match m {
         Msg::Init(number) => number.wrapping_add(100),
@@ -82,86 +89,101 @@ fn coded(m: &Msg) -> u64 {
     }
 }
 
-/// Stands for the puts of an action that is idle.
-const IDLE: (u32, u64) = (99, 99);
+/// The puts of a turn, five digits each: the link, and the message.
+fn all_coded(out: &Outputs<Msg>) -> u64 {
+    let mut code: u64 = 0;
+    for (link, m) in out.items() {
+        let put = u64::from(*link).wrapping_mul(10_000).wrapping_add(coded(m));
+        code = code.wrapping_mul(100_000).wrapping_add(put);
+    }
+    code
+}
 
-/// A turn of a control plane, and its puts in numbers.
+/// Stands for the puts of an action that is idle.
+const IDLE: u64 = 99_999;
+
+/// A turn of a control plane with so many incoming and outgoing links, and its puts as a number.
 fn turn(
     alloc: Global,
-    net: &Net,
     control: &mut Control,
+    links: u32,
+    outs: u32,
     choice: u32,
     m: Msg,
-) -> Result<Vec<(u32, u64)>, Fail>
-    requires device { 0 < length net.now.parts.devices }
-    requires counts { control.old.counts ≡ control_counts net.now (control_of net.now 0) }
+) -> Result<u64, Fail>
+    requires { control.old.counts ≡ record { ins = links; outs = outs; actions = 1 } }
     ensures { control.new.counts ≡ control.old.counts }
 {
-    let actor = control_of(net, 0);
-    let links = net.links_into(actor).len() as u32;
-    let mut out = Outputs::with_room(alloc, net.links_from(actor).len() as u32)?;
+    let mut out = Outputs::with_room(alloc, outs)?;
     if choice > links {
         return Err("no such choice".into());
     }
     control.ready(choice)?;
-    let mut puts = Vec::new(alloc);
     if choice < links {
         control.take(choice, m, &mut out);
     } else if !control.act(choice, &mut out) {
-        puts.push(IDLE)?;
+        return Ok(IDLE);
     }
-    for (link, m) in out.items() {
-        puts.push((*link, coded(m)))?;
-    }
-    Ok(puts)
+    Ok(all_coded(&out))
 }
 
-const NOTICE: u8 = 1;
-
-const DUMP: u8 = 2;
-
-const SWEEP: u8 = 3;
-
-const BEGIN: u8 = 0;
-
-/// Turns: the choice, the kind of message, then the number of a Begin, or the id of a dump with
-/// its last-seen id of the control plane and those of its channels; and the puts in numbers.
-static TURNS: [(u32, u8, u16, u64, u64, &[(u32, u64)]); 15] = [
-    (0, BEGIN, 1, 0, 0, &[(1, 101), (4, 101)]),
-    (3, BEGIN, 1, 0, 0, &[]),
-    (4, DUMP, 1, 1, 1, &[]),
-    (1, NOTICE, 0, 0, 0, &[(2, 1)]),
-    (2, NOTICE, 0, 0, 0, &[]),
-    (1, NOTICE, 0, 0, 0, &[]),
-    (2, DUMP, 1, 0, 9, &[(0, 1100), (2, 1)]),
-    (9, SWEEP, 0, 0, 0, &[(3, 1), (5, 1), (6, 1)]),
-    (9, SWEEP, 0, 0, 0, &[]),
-    (9, SWEEP, 0, 0, 0, &[IDLE]),
-    (4, DUMP, 2, 0, 1, &[(0, 2111), (3, 1)]),
-    (4, DUMP, 2, 0, 2, &[(0, 2122)]),
-    (4, DUMP, 3, 0, 3, &[]),
-    (6, DUMP, 4, 4, 0, &[]),
-    (9, SWEEP, 0, 0, 0, &[(3, 1)]),
+/// Turns: the choice, the kind of message, its three numbers, and the puts.
+static TURNS: [([u32; 5], u64); 15] = [
+    ([0, BEGIN, 1, 0, 0], 10101_40101),
+    ([3, BEGIN, 1, 0, 0], 0),
+    ([4, DUMP, 1, 1, 1], 0),
+    ([1, NOTICE, 0, 0, 0], 20001),
+    ([2, NOTICE, 0, 0, 0], 0),
+    ([1, NOTICE, 0, 0, 0], 0),
+    ([2, DUMP, 1, 0, 9], 01100_20001),
+    ([9, SWEEP, 0, 0, 0], 30001_50001_60001),
+    ([9, SWEEP, 0, 0, 0], 0),
+    ([9, SWEEP, 0, 0, 0], IDLE),
+    ([4, DUMP, 2, 0, 1], 02111_30001),
+    ([4, DUMP, 2, 0, 2], 02122),
+    ([4, DUMP, 3, 0, 3], 0),
+    ([6, DUMP, 4, 4, 0], 0),
+    ([9, SWEEP, 0, 0, 0], 30001),
 ];
+
+fn turns() -> &'static [([u32; 5], u64)] {
+    &TURNS
+}
 
 /// The place of the first turn that went wrong.
 fn first_wrong(
     alloc: Global,
-    net: &Net,
     control: &mut Control,
-    turns: &[(u32, u8, u16, u64, u64, &[(u32, u64)])],
+    links: u32,
+    outs: u32,
+    turns: &[([u32; 5], u64)],
 ) -> Result<Option<usize>, Fail>
-    requires device { 0 < length net.now.parts.devices }
-    requires counts { control.old.counts ≡ control_counts net.now (control_of net.now 0) }
+    requires { control.old.counts ≡ record { ins = links; outs = outs; actions = 1 } }
 {
-    for (i, (choice, kind, id, cpu, seen, puts)) in turns.iter().enumerate() {
-        let m = message(alloc, *kind, *id, *cpu, *seen)?;
-        let put = turn(alloc, net, control, *choice, m)?;
-        if put.as_slice() != *puts {
+    for i in 0..turns.len() {
+        let (event, puts) = turns[i];
+        let m = message(alloc, event[1], event[2], event[3], event[4])?;
+        if turn(alloc, control, links, outs, event[0], m)? != puts {
             return Ok(Some(i));
         }
     }
     Ok(None)
+}
+
+/// The same for the control plane of the first device of a net.
+fn first_wrong_of(
+    alloc: Global,
+    net: &Net,
+    control: &mut Control,
+    turns: &[([u32; 5], u64)],
+) -> Result<Option<usize>, Fail>
+    requires device { 0 < length net.now.parts.devices }
+    requires counts { control.old.counts ≡ control_counts net.now (control_of net.now 0) }
+{
+    let actor = control_of(net, 0);
+    let links = net.links_into(actor).len() as u32;
+    let outs = net.links_from(actor).len() as u32;
+    first_wrong(alloc, control, links, outs, turns)
 }
 
 fn made(alloc: Global, net: &Net) -> Result<Control, Memory>
@@ -193,6 +215,6 @@ fn turns_of_a_control_plane(rt: HostRuntime) -> Result<(), Fail> {
         return Err("no device".into());
     }
     let mut control = sent(made(alloc, &net)?);
-    assert_eq!(rt; first_wrong(alloc, &net, &mut control, &TURNS)?, None);
+    assert_eq!(rt; first_wrong_of(alloc, &net, &mut control, turns())?, None);
     Ok(())
 }

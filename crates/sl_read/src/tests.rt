@@ -1,6 +1,6 @@
 // Inputs that are accepted, and inputs that are refused.
 use crate::{InputFault, read_input};
-use sl_net::{CablePart, Drop1, Flow, Input, Line, PortRef, RawPart, Script1, Snapshot};
+use sl_net::{Flow, Input, Line, Snapshot};
 use std::alloc::Global;
 use std::test::Fail;
 
@@ -423,4 +423,3 @@ hex = \"00ff\"
 [script]
 entries = [\"pass 10000\", \"control b_1 sweep\", \"observer issue\"]
 ";
-

@@ -1,7 +1,6 @@
 // Calls over sources and sinks in memory: the worked rows, the longest input, words, and faults at
 // each call.
-use crate::rows;
-use crate::speedlight;
+use crate::{rows, speedlight};
 use sl_io::{MemorySink, MemorySource};
 use std::alloc::{AllocError, Global};
 use std::test::Fail;
@@ -55,7 +54,9 @@ fn is_done(alloc: Global, head: &str, input: &str, told: &str) -> Result<bool, F
     let left = call(alloc, &[word], input, (0, 0, 0))?;
     let refused = told.starts_with("speedlight: ");
     if refused {
-        return Ok(left.status == 3 && left.out.is_empty() && left.err.as_slice() == told.as_bytes());
+        return Ok(
+            left.status == 3 && left.out.is_empty() && left.err.as_slice() == told.as_bytes(),
+        );
     }
     let book = left.has_book == (word == "step");
     Ok(book && left.status == 0 && left.err.is_empty() && left.out.as_slice() == told.as_bytes())

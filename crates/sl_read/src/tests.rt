@@ -1,6 +1,6 @@
 // Inputs that are accepted, and inputs that are refused.
 use crate::{InputFault, read_input};
-use sl_net::{CablePart, Drop1, Flow, Input, Line, PortRef, RawPart, Script1, Snapshot};
+use sl_net::{Flow, Input, Line, Snapshot};
 use std::alloc::Global;
 use std::test::Fail;
 
@@ -423,55 +423,3 @@ hex = \"00ff\"
 [script]
 entries = [\"pass 10000\", \"control b_1 sweep\", \"observer issue\"]
 ";
-
-fn drops_of(input: &Input) -> &[Drop1] {
-    input.loss.drops.as_slice()
-}
-
-fn entries_of(input: &Input) -> &[Script1] {
-    input.script.as_slice()
-}
-
-fn first_frame(raws: &[RawPart]) -> Option<&[u8]> {
-    raws.first().map(|raw| raw.bytes.items.as_slice())
-}
-
-fn first_end(cables: &[CablePart]) -> Option<PortRef> {
-    cables.first().map(|cable| cable.b)
-}
-
-#[test]
-fn each_table(rt: HostRuntime) -> Result<(), Fail> {
-    let alloc = rt.alloc();
-    let input = read(alloc, EACH_TABLE)?;
-    let end = first_end(input.net.parts().cables.as_slice()).ok_or("no cable")?;
-    assert_eq!(rt; end, PortRef { device: 1, port: 7 });
-    let frame = first_frame(input.raws.as_slice()).ok_or("no frame")?;
-    let bytes: [u8; 2] = [0, 255];
-    assert_eq!(rt; frame, bytes.as_slice());
-    let script: [Script1; 3] = [
-        Script1::Pass(10_000),
-        Script1::Choice {
-            actor: 6,
-            choice: 5,
-        },
-        Script1::Choice {
-            actor: 0,
-            choice: 2,
-        },
-    ];
-    assert_eq!(rt; entries_of(&input), script.as_slice());
-    let drops: [Drop1; 2] = [
-        Drop1 { link: 20, n: 1 },
-        Drop1 {
-            link: 28,
-            n: 1_000_000_000,
-        },
-    ];
-    assert_eq!(rt; drops_of(&input), drops.as_slice());
-    let loss = &input.loss;
-    assert_eq!(rt; loss.seed, 9_223_372_036_854_775_807);
-    assert_eq!(rt; loss.cable, 1000);
-    assert_eq!(rt; loss.notice, 0);
-    Ok(())
-}

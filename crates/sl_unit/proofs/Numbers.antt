@@ -41,8 +41,8 @@ places net way (x ∷ xs) d =
     let n = length (map (exit_by net) xs) in
     ap (λ ns. cond (t x) (0 ∷ filter p ns) (filter p ns)) (numbers-suc 0 n)
     ∙ ap (λ ns. cond (t x) (0 ∷ ns) ns) (filter-map p suc (below n) ∙ ap (map suc) (places net way xs d.1)
-      ∙ map-map suc (λ l. place_in 0 l xs) (filter t xs)
-      ∙ map_each (λ l. suc (place_in 0 l xs)) (λ l. place_in 0 l (x ∷ xs)) (filter t xs) (each-of (λ l. suc (place_in 0 l xs) ≡ place_in 0 l (x ∷ xs)) (filter t xs) (λ l m. later l (kept-member t l xs m))))
+    ∙ map-map suc (λ l. place_in 0 l xs) (filter t xs)
+    ∙ map_each (λ l. suc (place_in 0 l xs)) (λ l. place_in 0 l (x ∷ xs)) (filter t xs) (each-of (λ l. suc (place_in 0 l xs) ≡ place_in 0 l (x ∷ xs)) (filter t xs) (λ l m. later l (kept-member t l xs m))))
     ∙ by_bool (t x)
   where
     later : (l : ℕ) → Member l xs → suc (place_in 0 l xs) ≡ place_in 0 l (x ∷ xs)

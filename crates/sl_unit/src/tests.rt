@@ -1,5 +1,7 @@
 // Units of a device with two ports, a host at each.
-ghost use Rattle.std.specs.Prelude.{◌≡◌, ◌<◌, ◌≤◌, []};
+ghost use Rattle.std.specs.Prelude.{◌≡◌, ◌<◌, ◌≤◌, [], length};
+ghost use Rattle.sl_net.specs.Net.{units};
+ghost use Rattle.sl_unit.specs.Made.{IsRanged};
 
 use crate::{Unit, UnitCounts, unit_side};
 use sl_ids::{Wid, Width};
@@ -11,13 +13,18 @@ use sl_wire::{Header, Kind, Msg, PlainDump, encode};
 use std::alloc::Global;
 use std::test::Fail;
 
-const SNAPSHOT: Snapshot = Snapshot {
-    width: 2,
-    window: 2,
-    ring: 2,
-    count: 2,
-    retries: 0,
-};
+/// A window of two and a ring of two slots.
+fn snapshot() -> Snapshot
+    ensures { IsRanged result }
+{
+    Snapshot {
+        width: 2,
+        window: 2,
+        ring: 2,
+        count: 2,
+        retries: 0,
+    }
+}
 
 /// A packet of 100 bytes.
 fn packet(dst: u16, hops: u8) -> Packet {
@@ -59,17 +66,31 @@ fn net(alloc: Global) -> Result<Net, Fail> {
     Ok(Net::build(alloc, parts).map_err(|_| "refused")?)
 }
 
-/// The unit at a place: `in a.0`, `out a.0`, `in a.1`, `out a.1`.
-fn unit(alloc: Global, place: u32) -> Result<Unit, Fail> {
-    let net = net(alloc)?;
-    let routes = Routes::make(alloc, &net)?;
+/// The unit at a place of a net.
+fn unit_of(alloc: Global, net: &Net, place: u32) -> Result<Unit, Memory>
+    requires { place < length (units net.now) }
+{
+    match unit_side(net, place) {
+        Side::Ingress => {
+            let routes = Routes::make(alloc, net)?;
+            Unit::ingress(alloc, net, &routes, place, &snapshot())
+        }
+        Side::Egress => Unit::egress(alloc, net, place, &snapshot()),
+    }
+}
+
+/// The unit at a place of a net, where there is one.
+fn unit_in(alloc: Global, net: &Net, place: u32) -> Result<Unit, Fail> {
     if place as usize >= net.units().len() {
         return Err(Fail::from("no such unit"));
     }
-    Ok(match unit_side(&net, place) {
-        Side::Ingress => Unit::ingress(alloc, &net, &routes, place, &SNAPSHOT)?,
-        Side::Egress => Unit::egress(alloc, &net, place, &SNAPSHOT)?,
-    })
+    Ok(unit_of(alloc, net, place)?)
+}
+
+/// The unit at a place: `in a.0`, `out a.0`, `in a.1`, `out a.1`.
+fn unit(alloc: Global, place: u32) -> Result<Unit, Fail> {
+    let net = net(alloc)?;
+    unit_in(alloc, &net, place)
 }
 
 /// Lets a machine take a message.
@@ -142,7 +163,8 @@ fn new_registers(rt: HostRuntime) -> Result<(), Fail> {
     for place in 0..4 {
         let unit = unit(rt.alloc(), place)?;
         let dump = unit.dump()?;
-        assert_eq!(rt; (dump.id, dump.cpu, dump.last, dump.view.at), (0, 0, [0; 8], 0));
+        assert_eq!(rt; (dump.id, dump.cpu, dump.view.at), (0, 0, 0));
+        assert!(rt; dump.last.iter().all(|last| *last == 0));
         assert_eq!(rt; dump.view.slots.items.len(), 2);
         for slot in &dump.view.slots.items {
             assert_eq!(rt; slot.back, 0);

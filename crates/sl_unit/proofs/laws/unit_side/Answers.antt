@@ -15,5 +15,5 @@ returns c =
     let none : UnitId = record { device = 0; port = 0; side = Ingress } in
     let low : i < length ids = subst (λ n. i < n) (sym c.units.ensures.len) c.requires in
     let at : unit_at net i ≡ OfUnit (get_or ids i none) =
-        sym (get_or-map (actor_of net) (units net) i 0 nobody c.requires) ∙ sym (ap (λ xs. get_or xs i nobody) c.units.ensures.units) ∙ get_or-map OfUnit ids i none nobody low in
+    sym (get_or-map (actor_of net) (units net) i 0 nobody c.requires) ∙ sym (ap (λ xs. get_or xs i nobody) c.units.ensures.units) ∙ get_or-map OfUnit ids i none nobody low in
     ap side_of at

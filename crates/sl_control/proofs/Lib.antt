@@ -1,0 +1,4 @@
+pub mod Reading
+pub mod EachUnit
+pub mod Fitting
+pub mod Joining

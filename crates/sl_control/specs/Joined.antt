@@ -1,0 +1,40 @@
+-- That the places among a control plane's outgoing links are apart, and so are the choices by which it takes dumps.
+use Rattle.std.specs.Prelude.{◌≡◌, ℕ, ◌<◌, ◌≤◌, List, [], ◌∷◌, map, length, slice_get, Option, Some, IsSome}
+use Rattle.std.specs.List.{AllByRecursion}
+use Rattle.sl_saves.specs.declared.entry.Saved.{Saved}
+use Rattle.sl_control.specs.declared.known.Known.{Known}
+
+-- no number stands twice
+abbrev pub AreApart : List ℕ → Type 0
+AreApart [] = Unit {0}
+AreApart (x ∷ xs) = AllByRecursion (λ y. y ≡ x → ⊥) xs × AreApart xs
+
+abbrev pub polls_of : List Known → List ℕ
+polls_of rs = map (λ r. r.wires.poll) rs
+
+abbrev pub dumps_of : List Known → List ℕ
+dumps_of rs = map (λ r. r.wires.dump) rs
+
+-- the unit at a place is one whose dumps are taken by this choice
+pub record IsDumpOf (choice i : ℕ) (units : List Known) : Type 0 where
+  pub known : Known
+  pub at : slice_get units i ≡ Some known
+  pub dump : known.wires.dump ≡ choice
+
+-- numbers below a bound, of which none stands twice
+pub record AreOuts (bound : ℕ) (xs : List ℕ) : Type 0 where
+  pub below : AllByRecursion (λ x. x < bound) xs
+  pub apart : AreApart xs
+  pub few : length xs ≤ bound
+
+-- the puts of one turn go to places below the number of outgoing links, and no two to one
+pub record IsJoined (outs : ℕ) (inits : List ℕ) (done : ℕ) (units : List Known) : Type 0 where
+  pub inits_apart : AreOuts outs inits
+  pub polls_apart : AreOuts outs (polls_of units)
+  pub dones_apart : AllByRecursion (λ r. AreOuts outs (done ∷ r.wires.poll ∷ [])) units
+  pub dumps_apart : AreApart (dumps_of units)
+
+-- there is no row yet, and room for those of a dump, where a turn was prepared
+pub record HasRoom (ring : ℕ) (prepared : Option ℕ) (rows : List (ℕ × Saved)) (capacity : ℕ) : Type 0 where
+  pub empty : rows ≡ []
+  pub room : IsSome prepared → ring ≤ capacity

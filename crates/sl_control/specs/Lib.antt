@@ -1,0 +1,4 @@
+pub mod Rows
+pub mod Control
+pub mod Wires
+pub mod Joined

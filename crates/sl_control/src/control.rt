@@ -1,0 +1,147 @@
+// The machine of a control plane.
+ghost use Rattle.std.specs.Prelude.{◌≡◌, ◌<◌, ℕ, None, IfOk, length};
+ghost use Rattle.sl_control.specs.Wires.{control_of, first_control, control_counts};
+
+use crate::known::Known;
+use crate::units::{answer_all, ask_all, is_swept, put_inits};
+use crate::wires::{control_of, done_of, inits_of, units_of};
+use sl_machine::{Machine, Memory, Outputs};
+use sl_net::{Net, Snapshot, nets_are_wired};
+use sl_saves::Saved;
+use sl_wire::Msg;
+use std::alloc::{AllocError, Global};
+use std::marker::Model;
+use std::mem;
+
+/// The choice by which a control plane takes Begins.
+const BEGIN: u32 = 0;
+
+/// A control plane. It passes each Begin on to the ingress units of its device, polls a unit that
+/// has news, and reports to the observer what the unit's registers tell.
+#[derive(Drop)]
+pub struct Control {
+    links: u32,
+    outs: u32,
+    inits: Vec<u32>,
+    done: u32,
+    ring: u16,
+    units: Vec<Known>,
+    rows: Vec<(u64, Saved)>,
+    prepared: Option<u32>,
+}
+
+impl Model for Control {
+    ghost use Rattle.std.specs.Prelude.{◌≡◌, [], Option, Some};
+    ghost use Rattle.std.specs.Vec.{vec_capacity};
+    ghost use Rattle.sl_control.specs.Control.{ControlView};
+    ghost use Rattle.sl_control.specs.Joined.{IsJoined, HasRoom};
+
+    ghost Value = { ControlView };
+
+    ghost view = { λ a. record {
+      state = record { wires = record { begin = 0; sweep = a.links; inits = a.inits.items; done = a.done; ring = a.ring }; units = a.units.items };
+      counts = record { ins = a.links; outs = a.outs; actions = 1 };
+      ready = a.prepared;
+    } };
+
+    ghost invariant = { λ a. IsJoined a.outs a.inits.items a.done a.units.items × HasRoom a.ring a.prepared a.rows.items (vec_capacity a.rows) };
+}
+
+impl Control {
+    /// The control plane of a device, by its place in the net.
+    pub fn new(
+        alloc: Global,
+        net: &Net,
+        device: u32,
+        snapshot: &Snapshot,
+    ) -> Result<Control, Memory>
+        requires { device < length net.now.parts.devices }
+        ensures state { IfOk result (λ c. c.state ≡ first_control net.now (control_of net.now device) snapshot.now.ring) }
+        ensures counts { IfOk result (λ c. c.counts ≡ control_counts net.now (control_of net.now device)) }
+        ensures ready { IfOk result (λ c. c.ready ≡ None) }
+    {
+        match Control::make(alloc, net, control_of(net, device), snapshot.ring) {
+            Ok(control) => Ok(control),
+            Err(_) => Err(Memory),
+        }
+    }
+
+    /// The control plane that an actor is.
+    fn make(alloc: Global, net: &Net, actor: u32, ring: u16) -> Result<Control, AllocError>
+        requires { actor < length net.now.actors }
+        ensures state { IfOk result (λ c. c.state ≡ first_control net.now actor ring) }
+        ensures counts { IfOk result (λ c. c.counts ≡ control_counts net.now actor) }
+        ensures ready { IfOk result (λ c. c.ready ≡ None) }
+    {
+        // A net is that of its parts, so it is wired as such nets are.
+        let _parts = net.parts();
+        nets_are_wired();
+        Ok(Control {
+            links: net.links_into(actor).len() as u32,
+            outs: net.links_from(actor).len() as u32,
+            inits: inits_of(alloc, net, actor)?,
+            done: done_of(alloc, net, actor)?,
+            ring,
+            units: units_of(alloc, net, actor)?,
+            rows: Vec::new(alloc),
+            prepared: None,
+        })
+    }
+}
+
+impl Machine for Control {
+    ghost use Rattle.sl_control.specs.Control.{ControlState, control_rules};
+
+    type Msg = Msg;
+
+    ghost State = { ControlState };
+
+    ghost state = { λ c. c.state };
+
+    ghost rules = { control_rules };
+
+    ghost counts = { λ c. c.counts };
+
+    ghost ready_for = { λ c. c.ready };
+
+    /// Makes room for the rows of a dump.
+    fn ready(&mut self, choice: u32) -> Result<(), Memory> {
+        self.prepared = None;
+        if self.rows.reserve(self.ring as usize).is_err() {
+            return Err(Memory);
+        }
+        self.prepared = Some(choice);
+        Ok(())
+    }
+
+    fn take(&mut self, link: u32, m: Msg, out: &mut Outputs<Msg>) {
+        self.prepared = None;
+        match m {
+            Msg::Begin(number) => put_inits(&self.inits, link == BEGIN, number, out),
+            Msg::Notice => ask_all(&mut self.units, Some(link), out),
+            Msg::Dump(dump) => {
+                let empty = Vec::new(*self.rows.allocator());
+                let rows = mem::replace(&mut self.rows, empty);
+                answer_all(
+                    &mut self.units,
+                    self.ring,
+                    self.done,
+                    link,
+                    &dump,
+                    rows,
+                    out,
+                );
+            }
+            _ => {}
+        }
+    }
+
+    fn act(&mut self, action: u32, out: &mut Outputs<Msg>) -> bool {
+        self.prepared = None;
+        if action != self.links || is_swept(&self.units) {
+            return false;
+        }
+        ask_all(&mut self.units, None, out);
+        true
+    }
+}

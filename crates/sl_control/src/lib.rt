@@ -1,0 +1,14 @@
+// Control planes: they start snapshots in their devices, poll the units that have news, and
+// report to the observer what each unit saved.
+#![tactic(auto)]
+
+mod control;
+mod known;
+mod rows;
+#[cfg(test)]
+mod tests;
+mod units;
+mod wires;
+
+pub use control::Control;
+pub use known::{Known, UnitWires};

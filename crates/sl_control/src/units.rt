@@ -1,0 +1,100 @@
+// What a control plane knows of its units, one after the other.
+ghost use Rattle.std.specs.Prelude.{◌≡◌, ◌≤◌, ◌<◌, ◌++◌, ◌+◌, ℕ, [], Option, MatchOption, length, map, flat_map, slice_index_or, cond};
+ghost use Rattle.std.specs.Vec.{vec_capacity};
+ghost use Rattle.std.specs.List.{AllByRecursion};
+ghost use Rattle.sl_control.specs.declared.known.Known.{Known};
+ghost use Rattle.sl_control.specs.Control.{ask_by, ask_puts, dump_by, dump_puts, answered, answer_by, is_read, send_all, is_swept};
+ghost use Rattle.sl_control.specs.Joined.{AreApart, dumps_of, IsDumpOf};
+
+use crate::known::Known;
+use sl_machine::Outputs;
+use sl_saves::Saved;
+use sl_wire::{Msg, PlainDump};
+
+/// What notices by this choice, or without one a sweep, do to the units.
+pub fn ask_all(units: &mut Vec<Known>, notice: Option<u32>, out: &mut Outputs<Msg>)
+    requires { length out.old.items + length units.old.items ≤ out.old.room }
+    ensures units { units.new.items ≡ map (ask_by notice) units.old.items }
+    ensures puts { out.new.items ≡ out.old.items ++ flat_map (ask_puts notice) units.old.items }
+    ensures room { out.new.room ≡ out.old.room }
+{
+    for i in 0..units.len() {
+        units[i].ask_by(notice, out);
+    }
+}
+
+/// Whether each unit has a poll outstanding and is asked for again.
+pub fn is_swept(units: &[Known]) -> bool
+    ensures { result ≡ is_swept units.now }
+{
+    units.iter().all(|known| known.waits && known.again)
+}
+
+/// Puts a message on each of these links where it passes.
+pub fn put_inits(outs: &[u32], passes: bool, number: u64, out: &mut Outputs<Msg>)
+    requires { length out.old.items + length outs.now ≤ out.old.room }
+    ensures puts { out.new.items ≡ out.old.items ++ cond passes (send_all (Msg.Init number) outs.now) [] }
+    ensures room { out.new.room ≡ out.old.room }
+{
+    if passes {
+        for link in outs {
+            out.put(*link, Msg::Init(number));
+        }
+    }
+}
+
+/// The place of the unit whose dumps are taken by a choice.
+fn find_dump(units: &[Known], choice: u32) -> Option<usize>
+    ensures { MatchOption result (AllByRecursion (λ r. r.wires.dump ≡ choice → ⊥) units.now) (λ i. IsDumpOf choice i units.now) }
+{
+    for place in 0..units.len() {
+        if units[place].wires.dump == choice {
+            return Some(place);
+        }
+    }
+    None
+}
+
+/// What a dump by this choice does to the unit.
+fn answer_one(
+    known: &mut Known,
+    ring: u16,
+    done: u32,
+    dump: &PlainDump,
+    mut rows: Vec<(u64, Saved)>,
+    out: &mut Outputs<Msg>,
+)
+    requires empty { rows.items ≡ [] }
+    requires rows { ring ≤ vec_capacity rows }
+    requires room { length out.old.items + 2 ≤ out.old.room }
+    ensures known { known.new ≡ cond (is_read ring dump.now known.old) (answered dump.now known.old) known.old }
+    ensures puts { out.new.items ≡ out.old.items ++ cond (is_read ring dump.now known.old) (answer_by done dump.now known.old) [] }
+    ensures room { out.new.room ≡ out.old.room }
+{
+    if known.read(ring, dump, &mut rows) {
+        known.answer(done, dump, rows, out);
+    }
+}
+
+/// What a dump by this choice does to the units.
+pub fn answer_all(
+    units: &mut Vec<Known>,
+    ring: u16,
+    done: u32,
+    choice: u32,
+    dump: &PlainDump,
+    rows: Vec<(u64, Saved)>,
+    out: &mut Outputs<Msg>,
+)
+    requires empty { rows.items ≡ [] }
+    requires rows { ring ≤ vec_capacity rows }
+    requires apart { AreApart (dumps_of units.old.items) }
+    requires room { 0 < length units.old.items → length out.old.items + 2 ≤ out.old.room }
+    ensures units { units.new.items ≡ map (dump_by ring choice dump.now) units.old.items }
+    ensures puts { out.new.items ≡ out.old.items ++ flat_map (dump_puts ring done choice dump.now) units.old.items }
+    ensures room { out.new.room ≡ out.old.room }
+{
+    if let Some(i) = find_dump(units, choice) {
+        answer_one(&mut units[i], ring, done, dump, rows, out);
+    }
+}

@@ -1,0 +1,123 @@
+// The machine of a host.
+ghost use Rattle.std.specs.Prelude.{◌≡◌, ◌+◌, ◌<◌, ◌^◌, ℕ, Option, None, IfOk};
+ghost use Rattle.std.specs.List.{All};
+ghost use Rattle.sl_flow.specs.Flow.{HasAddresses};
+ghost use Rattle.sl_host.specs.Host.{HostState, frames_of, host_rules, host_counts};
+
+use crate::frames::{frame_at, raws_of};
+use sl_flow::packets_of;
+use sl_machine::{Machine, Memory, Outputs};
+use sl_net::{Bytes, Input, Packet};
+use sl_wire::Msg;
+use std::alloc::Global;
+use std::marker::Model;
+
+/// The choice by which a host sends its next frame. The choice 0 takes from its link.
+const INJECT: u32 = 1;
+
+/// A host: it sends the packets of its flows and then its raw frames, and counts the frames that
+/// it takes.
+#[derive(Drop)]
+pub struct Host {
+    packets: Vec<Packet>,
+    raws: Vec<Bytes>,
+    sent: u64,
+    delivered: u64,
+    /// The next frame, where the host is ready to send it.
+    next: Option<Bytes>,
+    prepared: Option<u32>,
+}
+
+impl Model for Host {
+    ghost use Rattle.sl_host.specs.Kept as kept;
+
+    ghost Value = { kept.Host };
+
+    ghost view = { λ h. record { state = kept.state_of h.packets.items h.raws.items h.sent h.delivered; ready = h.prepared } };
+
+    ghost invariant = { λ h. kept.IsKept h.packets.items h.raws.items h.sent h.next h.prepared };
+}
+
+impl Host {
+    /// The host of an input, at a place among its hosts, before it has sent or taken a frame. The
+    /// hosts that flows name are below 65,536, as those of an accepted input are.
+    pub fn new(alloc: Global, host: u32, input: &Input) -> Result<Host, Memory>
+        requires { All HasAddresses input.now.flows }
+        ensures state { IfOk result (λ h. h.state ≡ record { messages = frames_of input.now host; sent = 0; delivered = 0 }) }
+        ensures ready { IfOk result (λ h. h.ready ≡ None) }
+    {
+        let packets = packets_of(alloc, host, input.flows.as_slice())?;
+        let raws = raws_of(alloc, input.raws.as_slice(), host).map_err(|_| Memory)?;
+        Ok(Host {
+            packets,
+            raws,
+            sent: 0,
+            delivered: 0,
+            next: None,
+            prepared: None,
+        })
+    }
+
+    /// How many frames it has sent.
+    pub fn sent(&self) -> u64
+        ensures { result ≡ self.now.state.sent }
+    {
+        self.sent
+    }
+
+    /// How many frames it has taken.
+    pub fn delivered(&self) -> u64
+        ensures { result ≡ self.now.state.delivered }
+    {
+        self.delivered
+    }
+}
+
+impl Machine for Host {
+    type Msg = Msg;
+
+    ghost State = { HostState };
+
+    ghost state = { λ h. h.state };
+
+    ghost rules = { host_rules };
+
+    ghost counts = { λ _. host_counts };
+
+    ghost ready_for = { λ h. h.ready };
+
+    fn ready(&mut self, choice: u32) -> Result<(), Memory> {
+        self.prepared = None;
+        if choice == INJECT {
+            let alloc = *self.packets.allocator();
+            let next = frame_at(
+                alloc,
+                self.packets.as_slice(),
+                self.raws.as_slice(),
+                self.sent,
+            );
+            self.next = next.map_err(|_| Memory)?;
+        }
+        self.prepared = Some(choice);
+        Ok(())
+    }
+
+    fn take(&mut self, _link: u32, m: Msg, _out: &mut Outputs<Msg>) {
+        self.prepared = None;
+        if let Msg::Host(_) = m {
+            self.delivered = self.delivered.saturating_add(1);
+        }
+    }
+
+    fn act(&mut self, _action: u32, out: &mut Outputs<Msg>) -> bool {
+        self.prepared = None;
+        match self.next.take() {
+            Some(bytes) => {
+                self.sent += 1;
+                out.put(0, Msg::Host(bytes));
+                true
+            }
+            None => false,
+        }
+    }
+}

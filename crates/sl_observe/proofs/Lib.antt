@@ -1,0 +1,5 @@
+pub mod Trees
+pub mod Begins
+pub mod UnitLists
+pub mod Runs
+pub mod Links

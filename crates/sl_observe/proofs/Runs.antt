@@ -1,0 +1,147 @@
+-- The observer over any turns.
+use Rattle.std.proofs.Common.{◌≡◌, ℕ, zero, suc, ◌+◌, ◌-◌, ◌<◌, ◌≤◌, ◌⊎◌, inl, inr, List, [], ◌∷◌, ◌++◌, length, refl, sym, ap, ◌∙◌, subst, map, set, get_or-set_same, get_or-set_other, arith}
+use Rattle.std.specs.Prelude.{Bool, true, false, cond, ◌&&◌, ◌==◌, Option, Some, None, slice_get, nat_lt, nat_le}
+use Rattle.std.specs.List.{All}
+use Rattle.std.proofs.lemmas.Bool.{cases_eq, cases_lt, and_parts, ltb-true, leb-true}
+use Rattle.std.proofs.lemmas.List.{set_past}
+use Rattle.std.proofs.lemmas.List.Elements.{All-nil, All-cons}
+use Rattle.sl_machine.specs.Machine.{After}
+use Rattle.sl_net.specs.Parts.{numbers_from}
+use Rattle.sl_saves.specs.declared.entry.Saved.{Saved}
+use Rattle.sl_wire.specs.declared.message.Done.{Done as Report}
+use Rattle.sl_wire.specs.declared.message.Msg.{Msg}
+use Rattle.sl_wire.specs.declared.message.Msg.TheVariants.{Host, Data, Probe, Init, Poll, Notice, Dump, Begin, Done}
+use Rattle.sl_observe.specs.Observer.{UnitState, ObserverState, new_unit, unit_at, saved_of, floor_of, told, heard, is_next, units_after, can_issue, can_resend, begin_all, observer_act}
+use Rattle.sl_observe.specs.Turns.{Turn, Took, Acted, acted, after_turn, after}
+
+-- Rows.
+
+slice_get_front : (xs ys : List Saved) (n : ℕ) (r : Saved) → slice_get xs n ≡ Some r → slice_get (xs ++ ys) n ≡ Some r
+slice_get_front [] ys n r e = cc
+slice_get_front (x ∷ xs) ys zero r e = e
+slice_get_front (x ∷ xs) ys (suc n) r e = slice_get_front xs ys n r e
+
+told_keeps : (d : Report) (v : UnitState) (k : ℕ) (r : Saved) → saved_of v k ≡ Some r → saved_of (told d v) k ≡ Some r
+told_keeps d v k r = elim (k == 0) as (λ b. cond b None (slice_get v.rows (k - 1)) ≡ Some r → cond b None (slice_get (told d v).rows (k - 1)) ≡ Some r)
+    [ true ↦ λ e. e | false ↦ λ e. slice_get_front v.rows (map (λ p. p.1) d.rows) (k - 1) r e ]
+
+heard_keeps : (ring link : ℕ) (d : Report) (v : UnitState) (k : ℕ) (r : Saved) → saved_of v k ≡ Some r → saved_of (heard ring link d v) k ≡ Some r
+heard_keeps ring link d v k r e = elim ((v.device == link) && is_next ring v d) as (λ b. saved_of (cond b (told d v) v) k ≡ Some r) [ true ↦ told_keeps d v k r e | false ↦ e ]
+
+units_keep : (ring link : ℕ) (d : Report) (us : List UnitState) (u k : ℕ) (r : Saved) → saved_of (unit_at us u) k ≡ Some r → saved_of (unit_at (units_after ring link d us) u) k ≡ Some r
+units_keep ring link d us u k r e =
+    let none = new_unit 0 0 in
+    let w = heard ring link d (unit_at us d.unit) in
+    elim (cases_eq u d.unit) [
+      | inl same ↦ elim (cases_lt d.unit (length us)) [
+        | inl g ↦
+            let now : unit_at (set us d.unit w) u ≡ w = ap (unit_at (set us d.unit w)) same ∙ get_or-set_same us d.unit w none g in
+            ap (λ v. saved_of v k) now ∙ heard_keeps ring link d (unit_at us d.unit) k r (ap (λ p. saved_of (unit_at us p) k) (sym same) ∙ e)
+        | inr g ↦ ap (λ vs. saved_of (unit_at vs u) k) (set_past us d.unit w g) ∙ e
+      ]
+      | inr other ↦ ap (λ v. saved_of v k) (get_or-set_other us d.unit u w none other) ∙ e
+    ]
+
+-- Actions.
+
+abbrev issued : ObserverState → After ObserverState Msg
+issued s = record { state = record s { issued = suc s.issued }; puts = begin_all s.outs (suc s.issued) }
+
+abbrev resent : ObserverState → After ObserverState Msg
+resent s = record { state = record s { resent = suc s.resent }; puts = begin_all s.outs s.issued }
+
+-- an action that does something issues or resends
+data Did (s : ObserverState) (next : After ObserverState Msg) : Type 0 where
+  Issued : can_issue s ≡ true → next ≡ issued s → Did s next
+  Resent : next ≡ resent s → Did s next
+
+some_is : {A : Type 0} (b : Bool) (x y : A) → cond b (Some x) None ≡ Some y → (b ≡ true) × (y ≡ x)
+some_is true x y e = (refl, cc)
+some_is false x y e = cc
+
+did : (s : ObserverState) (action : ℕ) (next : After ObserverState Msg) → observer_act s action ≡ Some next → Did s next
+did s action next =
+    elim (action == s.ins) as (λ a. cond a (cond (can_issue s) (Some (issued s)) None) (cond (can_resend s) (Some (resent s)) None) ≡ Some next → Did s next) [
+      | true ↦ λ e. let h = some_is (can_issue s) (issued s) next e in Issued h.0 h.1
+      | false ↦ λ e. Resent (some_is (can_resend s) (resent s) next e).1
+    ]
+
+can_issue_is : (s : ObserverState) → can_issue s ≡ true → (s.issued < s.snapshot.count) × (suc s.issued ≤ floor_of s + s.snapshot.window)
+can_issue_is s e =
+    let most = floor_of s + s.snapshot.window in
+    let parts = and_parts (nat_lt s.issued s.snapshot.count) (nat_le (suc s.issued) most) e in
+    (ltb-true s.issued s.snapshot.count parts.0, leb-true (suc s.issued) most parts.1)
+
+units_stay : (s : ObserverState) (action : ℕ) (o : Option (After ObserverState Msg)) → observer_act s action ≡ o → (acted s o).units ≡ s.units
+units_stay s action None e = refl
+units_stay s action (Some next) e = elim (did s action next e) [ Issued g f ↦ ap (λ a. a.state.units) f | Resent f ↦ ap (λ a. a.state.units) f ]
+
+turn_keeps : (s : ObserverState) (t : Turn) (u k : ℕ) (r : Saved) → saved_of (unit_at s.units u) k ≡ Some r → saved_of (unit_at (after_turn s t).units u) k ≡ Some r
+turn_keeps s (Took link (Host b)) u k r e = e
+turn_keeps s (Took link (Data n p)) u k r e = e
+turn_keeps s (Took link (Probe n)) u k r e = e
+turn_keeps s (Took link (Init n)) u k r e = e
+turn_keeps s (Took link Poll) u k r e = e
+turn_keeps s (Took link Notice) u k r e = e
+turn_keeps s (Took link (Dump d)) u k r e = e
+turn_keeps s (Took link (Begin n)) u k r e = e
+turn_keeps s (Took link (Done d)) u k r e = units_keep s.snapshot.ring link d s.units u k r e
+turn_keeps s (Acted action) u k r e = ap (λ us. saved_of (unit_at us u) k) (units_stay s action (observer_act s action) refl) ∙ e
+
+pub rows_are_kept : (s : ObserverState) (ts : List Turn) (u k : ℕ) (r : Saved) → saved_of (unit_at s.units u) k ≡ Some r → saved_of (unit_at (after s ts).units u) k ≡ Some r
+rows_are_kept s [] u k r e = e
+rows_are_kept s (t ∷ ts) u k r e = rows_are_kept (after_turn s t) ts u k r (turn_keeps s t u k r e)
+
+-- Numbers.
+
+pub begins_are_of : (s : ObserverState) (action : ℕ) (next : After ObserverState Msg) → observer_act s action ≡ Some next → All (λ (p : ℕ × Msg). p.1 ≡ Begin next.state.issued) next.puts
+begins_are_of s action next e =
+    elim (did s action next e) [
+      | Issued g f ↦ subst (λ (a : After ObserverState Msg). All (λ (p : ℕ × Msg). p.1 ≡ Begin a.state.issued) a.puts) (sym f) (each 0 s.outs (suc s.issued))
+      | Resent f ↦ subst (λ (a : After ObserverState Msg). All (λ (p : ℕ × Msg). p.1 ≡ Begin a.state.issued) a.puts) (sym f) (each 0 s.outs s.issued)
+    ]
+  where
+    each : (start n k : ℕ) → All (λ (p : ℕ × Msg). p.1 ≡ Begin k) (map (λ out. (out, Begin k)) (numbers_from start n))
+    each start zero k = All-nil (λ (p : ℕ × Msg). p.1 ≡ Begin k)
+    each start (suc n) k = All-cons (λ (p : ℕ × Msg). p.1 ≡ Begin k) (start, Begin k) (map (λ out. (out, Begin k)) (numbers_from (suc start) n)) refl (each (suc start) n k)
+
+pub issues_within : (s : ObserverState) (action : ℕ) (next : After ObserverState Msg) → observer_act s action ≡ Some next → (next.state.issued ≤ s.issued) ⊎ (next.state.issued ≤ floor_of s + s.snapshot.window)
+issues_within s action next e =
+    elim (did s action next e) [
+      | Issued g f ↦ let h = (can_issue_is s g).1 in let n : next.state.issued ≡ suc s.issued = ap (λ a. a.state.issued) f in inr (omega (arith, h, n))
+      | Resent f ↦ let n : next.state.issued ≡ s.issued = ap (λ a. a.state.issued) f in inl (omega (arith, n))
+    ]
+
+-- after a turn the snapshots issued are no more than those asked for, which stay
+record Counts (s t : ObserverState) : Type 0 where
+  same : t.snapshot ≡ s.snapshot
+  few : s.issued ≤ s.snapshot.count → t.issued ≤ s.snapshot.count
+
+act_counts : (s : ObserverState) (action : ℕ) (o : Option (After ObserverState Msg)) → observer_act s action ≡ o → Counts s (acted s o)
+act_counts s action None e = record { same = refl; few = λ h. h }
+act_counts s action (Some next) e =
+    elim (did s action next e) [
+      | Issued g f ↦ record { same = ap (λ a. a.state.snapshot) f; few = λ h. let l = (can_issue_is s g).0 in let n : next.state.issued ≡ suc s.issued = ap (λ a. a.state.issued) f in omega (arith, l, n) }
+      | Resent f ↦ record { same = ap (λ a. a.state.snapshot) f; few = λ h. let n : next.state.issued ≡ s.issued = ap (λ a. a.state.issued) f in omega (arith, h, n) }
+    ]
+
+turn_counts : (s : ObserverState) (t : Turn) → Counts s (after_turn s t)
+turn_counts s (Took link (Host b)) = record { same = refl; few = λ h. h }
+turn_counts s (Took link (Data n p)) = record { same = refl; few = λ h. h }
+turn_counts s (Took link (Probe n)) = record { same = refl; few = λ h. h }
+turn_counts s (Took link (Init n)) = record { same = refl; few = λ h. h }
+turn_counts s (Took link Poll) = record { same = refl; few = λ h. h }
+turn_counts s (Took link Notice) = record { same = refl; few = λ h. h }
+turn_counts s (Took link (Dump d)) = record { same = refl; few = λ h. h }
+turn_counts s (Took link (Begin n)) = record { same = refl; few = λ h. h }
+turn_counts s (Took link (Done d)) = record { same = refl; few = λ h. h }
+turn_counts s (Acted action) = act_counts s action (observer_act s action) refl
+
+pub issued_few : (s : ObserverState) (ts : List Turn) → s.issued ≤ s.snapshot.count → (after s ts).issued ≤ s.snapshot.count
+issued_few s [] h = h
+issued_few s (t ∷ ts) h =
+    let one = turn_counts s t in
+    let same : (after_turn s t).snapshot.count ≡ s.snapshot.count = ap (λ n. n.count) one.same in
+    let few = one.few h in
+    let later : (after (after_turn s t) ts).issued ≤ (after_turn s t).snapshot.count = issued_few (after_turn s t) ts (omega (arith, few, same)) in
+    omega (arith, later, same)

@@ -1,0 +1,5 @@
+pub mod Least
+pub mod Observer
+pub mod Floors
+pub mod Kept
+pub mod Turns

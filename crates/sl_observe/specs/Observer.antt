@@ -1,0 +1,142 @@
+-- The observer: what it stands for, and what its turns do. It issues snapshots by number, and collects what the units saved for each
+-- (Yaseen, Sonchack and Liu 2018).
+--     observer_take      it takes a report on a unit
+--     observer_act       it issues the next snapshot, or begins the last one again
+--     floor_of           the number up to which it has collected all units
+--     first_state        before its first turn
+use Rattle.std.specs.Prelude.{ℕ, suc, ◌+◌, ◌-◌, Bool, true, ◌&&◌, ◌==◌, nat_lt, nat_le, if◌then◌else◌, List, [], ◌∷◌, ◌++◌, map, length, take, replicate, slice_get, slice_set, slice_index_or, Option, Some, None, unwrap_or}
+use Rattle.sl_machine.specs.Machine.{After, Rules, Counts}
+use Rattle.sl_net.specs.declared.actor.ActorId.{ActorId}
+use Rattle.sl_net.specs.declared.actor.ActorId.TheVariants.{Unit as OfUnit}
+use Rattle.sl_net.specs.declared.input.Snapshot.{Snapshot}
+use Rattle.sl_net.specs.Parts.{below}
+use Rattle.sl_net.specs.Net.{Net, actor_of, links_into, links_from, units, data_channels}
+use Rattle.sl_saves.specs.declared.entry.Saved.{Saved}
+use Rattle.sl_wire.specs.declared.message.Done.{Done}
+use Rattle.sl_wire.specs.declared.message.Msg.{Msg}
+use Rattle.sl_wire.specs.declared.message.Msg.TheVariants.{Begin, Done as DoneMsg}
+use Rattle.sl_observe.specs.Least.{least, least_of}
+use Rattle.sl_observe.specs.declared.unit.Seen.{Seen}
+
+-- A unit: its device, which is also the choice by which reports on it come; how many data channels it has; the id, last-seen numbers and floor
+-- of the last report on it; and the rows that came for it, of which that of the number k stands at the place k - 1.
+pub record UnitState : Type 0 where
+  pub device : ℕ
+  pub channels : ℕ
+  pub id : ℕ
+  pub last : List ℕ
+  pub floor : ℕ
+  pub rows : List Saved
+
+-- The observer: how many links lead to it, one from each device, and how many from it, one to each; what is asked of it; the greatest number
+-- that it issued; how often it resent; and the units in order.
+pub record ObserverState : Type 0 where
+  pub ins : ℕ
+  pub outs : ℕ
+  pub snapshot : Snapshot
+  pub issued : ℕ
+  pub resent : ℕ
+  pub units : List UnitState
+
+-- Units.
+
+abbrev pub new_unit : ℕ → ℕ → UnitState
+new_unit device channels = record { device = device; channels = channels; id = 0; last = replicate 8 0; floor = 0; rows = [] }
+
+abbrev pub unit_at : List UnitState → ℕ → UnitState
+unit_at us place = slice_index_or us place (new_unit 0 0)
+
+-- what the last report said
+abbrev pub seen_of : UnitState → Seen
+seen_of u = record { id = u.id; last = u.last; floor = u.floor }
+
+-- the row of a number, where it came
+abbrev pub saved_of : UnitState → ℕ → Option Saved
+saved_of u k = if k == 0 then None else slice_get u.rows (k - 1)
+
+abbrev pub floors_of : List UnitState → List ℕ
+floors_of us = map (λ u. u.floor) us
+
+-- the number up to which all units are collected, or the greatest issued where there is no unit
+abbrev pub floor_of : ObserverState → ℕ
+floor_of s = unwrap_or (least (floors_of s.units)) s.issued
+
+-- Reports.
+
+-- the number that the unit and its data channels have reached
+abbrev pub reached : UnitState → Done → ℕ
+reached u d = least_of d.id (take u.channels d.last)
+
+-- rows of the numbers after n, ascending without a gap
+abbrev pub is_after : ℕ → List (ℕ × Saved) → Bool
+is_after n [] = true
+is_after n (r ∷ rs) = (r.0 == suc n) && is_after (suc n) rs
+
+-- the rows are those of the unit's next numbers, up to the one reached, and at most as many as a ring holds
+abbrev pub is_next : ℕ → UnitState → Done → Bool
+is_next ring u d = nat_le (length d.rows) ring && ((length u.rows + length d.rows == reached u d) && is_after (length u.rows) d.rows)
+
+abbrev pub told : Done → UnitState → UnitState
+told d u = record { device = u.device; channels = u.channels; id = d.id; last = d.last; floor = d.floor; rows = u.rows ++ map (λ r. r.1) d.rows }
+
+-- a report that doesn't come from the unit's device, or whose rows aren't the next, changes nothing
+abbrev pub heard : ℕ → ℕ → Done → UnitState → UnitState
+heard ring link d u = if (u.device == link) && is_next ring u d then told d u else u
+
+-- nor does a report on a place where no unit is
+abbrev pub units_after : ℕ → ℕ → Done → List UnitState → List UnitState
+units_after ring link d us = slice_set us d.unit (heard ring link d (unit_at us d.unit))
+
+-- Turns.
+
+abbrev pub observer_take : ObserverState → ℕ → Msg → After ObserverState Msg
+observer_take s link (DoneMsg d) = record { state = record s { units = units_after s.snapshot.ring link d s.units }; puts = [] }
+observer_take s link _ = record { state = s; puts = [] }
+
+-- the begin of a snapshot to each control plane
+abbrev pub begin_all : ℕ → ℕ → List (ℕ × Msg)
+begin_all outs k = map (λ out. (out, Begin k)) (below outs)
+
+-- a snapshot is left, and the window has room for it
+abbrev pub can_issue : ObserverState → Bool
+can_issue s = nat_lt s.issued s.snapshot.count && nat_le (suc s.issued) (floor_of s + s.snapshot.window)
+
+abbrev pub issue : ObserverState → Option (After ObserverState Msg)
+issue s = if can_issue s then Some (record { state = record s { issued = suc s.issued }; puts = begin_all s.outs (suc s.issued) }) else None
+
+-- a retry is left, and a snapshot isn't collected
+abbrev pub can_resend : ObserverState → Bool
+can_resend s = nat_lt s.resent s.snapshot.retries && nat_lt (floor_of s) s.issued
+
+abbrev pub resend : ObserverState → Option (After ObserverState Msg)
+resend s = if can_resend s then Some (record { state = record s { resent = suc s.resent }; puts = begin_all s.outs s.issued }) else None
+
+-- issue is the first action, resend the other
+abbrev pub observer_act : ObserverState → ℕ → Option (After ObserverState Msg)
+observer_act s action = if action == s.ins then issue s else resend s
+
+abbrev pub observer_rules : Rules ObserverState Msg
+observer_rules = record { take = observer_take; act = observer_act }
+
+abbrev pub observer_counts : ObserverState → Counts
+observer_counts s = record { ins = s.ins; outs = s.outs; actions = 2 }
+
+-- The start.
+
+abbrev pub device_of : ActorId → ℕ
+device_of (OfUnit i) = i.device
+device_of _ = 0
+
+-- a unit by its actor's number
+abbrev pub first_unit : Net → ℕ → UnitState
+first_unit net u = new_unit (device_of (actor_of net u)) (length (data_channels net u))
+
+abbrev pub first_state : Net → Snapshot → ObserverState
+first_state net snapshot = record {
+  ins = length (links_into net 0);
+  outs = length (links_from net 0);
+  snapshot = snapshot;
+  issued = 0;
+  resent = 0;
+  units = map (first_unit net) (units net);
+}

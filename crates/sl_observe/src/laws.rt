@@ -1,0 +1,39 @@
+// What holds of the observer whatever its turns are. The functions do nothing: their contracts
+// are the laws, and the proofs are in proofs/.
+ghost use Rattle.std.specs.Prelude.{◌≡◌, ◌≤◌, ◌+◌, ◌⊎◌, ℕ, List, Some};
+ghost use Rattle.std.specs.List.{All};
+ghost use Rattle.sl_machine.specs.Machine.{After};
+ghost use Rattle.sl_net.specs.Net.{Net, links_from, links_out};
+ghost use Rattle.sl_net.specs.Wired.{IsNet};
+ghost use Rattle.sl_net.specs.declared.actor.Sort.TheVariants.{Begin as BeginSort};
+ghost use Rattle.sl_saves.specs.declared.entry.Saved.{Saved};
+ghost use Rattle.sl_wire.specs.declared.message.Msg.{Msg};
+ghost use Rattle.sl_wire.specs.declared.message.Msg.TheVariants.{Begin};
+ghost use Rattle.sl_observe.specs.Observer.{ObserverState, unit_at, saved_of, floor_of, observer_act};
+ghost use Rattle.sl_observe.specs.Turns.{Turn, after};
+
+use sl_net::nets_are_wired;
+
+/// Each link that leads from the observer carries begins. So a begin on each of them is one to each
+/// control plane.
+pub fn begins_take_all_links()
+    ensures { (net : Net) → IsNet net → links_out net 0 BeginSort ≡ links_from net 0 }
+{
+    nets_are_wired();
+}
+
+/// A row that was collected stays as it is, whatever comes later.
+pub fn rows_stay()
+    ensures { (s : ObserverState) (ts : List Turn) (unit k : ℕ) (row : Saved) → saved_of (unit_at s.units unit) k ≡ Some row
+        → saved_of (unit_at (after s ts).units unit) k ≡ Some row }
+{}
+
+/// No more snapshots are issued than are asked for. Each begin that is put is of the last snapshot
+/// issued, and where that is a new one, it lies within the window above the floor.
+pub fn issues_are_bounded()
+    ensures count { (s : ObserverState) (ts : List Turn) → s.issued ≤ s.snapshot.count → (after s ts).issued ≤ s.snapshot.count }
+    ensures begun { (s : ObserverState) (action : ℕ) (next : After ObserverState Msg) → observer_act s action ≡ Some next
+        → All (λ (p : ℕ × Msg). p.1 ≡ Begin next.state.issued) next.puts }
+    ensures window { (s : ObserverState) (action : ℕ) (next : After ObserverState Msg) → observer_act s action ≡ Some next
+        → (next.state.issued ≤ s.issued) ⊎ (next.state.issued ≤ floor_of s + s.snapshot.window) }
+{}

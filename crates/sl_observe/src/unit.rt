@@ -1,0 +1,181 @@
+// What the observer knows of a unit.
+ghost use Rattle.std.specs.Prelude.{◌≡◌, ◌+◌, ◌≤◌, ◌++◌, OnOk, length, map, replicate, take, vec_len, vec_capacity};
+ghost use Rattle.std.specs.Option.{option_copied};
+ghost use Rattle.sl_observe.specs.Least.{least_of};
+ghost use Rattle.sl_observe.specs.Observer.{is_after};
+
+use sl_saves::Saved;
+use sl_wire::Done;
+use std::alloc::{AllocError, Global};
+use std::marker::Model;
+
+/// What the last report on a unit said: its id, its last-seen numbers on its data channels in
+/// order (0 past them), and the number that all of these and the last-seen number of an ingress
+/// unit's control plane have reached.
+#[derive(Clone, Copy, Debug, PartialEq, Eq)]
+pub struct Seen {
+    pub id: u64,
+    pub last: [u64; 8],
+    pub floor: u64,
+}
+
+/// A unit, with what the last report on it said and the rows that came for it in order, from the
+/// row of the number 1.
+#[derive(Drop)]
+pub struct Collected {
+    device: u32,
+    channels: usize,
+    seen: Seen,
+    rows: Vec<Saved>,
+}
+
+impl Model for Collected {
+    ghost use Rattle.std.specs.Prelude.{◌-◌, vec_len, vec_capacity};
+    ghost use Rattle.sl_observe.specs.Kept as kept;
+
+    ghost Value = { kept.Collected };
+
+    ghost view = { λ u. record {
+      state = record { device = u.device; channels = u.channels; id = u.seen.id; last = u.seen.last; floor = u.seen.floor; rows = u.rows.items };
+      room = vec_capacity u.rows - vec_len u.rows;
+    } };
+}
+
+impl Seen {
+    /// What is known of a unit before the first report on it.
+    fn nothing() -> Seen
+        ensures id { result.id ≡ 0 }
+        ensures last { result.last ≡ replicate 8 0 }
+        ensures floor { result.floor ≡ 0 }
+    {
+        Seen {
+            id: 0,
+            last: [0; 8],
+            floor: 0,
+        }
+    }
+}
+
+/// The least of a number and others.
+fn least_of(number: u64, others: &[u64]) -> u64
+    ensures { result ≡ least_of number others.now }
+{
+    let mut least = number;
+    for other in others {
+        least = least.min(*other);
+    }
+    least
+}
+
+/// The first numbers, as many of these as there are.
+fn front(numbers: &[u64], count: usize) -> &[u64]
+    ensures { result.now ≡ take count numbers.now }
+{
+    &numbers[..count.min(numbers.len())]
+}
+
+/// Whether rows are those of the numbers after one, ascending without a gap.
+fn is_after(number: u64, rows: &[(u64, Saved)]) -> bool
+    ensures { result ≡ is_after number rows.now }
+{
+    let mut before = number;
+    for row in rows {
+        if row.0 <= before || row.0 - before > 1 {
+            return false;
+        }
+        before = row.0;
+    }
+    true
+}
+
+/// Adds rows, for which there is room.
+fn append(rows: &mut Vec<Saved>, more: &[(u64, Saved)])
+    requires { vec_len rows.old + length more.now ≤ vec_capacity rows.old }
+    ensures { rows.new.items ≡ rows.old.items ++ map (λ r. r.1) more.now }
+{
+    for row in more {
+        rows.push_reserved(row.1);
+    }
+}
+
+impl Collected {
+    ghost use Rattle.sl_observe.specs.Observer.{new_unit, seen_of, saved_of, is_next, reached, heard};
+
+    /// A unit of a device with so many data channels, before the first report on it.
+    pub fn new(alloc: Global, device: u32, channels: usize) -> Collected
+        ensures { result.state ≡ new_unit device channels }
+    {
+        Collected {
+            device,
+            channels,
+            seen: Seen::nothing(),
+            rows: Vec::new(alloc),
+        }
+    }
+
+    /// Its device.
+    pub fn device(&self) -> u32
+        ensures { result ≡ self.now.state.device }
+    {
+        self.device
+    }
+
+    /// What the last report on it said.
+    pub fn seen(&self) -> Seen
+        ensures { result ≡ seen_of self.now.state }
+    {
+        self.seen
+    }
+
+    /// The row of a number, where it came.
+    pub fn saved(&self, k: u64) -> Option<&Saved>
+        ensures { option_copied result ≡ saved_of self.now.state k }
+    {
+        if k == 0 {
+            None
+        } else {
+            self.rows.get((k - 1) as usize)
+        }
+    }
+
+    /// Takes room for so many rows more.
+    pub fn make_room(&mut self, ring: u16) -> Result<(), AllocError>
+        ensures state { self.new.state ≡ self.old.state }
+        ensures room { OnOk result (ring ≤ self.new.room) }
+    {
+        self.rows.reserve(ring as usize)
+    }
+
+    /// The number that a report says that the unit and its data channels have reached.
+    fn reached(&self, done: &Done) -> u64
+        ensures { result ≡ reached self.now.state done.now }
+    {
+        least_of(done.id, front(&done.last, self.channels))
+    }
+
+    /// Whether the rows of a report are the unit's next ones.
+    fn is_next(&self, ring: u16, done: &Done) -> bool
+        ensures { result ≡ is_next ring self.now.state done.now }
+    {
+        let rows = done.rows.items.as_slice();
+        let held = self.rows.len() as u64;
+        rows.len() <= ring as usize
+            && held + rows.len() as u64 == self.reached(done)
+            && is_after(held, rows)
+    }
+
+    /// Takes a report that came from a device.
+    pub fn hear(&mut self, ring: u16, link: u32, done: &Done)
+        requires { self.old.state.device ≡ link → ring ≤ self.old.room }
+        ensures { self.new.state ≡ heard ring link done.now self.old.state }
+    {
+        if self.device == link && self.is_next(ring, done) {
+            self.seen = Seen {
+                id: done.id,
+                last: done.last,
+                floor: done.floor,
+            };
+            append(&mut self.rows, done.rows.items.as_slice());
+        }
+    }
+}

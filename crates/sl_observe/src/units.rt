@@ -1,0 +1,108 @@
+// The units that the observer knows, in order.
+ghost use Rattle.std.specs.Prelude.{◌≡◌, ◌<◌, ◌≤◌, ℕ, length, map, slice_set, IfOk, OnOk};
+ghost use Rattle.sl_net.specs.Net.{units};
+ghost use Rattle.sl_observe.specs.Observer.{first_unit, floors_of, unit_at, heard, units_after};
+ghost use Rattle.sl_observe.specs.Kept.{states, collected_at, HasRoom, HaveSpans};
+
+use crate::floors::Floors;
+use crate::spans::Span;
+use crate::unit::Collected;
+use sl_net::Net;
+use sl_wire::Done;
+use std::alloc::{AllocError, Global};
+
+/// The units of a net, before the first report.
+#[tactic(auto, using(crate::proofs::UnitLists::units_few))]
+pub fn list_units(alloc: Global, net: &Net) -> Result<Vec<Collected>, AllocError>
+    ensures { IfOk result (λ listed. states listed.items ≡ map (first_unit net.now) (units net.now)) }
+{
+    // A net has few actors, so the places of its units fit 32 bits.
+    let _ = net.actors();
+    let ids = net.units();
+    let mut listed = Vec::new(alloc);
+    for (place, id) in ids.iter().enumerate() {
+        let channels = net.upstream(place as u32).len();
+        listed.push(Collected::new(alloc, id.device, channels))?;
+    }
+    Ok(listed)
+}
+
+/// Takes room for so many rows more of the units from `first` on, before `end`.
+fn make_rooms(
+    units: &mut Vec<Collected>,
+    first: usize,
+    end: usize,
+    ring: u16,
+) -> Result<(), AllocError>
+    requires { end ≤ length units.old.items }
+    ensures states { states units.new.items ≡ states units.old.items }
+    ensures room { OnOk result ((k : ℕ) → first ≤ k → k < end → ring ≤ (collected_at units.new.items k).room) }
+{
+    for place in first..end {
+        make_room_at(units, place, ring)?;
+    }
+    Ok(())
+}
+
+#[tactic(auto, using(crate::proofs::UnitLists::states_set_same))]
+fn make_room_at(units: &mut Vec<Collected>, place: usize, ring: u16) -> Result<(), AllocError>
+    requires { place < length units.old.items }
+    ensures states { states units.new.items ≡ states units.old.items }
+    ensures size { length units.new.items ≡ length units.old.items }
+    ensures room { OnOk result (ring ≤ (collected_at units.new.items place).room) }
+    ensures others { (k : ℕ) → k < place → collected_at units.new.items k ≡ collected_at units.old.items k }
+{
+    let unit = &mut units[place];
+    unit.make_room(ring)
+}
+
+/// Takes the room that a report from a device may need: a ring of rows for each of its units.
+#[tactic(auto, using(crate::proofs::UnitLists::room_in_span))]
+pub fn prepare(
+    units: &mut Vec<Collected>,
+    spans: &[Span],
+    ins: u32,
+    link: u32,
+    ring: u16,
+) -> Result<(), AllocError>
+    requires { HaveSpans (states units.old.items) ins spans.now }
+    ensures states { states units.new.items ≡ states units.old.items }
+    ensures room { OnOk result (link < ins → HasRoom ring link units.new.items) }
+{
+    if link < ins {
+        let span = spans[link as usize];
+        make_rooms(units, span.first, span.end, ring)?;
+    }
+    Ok(())
+}
+
+fn hear_at(units: &mut Vec<Collected>, place: usize, ring: u16, link: u32, done: &Done)
+    requires place { place < length units.old.items }
+    requires room { HasRoom ring link units.old.items }
+    ensures { states units.new.items ≡ slice_set (states units.old.items) place (heard ring link done.now (unit_at (states units.old.items) place)) }
+{
+    let unit = &mut units[place];
+    unit.hear(ring, link, done);
+}
+
+fn floor_at(units: &[Collected], place: usize) -> u64
+    requires { place < length units.now }
+    ensures { result ≡ (unit_at (states units.now) place).floor }
+{
+    let unit = &units[place];
+    unit.seen().floor
+}
+
+/// Takes a report that came from a device, and keeps the floors of the units.
+pub fn hear(units: &mut Vec<Collected>, floors: &mut Floors, ring: u16, link: u32, done: &Done)
+    requires floors { floors.old ≡ floors_of (states units.old.items) }
+    requires room { HasRoom ring link units.old.items }
+    ensures states { states units.new.items ≡ units_after ring link done.now (states units.old.items) }
+    ensures floors { floors.new ≡ floors_of (states units.new.items) }
+{
+    let place = done.unit as usize;
+    if place < units.len() {
+        hear_at(units, place, ring, link, done);
+        floors.set(place, floor_at(units.as_slice(), place));
+    }
+}

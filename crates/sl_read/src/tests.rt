@@ -69,8 +69,8 @@ fn told(alloc: Global, bytes: &[u8]) -> Result<String, Fail> {
     }
 }
 
-// Tables of inputs that are refused. A line is a text, in which `;` stands for the end of a line,
-// an arrow, and what is said of the text.
+// Tables of inputs that are refused, and of a few that only version 1.1 of TOML accepts. A line is a
+// text, in which `;` stands for the end of a line, an arrow, and what is said of the text.
 
 /// Texts as they stand.
 fn alone() -> &'static str {
@@ -152,6 +152,10 @@ snapshot = {bits = 2, window = 3, ring = 4, count = 1000, retries = 101} => I6 s
 snapshot = {bits = 2, window = 3, ring = 4, count = 1, retries = -1} => I6 snapshot.retries -1
 snapshot = {bits = 2, window = 3, ring = 4, count = 1, retries = true} => I5 snapshot.retries
 snapshot = {bits = 2, window = 4, colour = 1} => I4 snapshot
+snapshot = {bits = 2, window = 3, ring = 3, count = 1,} => accepted
+snapshot = { ; bits = 2, # bits ; window = 3, ; ring = 3, count = 1 ; } => accepted
+snapshot = {bits = 2, window = 3, ring = 3, count = 1} ; host = [{name = "\x68\x30", at = "a.0"}] => accepted
+snapshot = {bits = 2, window = 3, ring = 3, count = 1, retries = 0 => I2
 "#
 }
 

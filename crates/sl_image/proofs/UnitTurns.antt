@@ -46,14 +46,14 @@ ports_by net d Egress = []
 
 -- the links of a unit of the device d
 abbrev pub wires_at : Net → ℕ → ℕ → Side → Snapshot → Wires
-wires_at net u d side n = record { device = d; entrances = entrances_of net u; exits = exits_of net u; ports = ports_by net d side; bits = n.width }
+wires_at net u d side n = record { device = d; entrances = entrances_of net u; exits = exits_of net u; ports = ports_by net d side; bits = n.width; actions = 0 }
 
 pub wires-are : (net : Net) (u : ℕ) (i : UnitId) (n : Snapshot) → actor_of net u ≡ OfUnit i → (new_state net u n i.side).wires ≡ wires_at net u i.device i.side n
 wires-are net u i n q = by_side i.side
   where
     by_side : (side : Side) → (new_state net u n side).wires ≡ wires_at net u i.device side n
-    by_side Ingress = λ j. record { device = device_of (q j); entrances = entrances_of net u; exits = exits_of net u; ports = ports_of net (device_of (q j)); bits = n.width }
-    by_side Egress = λ j. record { device = device_of (q j); entrances = entrances_of net u; exits = exits_of net u; ports = []; bits = n.width }
+    by_side Ingress = λ j. record { device = device_of (q j); entrances = entrances_of net u; exits = exits_of net u; ports = ports_of net (device_of (q j)); bits = n.width; actions = 0 }
+    by_side Egress = λ j. record { device = device_of (q j); entrances = entrances_of net u; exits = exits_of net u; ports = []; bits = n.width; actions = 0 }
 
 -- a host past the last has no port
 no-port : (parts : Parts) (d host : ℕ) → length parts.hosts ≤ host → next_port parts d host ≡ None

@@ -61,7 +61,7 @@ abbrev pub ports_of : Net → ℕ → List (Option ℕ)
 ports_of net d = map (next_port net.parts d) (below (length net.parts.hosts))
 
 abbrev pub wires_of : Net → ℕ → List (Option ℕ) → ℕ → Wires
-wires_of net a ports bits = record { device = device_of (actor_of net a); entrances = entrances_of net a; exits = exits_of net a; ports = ports; bits = bits }
+wires_of net a ports bits = record { device = device_of (actor_of net a); entrances = entrances_of net a; exits = exits_of net a; ports = ports; bits = bits; actions = 0 }
 
 abbrev pub first_state : Wires → Snapshot → UnitState
 first_state wires n = record { wires = wires; window = n.window; registers = first_registers n.ring }

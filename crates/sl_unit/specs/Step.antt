@@ -129,4 +129,4 @@ abbrev pub unit_rules : Rules UnitState Msg
 unit_rules = record { take = unit_take; act = unit_act }
 
 abbrev pub counts_of : Wires → Counts
-counts_of w = record { ins = length w.entrances; outs = length w.exits; actions = 0 }
+counts_of w = record { ins = length w.entrances; outs = length w.exits; actions = w.actions }

@@ -12,13 +12,15 @@ use Rattle.sl_unit.specs.declared.wires.Exit.{Exit}
 use Rattle.sl_unit.specs.declared.wires.Way.{Way}
 use Rattle.sl_unit.specs.declared.wires.Way.TheVariants.{All, Toward}
 
--- what comes by each choice; each outgoing link by its number; the next port to each host; the bits of wrapped ids
+-- what comes by each choice; each outgoing link by its number; the next port to each host; the bits of wrapped ids; and how many own
+-- actions it has
 pub record Wires : Type 0 where
   pub device : ℕ
   pub entrances : List Entrance
   pub exits : List Exit
   pub ports : List (Option ℕ)
   pub bits : ℕ
+  pub actions : ℕ
 
 abbrev pub entrance_at : Wires → ℕ → Entrance
 entrance_at w c = slice_index_or w.entrances c Other

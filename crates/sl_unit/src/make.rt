@@ -179,5 +179,6 @@ pub fn make_wires(
         exits,
         ports,
         width,
+        actions: 0,
     })
 }

@@ -67,7 +67,7 @@ impl Exit {
 }
 
 /// The links of a unit: what comes by each choice, the outgoing links by their numbers, the next
-/// port to each host, and the width of wrapped ids.
+/// port to each host, the width of wrapped ids, and how many actions it has, which is none.
 #[derive(Drop)]
 pub struct Wires {
     pub device: u32,
@@ -75,6 +75,7 @@ pub struct Wires {
     pub exits: Vec<Exit>,
     pub ports: Vec<Option<u8>>,
     pub width: Width,
+    pub actions: u32,
 }
 
 impl Model for Wires {
@@ -82,19 +83,21 @@ impl Model for Wires {
 
     ghost Value = { Wires };
 
-    ghost view = { λ w. record { device = w.device; entrances = w.entrances.items; exits = w.exits.items; ports = w.ports.items; bits = w.width.bits } };
+    ghost view = { λ w. record { device = w.device; entrances = w.entrances.items; exits = w.exits.items; ports = w.ports.items; bits = w.width.bits; actions = w.actions } };
 
-    ghost invariant = { λ w. IsUsable (record { device = w.device; entrances = w.entrances.items; exits = w.exits.items; ports = w.ports.items; bits = w.width.bits }) };
+    ghost invariant = { λ w. IsUsable (record { device = w.device; entrances = w.entrances.items; exits = w.exits.items; ports = w.ports.items; bits = w.width.bits; actions = w.actions }) };
 }
 
 impl Wires {
-    /// What comes by a choice.
+    /// What comes by a choice, and `Other` where it is no link.
     pub fn entrance(&self, choice: u32) -> Entrance
-        requires { choice < length self.now.entrances }
         ensures entrance { result ≡ entrance_at self.now choice }
         ensures small { IsSmall result }
     {
-        self.entrances[choice as usize]
+        match self.entrances.get(choice as usize) {
+            Some(entrance) => *entrance,
+            None => Entrance::Other,
+        }
     }
 
     /// How many choices there are.

@@ -1,4 +1,4 @@
-use Rattle.std.proofs.Common.{◌≡◌, ◌<◌, ◌∙◌, Some, ap, get_or, length, subst, sym}
+use Rattle.std.proofs.Common.{◌≡◌, ◌<◌, ◌∙◌, ap, get_or, length, subst, sym}
 use Rattle.std.proofs.lemmas.List.{get_or-map}
 use Rattle.sl_net.specs.declared.actor.ActorId.TheVariants.{Unit as OfUnit}
 use Rattle.sl_net.specs.declared.actor.UnitId.{UnitId}

@@ -1,12 +1,12 @@
 // A control plane of one device with two ports and a host at each, turn by turn.
-ghost use Rattle.std.specs.Prelude.{◌≡◌, ◌<◌, IfOk, OnOk, length, None};
+ghost use Rattle.std.specs.Prelude.{◌≡◌, ◌<◌, IfOk, length};
 ghost use Rattle.sl_control.specs.Wires.{control_of, control_counts};
 
 use crate::Control;
 use crate::wires::control_of;
 use sl_machine::{Machine, Memory, Outputs};
 use sl_net::{DevicePart, HostPart, Name, Net, Parts, PortRef, Snapshot};
-use sl_saves::{ListSaves, Saved, Saves, Total, View};
+use sl_saves::{ListSaves, Saves, View};
 use sl_wire::{Msg, PlainDump};
 use std::alloc::Global;
 use std::test::Fail;

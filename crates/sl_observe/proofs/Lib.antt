@@ -3,3 +3,4 @@ pub mod Begins
 pub mod UnitLists
 pub mod Runs
 pub mod Links
+pub mod Reported

@@ -4,9 +4,8 @@ use Rattle.std.proofs.lemmas.Bool.{eqb-true}
 use Rattle.std.specs.Prelude.{Bool, true, false, cond, filter, ◌==◌}
 use Rattle.sl_net.specs.declared.actor.Sort.{Sort}
 use Rattle.sl_net.specs.declared.actor.Sort.TheVariants.{FromHost, ToHost, Cable, Crossbar, Init, Poll, Notice, Dump, Begin, Done}
-use Rattle.sl_net.specs.declared.actor.ActorId.{ActorId}
 use Rattle.sl_net.specs.declared.actor.ActorId.TheVariants.{Observer}
-use Rattle.sl_net.specs.Parts.{numbers_from, below}
+use Rattle.sl_net.specs.Parts.{numbers_from}
 use Rattle.sl_net.specs.Net.{Net, same_sort, actor_of, link_of, links_from, links_out}
 use Rattle.sl_net.specs.Wired.{sends, IsWired}
 

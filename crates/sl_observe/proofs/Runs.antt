@@ -72,7 +72,7 @@ can_issue_is s e =
     let parts = and_parts (nat_lt s.issued s.snapshot.count) (nat_le (suc s.issued) most) e in
     (ltb-true s.issued s.snapshot.count parts.0, leb-true (suc s.issued) most parts.1)
 
-units_stay : (s : ObserverState) (action : ℕ) (o : Option (After ObserverState Msg)) → observer_act s action ≡ o → (acted s o).units ≡ s.units
+pub units_stay : (s : ObserverState) (action : ℕ) (o : Option (After ObserverState Msg)) → observer_act s action ≡ o → (acted s o).units ≡ s.units
 units_stay s action None e = refl
 units_stay s action (Some next) e = elim (did s action next e) [ Issued g f ↦ ap (λ a. a.state.units) f | Resent f ↦ ap (λ a. a.state.units) f ]
 

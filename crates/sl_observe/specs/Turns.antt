@@ -1,8 +1,11 @@
 -- What any turns of the observer come to, one after another.
 --     after s ts        the state after them
-use Rattle.std.specs.Prelude.{ℕ, List, [], ◌∷◌, Option, Some, None}
+--     IsReported ts     one of them takes a report with a row
+use Rattle.std.specs.Prelude.{◌≡◌, ◌⊎◌, ℕ, List, [], ◌∷◌, Option, Some, None, slice_get}
 use Rattle.sl_machine.specs.Machine.{After}
+use Rattle.sl_saves.specs.declared.entry.Saved.{Saved}
 use Rattle.sl_wire.specs.declared.message.Msg.{Msg}
+use Rattle.sl_wire.specs.declared.message.Msg.TheVariants.{Done}
 use Rattle.sl_observe.specs.Observer.{ObserverState, observer_take, observer_act}
 
 -- it takes a message from one of its links, or it may do an action
@@ -21,3 +24,12 @@ after_turn s (Acted action) = acted s (observer_act s action)
 abbrev pub after : ObserverState → List Turn → ObserverState
 after s [] = s
 after s (t ∷ ts) = after (after_turn s t) ts
+
+-- the turn takes a report on the unit with this row for this number
+abbrev pub Reports : Turn → ℕ → ℕ → Saved → Type 0
+Reports (Took link (Done d)) unit k row = (d.unit ≡ unit) × ((i : ℕ) × (slice_get d.rows i ≡ Some (k, row)))
+Reports _ unit k row = ⊥
+
+abbrev pub IsReported : List Turn → ℕ → ℕ → Saved → Type 0
+IsReported [] unit k row = ⊥
+IsReported (t ∷ ts) unit k row = Reports t unit k row ⊎ IsReported ts unit k row

@@ -10,7 +10,7 @@ ghost use Rattle.sl_saves.specs.declared.entry.Saved.{Saved};
 ghost use Rattle.sl_wire.specs.declared.message.Msg.{Msg};
 ghost use Rattle.sl_wire.specs.declared.message.Msg.TheVariants.{Begin};
 ghost use Rattle.sl_observe.specs.Observer.{ObserverState, unit_at, saved_of, floor_of, observer_act};
-ghost use Rattle.sl_observe.specs.Turns.{Turn, after};
+ghost use Rattle.sl_observe.specs.Turns.{Turn, after, IsReported};
 
 use sl_net::nets_are_wired;
 
@@ -26,6 +26,13 @@ pub fn begins_take_all_links()
 pub fn rows_stay()
     ensures { (s : ObserverState) (ts : List Turn) (unit k : ℕ) (row : Saved) → saved_of (unit_at s.units unit) k ≡ Some row
         → saved_of (unit_at (after s ts).units unit) k ≡ Some row }
+{}
+
+/// A row that is collected was so before, or a report on its unit was taken that has it for its
+/// number.
+pub fn rows_come_in_reports()
+    ensures { (s : ObserverState) (ts : List Turn) (unit k : ℕ) (row : Saved) → saved_of (unit_at (after s ts).units unit) k ≡ Some row
+        → (saved_of (unit_at s.units unit) k ≡ Some row) ⊎ IsReported ts unit k row }
 {}
 
 /// No more snapshots are issued than are asked for. Each begin that is put is of the last snapshot

@@ -13,3 +13,5 @@ pub mod Brought
 pub mod Polls
 pub mod Accounts
 pub mod Examples
+pub mod ControlUnits
+pub mod ControlSteps

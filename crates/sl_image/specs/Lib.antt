@@ -7,3 +7,4 @@ pub mod Brought
 pub mod Polls
 pub mod Accounts
 pub mod Messages
+pub mod ControlImage

@@ -2,10 +2,12 @@
 // from it, and of the findings that collected rows give.
 #![tactic(auto)]
 
+mod controls;
 mod laws;
 mod reports;
 mod worlds;
 
+pub use controls::controls_start;
 pub use laws::{
     calls_follow_steps, calls_lead_to_id, counts_fit, entries_are_values, late_is_credited,
     read_is_row, row_stays, saved_is_row,

@@ -15,3 +15,7 @@ pub mod Accounts
 pub mod Examples
 pub mod ControlUnits
 pub mod ControlSteps
+pub mod ControlTells
+pub mod ControlWays
+pub mod ControlPuts
+pub mod ControlTurns

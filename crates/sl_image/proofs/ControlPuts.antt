@@ -1,17 +1,14 @@
 -- What the machine of a control plane puts stands for the puts of its steps.
-use Rattle.std.proofs.Common.{◌≡◌, ℕ, List, [], ◌∷◌, ◌++◌, refl, sym, ap, subst, ◌∙◌, map, Some}
-use Rattle.std.specs.Prelude.{cond, true, false, Bool, ◌==◌, ◌&&◌, if◌then◌else◌, flat_map, slice_index, slice_index_or}
+use Rattle.std.proofs.Common.{◌≡◌, ℕ, List, [], ◌∷◌, ◌++◌, refl, sym, ap, subst, map}
+use Rattle.std.specs.Prelude.{cond, true, false, Bool, if◌then◌else◌, flat_map, slice_index, slice_index_or}
 use Rattle.sl_net.specs.declared.actor.Sort.TheVariants.{Dump, Done}
 use Rattle.sl_net.specs.Net.{Net, links_out, action_choice, units, unit_place}
 use Rattle.sl_net.specs.Serving.{Served, choice_from}
 use Rattle.sl_net.specs.Wires.{out_of}
 use Rattle.sl_wire.specs.declared.message.PlainDump.{PlainDump}
-use Rattle.sl_wire.specs.declared.message.Msg.{Msg}
 use Rattle.sl_wire.specs.declared.message.Msg.TheVariants as wire
-use Rattle.sl_control.specs.declared.known.Known.{Known}
-use Rattle.sl_control.specs.Control.{Sent, send_all as send_each, poll_by, ask_puts, answer_by, done_of}
+use Rattle.sl_control.specs.Control.{Sent, send_all as send_each, poll_by, answer_by, done_of}
 use Rattle.sl_control.specs.Wires.{control_wires}
-use Rattle.sl_cut.specs.declared.message.Message.{Message}
 use Rattle.sl_cut.specs.declared.message.Message.TheVariants.{Init as InitMsg, Poll as PollMsg, Done as DoneMsg}
 use Rattle.sl_cut.specs.declared.message.Put.{Put}
 use Rattle.sl_cut.specs.Words.{Each}

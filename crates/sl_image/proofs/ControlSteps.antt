@@ -1,51 +1,39 @@
 -- The machine of a control plane follows its history.
 --     Turns net us ws a step       the actor a makes the step, which leads from the histories us to ws
 --     Around s us a step           what holds of its units before a step
-use Rattle.std.proofs.Common.{◌≡◌, ℕ, ◌≤◌, List, [], ◌∷◌, ◌++◌, refl, sym, ap, subst, ◌∙◌, Option, Some, None, map, inl, inr, eq-eqb}
-use Rattle.std.specs.Prelude.{cond, true, false, Bool, nat_eq, ◌==◌, ◌&&◌, ◌⊎◌, if◌then◌else◌, flat_map, slice_get, slice_index}
+use Rattle.std.proofs.Common.{◌≡◌, ℕ, List, [], ◌∷◌, refl, sym, ap, subst, ◌∙◌, Option, Some, None, map, inl, inr, eq-eqb}
+use Rattle.std.specs.Prelude.{cond, true, false, Bool, nat_eq, ◌==◌, ◌&&◌, ◌⊎◌, if◌then◌else◌, flat_map, slice_get}
 use Rattle.std.proofs.lemmas.Bool.{and_from}
 use Rattle.std.proofs.lemmas.Bool.Decides.{eqb_tells}
-use Rattle.sl_machine.specs.Machine.{After}
 use Rattle.sl_net.specs.declared.actor.ActorId.TheVariants.{Control, Unit as OfUnit}
-use Rattle.sl_net.specs.declared.actor.Sort.{Sort}
 use Rattle.sl_net.specs.declared.actor.Sort.TheVariants.{Init, Poll, Notice, Dump, Begin, Done}
-use Rattle.sl_net.specs.Net.{Net, actor_of, link_of, links_into, links_out, action_choice, units, unit_place, data_channels, choices_of}
-use Rattle.sl_net.specs.Serving.{Served, serving, served, choice_from}
-use Rattle.sl_net.specs.Wired.{IsNet, IsWired, Reports}
-use Rattle.sl_saves.specs.declared.entry.View.{View}
-use Rattle.sl_saves.specs.Views.{IsShown, IsLive, held_saved, read}
+use Rattle.sl_net.specs.Net.{Net, actor_of, link_of, links_into, links_out, action_choice}
+use Rattle.sl_net.specs.Serving.{Served, serving, served}
+use Rattle.sl_net.specs.Wired.{IsWired}
 use Rattle.sl_wire.specs.declared.message.PlainDump.{PlainDump}
-use Rattle.sl_wire.specs.declared.message.Msg.{Msg}
-use Rattle.sl_wire.specs.declared.message.Msg.TheVariants as wire
 use Rattle.sl_control.specs.declared.known.Known.{Known}
-use Rattle.sl_control.specs.Control.{ControlState, Sent, asked, ask_by, ask_puts, is_read, takes_dump, dump_by, dump_puts, answered, answer_by, control_take}
+use Rattle.sl_control.specs.Control.{asked, ask_by, ask_puts, is_read, takes_dump, dump_by, dump_puts, answered, answer_by}
 use Rattle.sl_control.specs.Wires.{unit_wires, unheard, control_wires, first_control}
 use Rattle.sl_cut.specs.declared.message.Message.{Message}
-use Rattle.sl_cut.specs.declared.message.Message.TheVariants.{Init as InitMsg, Poll as PollMsg, Notice as NoticeMsg, Dump as DumpMsg, Begin as BeginMsg, Done as DoneMsg}
+use Rattle.sl_cut.specs.declared.message.Message.TheVariants.{Init as InitMsg, Notice as NoticeMsg, Dump as DumpMsg, Begin as BeginMsg}
 use Rattle.sl_cut.specs.declared.message.Put.{Put}
 use Rattle.sl_cut.specs.declared.message.Step.{Step}
 use Rattle.sl_cut.specs.Words.{Each}
-use Rattle.sl_cut.specs.History.{History, history, id, first, on_link}
-use Rattle.sl_cut.specs.Setup.{Setup}
-use Rattle.sl_cut.specs.Knowledge.{upto_of, dumped, told_of, is_outstanding, asks, is_again}
-use Rattle.sl_cut.specs.Puts.{send, send_all, poll_puts, dump_answer, control_puts}
+use Rattle.sl_cut.specs.History.{History, history, first, on_link}
+use Rattle.sl_cut.specs.Knowledge.{told_of, is_outstanding, asks, is_again}
+use Rattle.sl_cut.specs.Puts.{send_all, poll_puts, dump_answer, control_puts}
 use Rattle.sl_cut.specs.World.{start}
-use Rattle.sl_cut.specs.Fit.{fits_link}
 use Rattle.sl_cut.proofs.Turns.{start-empty}
 use Rattle.sl_net.proofs.Lists.{Member, each-of, each-at}
 use Rattle.sl_net.proofs.Sorts.{IsOut, each-out}
-use Rattle.sl_image.specs.Calls.{calls}
-use Rattle.sl_image.specs.Rows.{row}
-use Rattle.sl_image.specs.Brought.{IsBrought}
 use Rattle.sl_image.specs.Polls.{IsAsked}
-use Rattle.sl_image.specs.Messages.{IsDumpOf, SaysDump, IsMessage, AreSent}
-use Rattle.sl_image.specs.ControlImage.{known_by, known_of, IsControlOf, IsControlTurn, told_at}
-use Rattle.sl_image.proofs.Channels.{few-channels}
-use Rattle.sl_image.proofs.Polls.{on-append, send-off, own-link, polls-else, again-else, if-off, answer-on, IsServed, is-served}
-use Rattle.sl_image.proofs.ControlUnits.{seen, unheard-is, still, asked-is, polled, dumped-is}
+use Rattle.sl_image.specs.Messages.{AreSent}
+use Rattle.sl_image.specs.ControlImage.{known_of, IsControlOf, told_at}
+use Rattle.sl_image.proofs.Polls.{send-off, own-link, polls-else, again-else, if-off, answer-on, IsServed, is-served}
+use Rattle.sl_image.proofs.ControlUnits.{seen, unheard-is, still, asked-is, dumped-is}
 use Rattle.sl_image.proofs.ControlTells.{Tells, answered-is, done-is, read-is}
-use Rattle.sl_image.proofs.ControlWays.{few-inits, unit-at, dump-from, no-dump, begin-sort, notice-sort}
-use Rattle.sl_image.proofs.ControlPuts.{sent-each, flat-map, sent-if, sent-inits, sent-polls, sent-answer}
+use Rattle.sl_image.proofs.ControlWays.{unit-at, dump-from, no-dump}
+use Rattle.sl_image.proofs.ControlPuts.{sent-each, flat-map, sent-if, sent-polls, sent-answer}
 
 pub starts : (net : Net) (a ring : ℕ) → IsControlOf net ring (history (start net)) a (first_control net a ring)
 starts net a ring = record { wires = refl; units = each (served net a) }

@@ -1,6 +1,6 @@
 -- What a dump tells a control plane of its unit.
-use Rattle.std.proofs.Common.{◌≡◌, ℕ, zero, suc, ◌+◌, ◌-◌, ◌<◌, ◌≤◌, List, [], ◌∷◌, length, refl, sym, ap, subst, ◌∙◌, Option, Some, None, arith, map}
-use Rattle.std.specs.Prelude.{true, false, Bool, min, nat_lt, ◌==◌, ◌&&◌, ◌%◌, if◌then◌else◌, take, option_map, unwrap_or, slice_get}
+use Rattle.std.proofs.Common.{◌≡◌, ℕ, zero, suc, ◌+◌, ◌-◌, ◌<◌, ◌≤◌, List, [], ◌∷◌, length, refl, sym, ap, subst, ◌∙◌, arith, map}
+use Rattle.std.specs.Prelude.{true, false, Bool, min, nat_lt, if◌then◌else◌, take, option_map, unwrap_or, slice_get}
 use Rattle.std.specs.List.{list_all}
 use Rattle.std.proofs.lemmas.Bool.{lt-ltb, eq-eqb, and_from}
 use Rattle.std.proofs.lemmas.List.{length-map}
@@ -10,7 +10,7 @@ use Rattle.sl_net.specs.Parts.{numbers_from}
 use Rattle.sl_net.specs.Net.{Net, data_channels, choices_of}
 use Rattle.sl_net.specs.Serving.{Served}
 use Rattle.sl_saves.specs.Calls.{number}
-use Rattle.sl_saves.specs.Views.{IsShown, IsLive, held_saved, read}
+use Rattle.sl_saves.specs.Views.{IsLive, held_saved, read}
 use Rattle.sl_wire.specs.declared.message.PlainDump.{PlainDump}
 use Rattle.sl_control.specs.Rows.{least_of as control_least, above, span, reached, seen_on, is_sized, is_readable, row as control_row}
 use Rattle.sl_control.specs.Control.{is_read, answered, done_of}
@@ -18,10 +18,10 @@ use Rattle.sl_control.specs.Wires.{unit_wires}
 use Rattle.sl_control.proofs.Reading.{readable-live}
 use Rattle.sl_cut.specs.Words.{least_of}
 use Rattle.sl_cut.specs.History.{History, id, last}
-use Rattle.sl_cut.specs.Knowledge.{upto_of, floor_of}
+use Rattle.sl_cut.specs.Knowledge.{upto_of}
 use Rattle.sl_image.specs.Calls.{calls}
 use Rattle.sl_image.specs.Rows.{row}
-use Rattle.sl_image.specs.Messages.{eight, lasts, cpu_last, IsDumpOf, IsDoneOf, held_row}
+use Rattle.sl_image.specs.Messages.{eight, lasts, IsDumpOf, IsDoneOf, held_row}
 use Rattle.sl_image.specs.ControlImage.{known_by}
 
 -- Numbers.

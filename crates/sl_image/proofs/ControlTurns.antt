@@ -1,20 +1,16 @@
 -- A turn of a control plane in a world.
-use Rattle.std.proofs.Common.{◌≡◌, ℕ, zero, suc, ◌-◌, ◌<◌, ◌≤◌, List, [], ◌∷◌, length, refl, sym, ap, subst, ◌∙◌, Option, Some, None, arith, map, inl, inr, eq-eqb}
+use Rattle.std.proofs.Common.{◌≡◌, ℕ, zero, suc, ◌-◌, ◌<◌, ◌≤◌, List, [], ◌∷◌, length, refl, sym, ap, subst, ◌∙◌, Some, None, arith, map, inl, inr, eq-eqb}
 use Rattle.std.specs.Prelude.{cond, true, false, Bool, not, nat_eq, ◌==◌, ◌&&◌, ◌⊎◌, if◌then◌else◌, flat_map, slice_get, option_map, option_and_then}
 use Rattle.std.specs.List.{list_all}
-use Rattle.std.proofs.lemmas.Bool.{cases_lt, cases_Bool}
+use Rattle.std.proofs.lemmas.Bool.{cases_lt}
 use Rattle.std.proofs.lemmas.Bool.Decides.{eqb_tells}
 use Rattle.std.proofs.lemmas.List.{get_or_past}
 use Rattle.std.proofs.lemmas.Option.{slice_get-get_or, get_or_from_slice_get}
-use Rattle.sl_machine.specs.Machine.{After}
-use Rattle.sl_net.specs.declared.actor.ActorId.{ActorId}
 use Rattle.sl_net.specs.declared.actor.ActorId.TheVariants.{Control}
-use Rattle.sl_net.specs.declared.actor.Sort.{Sort}
 use Rattle.sl_net.specs.declared.actor.Sort.TheVariants.{Init, Poll, Notice, Dump, Begin}
 use Rattle.sl_net.specs.Net.{Net, nobody, actor_of, link_of, link_at, links_into, links_out, action_choice, data_channels}
 use Rattle.sl_net.specs.Serving.{Served, serving, served}
 use Rattle.sl_net.specs.Wired.{IsNet, IsWired, receives}
-use Rattle.sl_net.specs.Wires.{out_of}
 use Rattle.sl_saves.specs.declared.entry.View.{View}
 use Rattle.sl_saves.specs.Views.{IsShown, IsLive, held_saved, read}
 use Rattle.sl_wire.specs.declared.message.PlainDump.{PlainDump}
@@ -30,11 +26,10 @@ use Rattle.sl_cut.specs.declared.message.Step.{Step}
 use Rattle.sl_cut.specs.Words.{Each}
 use Rattle.sl_cut.specs.History.{History, World, Losses, history, id, first, takes}
 use Rattle.sl_cut.specs.Setup.{Setup}
-use Rattle.sl_cut.specs.Knowledge.{upto_of, dumped, told_of, is_outstanding, is_again, is_swept}
+use Rattle.sl_cut.specs.Knowledge.{upto_of, dumped, is_outstanding, is_again, is_swept}
 use Rattle.sl_cut.specs.Puts.{poll_puts, dump_answer, control_puts, guarded, action}
 use Rattle.sl_cut.specs.World.{Entry, next_step, step_by, acting, turn, after, world}
-use Rattle.sl_cut.specs.Made.{Ran}
-use Rattle.sl_cut.specs.Fit.{fits, fits_link}
+use Rattle.sl_cut.specs.Fit.{fits_link}
 use Rattle.sl_cut.proofs.Turns.{GrowsAt, grows-after, next-within}
 use Rattle.sl_cut.proofs.Ran.{Takes, Acts, next-view, ran, ran-turn}
 use Rattle.sl_cut.proofs.Stamps.{took-by, acted-by}
@@ -46,7 +41,7 @@ use Rattle.sl_image.specs.Calls.{calls}
 use Rattle.sl_image.specs.Rows.{row}
 use Rattle.sl_image.specs.Brought.{IsBrought}
 use Rattle.sl_image.specs.Polls.{IsAsked}
-use Rattle.sl_image.specs.Messages.{IsDumpOf, SaysDump, IsMessage, AreSent}
+use Rattle.sl_image.specs.Messages.{IsDumpOf, IsMessage, AreSent}
 use Rattle.sl_image.specs.ControlImage.{known_of, IsControlOf, IsControlTurn, IsControlAct, told_at}
 use Rattle.sl_image.proofs.Channels.{few-channels}
 use Rattle.sl_image.proofs.Polls.{IsServed, all-asked, next-asked}

@@ -1,10 +1,9 @@
 -- What a control plane knows of one unit, in a step.
-use Rattle.std.proofs.Common.{◌≡◌, ℕ, zero, suc, ◌+◌, ◌<◌, ◌≤◌, List, [], ◌∷◌, ◌++◌, length, refl, sym, ap, subst, ◌∙◌, Option, Some, None, arith, inl, inr, length-append, append-nil, eq-eqb, map}
-use Rattle.std.specs.Prelude.{cond, true, false, Bool, nat_lt, nat_eq, ◌==◌, ◌||◌, ◌⊎◌, if◌then◌else◌, replicate, take, option_map, unwrap_or, option_and_then, slice_get}
-use Rattle.std.proofs.lemmas.Bool.{lt-ltb, le-ltb, ltb-true, ltb-false, cases_Bool, ne_eqb}
-use Rattle.sl_net.specs.declared.actor.ActorId.{ActorId}
+use Rattle.std.proofs.Common.{◌≡◌, ℕ, zero, suc, ◌+◌, ◌<◌, ◌≤◌, List, [], ◌∷◌, ◌++◌, length, refl, sym, ap, ◌∙◌, Option, Some, None, arith, inl, inr, length-append, append-nil, eq-eqb, map}
+use Rattle.std.specs.Prelude.{cond, true, false, Bool, nat_lt, ◌==◌, ◌||◌, ◌⊎◌, if◌then◌else◌, replicate, take, option_map, unwrap_or, option_and_then, slice_get}
+use Rattle.std.proofs.lemmas.Bool.{lt-ltb, le-ltb, ltb-true, cases_Bool, ne_eqb}
 use Rattle.sl_net.specs.declared.actor.Sort.TheVariants.{Init}
-use Rattle.sl_net.specs.Net.{Net, action_choice, choices_of, data_channels}
+use Rattle.sl_net.specs.Net.{Net, choices_of, data_channels}
 use Rattle.sl_net.specs.Serving.{Served}
 use Rattle.sl_control.specs.declared.known.Known.{Known}
 use Rattle.sl_control.specs.Control.{asked}
@@ -14,12 +13,12 @@ use Rattle.sl_cut.specs.declared.message.Message.TheVariants.{Poll as PollMsg, D
 use Rattle.sl_cut.specs.declared.message.Put.{Put}
 use Rattle.sl_cut.specs.declared.message.Step.{Step}
 use Rattle.sl_cut.specs.Words.{least_of}
-use Rattle.sl_cut.specs.History.{History, id, last, first, dump_of, heard, taken, on_link, put}
-use Rattle.sl_cut.specs.Knowledge.{upto_of, dumped, is_outstanding, puts_on, asks, is_again}
+use Rattle.sl_cut.specs.History.{History, last, first, dump_of, taken, on_link, put}
+use Rattle.sl_cut.specs.Knowledge.{dumped, is_outstanding, puts_on, asks, is_again}
 use Rattle.sl_cut.specs.Puts.{send, poll_puts}
 use Rattle.sl_cut.proofs.Turns.{taken-this, taken-other}
 use Rattle.sl_cut.proofs.Begins.{heard-this}
-use Rattle.sl_image.specs.Messages.{eight, lasts, cpu_last}
+use Rattle.sl_image.specs.Messages.{eight, lasts}
 use Rattle.sl_image.specs.Polls.{IsAsked}
 use Rattle.sl_image.specs.ControlImage.{known_by}
 

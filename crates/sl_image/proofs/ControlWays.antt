@@ -1,6 +1,6 @@
 -- By which links and choices a control plane is joined to its units.
-use Rattle.std.proofs.Common.{◌≡◌, ℕ, zero, suc, ◌+◌, ◌-◌, ◌<◌, ◌≤◌, List, [], ◌∷◌, ◌++◌, length, refl, sym, ap, subst, ◌∙◌, Option, Some, None, arith, get_or, map, inl, inr}
-use Rattle.std.specs.Prelude.{true, false, Bool, nat_eq, ◌==◌, ◌⊎◌, if◌then◌else◌, filter, slice_get, slice_index, option_map, option_and_then}
+use Rattle.std.proofs.Common.{◌≡◌, ℕ, zero, suc, ◌+◌, ◌-◌, ◌≤◌, List, [], ◌∷◌, ◌++◌, length, refl, sym, ap, subst, ◌∙◌, Option, Some, None, arith, get_or, map, inl, inr}
+use Rattle.std.specs.Prelude.{true, false, Bool, nat_eq, ◌==◌, ◌⊎◌, if◌then◌else◌, filter, slice_get, slice_index, option_map}
 use Rattle.std.proofs.lemmas.Bool.Decides.{eqb_tells}
 use Rattle.sl_net.specs.declared.actor.ActorId.{ActorId}
 use Rattle.sl_net.specs.declared.actor.ActorId.TheVariants.{Control, Unit as OfUnit}
@@ -8,7 +8,7 @@ use Rattle.sl_net.specs.declared.actor.UnitId.{UnitId}
 use Rattle.sl_net.specs.declared.actor.Side.{Side}
 use Rattle.sl_net.specs.declared.actor.Side.TheVariants.{Ingress, Egress}
 use Rattle.sl_net.specs.declared.actor.Sort.{Sort}
-use Rattle.sl_net.specs.declared.actor.Sort.TheVariants.{Crossbar, Init, Poll, Notice, Dump, Begin, Done}
+use Rattle.sl_net.specs.declared.actor.Sort.TheVariants.{Crossbar, Init, Poll, Notice, Dump, Begin}
 use Rattle.sl_net.specs.declared.parts.PortRef.{PortRef}
 use Rattle.sl_net.specs.Parts.{Parts, other_end, host_at, used_ports}
 use Rattle.sl_net.specs.Wired.{IsNet, receives}
@@ -18,8 +18,9 @@ use Rattle.sl_net.proofs.Lists.{Member}
 use Rattle.sl_net.proofs.Sorts.{IsOut}
 use Rattle.sl_net.proofs.Linked.{is-at}
 use Rattle.sl_net.proofs.ReportWays.{unit-listed, only-is-out}
+use Rattle.sl_control.specs.Wires.{control_of}
 use Rattle.sl_cut.specs.declared.message.Message.{Message}
-use Rattle.sl_cut.specs.declared.message.Message.TheVariants.{Host as HostMsg, Data, Probe as ProbeMsg, Init as InitMsg, Poll as PollMsg, Notice as NoticeMsg, Dump as DumpMsg, Begin as BeginMsg, Done as DoneMsg}
+use Rattle.sl_cut.specs.declared.message.Message.TheVariants.{Notice as NoticeMsg, Dump as DumpMsg, Begin as BeginMsg}
 use Rattle.sl_cut.specs.declared.message.Step.{Step}
 use Rattle.sl_cut.specs.History.{World, Losses, history}
 use Rattle.sl_cut.specs.Setup.{Setup}
@@ -51,6 +52,14 @@ inits-of parts u i q = let a = is-at parts u (OfUnit i) q (λ e. cc) in omega (a
 
 pub few-inits : (net : Net) (u : ℕ) (i : UnitId) → IsNet net → actor_of net u ≡ OfUnit i → length (choices_of net u Init) ≤ 1
 few-inits net u i n = subst (λ m. actor_of m u ≡ OfUnit i → length (choices_of m u Init) ≤ 1) (sym n.made) (λ q. inits-of net.parts u i q)
+
+-- The control plane of a device.
+
+place-of : (parts : Parts) (a d : ℕ) → actor_of (net_of parts) a ≡ Control d → control_of (net_of parts) d ≡ a
+place-of parts a d q = (is-at parts a (Control d) q (λ e. cc)).place
+
+pub control-place : (net : Net) (a d : ℕ) → IsNet net → actor_of net a ≡ Control d → control_of net d ≡ a
+control-place net a d n = subst (λ m. actor_of m a ≡ Control d → control_of m d ≡ a) (sym n.made) (place-of net.parts a d)
 
 -- The unit at its place.
 

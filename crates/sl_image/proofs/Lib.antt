@@ -19,3 +19,4 @@ pub mod ControlTells
 pub mod ControlWays
 pub mod ControlPuts
 pub mod ControlTurns
+pub mod ControlStays

@@ -7,7 +7,7 @@ mod laws;
 mod reports;
 mod worlds;
 
-pub use controls::{controls_act, controls_start, controls_take};
+pub use controls::{controls_act, controls_start, controls_stay, controls_take};
 pub use laws::{
     calls_follow_steps, calls_lead_to_id, counts_fit, entries_are_values, late_is_credited,
     read_is_row, row_stays, saved_is_row,

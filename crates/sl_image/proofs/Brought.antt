@@ -125,7 +125,7 @@ after-length : (w : World) (a : ℕ) (o : Option Step) → length (after w a o) 
 after-length w a None = refl
 after-length w a (Some step) = length-set w a (step ∷ history w a)
 
-world-length : (s : Setup) (lost : Losses) (es : List Entry) → length (world s lost es) ≡ length s.net.actors
+pub world-length : (s : Setup) (lost : Losses) (es : List Entry) → length (world s lost es) ≡ length s.net.actors
 world-length s lost es = kept_by_run s lost (λ w. length w ≡ length s.net.actors) (λ w e q. after-length w e.0 (next_step s lost w e) ∙ q) (start s.net) es (length-map s.net.actors (λ a. []))
 
 done-from-next : (s : Setup) (lost : Losses) (w v : World) (u n : ℕ) (i : UnitId) (step : Step) → IsWired s.net → Ran s lost w → Ran s lost v → IsInWindow s lost w → actor_of s.net u ≡ OfUnit i → GrowsAt w v 0 step

@@ -40,7 +40,7 @@ count-map t g (x ∷ xs) = by_bool (t (g x)) (count-map t g xs)
     by_bool true ih = ap suc ih
     by_bool false ih = ih
 
-abbrev of_sort : Sort → Incoming → Bool
+abbrev pub of_sort : Sort → Incoming → Bool
 of_sort s i = same_sort i.1 s
 
 choices-count : (net : Net) (u : ℕ) (s : Sort) → length (choices_of net u s) ≡ length (filter (λ k. same_sort k.sort s) (map (link_of net) (links_into net u)))
@@ -48,7 +48,7 @@ choices-count net u s = count-from (λ l. same_sort (link_of net l).sort s) (λ 
     (λ i p. let n : 0 + i ≡ i = omega arith in ap (λ c. same_sort (link_of net (link_at net u c)).sort s) n)
     ∙ count-map (λ k. same_sort k.sort s) (link_of net) (links_into net u)
 
-incoming-count : (parts : Parts) (u : ℕ) (x : ActorId) (s : Sort) → IsAt parts u x → length (choices_of (net_of parts) u s) ≡ length (filter (of_sort s) (incoming parts x))
+pub incoming-count : (parts : Parts) (u : ℕ) (x : ActorId) (s : Sort) → IsAt parts u x → length (choices_of (net_of parts) u s) ≡ length (filter (of_sort s) (incoming parts x))
 incoming-count parts u x s a = choices-count (net_of parts) u s
     ∙ ap (λ ks. length (filter (λ k. same_sort k.sort s) ks)) (subst (λ v. map (link_of (net_of parts)) (links_into (net_of parts) v) ≡ links_to parts (actors_of parts) x) a.place (into-links parts x a.actor))
     ∙ sym (count-map (λ k. same_sort k.sort s) (λ i. record { from = place_of i.0 (actors_of parts); to = place_of x (actors_of parts); sort = i.1 }) (incoming parts x))

@@ -23,3 +23,10 @@ pub mod UnitTurns
 pub mod UnitMessages
 pub mod UnitSteps
 pub mod UnitWorlds
+pub mod ControlUnits
+pub mod ControlSteps
+pub mod ControlTells
+pub mod ControlWays
+pub mod ControlPuts
+pub mod ControlTurns
+pub mod ControlStays

@@ -47,7 +47,7 @@ use Rattle.sl_image.specs.Polls.{IsAsked}
 
 -- What is put on one link.
 
-on-append : (l : ℕ) (ps qs : List Put) → on_link l (ps ++ qs) ≡ on_link l ps ++ on_link l qs
+pub on-append : (l : ℕ) (ps qs : List Put) → on_link l (ps ++ qs) ≡ on_link l ps ++ on_link l qs
 on-append l [] qs = refl
 on-append l (p ∷ ps) qs = by_bool (p.link == l) (on-append l ps qs)
   where
@@ -61,7 +61,7 @@ on-off : (l : ℕ) (ps : List Put) → Each (λ p. p.link ≡ l → ⊥) ps → 
 on-off l [] e = refl
 on-off l (p ∷ ps) e = ap (λ b. if b then p.message ∷ on_link l ps else on_link l ps) (ne_eqb p.link l e.0) ∙ on-off l ps e.1
 
-send-off : (net : Net) (a l : ℕ) (t : Sort) (m : Message) → ((link_of net l).sort ≡ t → ⊥) → on_link l (send_all m (links_out net a t)) ≡ []
+pub send-off : (net : Net) (a l : ℕ) (t : Sort) (m : Message) → ((link_of net l).sort ≡ t → ⊥) → on_link l (send_all m (links_out net a t)) ≡ []
 send-off net a l t m ne = on-off l (send_all m (links_out net a t)) (each-map (λ p. p.link ≡ l → ⊥) (send m) (links_out net a t)
     (each-imp (IsOut net a t) (λ k. k ≡ l → ⊥) (links_out net a t) (λ k o e. ne (ap (λ x. (link_of net x).sort) (sym e) ∙ o.sort)) (each-out net a t)))
 
@@ -90,20 +90,20 @@ flat-map-one g f (l ∷ ls) = ap (λ r. g (f l) ++ r) (flat-map-one g f ls)
 distinct-out : (net : Net) (a : ℕ) (t : Sort) → Distinct (links_out net a t)
 distinct-out net a t = distinct-filter (λ l. same_sort (link_of net l).sort t) (links_from net a) (distinct-filter (λ l. (link_of net l).from == a) (link_numbers net) (distinct-from 0 (length net.links)))
 
-own-link : (net : Net) (a l : ℕ) (g : Served → List Put) → Member l (links_out net a Poll) → ((x : ℕ) → (x ≡ l → ⊥) → on_link l (g (serving net a x)) ≡ []) → on_link l (flat_map g (served net a)) ≡ on_link l (g (serving net a l))
+pub own-link : (net : Net) (a l : ℕ) (g : Served → List Put) → Member l (links_out net a Poll) → ((x : ℕ) → (x ≡ l → ⊥) → on_link l (g (serving net a x)) ≡ []) → on_link l (flat_map g (served net a)) ≡ on_link l (g (serving net a l))
 own-link net a l g m off = ap (on_link l) (flat-map-one g (serving net a) (links_out net a Poll))
     ∙ own (on_link l) refl (on-append l) (λ x. g (serving net a x)) l (links_out net a Poll) (distinct-out net a Poll) m (λ x k ne. off x ne)
 
 -- One poll at a time.
 
-polls-else : (v : Served) (h : History) (l : ℕ) → (v.poll ≡ l → ⊥) → on_link l (poll_puts v h) ≡ []
+pub polls-else : (v : Served) (h : History) (l : ℕ) → (v.poll ≡ l → ⊥) → on_link l (poll_puts v h) ≡ []
 polls-else v h l ne = by_bool (is_outstanding v h)
   where
     by_bool : (b : Bool) → on_link l (if b then [] else send PollMsg v.poll ∷ []) ≡ []
     by_bool true = refl
     by_bool false = on-other v.poll l PollMsg ne
 
-again-else : (b : Bool) (k l : ℕ) → (k ≡ l → ⊥) → on_link l (if b then send PollMsg k ∷ [] else []) ≡ []
+pub again-else : (b : Bool) (k l : ℕ) → (k ≡ l → ⊥) → on_link l (if b then send PollMsg k ∷ [] else []) ≡ []
 again-else true k l ne = on-other k l PollMsg ne
 again-else false k l ne = refl
 
@@ -126,7 +126,7 @@ once-if : (v : Served) (h : History) (b : Bool) → PollsOnce v h (length (on_li
 once-if v h true = polls-once v h
 once-if v h false = omega arith
 
-if-off : (b : Bool) (l : ℕ) (ps : List Put) → on_link l ps ≡ [] → on_link l (if b then ps else []) ≡ []
+pub if-off : (b : Bool) (l : ℕ) (ps : List Put) → on_link l ps ≡ [] → on_link l (if b then ps else []) ≡ []
 if-off true l ps e = e
 if-off false l ps e = refl
 
@@ -137,7 +137,7 @@ OnceMore v step h = PollsOnce v h (length (on_link v.poll step.puts)) ⊎ ((step
 poll-sort : (net : Net) (a l : ℕ) → Member l (links_out net a Poll) → (link_of net l).sort ≡ Poll
 poll-sort net a l m = (each-at (IsOut net a Poll) l (links_out net a Poll) (each-out net a Poll) m).sort
 
-answer-on : (net : Net) (a l n : ℕ) (h : History) (v : Served) → Member l (links_out net a Poll) → on_link l (dump_answer net a h n v) ≡ on_link l (if is_again (action_choice net a) v h then send PollMsg v.poll ∷ [] else [])
+pub answer-on : (net : Net) (a l n : ℕ) (h : History) (v : Served) → Member l (links_out net a Poll) → on_link l (dump_answer net a h n v) ≡ on_link l (if is_again (action_choice net a) v h then send PollMsg v.poll ∷ [] else [])
 answer-on net a l n h v m = on-append l (send_all (DoneMsg (unit_place net v.unit) n) (links_out net a Done)) (if is_again (action_choice net a) v h then send PollMsg v.poll ∷ [] else [])
     ∙ ap (λ ms. ms ++ on_link l (if is_again (action_choice net a) v h then send PollMsg v.poll ∷ [] else [])) (send-off net a l Done (DoneMsg (unit_place net v.unit) n) (λ e. let x = sym (poll-sort net a l m) ∙ e in cc))
 
@@ -344,7 +344,7 @@ control-lt s lost w u i r m x q g = let a = slice_get_within (carried s.net lost
 -- Of each unit that a control plane serves.
 
 -- the way of the reports of the unit that a poll link leads to
-record IsServed (net : Net) (a l : ℕ) : Type 0 where
+pub record IsServed (net : Net) (a l : ℕ) : Type 0 where
   pub unit : UnitId
   pub is_unit : actor_of net (link_of net l).to ≡ OfUnit unit
   pub reports : Reports net (link_of net l).to
@@ -352,7 +352,7 @@ record IsServed (net : Net) (a l : ℕ) : Type 0 where
   pub poll : l ≡ reports.poll
   pub dump : (serving net a l).dump ≡ choice_of net reports.dump
 
-is-served : (net : Net) (a l : ℕ) → IsWired net → IsOut net a Poll l → IsServed net a l
+pub is-served : (net : Net) (a l : ℕ) → IsWired net → IsOut net a Poll l → IsServed net a l
 is-served net a l n o = of_unit (poll-to net l n o.is_link o.sort)
   where
     of_reports : (i : UnitId) → actor_of net (link_of net l).to ≡ OfUnit i → Reports net (link_of net l).to → IsServed net a l

@@ -9,3 +9,4 @@ pub mod Accounts
 pub mod Messages
 pub mod UnitImage
 pub mod Fields
+pub mod ControlImage

@@ -2,11 +2,13 @@
 // from it, of the findings that collected rows give, and of the machines that stand for histories.
 #![tactic(auto)]
 
+mod controls;
 mod laws;
 mod reports;
 mod units;
 mod worlds;
 
+pub use controls::{controls_act, controls_start, controls_stay, controls_take};
 pub use laws::{
     calls_follow_steps, calls_lead_to_id, counts_fit, entries_are_values, late_is_credited,
     read_is_row, row_stays, saved_is_row,

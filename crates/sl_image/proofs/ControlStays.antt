@@ -1,0 +1,53 @@
+-- The machine of a control plane in a turn of another actor: what it knows are first steps of histories that only grow.
+use Rattle.std.proofs.Common.{◌≡◌, ℕ, ◌≤◌, List, length, sym, ap, subst, ◌∙◌, inl, inr}
+use Rattle.std.specs.Prelude.{◌⊎◌}
+use Rattle.sl_net.specs.declared.actor.Sort.TheVariants.{Poll}
+use Rattle.sl_net.specs.Net.{link_of, links_out, choice_of, action_choice}
+use Rattle.sl_net.specs.Serving.{serving}
+use Rattle.sl_net.specs.Wired.{IsWired}
+use Rattle.sl_control.specs.Control.{ControlState}
+use Rattle.sl_cut.specs.History.{World, Losses, history}
+use Rattle.sl_cut.specs.Setup.{Setup}
+use Rattle.sl_cut.specs.Knowledge.{dumped, is_outstanding, is_again}
+use Rattle.sl_cut.specs.World.{Entry, turn, world}
+use Rattle.sl_cut.specs.Made.{Ran}
+use Rattle.sl_cut.proofs.Turns.{Steps, turn-cases}
+use Rattle.sl_cut.proofs.Ran.{ran}
+use Rattle.sl_cut.proofs.Numbers.{rises-le}
+use Rattle.sl_cut.proofs.Reported.{knows}
+use Rattle.sl_cut.proofs.Floors.{extends-turn}
+use Rattle.sl_net.proofs.Lists.{Member, each-of}
+use Rattle.sl_image.specs.ControlImage.{known_by, known_of, IsControlOf}
+use Rattle.sl_image.proofs.Polls.{IsServed}
+use Rattle.sl_image.proofs.ControlUnits.{seen}
+use Rattle.sl_image.proofs.ControlSteps.{same-units, served-at}
+
+-- an actor's history stays in a turn of another
+same-history : (s : Setup) (lost : Losses) (w : World) (e : Entry) (a : ℕ) → (a ≡ e.0 → ⊥) → history (turn s lost w e) a ≡ history w a
+same-history s lost w e a ne = by_cases (turn-cases s lost w e)
+  where
+    by_cases : (turn s lost w e ≡ w) ⊎ Steps s lost w e (turn s lost w e) → history (turn s lost w e) a ≡ history w a
+    by_cases (inl q) = ap (λ v. history v a) q
+    by_cases (inr t) = t.grows.other a ne
+
+-- what is known of a unit are steps that it has made
+known-steps : (s : Setup) (lost : Losses) (w : World) (a l : ℕ) → IsWired s.net → Ran s lost w → IsServed s.net a l → dumped (serving s.net a l).dump (history w a) ≤ length (history w (link_of s.net l).to)
+known-steps s lost w a l z r v = subst (λ c. dumped c (history w a) ≤ length (history w (link_of s.net l).to)) (sym v.dump)
+    (subst (λ b. dumped (choice_of s.net v.reports.dump) (history w b) ≤ length (history w (link_of s.net l).to)) (sym v.control)
+    (rises-le _ _ _ (knows s lost w (link_of s.net l).to v.unit z r v.reports v.is_unit).dumps.rises))
+
+pub stays : (s : Setup) (lost : Losses) (es : List Entry) (e : Entry) (a ring : ℕ) (t : ControlState) → IsWired s.net → (a ≡ e.0 → ⊥) → IsControlOf s.net ring (history (world s lost es)) a t → IsControlOf s.net ring (history (turn s lost (world s lost es) e)) a t
+stays s lost es e a ring t z ne r = record {
+  wires = r.wires;
+  units = r.units ∙ same-units (known_of s.net (history w) a) (known_of s.net (history (turn s lost w e)) a) (serving s.net a) (links_out s.net a Poll)
+      (each-of (λ l. known_of s.net (history w) a (serving s.net a l) ≡ known_of s.net (history (turn s lost w e)) a (serving s.net a l)) (links_out s.net a Poll) one);
+}
+  where
+    w : World
+    w = world s lost es
+
+    one : (l : ℕ) → Member l (links_out s.net a Poll) → known_of s.net (history w) a (serving s.net a l) ≡ known_of s.net (history (turn s lost w e)) a (serving s.net a l)
+    one l m = let v = serving s.net a l in let u = (link_of s.net l).to in let h = history w a in
+        let g = (extends-turn s lost w e u).steps (dumped v.dump h) (known-steps s lost w a l z (ran s lost es) (served-at s.net a l z m)) in
+        let k = same-history s lost w e a ne in
+        (λ i. known_by s.net v (sym g i) (is_outstanding v h) (is_again (action_choice s.net a) v h)) ∙ (λ i. seen s.net (action_choice s.net a) v (sym k i) (history (turn s lost w e) u))

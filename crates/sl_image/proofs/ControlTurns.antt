@@ -1,0 +1,321 @@
+-- A turn of a control plane in a world.
+use Rattle.std.proofs.Common.{◌≡◌, ℕ, zero, suc, ◌-◌, ◌<◌, ◌≤◌, List, [], ◌∷◌, length, refl, sym, ap, subst, ◌∙◌, Some, None, arith, map, inl, inr, eq-eqb}
+use Rattle.std.specs.Prelude.{cond, true, false, Bool, not, nat_eq, ◌==◌, ◌&&◌, ◌⊎◌, if◌then◌else◌, flat_map, slice_get, option_map, option_and_then}
+use Rattle.std.specs.List.{list_all}
+use Rattle.std.proofs.lemmas.Bool.{cases_lt}
+use Rattle.std.proofs.lemmas.Bool.Decides.{eqb_tells}
+use Rattle.std.proofs.lemmas.List.{get_or_past}
+use Rattle.std.proofs.lemmas.Option.{slice_get-get_or, get_or_from_slice_get}
+use Rattle.sl_net.specs.declared.actor.ActorId.TheVariants.{Control}
+use Rattle.sl_net.specs.declared.actor.Sort.TheVariants.{Init, Poll, Notice, Dump, Begin}
+use Rattle.sl_net.specs.Net.{Net, nobody, actor_of, link_of, link_at, links_into, links_out, action_choice, data_channels}
+use Rattle.sl_net.specs.Serving.{Served, serving, served}
+use Rattle.sl_net.specs.Wired.{IsNet, IsWired, receives}
+use Rattle.sl_saves.specs.declared.entry.View.{View}
+use Rattle.sl_saves.specs.Views.{IsShown, IsLive, held_saved, read}
+use Rattle.sl_wire.specs.declared.message.PlainDump.{PlainDump}
+use Rattle.sl_wire.specs.declared.message.Msg.{Msg}
+use Rattle.sl_wire.specs.declared.message.Msg.TheVariants as wire
+use Rattle.sl_control.specs.declared.known.Known.{Known}
+use Rattle.sl_control.specs.Control.{ControlState, Sent, send_all as send_each, ask_by, ask_puts, dump_by, dump_puts, is_swept as is_swept_by, asked_all, control_take, control_act}
+use Rattle.sl_control.specs.Wires.{control_wires, outs_of}
+use Rattle.sl_cut.specs.declared.message.Message.{Message}
+use Rattle.sl_cut.specs.declared.message.Message.TheVariants.{Notice as NoticeMsg, Dump as DumpMsg, Begin as BeginMsg}
+use Rattle.sl_cut.specs.declared.message.Put.{Put}
+use Rattle.sl_cut.specs.declared.message.Step.{Step}
+use Rattle.sl_cut.specs.Words.{Each}
+use Rattle.sl_cut.specs.History.{History, World, Losses, history, id, first, takes}
+use Rattle.sl_cut.specs.Setup.{Setup}
+use Rattle.sl_cut.specs.Knowledge.{upto_of, dumped, is_outstanding, is_again, is_swept}
+use Rattle.sl_cut.specs.Puts.{poll_puts, dump_answer, control_puts, guarded, action}
+use Rattle.sl_cut.specs.World.{Entry, next_step, step_by, acting, turn, after, world}
+use Rattle.sl_cut.specs.Fit.{fits_link}
+use Rattle.sl_cut.proofs.Turns.{GrowsAt, grows-after, next-within}
+use Rattle.sl_cut.proofs.Ran.{Takes, Acts, next-view, ran, ran-turn}
+use Rattle.sl_cut.proofs.Stamps.{took-by, acted-by}
+use Rattle.sl_cut.proofs.Begins.{fit-taken, fit-last}
+use Rattle.sl_cut.proofs.Near.{in-window}
+use Rattle.sl_net.proofs.Lists.{Member, each-of, each-at}
+use Rattle.sl_net.proofs.Sorts.{IsOut, is-into}
+use Rattle.sl_image.specs.Calls.{calls}
+use Rattle.sl_image.specs.Rows.{row}
+use Rattle.sl_image.specs.Brought.{IsBrought}
+use Rattle.sl_image.specs.Polls.{IsAsked}
+use Rattle.sl_image.specs.Messages.{IsDumpOf, IsMessage, AreSent}
+use Rattle.sl_image.specs.ControlImage.{known_of, IsControlOf, IsControlTurn, IsControlAct, told_at}
+use Rattle.sl_image.proofs.Channels.{few-channels}
+use Rattle.sl_image.proofs.Polls.{IsServed, all-asked, next-asked}
+use Rattle.sl_image.proofs.Brought.{world-length, next-dump}
+use Rattle.sl_image.proofs.ControlWays.{few-inits, dump-from, is_heard, heard, begin-sort, notice-sort, step-choice}
+use Rattle.sl_image.proofs.ControlPuts.{sent-each, flat-map, sent-inits}
+use Rattle.sl_image.proofs.ControlSteps.{Turns, Answers, each-unmap, units-are, same-units, served-at, begin-one, notice-one, notice-sent, sweep-one, sweep-sent, dump-one, answer-one}
+
+-- the state that stands for these histories
+abbrev control_at : Net → ℕ → (ℕ → History) → ℕ → ControlState
+control_at net ring us a = record { wires = control_wires net a ring; units = map (known_of net us a) (served net a) }
+
+is-at : (net : Net) (ring : ℕ) (us : ℕ → History) (a : ℕ) (t : ControlState) → IsControlOf net ring us a t → t ≡ control_at net ring us a
+is-at net ring us a t s = let x = s.wires in let y = s.units in λ i. record { wires = x i; units = y i }
+
+-- Takes.
+
+take-begin : (net : Net) (ring : ℕ) (us ws : ℕ → History) (a d k b : ℕ) (step : Step) → IsWired net → actor_of net a ≡ Control d → Turns us ws a step → slice_get (links_into net a) step.choice ≡ Some k → (link_of net k).sort ≡ Begin
+    → step.taken ≡ Some (BeginMsg b) → step.puts ≡ control_puts net a (us a) step.choice (BeginMsg b) → IsControlTurn net ring us ws a step.puts (control_take (control_at net ring us a) step.choice (wire.Begin b))
+take-begin net ring us ws a d k b step z q t i o e p = record {
+  state = record {
+    wires = refl;
+    units = same-units (known_of net us a) (known_of net ws a) (serving net a) (links_out net a Poll)
+        (each-of (λ l. known_of net us a (serving net a l) ≡ known_of net ws a (serving net a l)) (links_out net a Poll) (λ l m. begin-one net us ws a d l k b step z q t m i o e p));
+  };
+  puts = let c : step.choice ≡ 0 = z.begin_first a step.choice k i o in
+      subst (λ y. AreSent net ring ws a (told_at net us a) step.puts (cond y (send_each (wire.Init b) (outs_of net a Init)) [])) (sym (eq-eqb step.choice 0 c))
+      (subst (λ ps. AreSent net ring ws a (told_at net us a) ps (send_each (wire.Init b) (outs_of net a Init))) (sym p) (sent-inits net ring ws a (told_at net us a) b (links_out net a Init)));
+}
+
+take-notice : (net : Net) (ring : ℕ) (us ws : ℕ → History) (a d k : ℕ) (step : Step) → IsWired net → actor_of net a ≡ Control d → Turns us ws a step → Each (λ l. IsAsked (serving net a l) (us a)) (links_out net a Poll)
+    → slice_get (links_into net a) step.choice ≡ Some k → (link_of net k).sort ≡ Notice → step.taken ≡ Some NoticeMsg → step.puts ≡ control_puts net a (us a) step.choice NoticeMsg
+    → IsControlTurn net ring us ws a step.puts (control_take (control_at net ring us a) step.choice wire.Notice)
+take-notice net ring us ws a d k step z q t b i o e p = record {
+  state = record {
+    wires = refl;
+    units = units-are (ask_by (Some step.choice)) (known_of net us a) (known_of net ws a) (serving net a) (links_out net a Poll)
+        (each-of (λ l. ask_by (Some step.choice) (known_of net us a (serving net a l)) ≡ known_of net ws a (serving net a l)) (links_out net a Poll)
+        (λ l m. notice-one net us ws a d l k step z q t m (each-at (λ l. IsAsked (serving net a l) (us a)) l (links_out net a Poll) b m) i o e p));
+  };
+  puts = subst (λ ps. AreSent net ring ws a (told_at net us a) ps (flat_map (ask_puts (Some step.choice)) (map (known_of net us a) (served net a)))) (sym p) (notice-sent net ring us ws a step.choice (served net a));
+}
+
+take-dump : (net : Net) (ring : ℕ) (us ws : ℕ → History) (a c n : ℕ) (step : Step) (d : PlainDump) → IsWired net → actor_of net a ≡ Control c → Turns us ws a step → Each (λ l. IsAsked (serving net a l) (us a)) (links_out net a Poll)
+    → ((l : ℕ) → Member l (links_out net a Poll) → step.choice ≡ (serving net a l).dump → Answers net ring us a l n d) → step.taken ≡ Some (DumpMsg n) → step.puts ≡ control_puts net a (us a) step.choice (DumpMsg n)
+    → IsControlTurn net ring us ws a step.puts (control_take (control_at net ring us a) step.choice (wire.Dump d))
+take-dump net ring us ws a c n step d z q t b f e p = record {
+  state = record {
+    wires = refl;
+    units = units-are (dump_by ring step.choice d) (known_of net us a) (known_of net ws a) (serving net a) (links_out net a Poll)
+        (each-of (λ l. dump_by ring step.choice d (known_of net us a (serving net a l)) ≡ known_of net ws a (serving net a l)) (links_out net a Poll)
+        (λ l m. dump-one net ring us ws a c l n step d z q t m (each-at (λ l. IsAsked (serving net a l) (us a)) l (links_out net a Poll) b m) (f l m) e p));
+  };
+  puts = subst (λ ps. AreSent net ring ws a (told_at net us a) ps (flat_map out (map (known_of net us a) (served net a)))) (sym (p ∙ flat-map answer (serving net a) (links_out net a Poll)))
+      (subst (AreSent net ring ws a (told_at net us a) (flat_map (λ l. answer (serving net a l)) (links_out net a Poll)))
+      (sym (flat-map out (known_of net us a) (served net a) ∙ flat-map (λ v. out (known_of net us a v)) (serving net a) (links_out net a Poll)))
+      (sent-each net ring ws a (told_at net us a) (λ l. answer (serving net a l)) (λ l. out (known_of net us a (serving net a l))) (links_out net a Poll)
+      (each-of (λ l. AreSent net ring ws a (told_at net us a) (answer (serving net a l)) (out (known_of net us a (serving net a l)))) (links_out net a Poll)
+      (λ l m. answer-one net ring us ws a step.choice c l n step d z q t m (f l m)))));
+}
+  where
+    answer : Served → List Put
+    answer v = if step.choice == v.dump then dump_answer net a (us a) n v else []
+
+    out : Known → List Sent
+    out r = dump_puts ring (control_wires net a ring).done step.choice d r
+
+-- The sweep.
+
+swept-is : (net : Net) (us : ℕ → History) (a : ℕ) (vs : List Served) → is_swept_by (map (known_of net us a) vs) ≡ list_all (λ v. is_outstanding v (us a) && is_again (action_choice net a) v (us a)) vs
+swept-is net us a [] = refl
+swept-is net us a (v ∷ vs) = ap (λ b. (is_outstanding v (us a) && is_again (action_choice net a) v (us a)) && b) (swept-is net us a vs)
+
+sweep-acts : (net : Net) (ring : ℕ) (us ws : ℕ → History) (a d : ℕ) (step : Step) → IsWired net → actor_of net a ≡ Control d → Turns us ws a step → Each (λ l. IsAsked (serving net a l) (us a)) (links_out net a Poll)
+    → slice_get (links_into net a) step.choice ≡ None → step.choice ≡ action_choice net a → is_swept net a (us a) ≡ false → step.taken ≡ None → step.puts ≡ flat_map (λ v. poll_puts v (us a)) (served net a)
+    → IsControlAct net ring us ws a step.puts (control_act (control_at net ring us a) step.choice)
+sweep-acts net ring us ws a d step z q t b i c n e p = record {
+  turn = asked_all None (control_at net ring us a);
+  is = let x = eq-eqb step.choice (action_choice net a) c in let y = swept-is net us a (served net a) ∙ n in λ j. cond (x j && not (y j)) (Some (asked_all None (control_at net ring us a))) None;
+  stands = record {
+    state = record {
+      wires = refl;
+      units = units-are (ask_by None) (known_of net us a) (known_of net ws a) (serving net a) (links_out net a Poll)
+          (each-of (λ l. ask_by None (known_of net us a (serving net a l)) ≡ known_of net ws a (serving net a l)) (links_out net a Poll)
+          (λ l m. sweep-one net us ws a d l step z q t m (each-at (λ l. IsAsked (serving net a l) (us a)) l (links_out net a Poll) b m) i c e p));
+    };
+    puts = subst (λ ps. AreSent net ring ws a (told_at net us a) ps (flat_map (ask_puts None) (map (known_of net us a) (served net a)))) (sym p) (sweep-sent net ring us ws a (served net a));
+  };
+}
+
+-- In a world.
+
+pub turns : (s : Setup) (lost : Losses) (es : List Entry) (e : Entry) (step : Step) → next_step s lost (world s lost es) e ≡ Some step → Turns (history (world s lost es)) (history (turn s lost (world s lost es) e)) e.0 step
+turns s lost es e step n = let w = world s lost es in
+    let g : GrowsAt w (turn s lost w e) e.0 step = subst (λ o. GrowsAt w (after w e.0 o) e.0 step) (sym n)
+    (grows-after w e.0 step (let a = next-within s lost w e step n in let b = world-length s lost es in omega (arith, a, b))) in
+    record { same = g.same; other = g.other }
+
+asked-at : (s : Setup) (lost : Losses) (es : List Entry) (a d : ℕ) → IsWired s.net → actor_of s.net a ≡ Control d → Each (λ l. IsAsked (serving s.net a l) (history (world s lost es) a)) (links_out s.net a Poll)
+asked-at s lost es a d z q = each-unmap (λ v. IsAsked v (history (world s lost es) a)) (serving s.net a) (links_out s.net a Poll) (all-asked s lost (world s lost es) a d z (ran s lost es) q)
+
+-- that the rows of a dump can be read, and what is read
+abbrev pub AreLive : Type 0
+AreLive = (net : Net) (window u : ℕ) (h : History) (m n : ℕ) (cs : List ℕ) (view : View) (k : ℕ) → IsBrought net window u h m n → IsShown view (calls cs (first n h)) → window ≤ length view.slots
+    → upto_of net u (first m h) < k → k ≤ upto_of net u (first n h) → IsLive view (id (first n h)) k
+
+abbrev pub AreRead : Type 0
+AreRead = (net : Net) (window u : ℕ) (h : History) (m n : ℕ) (cs : List ℕ) (view : View) (k : ℕ) → IsBrought net window u h m n → IsShown view (calls cs (first n h)) → window ≤ length view.slots
+    → upto_of net u (first m h) < k → k ≤ upto_of net u (first n h) → read view (id (first n h)) k ≡ held_saved (row cs k (first n h))
+
+-- the dump of a unit that a control plane takes
+answers : (s : Setup) (lost : Losses) (es : List Entry) (e : Entry) (ring k n l : ℕ) (step : Step) (d : PlainDump) → AreLive → AreRead → IsNet s.net → IsWired s.net → s.window ≤ ring → next_step s lost (world s lost es) e ≡ Some step → step.taken ≡ Some (DumpMsg n)
+    → slice_get (links_into s.net e.0) step.choice ≡ Some k → IsDumpOf s.net ring (link_of s.net k).from (first n (history (world s lost es) (link_of s.net k).from)) d → Member l (links_out s.net e.0 Poll)
+    → step.choice ≡ (serving s.net e.0 l).dump → Answers s.net ring (history (world s lost es)) e.0 l n d
+answers s lost es e ring k n l step d live reads i z p x t g of m c = record {
+  tells = record {
+    dump = is;
+    few = few-channels s.net u v.unit i v.is_unit;
+    one = few-inits s.net u v.unit i v.is_unit;
+    near = λ j q. let y = brought.near j q in omega (arith, y, p);
+    live = λ j q r. live s.net s.window u (history w u) (dumped (serving s.net e.0 l).dump (history w e.0)) n (data_channels s.net u) d.view j brought is.shown size q r;
+    reads = λ j q r. reads s.net s.window u (history w u) (dumped (serving s.net e.0 l).dump (history w e.0)) n (data_channels s.net u) d.view j brought is.shown size q r;
+  };
+  waits = each-at (λ l. step.choice ≡ (serving s.net e.0 l).dump → is_outstanding (serving s.net e.0 l) (history w e.0) ≡ true) l (links_out s.net e.0 Poll)
+      (each-unmap (λ v. step.choice ≡ v.dump → is_outstanding v (history w e.0) ≡ true) (serving s.net e.0) (links_out s.net e.0 Poll) (next-asked s lost w e.0 step z (ran s lost es) view)) m c;
+}
+  where
+    w : World
+    w = world s lost es
+
+    u : ℕ
+    u = (link_of s.net l).to
+
+    view : Takes s lost w e.0 step ⊎ Acts s w e.0 step
+    view = next-view s lost w e step x
+
+    v : IsServed s.net e.0 l
+    v = served-at s.net e.0 l z m
+
+    out : IsOut s.net u Dump k
+    out = dump-from s.net e.0 l step.choice k v g c
+
+    is : IsDumpOf s.net ring u (first n (history w u)) d
+    is = subst (λ b. IsDumpOf s.net ring b (first n (history w b)) d) out.from of
+
+    size : s.window ≤ length d.view.slots
+    size = let y = is.size in omega (arith, y, p)
+
+    brought : IsBrought s.net s.window u (history w u) (dumped (serving s.net e.0 l).dump (history w e.0)) n
+    brought = each-at (λ l. step.choice ≡ (serving s.net e.0 l).dump → IsBrought s.net s.window (link_of s.net l).to (history w (link_of s.net l).to) (dumped (serving s.net e.0 l).dump (history w e.0)) n) l (links_out s.net e.0 Poll)
+        (each-unmap (λ v. step.choice ≡ v.dump → IsBrought s.net s.window v.unit (history w v.unit) (dumped v.dump (history w e.0)) n) (serving s.net e.0) (links_out s.net e.0 Poll)
+        (next-dump s lost w e.0 n step z (ran s lost es) (in-window s lost es z) view t)) m c
+
+-- a message that fits its link
+message-fits : (s : Setup) (lost : Losses) (es : List Entry) (e : Entry) (step : Step) → next_step s lost (world s lost es) e ≡ Some step → (t : Takes s lost (world s lost es) e.0 step) → fits_link s.net t.took.link t.took.message ≡ true
+message-fits s lost es e step n t = let w = world s lost es in
+    fit-last s e.0 step (history w e.0) (λ c l k. subst (λ h. Each (λ m. fits_link s.net l m ≡ true) (takes c h)) (turns s lost es e step n).same (fit-taken s lost (turn s lost w e) e.0 (ran-turn s lost w e (ran s lost es)) c l k)) t.took
+
+-- and that a control plane takes
+message-heard : (s : Setup) (a d c k : ℕ) (m : Message) → IsWired s.net → actor_of s.net a ≡ Control d → slice_get (links_into s.net a) c ≡ Some k → fits_link s.net k m ≡ true → is_heard m ≡ true
+message-heard s a d c k m z q i f = let x = is-into s.net a c k i in
+    heard d (link_of s.net k).sort m (subst (λ y. receives y (link_of s.net k).sort ≡ true) (ap (actor_of s.net) x.to ∙ q) (z.receiver k x.is_link)) f
+
+take-of : (s : Setup) (lost : Losses) (es : List Entry) (e : Entry) (d ring k : ℕ) (step : Step) (m : Message) (told : ℕ → ℕ) (x : Msg) → AreLive → AreRead → IsNet s.net → IsWired s.net → actor_of s.net e.0 ≡ Control d → s.window ≤ ring
+    → next_step s lost (world s lost es) e ≡ Some step → step.taken ≡ Some m → slice_get (links_into s.net e.0) step.choice ≡ Some k → step.puts ≡ control_puts s.net e.0 (history (world s lost es) e.0) step.choice m → fits_link s.net k m ≡ true → is_heard m ≡ true
+    → IsMessage s.net ring (history (world s lost es)) (link_of s.net k).from told m x
+    → IsControlTurn s.net ring (history (world s lost es)) (history (turn s lost (world s lost es) e)) e.0 step.puts (control_take (control_at s.net ring (history (world s lost es)) e.0) step.choice x)
+take-of s lost es e d ring k step (BeginMsg b) told x live reads i z q p n t g o f y is =
+    subst (λ x. IsControlTurn s.net ring (history (world s lost es)) (history (turn s lost (world s lost es) e)) e.0 step.puts (control_take (control_at s.net ring (history (world s lost es)) e.0) step.choice x)) (sym is)
+    (take-begin s.net ring (history (world s lost es)) (history (turn s lost (world s lost es) e)) e.0 d k b step z q (turns s lost es e step n) g (begin-sort (link_of s.net k).sort b f) t o)
+take-of s lost es e d ring k step NoticeMsg told x live reads i z q p n t g o f y is =
+    subst (λ x. IsControlTurn s.net ring (history (world s lost es)) (history (turn s lost (world s lost es) e)) e.0 step.puts (control_take (control_at s.net ring (history (world s lost es)) e.0) step.choice x)) (sym is)
+    (take-notice s.net ring (history (world s lost es)) (history (turn s lost (world s lost es) e)) e.0 d k step z q (turns s lost es e step n) (asked-at s lost es e.0 d z q) g (notice-sort (link_of s.net k).sort f) t o)
+take-of s lost es e d ring k step (DumpMsg b) told x live reads i z q p n t g o f y is =
+    subst (λ x. IsControlTurn s.net ring (history (world s lost es)) (history (turn s lost (world s lost es) e)) e.0 step.puts (control_take (control_at s.net ring (history (world s lost es)) e.0) step.choice x)) (sym is.is)
+    (take-dump s.net ring (history (world s lost es)) (history (turn s lost (world s lost es) e)) e.0 d b step is.dump z q (turns s lost es e step n) (asked-at s lost es e.0 d z q)
+    (λ l m. answers s lost es e ring k b l step is.dump live reads i z p n t g is.of m) t o)
+take-of s lost es e d ring k step _ told x live reads i z q p n t g o f y is = absurd cc
+
+pub takes-message : (s : Setup) (lost : Losses) (es : List Entry) (e : Entry) (d ring : ℕ) (step : Step) (m : Message) (told : ℕ → ℕ) (x : Msg) (t : ControlState) → AreLive → AreRead → IsNet s.net → IsWired s.net → actor_of s.net e.0 ≡ Control d → s.window ≤ ring
+    → next_step s lost (world s lost es) e ≡ Some step → step.taken ≡ Some m → IsMessage s.net ring (history (world s lost es)) (link_of s.net (link_at s.net e.0 e.1)).from told m x → IsControlOf s.net ring (history (world s lost es)) e.0 t
+    → IsControlTurn s.net ring (history (world s lost es)) (history (turn s lost (world s lost es) e)) e.0 step.puts (control_take t e.1 x)
+takes-message s lost es e d ring step m told x t live reads i z q p n k is r = by_view (next-view s lost (world s lost es) e step n)
+  where
+    us : ℕ → History
+    us = history (world s lost es)
+
+    ws : ℕ → History
+    ws = history (turn s lost (world s lost es) e)
+
+    c : step.choice ≡ e.1
+    c = step-choice s lost (world s lost es) e step n
+
+    by_view : Takes s lost (world s lost es) e.0 step ⊎ Acts s (world s lost es) e.0 step → IsControlTurn s.net ring us ws e.0 step.puts (control_take t e.1 x)
+    by_view (inr y) = absurd (let o : None ≡ Some m = sym y.acted.taken ∙ k in cc)
+    by_view (inl y) = let same : y.took.message ≡ m = of_message (sym y.took.taken ∙ k) in
+        let at : link_at s.net e.0 e.1 ≡ y.took.link = get_or_from_slice_get (links_into s.net e.0) e.1 y.took.link 0 (ap (slice_get (links_into s.net e.0)) (sym c) ∙ y.took.into) in
+        let f : fits_link s.net y.took.link m ≡ true = ap (fits_link s.net y.took.link) (sym same) ∙ message-fits s lost es e step n y in
+        let puts : step.puts ≡ control_puts s.net e.0 (us e.0) step.choice m = took-by s e.0 (us e.0) step (Control d) q y.took ∙ ap (control_puts s.net e.0 (us e.0) step.choice) same in
+        subst (λ b. IsControlTurn s.net ring us ws e.0 step.puts (control_take t b x)) c
+        (subst (λ t. IsControlTurn s.net ring us ws e.0 step.puts (control_take t step.choice x)) (sym (is-at s.net ring us e.0 t r))
+        (take-of s lost es e d ring y.took.link step m told x live reads i z q p n k y.took.into puts f (message-heard s e.0 d step.choice y.took.link m z q y.took.into f)
+        (subst (λ l. IsMessage s.net ring us (link_of s.net l).from told m x) at is)))
+      where
+        of_message : {x y : Message} → Some x ≡ Some y → x ≡ y
+        of_message e = cc
+
+-- Actions.
+
+get-none : (xs : List ℕ) (n : ℕ) → slice_get xs n ≡ None → length xs ≤ n
+get-none [] n h = omega arith
+get-none (x ∷ xs) zero h = absurd cc
+get-none (x ∷ xs) (suc n) h = omega (arith, get-none xs n h)
+
+pub acts : (s : Setup) (lost : Losses) (es : List Entry) (e : Entry) (d ring : ℕ) (step : Step) (t : ControlState) → IsWired s.net → actor_of s.net e.0 ≡ Control d
+    → next_step s lost (world s lost es) e ≡ Some step → step.taken ≡ None → IsControlOf s.net ring (history (world s lost es)) e.0 t
+    → IsControlAct s.net ring (history (world s lost es)) (history (turn s lost (world s lost es) e)) e.0 step.puts (control_act t e.1)
+acts s lost es e d ring step t z q n k r = by_view (next-view s lost (world s lost es) e step n)
+  where
+    us : ℕ → History
+    us = history (world s lost es)
+
+    ws : ℕ → History
+    ws = history (turn s lost (world s lost es) e)
+
+    c : step.choice ≡ e.1
+    c = step-choice s lost (world s lost es) e step n
+
+    by_view : Takes s lost (world s lost es) e.0 step ⊎ Acts s (world s lost es) e.0 step → IsControlAct s.net ring us ws e.0 step.puts (control_act t e.1)
+    by_view (inl y) = absurd (let o : None ≡ Some y.took.message = sym k ∙ y.took.taken in cc)
+    by_view (inr y) = of_choice (step.choice - action_choice s.net e.0) refl (acted-by s e.0 (us e.0) step (Control d) q y.acted)
+      where
+        of_guard : step.choice ≡ action_choice s.net e.0 → (b : Bool) → is_swept s.net e.0 (us e.0) ≡ b → guarded (not b) (flat_map (λ v. poll_puts v (us e.0)) (served s.net e.0)) ≡ Some step.puts → IsControlAct s.net ring us ws e.0 step.puts (control_act t e.1)
+        of_guard at true g h = absurd cc
+        of_guard at false g h = let p : flat_map (λ v. poll_puts v (us e.0)) (served s.net e.0) ≡ step.puts = cc in
+            subst (λ b. IsControlAct s.net ring us ws e.0 step.puts (control_act t b)) c
+            (subst (λ t. IsControlAct s.net ring us ws e.0 step.puts (control_act t step.choice)) (sym (is-at s.net ring us e.0 t r))
+            (sweep-acts s.net ring us ws e.0 d step z q (turns s lost es e step n) (asked-at s lost es e.0 d z q) y.acted.past at g k (sym p)))
+
+        of_choice : (j : ℕ) → step.choice - action_choice s.net e.0 ≡ j → action s y.acted.floor e.0 (Control d) (us e.0) j ≡ Some step.puts → IsControlAct s.net ring us ws e.0 step.puts (control_act t e.1)
+        of_choice zero j h = let l : action_choice s.net e.0 ≤ step.choice = get-none (links_into s.net e.0) step.choice y.acted.past in of_guard (omega (arith, j, l)) (is_swept s.net e.0 (us e.0)) refl h
+        of_choice (suc i) j h = absurd cc
+
+past-none : (xs : List ℕ) → slice_get xs (length xs) ≡ None
+past-none [] = refl
+past-none (x ∷ xs) = past-none xs
+
+is-there : (net : Net) (a d : ℕ) → actor_of net a ≡ Control d → slice_get net.actors a ≡ Some (Control d)
+is-there net a d q = by_cases (cases_lt a (length net.actors))
+  where
+    by_cases : (a < length net.actors) ⊎ (length net.actors ≤ a) → slice_get net.actors a ≡ Some (Control d)
+    by_cases (inl h) = slice_get-get_or net.actors a nobody h ∙ ap Some q
+    by_cases (inr h) = absurd (let x : actor_of net a ≡ nobody = get_or_past net.actors a nobody h in let y : nobody ≡ Control d = sym x ∙ q in cc)
+
+pub idles : (s : Setup) (lost : Losses) (es : List Entry) (e : Entry) (d ring : ℕ) (t : ControlState) → actor_of s.net e.0 ≡ Control d
+    → next_step s lost (world s lost es) e ≡ None → IsControlOf s.net ring (history (world s lost es)) e.0 t → control_act t e.1 ≡ None
+idles s lost es e d ring t q n r = ap (λ t. control_act t e.1) (is-at s.net ring us e.0 t r) ∙ by_test (eqb_tells e.1 (action_choice s.net e.0))
+  where
+    us : ℕ → History
+    us = history (world s lost es)
+
+    ps : List Put
+    ps = flat_map (λ v. poll_puts v (us e.0)) (served s.net e.0)
+
+    by_guard : e.1 ≡ action_choice s.net e.0 → (b : Bool) → is_swept s.net e.0 (us e.0) ≡ b → control_act (control_at s.net ring us e.0) e.1 ≡ None
+    by_guard c true g = let x = eq-eqb e.1 (action_choice s.net e.0) c in let y = swept-is s.net us e.0 (served s.net e.0) ∙ g in λ j. cond (x j && not (y j)) (Some (asked_all None (control_at s.net ring us e.0))) None
+    by_guard c false g = absurd (let z : e.1 - action_choice s.net e.0 ≡ 0 = omega (arith, c) in
+        let x : next_step s lost (world s lost es) e ≡ Some (acting e.1 ps) =
+        ap (option_and_then (step_by s lost (world s lost es) e.0 e.1 (slice_get (links_into s.net e.0) e.1))) (is-there s.net e.0 d q)
+        ∙ ap (λ o. step_by s lost (world s lost es) e.0 e.1 o (Control d)) (ap (slice_get (links_into s.net e.0)) c ∙ past-none (links_into s.net e.0))
+        ∙ ap (λ j. option_map (acting e.1) (action s 0 e.0 (Control d) (us e.0) j)) z
+        ∙ ap (λ b. option_map (acting e.1) (guarded (not b) ps)) g in
+        let y : None ≡ Some (acting e.1 ps) = sym n ∙ x in cc)
+
+    by_test : ((nat_eq e.1 (action_choice s.net e.0) ≡ true) × (e.1 ≡ action_choice s.net e.0)) ⊎ ((nat_eq e.1 (action_choice s.net e.0) ≡ false) × (e.1 ≡ action_choice s.net e.0 → ⊥)) → control_act (control_at s.net ring us e.0) e.1 ≡ None
+    by_test (inl c) = by_guard c.1 (is_swept s.net e.0 (us e.0)) refl
+    by_test (inr c) = ap (λ b. cond (b && not (is_swept_by (control_at s.net ring us e.0).units)) (Some (asked_all None (control_at s.net ring us e.0))) None) c.0

@@ -1,0 +1,5 @@
+use Rattle.sl_image.proofs.ControlStays.{stays}
+use Rattle.sl_image.proofs.controls.controls_stay.Goals as goal
+
+pub returns : goal.returns
+returns c s lost es e a ring t n ne r = stays s lost es e a ring t (c.nets_are_wired.ensures s.net n) ne r

@@ -1,0 +1,50 @@
+-- What the machine of a control plane stands for. us gives the history of each actor, a is the control plane's number, ring the size of the units' rings.
+--     IsControlOf net ring us a m       the state m is what these histories tell the control plane
+--     told_at net us a place            how many steps of the unit at a place were told to it
+--     IsControlTurn net ring us ws a    a turn of the machine stands for a step of a, which leads from the histories us to ws
+use Rattle.std.specs.Prelude.{◌≡◌, ℕ, Bool, List, map, slice_index, Option, Some}
+use Rattle.sl_machine.specs.Machine.{After}
+use Rattle.sl_net.specs.declared.actor.Sort.TheVariants.{Dump}
+use Rattle.sl_net.specs.Net.{Net, units, action_choice}
+use Rattle.sl_net.specs.Serving.{Served, choice_from, served}
+use Rattle.sl_wire.specs.declared.message.Msg.{Msg}
+use Rattle.sl_control.specs.declared.known.Known.{Known}
+use Rattle.sl_control.specs.Control.{ControlState}
+use Rattle.sl_control.specs.Wires.{unit_wires, control_wires}
+use Rattle.sl_cut.specs.declared.message.Put.{Put}
+use Rattle.sl_cut.specs.History.{History, id}
+use Rattle.sl_cut.specs.Knowledge.{upto_of, dumped, told_of, is_outstanding, is_again}
+use Rattle.sl_image.specs.Messages.{eight, lasts, cpu_last, AreSent}
+
+-- what is known of a unit of which the history g was told
+abbrev pub known_by : Net → Served → History → Bool → Bool → Known
+known_by net v g waits again = record {
+  wires = unit_wires net v;
+  id = id g;
+  last = eight (lasts net v.unit g);
+  cpu = cpu_last net v.unit g;
+  upto = upto_of net v.unit g;
+  waits = waits;
+  again = again;
+}
+
+abbrev pub known_of : Net → (ℕ → History) → ℕ → Served → Known
+known_of net us a v = known_by net v (told_of us v (us a)) (is_outstanding v (us a)) (is_again (action_choice net a) v (us a))
+
+pub record IsControlOf (net : Net) (ring : ℕ) (us : ℕ → History) (a : ℕ) (m : ControlState) : Type 0 where
+  pub wires : m.wires ≡ control_wires net a ring
+  pub units : m.units ≡ map (known_of net us a) (served net a)
+
+abbrev pub told_at : Net → (ℕ → History) → ℕ → ℕ → ℕ
+told_at net us a place = dumped (choice_from net a (slice_index (units net) place) Dump) (us a)
+
+-- ps are the puts of the step
+pub record IsControlTurn (net : Net) (ring : ℕ) (us ws : ℕ → History) (a : ℕ) (ps : List Put) (turn : After ControlState Msg) : Type 0 where
+  pub state : IsControlOf net ring ws a turn.state
+  pub puts : AreSent net ring ws a (told_at net us a) ps turn.puts
+
+-- the machine acts
+pub record IsControlAct (net : Net) (ring : ℕ) (us ws : ℕ → History) (a : ℕ) (ps : List Put) (acts : Option (After ControlState Msg)) : Type 0 where
+  pub turn : After ControlState Msg
+  pub is : acts ≡ Some turn
+  pub stands : IsControlTurn net ring us ws a ps turn

@@ -1,0 +1,5 @@
+pub mod Spread
+pub mod Queues
+pub mod Known
+pub mod Lines
+pub mod Delivered

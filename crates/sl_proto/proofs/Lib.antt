@@ -3,3 +3,5 @@ pub mod Queues
 pub mod Known
 pub mod Lines
 pub mod Delivered
+pub mod Images
+pub mod Turned

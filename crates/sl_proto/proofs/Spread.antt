@@ -297,7 +297,7 @@ pub step-spread : (s : Setup) (a : ℕ) (h : History) (step : Step) → IsWired 
 step-spread s a h step z (inl t) = subst (IsSpread s.net a) (sym t.puts) (puts-spread s a (actor_of s.net a) h step.choice t.link t.message z)
 step-spread s a h step z (inr t) = action-spread s t.floor a (actor_of s.net a) h (step.choice - action_choice s.net a) step.puts (λ e. z.one_observer a e) t.puts
 
-put-from : (net : Net) (a : ℕ) (ps : List Put) → Each (IsFrom net a 0 10) (map link_in_put ps) → ArePutFrom net a ps
+pub put-from : (net : Net) (a : ℕ) (ps : List Put) → Each (IsFrom net a 0 10) (map link_in_put ps) → ArePutFrom net a ps
 put-from net a [] f = tt
 put-from net a (p ∷ ps) f = ((f.0.is_link, f.0.from), put-from net a ps f.1)
 

@@ -3,6 +3,7 @@
 --     ArePut net ring us a h ps xs           the puts of a machine stand for those of a step after the history h
 --     IsLineOf s lost ring w l line          a link of the scene stands for the link l of the world w
 --     IsImage s lost ring Stands w v         the scene v stands for the world w
+--     IsTurned ..                            a turn of a machine against a step of its actor
 -- Stands w a state says that this state is the one of the actor a in the world w; ring is the size of the units' rings.
 use Rattle.std.specs.Prelude.{◌≡◌, ℕ, ◌<◌, Bool, false, List, [], ◌∷◌, length, Option, Some, None, slice_get, unwrap_or}
 use Rattle.sl_loss.specs.Loss.{Loss, is_lost}
@@ -12,6 +13,7 @@ use Rattle.sl_net.specs.Wires.{out_of}
 use Rattle.sl_net.specs.Wiring.{plan_of}
 use Rattle.sl_cut.specs.declared.message.Message.{Message}
 use Rattle.sl_cut.specs.declared.message.Put.{Put}
+use Rattle.sl_cut.specs.declared.message.Step.{Step}
 use Rattle.sl_cut.specs.History.{History, World, Losses, history, done_of, heard, put}
 use Rattle.sl_cut.specs.Setup.{Setup}
 use Rattle.sl_cut.specs.World.{sender, receiver}
@@ -73,3 +75,9 @@ pub record IsImage {S : Type 0} (s : Setup) (lost : Losses) (ring : ℕ) (Stands
   pub states : (a : ℕ) (state : S) → slice_get v.states a ≡ Some state → Stands w a state
   pub lines_each : length v.lines ≡ length s.net.links
   pub lines : (l : ℕ) → l < length s.net.links → IsLineOf s lost ring w l (line_at v.lines l)
+
+-- both are idle, or the scene that the turn leads to stands for the world that the step leads to
+abbrev pub IsTurned : {S : Type 0} → Setup → Losses → ℕ → (World → ℕ → S → Type 0) → World → Option Step → Option (Scene S Msg) → Type 0
+IsTurned s lost ring Stands w None None = Unit {0}
+IsTurned s lost ring Stands w (Some step) (Some v) = IsImage s lost ring Stands w v
+IsTurned s lost ring Stands w _ _ = ⊥

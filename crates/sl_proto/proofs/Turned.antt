@@ -42,6 +42,22 @@ got [] i p = absurd (omega (arith, p))
 got (x ∷ xs) zero p = (x, refl)
 got (x ∷ xs) (suc i) p = got xs i (omega (arith, p))
 
+-- a step is by the choice of its entry
+step-choice : (s : Setup) (lost : Losses) (w : World) (a c : ℕ) (step : Step) → next_step s lost w (a, c) ≡ Some step → step.choice ≡ c
+step-choice s lost w a c step n = let t = stepped s lost w (a, c) step n in of_link t.actor (slice_get (links_into s.net a) c) t.by
+  where
+    of_message : (x : ActorId) (l : ℕ) (o : Option Message) → option_map (λ m. taking c m (puts_of s a x (history w a) c l m)) o ≡ Some step → step.choice ≡ c
+    of_message x l None h = absurd (cc)
+    of_message x l (Some m) h = let e : taking c m (puts_of s a x (history w a) c l m) ≡ step = cc in ap (λ (y : Step). y.choice) (sym e)
+
+    of_action : (o : Option (List Put)) → option_map (acting c) o ≡ Some step → step.choice ≡ c
+    of_action None h = absurd (cc)
+    of_action (Some ps) h = let e : acting c ps ≡ step = cc in ap (λ (y : Step). y.choice) (sym e)
+
+    of_link : (x : ActorId) (o : Option ℕ) → step_by s lost w a c o x ≡ Some step → step.choice ≡ c
+    of_link x (Some l) h = of_message x l (front s.net lost w a c l) h
+    of_link x None h = of_action (action s (floor_for s.net w x) a x (history w a) (c - action_choice s.net a)) h
+
 module _ {S : Type 0} (s : Setup) (lost : Losses) (ring : ℕ) (Stands : World → ℕ → S → Type 0) (rules : Rules S Msg) where
   -- what the laws are told of the setup
   pub record Given : Type 0 where
@@ -134,3 +150,134 @@ module _ {S : Type 0} (s : Setup) (lost : Losses) (ring : ℕ) (Stands : World �
           subst (λ j. told_last lost (told_at s.net u) (taken_at s.net u) (put_at s.net w) j ≡ told_last lost (told_at s.net w) (taken_at s.net w) (put_at s.net w) j) (sym q.1) here
       by_tells (inr q) = let t = told-still s.net (world s lost es) (turn s lost (world s lost es) (a, c)) a step k g (λ to ch. q.1 (another s.net a c k l below into to (ch ∙ choice))) in
           (λ i. tell_all (t.0 i) (drop (t.1 i) (carried s.net lost (world s lost es) k)))
+
+  -- Turns.
+
+  turned-by : (u : World) (o n : Option Step) (t m : Option (Scene S Msg)) → n ≡ o → m ≡ t → IsTurned s lost ring Stands u o t → IsTurned s lost ring Stands u n m
+  turned-by u o n t m p q i = subst (λ x. IsTurned s lost ring Stands u x m) (sym p) (subst (λ y. IsTurned s lost ring Stands u o y) (sym q) i)
+
+  few-steps : (es : List Entry) → length es < 2 ^ 40 → (b : ℕ) → length (history (world s lost es) b) < 2 ^ 40
+  few-steps es few b = let i = history_size (world s lost es) b in let j = world_size s lost (world s lost es) es refl in omega (arith, i, j, few)
+
+  grows : (es : List Entry) (a c : ℕ) (step : Step) → next_step s lost (world s lost es) (a, c) ≡ Some step → a < length s.net.actors → GrowsAt (world s lost es) (turn s lost (world s lost es) (a, c)) a step
+  grows es a c step next within = let w = world s lost es in subst (λ o. GrowsAt w (after w a o) a step) (sym next) (grows-after w a step (let n = world-length s lost es in omega (arith, n, within)))
+
+  turning : (es : List Entry) (a c : ℕ) (step : Step) → Given → length es < 2 ^ 40 → next_step s lost (world s lost es) (a, c) ≡ Some step → a < length s.net.actors
+      → Turning s lost ring Stands (world s lost es) (turn s lost (world s lost es) (a, c)) a step
+  turning es a c step given few next within = record {
+    wired = given.wired;
+    sound = given.sound;
+    table = given.table;
+    ran = ran s lost es;
+    few = few-steps es few;
+    within = within;
+    grows = grows es a c step next within;
+    made = made-of s lost (world s lost es) a step (next-view s lost (world s lost es) (a, c) step next);
+  }
+
+  -- a turn by the choice of a link
+  by-take : (es : List Entry) (a c l : ℕ) (v : Scene S Msg) → Given → length es < 2 ^ 40 → IsImage s lost ring Stands (world s lost es) v → slice_get (links_into s.net a) c ≡ Some l
+      → IsTurned s lost ring Stands (turn s lost (world s lost es) (a, c)) (next_step s lost (world s lost es) (a, c)) (turn_of rules v a c)
+  by-take es a c l v given few image into = by_way (on_way s.net lost (world s lost es) l) refl
+    where
+      low : l < length s.net.links
+      low = (is-into s.net a c l into).is_link
+
+      within : a < length s.net.actors
+      within = let i = is-into s.net a c l into in let b = given.sound.to_below l (let n = wires-each s.net in omega (arith, n, low)) in let e = ap (λ k. k.to) (wire-at s.net l low) in let n = actors-each s.net in omega (arith, b, e, n, i.to)
+
+      actor : (x : ActorId) × (slice_get s.net.actors a ≡ Some x)
+      actor = got s.net.actors a within
+
+      state : (x : S) × (slice_get v.states a ≡ Some x)
+      state = got v.states a (let n = image.states_each in omega (arith, n, within))
+
+      line : slice_get v.lines l ≡ Some (line_at v.lines l)
+      line = slice_get-get_or v.lines l empty_line (let n = image.lines_each in omega (arith, n, low))
+
+      -- the world's words by the choice
+      place : taken_at s.net (world s lost es) l ≡ taken c (history (world s lost es) a)
+      place = λ i. taken (choice-is s.net a c l into i) (history (world s lost es) ((is-into s.net a c l into).to i))
+
+      told : told_at s.net (world s lost es) l ≡ told_by c (history (world s lost es) a)
+      told = λ i. told_by (choice-is s.net a c l into i) (history (world s lost es) ((is-into s.net a c l into).to i))
+
+      turned : turn_of rules v a c ≡ take_first rules v a c l state.0 (line_at v.lines l) (line_at v.lines l).queue
+      turned = turn-takes v a c l state.0 (line_at v.lines l) (ap (λ p. link_in p.links a c) image.plan ∙ link-in-is s.net a c l given.sound into)
+          (let n = wires-each s.net in let e = ap (λ p. length p.links) image.plan in omega (arith, n, e, low)) state.1 line
+
+      queued : AreQueued s.net ring (history (world s lost es)) (link_of s.net l).from (told_at s.net (world s lost es) l) (on_way s.net lost (world s lost es) l) (line_at v.lines l).queue
+      queued = (image.lines l low).queue
+
+      of_front : (m : Message) (rest : List Message) → on_way s.net lost (world s lost es) l ≡ m ∷ rest → Front s.net ring (history (world s lost es)) (link_of s.net l).from (told_at s.net (world s lost es) l) m rest (line_at v.lines l).queue
+          → (step : Step) → next_step s lost (world s lost es) (a, c) ≡ Some step → step.taken ≡ Some m → IsTurned s lost ring Stands (turn s lost (world s lost es) (a, c)) (next_step s lost (world s lost es) (a, c)) (turn_of rules v a c)
+      of_front m rest way f step next took = let w = world s lost es in let u = turn s lost (world s lost es) (a, c) in
+          let choice = step-choice s lost w a c step next in let g = grows es a c step next within in
+          let lines = slice_set v.lines l (without_first (line_at v.lines l) f.rest) in
+          let msg : IsMessage s.net ring (history w) (link_of s.net l).from (told_by c (history w a)) m f.message = subst (λ t. IsMessage s.net ring (history w) (link_of s.net l).from t m f.message) told f.stands in
+          let left = rules.take state.0 c f.message in
+          let stands : StandsAfter s ring Stands w u a step left = given.follow.take es a c l step m f.message state.0 few next into took msg (image.states a state.0 state.1) in
+          turned-by u (Some step) (next_step s lost w (a, c)) (Some (done v a c lines left)) (turn_of rules v a c) next (turned ∙ ap (take_first rules v a c l state.0 (line_at v.lines l)) f.is)
+          (image-after s lost ring Stands w u a c step v lines left (turning es a c step given few next within) image
+          (took-same es a c l step m rest v given image g choice took into way)
+          (length-set v.lines l (without_first (line_at v.lines l) f.rest) ∙ image.lines_each)
+          (took-lines es a c l step m rest v f.rest given image g choice took into way f.message f.is)
+          stands (λ b x ne st. given.follow.stays es a b c step x few next ne st))
+
+      by_way : (ms : List Message) → on_way s.net lost (world s lost es) l ≡ ms → IsTurned s lost ring Stands (turn s lost (world s lost es) (a, c)) (next_step s lost (world s lost es) (a, c)) (turn_of rules v a c)
+      by_way [] way = let w = world s lost es in
+          let none : front s.net lost w a c l ≡ None = ap (slice_get (carried s.net lost w l)) (sym place) ∙ drop-none (taken_at s.net w l) (carried s.net lost w l) way in
+          let next : next_step s lost w (a, c) ≡ None = step-takes w a c l actor.0 actor.1 into ∙ ap (option_map (λ m. taking c m (puts_of s a actor.0 (history w a) c l m))) none in
+          let empty : (line_at v.lines l).queue ≡ [] = queue-empty s.net ring (history w) (link_of s.net l).from (told_at s.net w l) (line_at v.lines l).queue (subst (λ ms. AreQueued s.net ring (history w) (link_of s.net l).from (told_at s.net w l) ms (line_at v.lines l).queue) way queued) in
+          turned-by (turn s lost w (a, c)) None (next_step s lost w (a, c)) None (turn_of rules v a c) next (turned ∙ ap (take_first rules v a c l state.0 (line_at v.lines l)) empty) tt
+      by_way (m ∷ rest) way = let w = world s lost es in
+          let some : front s.net lost w a c l ≡ Some m = ap (slice_get (carried s.net lost w l)) (sym place) ∙ drop-get (taken_at s.net w l) (carried s.net lost w l) m rest way in
+          let next : next_step s lost w (a, c) ≡ Some (taking c m (puts_of s a actor.0 (history w a) c l m)) = step-takes w a c l actor.0 actor.1 into ∙ ap (option_map (λ m. taking c m (puts_of s a actor.0 (history w a) c l m))) some in
+          of_front m rest way (front-of s.net ring (history w) (link_of s.net l).from (told_at s.net w l) m rest (line_at v.lines l).queue (subst (λ ms. AreQueued s.net ring (history w) (link_of s.net l).from (told_at s.net w l) ms (line_at v.lines l).queue) way queued))
+          (taking c m (puts_of s a actor.0 (history w a) c l m)) next refl
+
+  -- a turn by another choice
+  by-act : (es : List Entry) (a c : ℕ) (v : Scene S Msg) → Given → length es < 2 ^ 40 → IsImage s lost ring Stands (world s lost es) v → slice_get (links_into s.net a) c ≡ None
+      → IsTurned s lost ring Stands (turn s lost (world s lost es) (a, c)) (next_step s lost (world s lost es) (a, c)) (turn_of rules v a c)
+  by-act es a c v given few image none = by_next (next_step s lost (world s lost es) (a, c)) refl
+    where
+      turned : turn_of rules v a c ≡ act_turn rules v a c (slice_get v.states a)
+      turned = turn-acts v a c (let k = link-in-none s.net a c none in let e = ap (λ p. length p.links) image.plan in let f = ap (λ p. link_in p.links a c) image.plan in omega (arith, k, e, f))
+
+      state : a < length s.net.actors → (x : S) × (slice_get v.states a ≡ Some x)
+      state p = got v.states a (let n = image.states_each in omega (arith, n, p))
+
+      still : (step : Step) → next_step s lost (world s lost es) (a, c) ≡ Some step → (k : ℕ) → k < length s.net.links → (link_of s.net k).to ≡ a → choice_of s.net k ≡ step.choice → ⊥
+      still step next k p to ch = let choice = step-choice s lost (world s lost es) a c step next in
+          let e : None ≡ Some k = sym none ∙ sym ((λ i. slice_get (links_into s.net (to i)) ((ch ∙ choice) i))) ∙ choice-takes s.net k p in absurd (cc)
+
+      of_acts : (step : Step) → next_step s lost (world s lost es) (a, c) ≡ Some step → (p : a < length s.net.actors) (x : S) → slice_get v.states a ≡ Some x
+          → ActsAs s ring Stands (world s lost es) (turn s lost (world s lost es) (a, c)) a step (rules.act x c)
+          → IsTurned s lost ring Stands (turn s lost (world s lost es) (a, c)) (next_step s lost (world s lost es) (a, c)) (turn_of rules v a c)
+      of_acts step next p x st acts = let w = world s lost es in let u = turn s lost (world s lost es) (a, c) in let g = grows es a c step next p in
+          turned-by u (Some step) (next_step s lost w (a, c)) (Some (done v a c v.lines acts.after)) (turn_of rules v a c) next (turned ∙ ap (act_turn rules v a c) st ∙ ap (option_map (done v a c v.lines)) acts.acts)
+          (image-after s lost ring Stands w u a c step v v.lines acts.after (turning es a c step given few next p) image
+          (λ k low. let t = told-still s.net w u a step k g (still step next k low) in (λ i. tell_all (t.0 i) (drop (t.1 i) (carried s.net lost w k))))
+          image.lines_each
+          (λ k low. let t = told-still s.net w u a step k g (still step next k low) in
+          line-retold s.net ring (history u) (link_of s.net k).from (lost k) (told_at s.net w k) (told_at s.net u k) (taken_at s.net w k) (taken_at s.net u k) (put_at s.net w k) (line_at v.lines k) t.0 t.1
+          (lines-grown s lost ring w u a step v.lines given.wired (ran s lost es) g (lines-of s lost ring Stands w v (ran s lost es) image) k low))
+          acts.stands (λ b y ne z. given.follow.stays es a b c step y few next ne z))
+
+      by_order : (a < length s.net.actors) ⊎ (length s.net.actors ≤ a) → next_step s lost (world s lost es) (a, c) ≡ None → turn_of rules v a c ≡ None
+      by_order (inl p) next = turned ∙ ap (act_turn rules v a c) (state p).1 ∙ ap (option_map (done v a c v.lines)) (given.follow.idle es a c (state p).0 few p next none (image.states a (state p).0 (state p).1))
+      by_order (inr p) next = turned ∙ ap (act_turn rules v a c) (slice_get_past v.states a (let n = image.states_each in omega (arith, n, p)))
+
+      by_next : (o : Option Step) → next_step s lost (world s lost es) (a, c) ≡ o → IsTurned s lost ring Stands (turn s lost (world s lost es) (a, c)) (next_step s lost (world s lost es) (a, c)) (turn_of rules v a c)
+      by_next None next = turned-by (turn s lost (world s lost es) (a, c)) None (next_step s lost (world s lost es) (a, c)) None (turn_of rules v a c) next (by_order (cases_lt a (length s.net.actors)) next) tt
+      by_next (Some step) next = let p = next-within s lost (world s lost es) (a, c) step next in let x = state p in
+          of_acts step next p x.0 x.1 (given.follow.act es a c step x.0 few next none (image.states a x.0 x.1))
+
+  -- each turn of a scene that stands for a world
+  pub turned : (es : List Entry) (a c : ℕ) (v : Scene S Msg) → Given → length es < 2 ^ 40 → IsImage s lost ring Stands (world s lost es) v
+      → IsTurned s lost ring Stands (turn s lost (world s lost es) (a, c)) (next_step s lost (world s lost es) (a, c)) (turn_of rules v a c)
+  turned es a c v given few image = by_link (slice_get (links_into s.net a) c) refl
+    where
+      by_link : (o : Option ℕ) → slice_get (links_into s.net a) c ≡ o → IsTurned s lost ring Stands (turn s lost (world s lost es) (a, c)) (next_step s lost (world s lost es) (a, c)) (turn_of rules v a c)
+      by_link (Some l) k = by-take es a c l v given few image k
+      by_link None k = by-act es a c v given few image k

@@ -5,3 +5,4 @@ pub mod Lines
 pub mod Delivered
 pub mod Images
 pub mod Turned
+pub mod Schedules

@@ -4,8 +4,9 @@
 --     IsLineOf s lost ring w l line          a link of the scene stands for the link l of the world w
 --     IsImage s lost ring Stands w v         the scene v stands for the world w
 --     IsTurned ..                            a turn of a machine against a step of its actor
+--     IsFirst s lost Stands states losses    what the first scene is made of
 -- Stands w a state says that this state is the one of the actor a in the world w; ring is the size of the units' rings.
-use Rattle.std.specs.Prelude.{◌≡◌, ℕ, ◌<◌, Bool, false, List, [], ◌∷◌, length, Option, Some, None, slice_get, unwrap_or}
+use Rattle.std.specs.Prelude.{◌≡◌, ℕ, ◌<◌, Bool, false, List, [], ◌∷◌, length, Option, Some, None, slice_get, slice_index_or, unwrap_or}
 use Rattle.sl_loss.specs.Loss.{Loss, is_lost}
 use Rattle.sl_wire.specs.declared.message.Msg.{Msg}
 use Rattle.sl_net.specs.Net.{Net, link_of, choice_of}
@@ -16,7 +17,7 @@ use Rattle.sl_cut.specs.declared.message.Put.{Put}
 use Rattle.sl_cut.specs.declared.message.Step.{Step}
 use Rattle.sl_cut.specs.History.{History, World, Losses, history, done_of, heard, put}
 use Rattle.sl_cut.specs.Setup.{Setup}
-use Rattle.sl_cut.specs.World.{sender, receiver}
+use Rattle.sl_cut.specs.World.{start, sender, receiver}
 use Rattle.sl_cut.specs.Window.{on_way}
 use Rattle.sl_cut.specs.Findings.{lost_on}
 use Rattle.sl_image.specs.Messages.{IsMessage}
@@ -81,3 +82,10 @@ abbrev pub IsTurned : {S : Type 0} → Setup → Losses → ℕ → (World → �
 IsTurned s lost ring Stands w None None = Unit {0}
 IsTurned s lost ring Stands w (Some step) (Some v) = IsImage s lost ring Stands w v
 IsTurned s lost ring Stands w _ _ = ⊥
+
+-- what the first scene is made of: each state stands for an empty history, and each loss goes on from no put
+pub record IsFirst {S : Type 0} (s : Setup) (lost : Losses) (Stands : World → ℕ → S → Type 0) (states : List S) (losses : List (Option Loss)) : Type 0 where
+  pub states_each : length states ≡ length s.net.actors
+  pub states_stand : (a : ℕ) (state : S) → slice_get states a ≡ Some state → Stands (start s.net) a state
+  pub losses_each : length losses ≡ length s.net.links
+  pub losses_go : (l : ℕ) → l < length s.net.links → GoesOn (lost l) 0 (slice_index_or losses l None)

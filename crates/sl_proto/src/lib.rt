@@ -3,5 +3,9 @@
 #![tactic(auto)]
 
 mod laws;
+mod scenes;
 
 pub use laws::steps_spread_their_puts;
+pub use scenes::{
+    Meaning, first_scenes_stand, schedules_follow_histories, turns_follow_steps,
+};

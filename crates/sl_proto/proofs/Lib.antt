@@ -6,3 +6,4 @@ pub mod Delivered
 pub mod Images
 pub mod Turned
 pub mod Schedules
+pub mod Sent

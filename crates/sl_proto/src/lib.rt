@@ -5,7 +5,7 @@
 mod laws;
 mod scenes;
 
-pub use laws::steps_spread_their_puts;
+pub use laws::{dones_told_what_is_known, sent_messages_are_put, steps_spread_their_puts};
 pub use scenes::{
     Meaning, first_scenes_stand, schedules_follow_histories, turns_follow_steps,
 };

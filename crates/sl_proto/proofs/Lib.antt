@@ -7,3 +7,4 @@ pub mod Images
 pub mod Turned
 pub mod Schedules
 pub mod Sent
+pub mod Fresh

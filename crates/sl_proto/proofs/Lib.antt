@@ -8,3 +8,4 @@ pub mod Turned
 pub mod Schedules
 pub mod Sent
 pub mod Fresh
+pub mod Driven

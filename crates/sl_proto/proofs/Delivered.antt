@@ -1,7 +1,7 @@
 -- All links of a scene through an actor's puts.
 --     LinesAre .. base lines       each link k stands for one on which the messages base k were put
 --     AreToSend .. base ps xs      the puts of a machine stand for these of a step, after those
-use Rattle.std.proofs.Common.{◌≡◌, ℕ, zero, suc, ◌+◌, ◌^◌, ◌<◌, ◌≤◌, List, [], ◌∷◌, ◌++◌, length, refl, sym, ap, subst, ◌∙◌, Option, Some, None, arith, inl, inr, length-append, append-nil, append_assoc, length-set, get_or-set_same, get_or-set_other, drop}
+use Rattle.std.proofs.Common.{◌≡◌, ℕ, suc, ◌+◌, ◌^◌, ◌<◌, List, [], ◌∷◌, ◌++◌, length, refl, sym, ap, subst, ◌∙◌, arith, inl, inr, length-append, append-nil, append_assoc, length-set, get_or-set_same, get_or-set_other, drop}
 use Rattle.std.specs.Prelude.{◌⊎◌, true, false, Bool, ◌==◌, cond, nat_eq, map}
 use Rattle.std.proofs.lemmas.Bool.Decides.{eqb_tells}
 use Rattle.sl_net.specs.Net.{Net, link_of}
@@ -14,7 +14,7 @@ use Rattle.sl_cut.specs.Words.{Each}
 use Rattle.sl_cut.specs.History.{History, Losses, put, on_link, without_lost}
 use Rattle.sl_image.specs.Messages.{IsMessage}
 use Rattle.sl_world.specs.Scene.{Line, line_at, empty_line, line_put, put_at, put_each}
-use Rattle.sl_net.proofs.Lists.{Member, Distinct, each-of, each-at}
+use Rattle.sl_net.proofs.Lists.{Member, Distinct}
 use Rattle.sl_proto.specs.Image.{tell_all, told_on, ArePut}
 use Rattle.sl_proto.specs.Spread.{ArePutFrom}
 use Rattle.sl_proto.proofs.Spread.{link_in_put}

@@ -1,5 +1,5 @@
 -- Schedules of whoever takes turns.
-use Rattle.std.proofs.Common.{◌≡◌, ℕ, ◌+◌, ◌^◌, ◌<◌, ◌≤◌, List, length, sym, subst, arith, take, length-take}
+use Rattle.std.proofs.Common.{◌≡◌, ℕ, ◌+◌, ◌^◌, ◌<◌, List, length, sym, subst, arith, take, length-take}
 use Rattle.std.specs.Prelude.{Result, Ok, Err, OnOk}
 use Rattle.sl_machine.specs.Machine.{Rules}
 use Rattle.sl_wire.specs.declared.message.Msg.{Msg}

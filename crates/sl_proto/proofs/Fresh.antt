@@ -1,10 +1,9 @@
 -- The losses of an input, link by link.
 use Rattle.std.proofs.Common.{◌≡◌, ℕ, zero, suc, ◌+◌, ◌<◌, ◌≤◌, List, [], ◌∷◌, ◌++◌, length, refl, sym, ap, subst, ◌∙◌, Option, Some, None, arith, inl, inr, Bool, true, false, cond, set, get_or, take, append-nil, eq-eqb}
 use Rattle.std.specs.Prelude.{◌⊎◌, ◌==◌, nat_eq, if◌then◌else◌, map, filter, All, slice_index_or}
-use Rattle.std.proofs.lemmas.Bool.{cases_lt}
 use Rattle.std.proofs.lemmas.Bool.Decides.{eqb_tells}
 use Rattle.std.proofs.lemmas.List.{take_more}
-use Rattle.sl_loss.specs.Loss.{Loss, IsFresh, is_lost}
+use Rattle.sl_loss.specs.Loss.{Loss, IsFresh}
 use Rattle.sl_net.specs.declared.input.Drop1.{Drop1}
 use Rattle.sl_net.specs.Input.{Input}
 use Rattle.sl_net.specs.Parts.{below, numbers_from}

@@ -1,17 +1,14 @@
 -- A turn of a scene that stands for a world leads to one that stands for the world after it.
-use Rattle.std.proofs.Common.{◌≡◌, ℕ, zero, suc, ◌+◌, ◌-◌, ◌^◌, ◌<◌, ◌≤◌, List, [], ◌∷◌, ◌++◌, length, refl, sym, ap, subst, ◌∙◌, Option, Some, None, arith, inl, inr, length-append, append-nil, length-set, get_or-set_same, get_or-set_other, drop}
-use Rattle.std.specs.Prelude.{◌⊎◌, true, false, Bool, ◌==◌, cond, nat_eq, nat_lt, if◌then◌else◌, map, slice_get, slice_set, option_map, option_and_then, unwrap_or}
-use Rattle.std.proofs.lemmas.Bool.{cases_lt, lt-ltb, le-ltb}
+use Rattle.std.proofs.Common.{◌≡◌, ℕ, zero, suc, ◌+◌, ◌^◌, ◌<◌, ◌≤◌, List, [], ◌∷◌, ◌++◌, length, refl, sym, ap, subst, ◌∙◌, Option, Some, None, arith, inl, inr, length-append, append-nil, length-set, drop}
+use Rattle.std.specs.Prelude.{◌⊎◌, true, false, Bool, cond, nat_eq, if◌then◌else◌, slice_get, slice_set, option_and_then, unwrap_or}
+use Rattle.std.proofs.lemmas.Bool.{cases_lt}
 use Rattle.std.proofs.lemmas.Bool.Decides.{eqb_tells}
 use Rattle.std.proofs.lemmas.List.{length-map}
-use Rattle.std.proofs.lemmas.Option.{slice_get_within, slice_get-get_or, slice_get_past}
-use Rattle.sl_machine.specs.Machine.{After, Rules}
+use Rattle.sl_machine.specs.Machine.{After}
 use Rattle.sl_machine.specs.Plan.{IsSound, link_in, link_out, link_at}
-use Rattle.sl_net.specs.declared.actor.ActorId.{ActorId}
 use Rattle.sl_net.specs.declared.actor.Sort.{Sort}
 use Rattle.sl_net.specs.declared.actor.Sort.TheVariants.{Done}
-use Rattle.sl_net.specs.Parts.{below}
-use Rattle.sl_net.specs.Net.{Net, actor_of, link_of, links_into, choice_of, nobody}
+use Rattle.sl_net.specs.Net.{Net, link_of, links_into, choice_of}
 use Rattle.sl_net.specs.Wires.{out_of}
 use Rattle.sl_net.specs.Wiring.{kind_of, wired_link, plan_of}
 use Rattle.sl_net.specs.Wired.{IsWired}
@@ -21,31 +18,27 @@ use Rattle.sl_cut.specs.declared.message.Message.TheVariants.{Done as DoneMsg}
 use Rattle.sl_cut.specs.declared.message.Put.{Put}
 use Rattle.sl_cut.specs.declared.message.Step.{Step}
 use Rattle.sl_cut.specs.Words.{Each}
-use Rattle.sl_cut.specs.History.{History, World, Losses, history, done_of, heard, taken, takes, put, on_link, without_lost}
+use Rattle.sl_cut.specs.History.{History, World, Losses, history, done_of, taken, takes, put, on_link, without_lost}
 use Rattle.sl_cut.specs.Setup.{Setup}
-use Rattle.sl_cut.specs.Puts.{puts_of}
-use Rattle.sl_cut.specs.World.{Entry, IsLossTable, start, next_step, step_by, front, taking, turn, after, world, carried}
+use Rattle.sl_cut.specs.World.{Entry, IsLossTable, start, next_step, after, world, carried}
 use Rattle.sl_cut.specs.Made.{Took, Acted, IsMade, Fifo, Ran}
 use Rattle.sl_cut.specs.Fit.{fits}
 use Rattle.sl_cut.specs.Window.{on_way}
-use Rattle.sl_net.proofs.Lists.{Member, Distinct, each-imp}
+use Rattle.sl_net.proofs.Lists.{each-imp}
 use Rattle.sl_net.proofs.Filters.{each-both-of}
-use Rattle.sl_net.proofs.Sorts.{choice-takes, choice-is, into-to, is-into}
+use Rattle.sl_net.proofs.Sorts.{choice-takes, choice-is, is-into}
 use Rattle.sl_net.proofs.Counting.{at_below, length_below}
-use Rattle.sl_cut.proofs.Turns.{kept_by_run, GrowsAt, grows-after, next-within, taken-this, taken-other}
-use Rattle.sl_cut.proofs.Ran.{ran, made-of, next-view}
+use Rattle.sl_cut.proofs.Turns.{kept_by_run, GrowsAt, taken-other}
 use Rattle.sl_cut.proofs.Said.{PutBy}
 use Rattle.sl_cut.proofs.Stamps.{StepSaid, step-said}
-use Rattle.sl_cut.proofs.Sizes.{history_size, world_size}
-use Rattle.sl_image.specs.Messages.{IsMessage}
-use Rattle.sl_world.specs.Scene.{Line, Scene, line_at, empty_line, done, without_first, put_each, take_first, take_turn, act_turn, turn_of}
+use Rattle.sl_world.specs.Scene.{Line, Scene, line_at, done, put_each}
 use Rattle.sl_world.specs.Keeping.{length-put_each}
 use Rattle.sl_world.proofs.LinkLemmas.{link_in_is}
-use Rattle.sl_proto.specs.Image.{tell, tell_all, told_on, told_by, AreQueued, IsLineOf, IsImage}
-use Rattle.sl_proto.specs.Follow.{StandsAfter, ActsAs, FollowSteps}
+use Rattle.sl_proto.specs.Image.{tell, tell_all, told_on, told_by, IsLineOf, IsImage}
+use Rattle.sl_proto.specs.Follow.{StandsAfter}
 use Rattle.sl_proto.specs.Spread.{ArePutFrom}
 use Rattle.sl_proto.proofs.Spread.{IsSpread, step-spread, put-from, one-each}
-use Rattle.sl_proto.proofs.Queues.{tell_all-append, untold, heard-told, queue-grown, Front, front-of, queue-empty}
+use Rattle.sl_proto.proofs.Queues.{tell_all-append, untold, heard-told, queue-grown}
 use Rattle.sl_proto.proofs.Known.{way-there, told-there}
 use Rattle.sl_proto.proofs.Lines.{IsLine}
 use Rattle.sl_proto.proofs.Delivered.{LinesAre, told_last, all-put, to-send}

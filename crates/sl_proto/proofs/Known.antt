@@ -2,20 +2,18 @@
 --     TellsOf net a place     a place of which the actor a tells is that of a unit that it serves
 --     puts-there, way-there   so it is for each message put, and for each on its way
 use Rattle.std.proofs.Common.{◌≡◌, ℕ, zero, suc, ◌+◌, ◌-◌, ◌<◌, ◌≤◌, List, [], ◌∷◌, ◌++◌, length, refl, sym, ap, subst, ◌∙◌, Option, Some, None, arith, inl, inr}
-use Rattle.std.specs.Prelude.{◌⊎◌, true, false, Bool, not, ◌==◌, if◌then◌else◌, nat_eq, map, flat_map, slice_get, slice_index}
+use Rattle.std.specs.Prelude.{◌⊎◌, true, false, Bool, not, ◌==◌, if◌then◌else◌, nat_eq, flat_map, slice_index}
 use Rattle.std.proofs.lemmas.Bool.Decides.{eqb_tells}
-use Rattle.sl_net.specs.declared.actor.Side.{Side}
-use Rattle.sl_net.specs.declared.actor.Side.TheVariants.{Ingress, Egress}
 use Rattle.sl_net.specs.declared.actor.UnitId.{UnitId}
 use Rattle.sl_net.specs.declared.actor.ActorId.{ActorId}
 use Rattle.sl_net.specs.declared.actor.ActorId.TheVariants.{Observer, Control, Unit as OfUnit, Host as OfHost}
 use Rattle.sl_net.specs.declared.actor.Sort.{Sort}
 use Rattle.sl_net.specs.declared.actor.Sort.TheVariants.{Init, Poll, Dump, Done}
-use Rattle.sl_net.specs.Net.{Net, actor_of, link_of, links_into, links_out, choice_of, action_choice, units, unit_place, place_in}
+use Rattle.sl_net.specs.Net.{Net, actor_of, link_of, links_out, choice_of, action_choice, units, unit_place, place_in}
 use Rattle.sl_net.specs.Serving.{Served, serving, served}
-use Rattle.sl_net.specs.Wired.{Reports, IsWired, sends, unit_sends}
+use Rattle.sl_net.specs.Wired.{Reports, IsWired, sends}
 use Rattle.sl_cut.specs.declared.message.Message.{Message}
-use Rattle.sl_cut.specs.declared.message.Message.TheVariants.{Host as HostMsg, Data, Probe as ProbeMsg, Init as InitMsg, Poll as PollMsg, Notice as NoticeMsg, Dump as DumpMsg, Begin as BeginMsg, Done as DoneMsg}
+use Rattle.sl_cut.specs.declared.message.Message.TheVariants.{Init as InitMsg, Poll as PollMsg, Notice as NoticeMsg, Dump as DumpMsg, Begin as BeginMsg, Done as DoneMsg}
 use Rattle.sl_cut.specs.declared.message.Put.{Put}
 use Rattle.sl_cut.specs.declared.message.Step.{Step}
 use Rattle.sl_cut.specs.Words.{Each, Rises, listed, numbers}
@@ -26,7 +24,6 @@ use Rattle.sl_cut.specs.Puts.{send, send_all, poll_puts, dump_answer, control_pu
 use Rattle.sl_cut.specs.Made.{Took, Acted, IsMade, Ran}
 use Rattle.sl_cut.specs.Fit.{fits, fits_link}
 use Rattle.sl_cut.specs.Window.{on_way}
-use Rattle.sl_cut.specs.World.{carried}
 use Rattle.sl_net.proofs.Lists.{Member, each-append, each-imp, each-map, each-flat, each-of, each-at}
 use Rattle.sl_net.proofs.Filters.{each-back}
 use Rattle.sl_net.proofs.Sorts.{IsOut, each-out, choice-takes}

@@ -1,23 +1,16 @@
 -- Links of a scene and of a world, through puts.
 --     IsLine net ring us a lost told n ms line     the link stands for one on which these were put, and n of those that are not lost were taken
-use Rattle.std.proofs.Common.{◌≡◌, ℕ, zero, suc, ◌+◌, ◌-◌, ◌^◌, ◌<◌, ◌≤◌, List, [], ◌∷◌, ◌++◌, length, refl, sym, ap, subst, ◌∙◌, Option, Some, None, arith, inl, inr, length-append, append-nil, append_assoc, drop}
-use Rattle.std.specs.Prelude.{◌⊎◌, true, false, Bool, ◌==◌, if◌then◌else◌, cond, nat_eq, slice_get, slice_set, min}
-use Rattle.std.proofs.lemmas.Bool.Decides.{eqb_tells}
-use Rattle.std.proofs.lemmas.List.{get_or-set_same, get_or-set_other, length-set}
-use Rattle.sl_loss.specs.Loss.{Loss, is_lost, is_next_lost, loses_next, after_put, one_more}
-use Rattle.sl_machine.specs.declared.wiring.Link.{Link}
-use Rattle.sl_machine.specs.Plan.{link_out}
+use Rattle.std.proofs.Common.{◌≡◌, ℕ, zero, suc, ◌+◌, ◌^◌, ◌<◌, ◌≤◌, List, [], ◌∷◌, ◌++◌, length, refl, sym, ap, subst, ◌∙◌, Option, Some, None, arith, length-append, append-nil, drop}
+use Rattle.std.specs.Prelude.{true, false, Bool, if◌then◌else◌}
+use Rattle.sl_loss.specs.Loss.{Loss, is_lost, loses_next, after_put, one_more}
 use Rattle.sl_net.specs.Parts.{numbers_from}
 use Rattle.sl_net.specs.Net.{Net}
-use Rattle.sl_net.specs.Wires.{out_of}
 use Rattle.sl_wire.specs.declared.message.Msg.{Msg}
 use Rattle.sl_cut.specs.declared.message.Message.{Message}
-use Rattle.sl_cut.specs.declared.message.Put.{Put}
 use Rattle.sl_cut.specs.Words.{tally}
-use Rattle.sl_cut.specs.History.{History, on_link, without_lost}
+use Rattle.sl_cut.specs.History.{History, without_lost}
 use Rattle.sl_image.specs.Messages.{IsMessage}
-use Rattle.sl_world.specs.Scene.{Line, line_at, line_put, put_at, put_each}
-use Rattle.sl_world.specs.Keeping.{length-put_each}
+use Rattle.sl_world.specs.Scene.{Line, line_put}
 use Rattle.sl_proto.specs.Image.{tell_all, AreQueued, GoesOn}
 use Rattle.sl_proto.proofs.Queues.{queue-push}
 

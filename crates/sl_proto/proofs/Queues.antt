@@ -1,8 +1,8 @@
 -- Queues of messages of machines, one for one with messages of histories.
 --     Told net us told           what was told of each unit is at most its steps
 --     IsThere net us a m         so is what the message m of the actor a tells
-use Rattle.std.proofs.Common.{◌≡◌, ℕ, zero, suc, ◌+◌, ◌<◌, ◌≤◌, List, [], ◌∷◌, ◌++◌, length, refl, sym, ap, subst, ◌∙◌, Option, Some, None, arith, inl, inr, eq-eqb}
-use Rattle.std.specs.Prelude.{◌⊎◌, true, false, Bool, ◌==◌, if◌then◌else◌, cond, nat_eq, slice_index, unwrap_or, option_and_then}
+use Rattle.std.proofs.Common.{◌≡◌, ℕ, ◌≤◌, List, [], ◌∷◌, ◌++◌, length, refl, sym, ap, subst, ◌∙◌, Option, Some, None, inl, inr, eq-eqb}
+use Rattle.std.specs.Prelude.{◌⊎◌, true, false, Bool, ◌==◌, if◌then◌else◌, nat_eq, slice_index, unwrap_or, option_and_then}
 use Rattle.std.proofs.lemmas.Bool.Decides.{eqb_tells}
 use Rattle.sl_net.specs.Net.{Net, units}
 use Rattle.sl_wire.specs.declared.message.Msg.{Msg}
@@ -10,7 +10,7 @@ use Rattle.sl_cut.specs.declared.message.Message.{Message}
 use Rattle.sl_cut.specs.declared.message.Message.TheVariants.{Dump as DumpMsg, Done as DoneMsg}
 use Rattle.sl_cut.specs.declared.message.Step.{Step}
 use Rattle.sl_cut.specs.Words.{Each, listed}
-use Rattle.sl_cut.specs.History.{History, World, history, first, done_of, heard, takes, without_lost}
+use Rattle.sl_cut.specs.History.{History, World, history, first, done_of, takes}
 use Rattle.sl_cut.proofs.Turns.{GrowsAt}
 use Rattle.sl_cut.proofs.Numbers.{first-grown}
 use Rattle.sl_image.specs.Messages.{IsMessage, SaysDump, SaysDone}

@@ -1,5 +1,5 @@
 -- What machines send, by what was told: two ways to say it, and what control planes and the observer know.
-use Rattle.std.proofs.Common.{◌≡◌, ℕ, List, [], ◌∷◌, ◌++◌, length, refl, sym, ap, subst, ◌∙◌, Option, Some, None}
+use Rattle.std.proofs.Common.{◌≡◌, ℕ, List, [], ◌∷◌, ◌++◌, refl, sym, ap, ◌∙◌, Option, Some, None}
 use Rattle.std.specs.Prelude.{unwrap_or}
 use Rattle.sl_net.specs.declared.actor.UnitId.{UnitId}
 use Rattle.sl_net.specs.declared.actor.ActorId.TheVariants.{Unit as OfUnit}
@@ -10,13 +10,13 @@ use Rattle.sl_cut.specs.declared.message.Message.{Message}
 use Rattle.sl_cut.specs.declared.message.Message.TheVariants.{Done as DoneMsg}
 use Rattle.sl_cut.specs.declared.message.Put.{Put}
 use Rattle.sl_cut.specs.Words.{Each, listed, numbers}
-use Rattle.sl_cut.specs.History.{History, World, Losses, history, dump_of, done_of, takes, put}
+use Rattle.sl_cut.specs.History.{History, World, Losses, history, dump_of, done_of, put}
 use Rattle.sl_cut.specs.Setup.{Setup}
 use Rattle.sl_cut.specs.Knowledge.{observer, dumped, known}
 use Rattle.sl_cut.specs.Made.{Ran}
 use Rattle.sl_cut.proofs.Numbers.{last_of, heard-takes}
 use Rattle.sl_cut.proofs.Reported.{knows}
-use Rattle.sl_image.specs.Messages.{IsMessage, AreSent}
+use Rattle.sl_image.specs.Messages.{AreSent}
 use Rattle.sl_image.proofs.Polls.{dones-are}
 use Rattle.sl_proto.specs.Image.{tell, tell_all, told_on, told_by, ArePut}
 use Rattle.sl_proto.proofs.Queues.{retold, untold}

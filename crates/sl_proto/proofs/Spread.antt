@@ -28,7 +28,7 @@ use Rattle.sl_cut.specs.Knowledge.{is_outstanding, is_again, is_swept, issued, c
 use Rattle.sl_cut.specs.Puts.{send, send_all, crossbar_to, onward, route, route_frame, ingress_puts, is_own_port, egress_puts, side_puts, notice_puts, dump_puts, id_after, unit_puts, poll_puts, dump_answer, control_puts, guarded, begin_all, puts_of, action}
 use Rattle.sl_cut.specs.World.{Entry, next_step}
 use Rattle.sl_cut.specs.Made.{Took, Acted}
-use Rattle.sl_net.proofs.Lists.{Member, Distinct, each-append, each-imp, each-flat, each-of, each-at, member-parts, distinct-append, distinct-filter, distinct-from}
+use Rattle.sl_net.proofs.Lists.{Member, Distinct, each-append, each-imp, each-flat, each-at, distinct-append, distinct-filter, distinct-from}
 use Rattle.sl_net.proofs.Filters.{each-filter, distinct-joined}
 use Rattle.sl_net.proofs.Sorts.{IsOut, each-out}
 use Rattle.sl_net.proofs.EndKinds.{poll-to}

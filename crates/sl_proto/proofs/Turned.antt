@@ -1,24 +1,23 @@
 -- A turn of a scene that stands for a world is idle where the world makes no step, and else leads to one that stands for the world after it.
-use Rattle.std.proofs.Common.{◌≡◌, ℕ, zero, suc, ◌+◌, ◌-◌, ◌^◌, ◌<◌, ◌≤◌, List, [], ◌∷◌, ◌++◌, length, refl, sym, ap, subst, ◌∙◌, Option, Some, None, arith, inl, inr, length-set, get_or-set_same, get_or-set_other, drop}
-use Rattle.std.specs.Prelude.{◌⊎◌, true, false, Bool, ◌==◌, nat_eq, nat_lt, if◌then◌else◌, slice_get, slice_set, option_map, option_and_then}
+use Rattle.std.proofs.Common.{◌≡◌, ℕ, zero, suc, ◌-◌, ◌^◌, ◌<◌, ◌≤◌, List, [], ◌∷◌, length, refl, sym, ap, subst, ◌∙◌, Option, Some, None, arith, inl, inr, length-set, get_or-set_same, get_or-set_other, drop}
+use Rattle.std.specs.Prelude.{◌⊎◌, true, false, nat_eq, nat_lt, if◌then◌else◌, slice_get, slice_set, option_map, option_and_then}
 use Rattle.std.proofs.lemmas.Bool.{cases_lt, lt-ltb, le-ltb}
 use Rattle.std.proofs.lemmas.Bool.Decides.{eqb_tells}
-use Rattle.std.proofs.lemmas.Option.{slice_get_within, slice_get-get_or, slice_get_past}
-use Rattle.sl_machine.specs.Machine.{After, Rules}
+use Rattle.std.proofs.lemmas.Option.{slice_get-get_or, slice_get_past}
+use Rattle.sl_machine.specs.Machine.{Rules}
 use Rattle.sl_machine.specs.Plan.{IsSound, link_in}
 use Rattle.sl_net.specs.declared.actor.ActorId.{ActorId}
-use Rattle.sl_net.specs.Net.{Net, action_choice, link_of, links_into, choice_of, nobody, actor_of}
+use Rattle.sl_net.specs.Net.{Net, action_choice, link_of, links_into, choice_of}
 use Rattle.sl_net.specs.Wiring.{plan_of}
 use Rattle.sl_net.specs.Wired.{IsWired}
 use Rattle.sl_wire.specs.declared.message.Msg.{Msg}
 use Rattle.sl_cut.specs.declared.message.Message.{Message}
 use Rattle.sl_cut.specs.declared.message.Step.{Step}
-use Rattle.sl_cut.specs.History.{History, World, Losses, history, taken}
+use Rattle.sl_cut.specs.History.{World, Losses, history, taken}
 use Rattle.sl_cut.specs.Setup.{Setup}
 use Rattle.sl_cut.specs.declared.message.Put.{Put}
 use Rattle.sl_cut.specs.Puts.{puts_of, action}
 use Rattle.sl_cut.specs.World.{Entry, IsLossTable, next_step, step_by, front, taking, acting, floor_for, turn, after, world, carried}
-use Rattle.sl_cut.specs.Made.{Ran}
 use Rattle.sl_cut.specs.Window.{on_way}
 use Rattle.sl_net.proofs.Sorts.{choice-takes, choice-is, is-into}
 use Rattle.sl_cut.proofs.Turns.{GrowsAt, grows-after, next-within, stepped, taken-this}
@@ -26,7 +25,7 @@ use Rattle.sl_cut.proofs.Ran.{ran, made-of, next-view}
 use Rattle.sl_cut.proofs.Sizes.{history_size, world_size}
 use Rattle.sl_image.specs.Messages.{IsMessage}
 use Rattle.sl_world.specs.Scene.{Line, Scene, line_at, empty_line, done, without_first, take_first, take_turn, act_turn, turn_of}
-use Rattle.sl_proto.specs.Image.{tell, tell_all, told_by, AreQueued, IsLineOf, IsImage, IsTurned}
+use Rattle.sl_proto.specs.Image.{tell, tell_all, told_by, AreQueued, IsImage, IsTurned}
 use Rattle.sl_proto.specs.Follow.{StandsAfter, ActsAs, FollowSteps}
 use Rattle.sl_proto.proofs.Queues.{Front, front-of, queue-empty}
 use Rattle.sl_proto.proofs.Lines.{IsLine}
@@ -92,8 +91,7 @@ module _ {S : Type 0} (s : Setup) (lost : Losses) (ring : ℕ) (Stands : World �
       → (told_at s.net (turn s lost (world s lost es) (a, c)) l ≡ tell (told_at s.net (world s lost es) l) m) × (taken_at s.net (turn s lost (world s lost es) (a, c)) l ≡ suc (taken_at s.net (world s lost es) l))
   taking-line es a c l step m rest v given image g choice took into way = let w = world s lost es in let u = turn s lost (world s lost es) (a, c) in
       let i = is-into s.net a c l into in let k : choice_of s.net l ≡ c = choice-is s.net a c l into in
-      let grown : history u (link_of s.net l).to ≡ step ∷ history w (link_of s.net l).to = ap (history u) i.to ∙ g.same ∙ ap (λ b. step ∷ history w b) (sym i.to) in
-      (
+      let grown : history u (link_of s.net l).to ≡ step ∷ history w (link_of s.net l).to = ap (history u) i.to ∙ g.same ∙ ap (λ b. step ∷ history w b) (sym i.to) in (
         ap (told_by (choice_of s.net l)) grown ∙ heard-this (choice_of s.net l) step (history w (link_of s.net l).to) m (choice ∙ sym k) took,
         ap (taken (choice_of s.net l)) grown ∙ taken-this (choice_of s.net l) step (history w (link_of s.net l).to) (choice ∙ sym k),
       )

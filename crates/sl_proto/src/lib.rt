@@ -10,9 +10,9 @@ mod taker;
 
 pub use laws::{dones_told_what_is_known, sent_messages_are_put, steps_spread_their_puts};
 pub use losses::make_losses;
-pub use taker::{Taker, drive};
-pub use schedule::{all_sweeps, expand, pass_of};
 pub use scenes::{
     Meaning, first_scenes_stand, machines_stand_for_histories, schedules_follow_histories,
     turns_follow_steps,
 };
+pub use schedule::{all_sweeps, expand, pass_of};
+pub use taker::{Taker, drive};

@@ -108,13 +108,7 @@ fn loss_on(alloc: Global, input: &Input, link: u32, drops: &[u64]) -> Result<Opt
         return Ok(None);
     }
     let rate = rate_of(&input.loss, kind);
-    Ok(Some(Loss::new(
-        alloc,
-        input.loss.seed,
-        link as u64,
-        rate,
-        drops,
-    )?))
+    Ok(Some(Loss::new(alloc, input.loss.seed, link as u64, rate, drops)?))
 }
 
 fn add_loss(made: &mut Vec<Option<Loss>>, loss: Option<Loss>) -> Result<(), Memory>

@@ -102,11 +102,7 @@ fn add_all(entries: &mut Vec<(u32, u32)>, more: &[(u32, u32)]) -> Result<(), Mem
 }
 
 /// Adds a pass so many times.
-fn add_passes(
-    entries: &mut Vec<(u32, u32)>,
-    once: &[(u32, u32)],
-    count: u32,
-) -> Result<(), Memory>
+fn add_passes(entries: &mut Vec<(u32, u32)>, once: &[(u32, u32)], count: u32) -> Result<(), Memory>
     ensures { OnOk result (entries.new.items ≡ entries.old.items ++ passes_of once.now count) }
 {
     for _done in 0..count {

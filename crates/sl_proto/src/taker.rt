@@ -43,11 +43,7 @@ pub trait Taker {
 /// Takes the turns of a whole schedule; after want of memory, those of a front of it. Where the
 /// machines follow the steps of histories and stand for a world, they stand afterwards for the
 /// world after these turns.
-pub fn drive<T: Taker>(
-    net: &Net,
-    taker: &mut T,
-    schedule: &[(u32, u32)],
-) -> Result<(), Memory>
+pub fn drive<T: Taker>(net: &Net, taker: &mut T, schedule: &[(u32, u32)]) -> Result<(), Memory>
     requires plan { (T.scene taker.old).plan ≡ plan_of net.now }
     requires choices { All (λ e. HasChoice (plan_of net.now) e.0 e.1) schedule.now }
     requires book { length (T.scene taker.old).book + length schedule.now < 2 ^ 40 }

@@ -1,4 +1,4 @@
-use Rattle.std.proofs.Common.{◌≡◌, ◌<◌, ◌++◌, ◌∷◌, [], ◌+◌, ap, sym, subst, ◌∙◌, arith, take, set, get_or, map, length}
+use Rattle.std.proofs.Common.{◌≡◌, ◌++◌, ◌∷◌, [], ◌+◌, ap, sym, subst, ◌∙◌, take, set, get_or, map}
 use Rattle.sl_net.specs.Parts.{below}
 use Rattle.sl_net.specs.declared.input.Drop1.{Drop1}
 use Rattle.sl_proto.proofs.Fresh.{drops_of, drop-added}

@@ -1,4 +1,4 @@
-use Rattle.std.proofs.Common.{◌≡◌, ℕ, suc, ◌+◌, List, [], ◌∷◌, length, refl, sym, ap, ◌∙◌, arith}
+use Rattle.std.proofs.Common.{◌≡◌, ℕ, suc, ◌+◌, List, [], ◌∷◌, refl, sym, ap, ◌∙◌, arith}
 use Rattle.sl_cut.specs.World.{Entry, kept}
 use Rattle.sl_cut.specs.Fuel.{numbered}
 use Rattle.sl_cut.proofs.Trails.{numbered_book}

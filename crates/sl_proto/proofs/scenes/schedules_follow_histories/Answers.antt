@@ -1,4 +1,3 @@
-use Rattle.sl_cut.specs.Setup.{Setup}
 use Rattle.sl_proto.proofs.Schedules.{all-image, same-kept, grown-book, legal-run, run-legal}
 use Rattle.sl_proto.proofs.scenes.schedules_follow_histories.Goals as goal
 

@@ -1,0 +1,242 @@
+-- What messages tell of units is at most the steps of these.
+--     TellsOf net a place     a place of which the actor a tells is that of a unit that it serves
+--     puts-there, way-there   so it is for each message put, and for each on its way
+use Rattle.std.proofs.Common.{◌≡◌, ℕ, zero, suc, ◌+◌, ◌-◌, ◌<◌, ◌≤◌, List, [], ◌∷◌, ◌++◌, length, refl, sym, ap, subst, ◌∙◌, Option, Some, None, arith, inl, inr}
+use Rattle.std.specs.Prelude.{◌⊎◌, true, false, Bool, not, ◌==◌, if◌then◌else◌, nat_eq, flat_map, slice_index}
+use Rattle.std.proofs.lemmas.Bool.Decides.{eqb_tells}
+use Rattle.sl_net.specs.declared.actor.UnitId.{UnitId}
+use Rattle.sl_net.specs.declared.actor.ActorId.{ActorId}
+use Rattle.sl_net.specs.declared.actor.ActorId.TheVariants.{Observer, Control, Unit as OfUnit, Host as OfHost}
+use Rattle.sl_net.specs.declared.actor.Sort.{Sort}
+use Rattle.sl_net.specs.declared.actor.Sort.TheVariants.{Init, Poll, Dump, Done}
+use Rattle.sl_net.specs.Net.{Net, actor_of, link_of, links_out, choice_of, action_choice, units, unit_place, place_in}
+use Rattle.sl_net.specs.Serving.{Served, serving, served}
+use Rattle.sl_net.specs.Wired.{Reports, IsWired, sends}
+use Rattle.sl_cut.specs.declared.message.Message.{Message}
+use Rattle.sl_cut.specs.declared.message.Message.TheVariants.{Init as InitMsg, Poll as PollMsg, Notice as NoticeMsg, Dump as DumpMsg, Begin as BeginMsg, Done as DoneMsg}
+use Rattle.sl_cut.specs.declared.message.Put.{Put}
+use Rattle.sl_cut.specs.declared.message.Step.{Step}
+use Rattle.sl_cut.specs.Words.{Each, Rises, listed, numbers}
+use Rattle.sl_cut.specs.History.{History, World, Losses, history, dump_of, done_of, takes, put, on_link}
+use Rattle.sl_cut.specs.Setup.{Setup}
+use Rattle.sl_cut.specs.Knowledge.{is_outstanding, is_again, is_swept}
+use Rattle.sl_cut.specs.Puts.{send, send_all, poll_puts, dump_answer, control_puts, guarded, action}
+use Rattle.sl_cut.specs.Made.{Took, Acted, IsMade, Ran}
+use Rattle.sl_cut.specs.Fit.{fits, fits_link}
+use Rattle.sl_cut.specs.Window.{on_way}
+use Rattle.sl_net.proofs.Lists.{Member, each-append, each-imp, each-map, each-flat, each-of, each-at}
+use Rattle.sl_net.proofs.Filters.{each-back}
+use Rattle.sl_net.proofs.Sorts.{IsOut, each-out, choice-takes}
+use Rattle.sl_net.proofs.EndKinds.{poll-to, done-from}
+use Rattle.sl_net.proofs.ReportWays.{unit-listed, only-is-out, only-out}
+use Rattle.sl_cut.proofs.Numbers.{rises-le, put-rises}
+use Rattle.sl_cut.proofs.Stamps.{acted-by, took-by, each-on-link, each-lost, each-taken, put-fits, unit-dumps}
+use Rattle.sl_cut.proofs.Reported.{dumps-into}
+use Rattle.sl_cut.proofs.Near.{on-way-is}
+use Rattle.sl_image.proofs.Polls.{dones-are}
+use Rattle.sl_proto.specs.Image.{told_by}
+use Rattle.sl_proto.proofs.Queues.{Told, IsThere, heard-told, told-all, untold}
+
+-- Whom a control plane tells of.
+
+pub record TellsOf (net : Net) (a place : ℕ) : Type 0 where
+  pub unit : ℕ
+  pub id : UnitId
+  pub is : actor_of net unit ≡ OfUnit id
+  pub at : place ≡ unit_place net unit
+  pub by : (r : Reports net unit) → r.control ≡ a
+
+abbrev SaidOf : Net → ℕ → Message → Type 0
+SaidOf net a m = (place n : ℕ) → m ≡ DoneMsg place n → TellsOf net a place
+
+abbrev PutOf : Net → ℕ → Put → Type 0
+PutOf net a p = SaidOf net a p.message
+
+each-send : (net : Net) (a : ℕ) (m : Message) (ls : List ℕ) → SaidOf net a m → Each (PutOf net a) (send_all m ls)
+each-send net a m [] h = tt
+each-send net a m (l ∷ ls) h = (h, each-send net a m ls h)
+
+poll-silent : (net : Net) (a l : ℕ) (b : Bool) → Each (PutOf net a) (if b then [] else send PollMsg l ∷ [])
+poll-silent net a l true = tt
+poll-silent net a l false = ((λ place n e. absurd (cc)), tt)
+
+again-silent : (net : Net) (a l : ℕ) (b : Bool) → Each (PutOf net a) (if b then send PollMsg l ∷ [] else [])
+again-silent net a l true = ((λ place n e. absurd (cc)), tt)
+again-silent net a l false = tt
+
+polls-silent : (net : Net) (a : ℕ) (h : History) → Each (PutOf net a) (flat_map (λ v. poll_puts v h) (served net a))
+polls-silent net a h = each-flat (PutOf net a) (λ v. poll_puts v h) (served net a) (each-of (λ v. Each (PutOf net a) (poll_puts v h)) (served net a) (λ v m. poll-silent net a v.poll (is_outstanding v h)))
+
+done-place : (unit n place k : ℕ) → DoneMsg unit n ≡ DoneMsg place k → place ≡ unit
+done-place unit n place k e = cc
+
+serves-unit : (net : Net) (a l n : ℕ) → IsWired net → IsOut net a Poll l → SaidOf net a (DoneMsg (unit_place net (serving net a l).unit) n)
+serves-unit net a l n z o place k e = let i = poll-to net l z o.is_link o.sort in record {
+  unit = (link_of net l).to;
+  id = i.0;
+  is = i.1;
+  at = done-place (unit_place net (link_of net l).to) n place k e;
+  by = λ r. sym r.poll_from ∙ ap (λ x. (link_of net x).from) (sym (r.polled l refl o.sort)) ∙ o.from;
+}
+
+answers-of : (net : Net) (a c n : ℕ) (h : History) → IsWired net → Each (PutOf net a) (flat_map (λ v. if c == v.dump then dump_answer net a h n v else []) (served net a))
+answers-of net a c n h z = each-flat (PutOf net a) (λ v. if c == v.dump then dump_answer net a h n v else []) (served net a)
+    (each-map (λ v. Each (PutOf net a) (if c == v.dump then dump_answer net a h n v else [])) (serving net a) (links_out net a Poll)
+    (each-imp (IsOut net a Poll) (λ l. Each (PutOf net a) (if c == (serving net a l).dump then dump_answer net a h n (serving net a l) else [])) (links_out net a Poll)
+    (λ l o. by_bool l o (c == (serving net a l).dump)) (each-out net a Poll)))
+  where
+    by_bool : (l : ℕ) → IsOut net a Poll l → (b : Bool) → Each (PutOf net a) (if b then dump_answer net a h n (serving net a l) else [])
+    by_bool l o true = each-append (PutOf net a) (send_all (DoneMsg (unit_place net (serving net a l).unit) n) (links_out net a Done)) (if is_again (action_choice net a) (serving net a l) h then send PollMsg (serving net a l).poll ∷ [] else [])
+        (each-send net a (DoneMsg (unit_place net (serving net a l).unit) n) (links_out net a Done) (serves-unit net a l n z o)) (again-silent net a (serving net a l).poll (is_again (action_choice net a) (serving net a l) h))
+    by_bool l o false = tt
+
+control-of : (net : Net) (a : ℕ) (h : History) (c : ℕ) (m : Message) → IsWired net → Each (PutOf net a) (control_puts net a h c m)
+control-of net a h c (BeginMsg k) z = each-send net a (InitMsg k) (links_out net a Init) (λ place n e. absurd (cc))
+control-of net a h c NoticeMsg z = each-flat (PutOf net a) (λ v. if c == v.notice then poll_puts v h else []) (served net a)
+    (each-of (λ v. Each (PutOf net a) (if c == v.notice then poll_puts v h else [])) (served net a) (λ v m. by_bool v (c == v.notice)))
+  where
+    by_bool : (v : Served) (b : Bool) → Each (PutOf net a) (if b then poll_puts v h else [])
+    by_bool v true = poll-silent net a v.poll (is_outstanding v h)
+    by_bool v false = tt
+control-of net a h c (DumpMsg n) z = answers-of net a c n h z
+control-of net a h c _ z = tt
+
+step-of : (s : Setup) (a d : ℕ) (h : History) (step : Step) → IsWired s.net → actor_of s.net a ≡ Control d → Took s a h step ⊎ Acted s a h step → Each (PutOf s.net a) step.puts
+step-of s a d h step z q (inl x) = subst (Each (PutOf s.net a)) (sym (took-by s a h step (Control d) q x)) (control-of s.net a h step.choice x.message z)
+step-of s a d h step z q (inr x) = of_choice (step.choice - action_choice s.net a) (acted-by s a h step (Control d) q x)
+  where
+    of_guard : (b : Bool) → guarded b (flat_map (λ v. poll_puts v h) (served s.net a)) ≡ Some step.puts → Each (PutOf s.net a) step.puts
+    of_guard true e = let p : flat_map (λ v. poll_puts v h) (served s.net a) ≡ step.puts = cc in subst (Each (PutOf s.net a)) p (polls-silent s.net a h)
+    of_guard false e = absurd cc
+
+    of_choice : (n : ℕ) → action s x.floor a (Control d) h n ≡ Some step.puts → Each (PutOf s.net a) step.puts
+    of_choice zero e = of_guard (not (is_swept s.net a h)) e
+    of_choice (suc n) e = absurd cc
+
+put-of : (s : Setup) (a d l : ℕ) (h : History) → IsWired s.net → actor_of s.net a ≡ Control d → IsMade s a h → Each (SaidOf s.net a) (put l h)
+put-of s a d l [] z q m = tt
+put-of s a d l (step ∷ h) z q m = each-append (SaidOf s.net a) (put l h) (on_link l step.puts) (put-of s a d l h z q m.1) (each-on-link (λ l k. SaidOf s.net a k) l step.puts (step-of s a d h step z q m.0))
+
+-- Numbers of messages.
+
+rises-each : (a : ℕ) (xs : List ℕ) (b : ℕ) → Rises a xs b → Each (λ n. n ≤ b) xs
+rises-each a [] b r = tt
+rises-each a (x ∷ xs) b r = (rises-le x xs b r.1, rises-each x xs b r.1)
+
+listed-each : (f : Message → Option ℕ) (b : ℕ) (ms : List Message) → Each (λ n. n ≤ b) (numbers f ms) → Each (λ m. (n : ℕ) → f m ≡ Some n → n ≤ b) ms
+listed-each f b [] e = tt
+listed-each f b (m ∷ ms) e = by_number (f m) (listed-each f b ms) e
+  where
+    by_number : (o : Option ℕ) → (Each (λ n. n ≤ b) (numbers f ms) → Each (λ m. (n : ℕ) → f m ≡ Some n → n ≤ b) ms) → Each (λ n. n ≤ b) (listed o ++ numbers f ms) → ((n : ℕ) → o ≡ Some n → n ≤ b) × Each (λ m. (n : ℕ) → f m ≡ Some n → n ≤ b) ms
+    by_number None ih e = ((λ n q. absurd (cc)), ih e)
+    by_number (Some k) ih e = ((λ n q. let s : k ≡ n = cc in subst (λ j. j ≤ b) s e.0), ih e.1)
+
+each-listed : (f : Message → Option ℕ) (b : ℕ) (ms : List Message) → Each (λ m. (n : ℕ) → f m ≡ Some n → n ≤ b) ms → Each (λ n. n ≤ b) (numbers f ms)
+each-listed f b [] e = tt
+each-listed f b (m ∷ ms) e = by_number (f m) e.0 (each-listed f b ms e.1)
+  where
+    by_number : (o : Option ℕ) → ((n : ℕ) → o ≡ Some n → n ≤ b) → Each (λ n. n ≤ b) (numbers f ms) → Each (λ n. n ≤ b) (listed o ++ numbers f ms)
+    by_number None g ih = ih
+    by_number (Some k) g ih = (g k refl, ih)
+
+-- Dumps.
+
+dump-sender : (x : ActorId) → sends x Dump ≡ true → (i : UnitId) × (x ≡ OfUnit i)
+dump-sender Observer h = absurd (cc)
+dump-sender (Control d) h = absurd (cc)
+dump-sender (OfUnit i) h = (i, refl)
+dump-sender (OfHost j) h = absurd (cc)
+
+dump-fits : (t : Sort) (n : ℕ) → fits t (DumpMsg n) ≡ true → t ≡ Dump
+dump-fits Dump n h = refl
+dump-fits _ n h = absurd (cc)
+
+done-fits : (t : Sort) (place n : ℕ) → fits t (DoneMsg place n) ≡ true → t ≡ Done
+done-fits Done place n h = refl
+done-fits _ place n h = absurd (cc)
+
+dumps-there : (s : Setup) (lost : Losses) (w : World) (u l : ℕ) (i : UnitId) → Ran s lost w → actor_of s.net u ≡ OfUnit i → Each (λ m. (n : ℕ) → dump_of m ≡ Some n → n ≤ length (history w u)) (put l (history w u))
+dumps-there s lost w u l i r q = listed-each dump_of (length (history w u)) (put l (history w u))
+    (rises-each 0 (numbers dump_of (put l (history w u))) (length (history w u)) (put-rises dump_of (λ h. length h) l (history w u) (unit-dumps s u i (history w u) q (r.made u))))
+
+-- Dones.
+
+done-is : (place n : ℕ) (m : Message) → done_of place m ≡ Some n → m ≡ DoneMsg place n
+done-is place n (DoneMsg unit k) h = by_tells (eqb_tells place unit)
+  where
+    by_tells : ((nat_eq place unit ≡ true) × (place ≡ unit)) ⊎ ((nat_eq place unit ≡ false) × (place ≡ unit → ⊥)) → DoneMsg unit k ≡ DoneMsg place n
+    by_tells (inl q) = let e : Some k ≡ Some n = sym (ap (λ b. if b then Some k else None) q.0) ∙ h in let j : k ≡ n = cc in (λ t. DoneMsg (sym q.1 t) (j t))
+    by_tells (inr q) = absurd (let e : None ≡ Some n = sym (ap (λ b. if b then Some k else None) q.0) ∙ h in cc)
+done-is place n _ h = absurd (cc)
+
+found-at : (n x : ℕ) (xs : List ℕ) → Member x xs → (i : ℕ) × (place_in n x xs ≡ n + i) × (slice_index xs i ≡ x)
+found-at n x [] m = absurd m
+found-at n x (y ∷ xs) m = by_tells (λ k. found-at (suc n) x xs k) (eqb_tells y x) m
+  where
+    by_tells : (Member x xs → (i : ℕ) × (place_in (suc n) x xs ≡ suc n + i) × (slice_index xs i ≡ x)) → ((nat_eq y x ≡ true) × (y ≡ x)) ⊎ ((nat_eq y x ≡ false) × (y ≡ x → ⊥)) → (x ≡ y) ⊎ Member x xs
+        → (i : ℕ) × (place_in n x (y ∷ xs) ≡ n + i) × (slice_index (y ∷ xs) i ≡ x)
+    by_tells ih (inl q) k = (0, ap (λ b. if b then n else place_in (suc n) x xs) q.0 ∙ omega arith, q.1)
+    by_tells ih (inr q) (inl k) = absurd (q.1 (sym k))
+    by_tells ih (inr q) (inr k) = let f = ih k in (suc f.0, ap (λ b. if b then n else place_in (suc n) x xs) q.0 ∙ f.1 ∙ omega arith, f.2)
+
+-- the unit at its place
+pub unit-at : (net : Net) (u : ℕ) (i : UnitId) → actor_of net u ≡ OfUnit i → slice_index (units net) (unit_place net u) ≡ u
+unit-at net u i q = let f = found-at 0 u (units net) (unit-listed net u i q) in let e : unit_place net u ≡ f.0 = f.1 ∙ omega arith in ap (slice_index (units net)) e ∙ f.2
+
+-- the link of a Done is the one by which its sender tells of the unit
+pub done-link : (s : Setup) (l a place : ℕ) (t : TellsOf s.net a place) (r : Reports s.net t.unit) → l < length s.net.links → (link_of s.net l).from ≡ a → (link_of s.net l).sort ≡ Done → l ≡ r.done
+done-link s l a place t r p f k = only-out s.net r.control Done r.done l r.dones (record { is_link = p; from = f ∙ sym (t.by r); sort = k })
+
+dones-there : (s : Setup) (lost : Losses) (w : World) (a place : ℕ) → IsWired s.net → Ran s lost w → (t : TellsOf s.net a place) (r : Reports s.net t.unit)
+    → Each (λ m. (n : ℕ) → done_of place m ≡ Some n → n ≤ length (history w (slice_index (units s.net) place))) (put r.done (history w a))
+dones-there s lost w a place z x t r = let u = t.unit in let c = choice_of s.net r.dump in
+    let from : (link_of s.net r.dump).from ≡ u = (only-is-out s.net u Dump r.dump r.dumps).from in
+    let sent : Each (λ m. (n : ℕ) → dump_of m ≡ Some n → n ≤ length (history w u)) (put r.dump (history w (link_of s.net r.dump).from)) =
+    subst (λ b. Each (λ m. (n : ℕ) → dump_of m ≡ Some n → n ≤ length (history w u)) (put r.dump (history w b))) (sym from) (dumps-there s lost w u r.dump t.id x t.is) in
+    let took : Each (λ m. (n : ℕ) → dump_of m ≡ Some n → n ≤ length (history w u)) (takes c (history w r.control)) =
+    each-taken (λ m. (n : ℕ) → dump_of m ≡ Some n → n ≤ length (history w u)) (lost r.dump) c (history w r.control) (put r.dump (history w (link_of s.net r.dump).from)) sent (x.fifo r.control c r.dump (dumps-into s.net u r)) in
+    let told : Each (λ m. (n : ℕ) → done_of (unit_place s.net u) m ≡ Some n → n ≤ length (history w u)) (put r.done (history w r.control)) =
+    listed-each (done_of (unit_place s.net u)) (length (history w u)) (put r.done (history w r.control))
+    (subst (Each (λ n. n ≤ length (history w u))) (sym (dones-are s u t.id r (history w r.control) t.is (x.made r.control))) (each-listed dump_of (length (history w u)) (takes c (history w r.control)) took)) in
+    let at : slice_index (units s.net) place ≡ u = ap (slice_index (units s.net)) t.at ∙ unit-at s.net u t.id t.is in
+    subst (λ b. Each (λ m. (n : ℕ) → done_of place m ≡ Some n → n ≤ length (history w (slice_index (units s.net) place))) (put r.done (history w b))) (t.by r)
+    (subst (λ v. Each (λ m. (n : ℕ) → done_of place m ≡ Some n → n ≤ length (history w v)) (put r.done (history w r.control))) (sym at)
+    (subst (λ p. Each (λ m. (n : ℕ) → done_of p m ≡ Some n → n ≤ length (history w u)) (put r.done (history w r.control))) (sym t.at) told))
+
+-- All messages.
+
+pub puts-there : (s : Setup) (lost : Losses) (w : World) (l : ℕ) → IsWired s.net → Ran s lost w → l < length s.net.links → Each (IsThere s.net (history w) (link_of s.net l).from) (put l (history w (link_of s.net l).from))
+puts-there s lost w l z x p = each-of (IsThere s.net (history w) (link_of s.net l).from) (put l (history w (link_of s.net l).from)) there
+  where
+    fit : (m : Message) → Member m (put l (history w (link_of s.net l).from)) → fits (link_of s.net l).sort m ≡ true
+    fit m k = each-at (λ m. fits_link s.net l m ≡ true) m (put l (history w (link_of s.net l).from)) (put-fits s (link_of s.net l).from l (history w (link_of s.net l).from) (x.made (link_of s.net l).from)) k
+
+    dump : (m : Message) → Member m (put l (history w (link_of s.net l).from)) → (n : ℕ) → m ≡ DumpMsg n → n ≤ length (history w (link_of s.net l).from)
+    dump m k n e = let sort : (link_of s.net l).sort ≡ Dump = dump-fits (link_of s.net l).sort n (ap (fits (link_of s.net l).sort) (sym e) ∙ fit m k) in
+        let i = dump-sender (actor_of s.net (link_of s.net l).from) (ap (sends (actor_of s.net (link_of s.net l).from)) (sym sort) ∙ z.sender l p) in
+        each-at (λ m. (n : ℕ) → dump_of m ≡ Some n → n ≤ length (history w (link_of s.net l).from)) m (put l (history w (link_of s.net l).from)) (dumps-there s lost w (link_of s.net l).from l i.0 x i.1) k n (ap dump_of e)
+
+    done : (m : Message) → Member m (put l (history w (link_of s.net l).from)) → (place n : ℕ) → done_of place m ≡ Some n → n ≤ length (history w (slice_index (units s.net) place))
+    done m k place n e = let is : m ≡ DoneMsg place n = done-is place n m e in
+        let sort : (link_of s.net l).sort ≡ Done = done-fits (link_of s.net l).sort place n (ap (fits (link_of s.net l).sort) (sym is) ∙ fit m k) in
+        let d = done-from s.net l z p sort in
+        let t : TellsOf s.net (link_of s.net l).from place = each-at (SaidOf s.net (link_of s.net l).from) m (put l (history w (link_of s.net l).from)) (put-of s (link_of s.net l).from d.0 l (history w (link_of s.net l).from) z d.1 (x.made (link_of s.net l).from)) k place n is in
+        let r = z.reports t.unit t.id t.is in
+        let all = subst (λ j. Each (λ m. (n : ℕ) → done_of place m ≡ Some n → n ≤ length (history w (slice_index (units s.net) place))) (put j (history w (link_of s.net l).from))) (sym (done-link s l (link_of s.net l).from place t r p refl sort))
+        (dones-there s lost w (link_of s.net l).from place z x t r) in
+        each-at (λ m. (n : ℕ) → done_of place m ≡ Some n → n ≤ length (history w (slice_index (units s.net) place))) m (put l (history w (link_of s.net l).from)) all k n e
+
+    there : (m : Message) → Member m (put l (history w (link_of s.net l).from)) → IsThere s.net (history w) (link_of s.net l).from m
+    there m k = record { dump = dump m k; done = done m k }
+
+pub way-there : (s : Setup) (lost : Losses) (w : World) (l : ℕ) → IsWired s.net → Ran s lost w → l < length s.net.links → Each (IsThere s.net (history w) (link_of s.net l).from) (on_way s.net lost w l)
+way-there s lost w l z x p = let a = (link_of s.net l).from in let b = (link_of s.net l).to in let c = choice_of s.net l in let k = choice-takes s.net l p in let f = x.fifo b c l k in
+    subst (Each (IsThere s.net (history w) a)) (sym (on-way-is s.net lost w b c l k f))
+    (each-back (IsThere s.net (history w) a) (takes c (history w b)) f.rest
+    (subst (Each (IsThere s.net (history w) a)) f.split (each-lost (IsThere s.net (history w) a) (lost l) 0 (put l (history w a)) (puts-there s lost w l z x p))))
+
+pub told-there : (s : Setup) (lost : Losses) (w : World) (l : ℕ) → IsWired s.net → Ran s lost w → l < length s.net.links → Told s.net (history w) (told_by (choice_of s.net l) (history w (link_of s.net l).to))
+told-there s lost w l z x p = let a = (link_of s.net l).from in let b = (link_of s.net l).to in let c = choice_of s.net l in let k = choice-takes s.net l p in
+    subst (Told s.net (history w)) (sym (heard-told c (history w b)))
+    (told-all s.net (history w) a untold (takes c (history w b)) (λ place. omega arith)
+    (each-taken (IsThere s.net (history w) a) (lost l) c (history w b) (put l (history w a)) (puts-there s lost w l z x p) (x.fifo b c l k)))

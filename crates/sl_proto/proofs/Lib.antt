@@ -1,0 +1,11 @@
+pub mod Spread
+pub mod Queues
+pub mod Known
+pub mod Lines
+pub mod Delivered
+pub mod Images
+pub mod Turned
+pub mod Schedules
+pub mod Sent
+pub mod Fresh
+pub mod Driven

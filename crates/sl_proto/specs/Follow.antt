@@ -1,0 +1,60 @@
+-- What the machines of a net are asked for, so that a scene of them goes on standing for a world.
+--     StandsAfter ..     what a turn leaves stands for the step of the turn
+--     FollowSteps ..     each turn of a machine does the step of its actor, and is idle where this has none
+--     Follow ..          so it is in a net that is one
+use Rattle.std.specs.Prelude.{◌≡◌, ℕ, ◌^◌, ◌<◌, ◌≤◌, length, take, List, Option, Some, None, slice_get}
+use Rattle.sl_machine.specs.Machine.{After, Rules}
+use Rattle.sl_machine.specs.Plan.{IsSound}
+use Rattle.sl_net.specs.Wiring.{plan_of}
+use Rattle.sl_net.specs.Wired.{IsNet}
+use Rattle.sl_wire.specs.declared.message.Msg.{Msg}
+use Rattle.sl_net.specs.Net.{link_of, links_into}
+use Rattle.sl_cut.specs.declared.message.Message.{Message}
+use Rattle.sl_cut.specs.declared.message.Step.{Step}
+use Rattle.sl_cut.specs.History.{World, Losses, history}
+use Rattle.sl_cut.specs.Setup.{Setup}
+use Rattle.sl_cut.specs.World.{Entry, IsLossTable, next_step, turn, run, world}
+use Rattle.sl_image.specs.Messages.{IsMessage}
+use Rattle.sl_world.specs.Scene.{Scene}
+use Rattle.sl_proto.specs.Image.{told_by, ArePut, IsImage}
+
+-- the turn (a, c) with this step leads from the world w to the world v
+pub record StandsAfter {S : Type 0} (s : Setup) (ring : ℕ) (Stands : World → ℕ → S → Type 0) (w v : World) (a : ℕ) (step : Step) (after : After S Msg) : Type 0 where
+  pub state : Stands v a after.state
+  pub puts : ArePut s.net ring (history v) a (history w a) step.puts after.puts
+
+-- an action that leaves this
+pub record ActsAs {S : Type 0} (s : Setup) (ring : ℕ) (Stands : World → ℕ → S → Type 0) (w v : World) (a : ℕ) (step : Step) (acted : Option (After S Msg)) : Type 0 where
+  pub after : After S Msg
+  pub acts : acted ≡ Some after
+  pub stands : StandsAfter s ring Stands w v a step after
+
+pub record FollowSteps {S : Type 0} (s : Setup) (lost : Losses) (ring : ℕ) (Stands : World → ℕ → S → Type 0) (rules : Rules S Msg) : Type 0 where
+  -- a message that stands for the one that the step takes, from the link l
+  pub take : (es : List Entry) (a c l : ℕ) (step : Step) (m : Message) (x : Msg) (state : S) → length es < 2 ^ 40
+      → next_step s lost (world s lost es) (a, c) ≡ Some step → slice_get (links_into s.net a) c ≡ Some l → step.taken ≡ Some m
+      → IsMessage s.net ring (history (world s lost es)) (link_of s.net l).from (told_by c (history (world s lost es) a)) m x
+      → Stands (world s lost es) a state → StandsAfter s ring Stands (world s lost es) (turn s lost (world s lost es) (a, c)) a step (rules.take state c x)
+  pub act : (es : List Entry) (a c : ℕ) (step : Step) (state : S) → length es < 2 ^ 40
+      → next_step s lost (world s lost es) (a, c) ≡ Some step → slice_get (links_into s.net a) c ≡ None
+      → Stands (world s lost es) a state → ActsAs s ring Stands (world s lost es) (turn s lost (world s lost es) (a, c)) a step (rules.act state c)
+  pub idle : (es : List Entry) (a c : ℕ) (state : S) → length es < 2 ^ 40 → a < length s.net.actors
+      → next_step s lost (world s lost es) (a, c) ≡ None → slice_get (links_into s.net a) c ≡ None
+      → Stands (world s lost es) a state → rules.act state c ≡ None
+  -- a step of another actor
+  pub stays : (es : List Entry) (a b c : ℕ) (step : Step) (state : S) → length es < 2 ^ 40
+      → next_step s lost (world s lost es) (a, c) ≡ Some step → (b ≡ a → ⊥)
+      → Stands (world s lost es) b state → Stands (turn s lost (world s lost es) (a, c)) b state
+
+-- what the laws of schedules ask: the net is one, its wiring sound, its reliable links lose nothing, and the machines follow the steps
+pub record Follow {S : Type 0} (s : Setup) (lost : Losses) (ring : ℕ) (Stands : World → ℕ → S → Type 0) (rules : Rules S Msg) : Type 0 where
+  pub net : IsNet s.net
+  pub sound : IsSound (plan_of s.net)
+  pub table : IsLossTable s.net lost
+  pub steps : FollowSteps s lost ring Stands rules
+
+-- the scene stands for the world after the first entries of a schedule
+pub record StandsAtFront {S : Type 0} (s : Setup) (lost : Losses) (ring : ℕ) (Stands : World → ℕ → S → Type 0) (w : World) (schedule : List Entry) (v : Scene S Msg) : Type 0 where
+  pub entries : ℕ
+  pub within : entries ≤ length schedule
+  pub stands : IsImage s lost ring Stands (run s lost w (take entries schedule)) v

@@ -1,0 +1,18 @@
+// Machines of a net and the histories that they stand for: laws over all schedules, for any
+// machines that follow the steps of histories.
+#![tactic(auto)]
+
+mod laws;
+mod losses;
+mod scenes;
+mod schedule;
+mod taker;
+
+pub use laws::{dones_told_what_is_known, sent_messages_are_put, steps_spread_their_puts};
+pub use losses::make_losses;
+pub use scenes::{
+    Meaning, first_scenes_stand, machines_stand_for_histories, schedules_follow_histories,
+    turns_follow_steps,
+};
+pub use schedule::{all_sweeps, expand, pass_of};
+pub use taker::{Taker, drive};

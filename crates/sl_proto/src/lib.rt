@@ -1,15 +1,17 @@
-// Machines of a net and the histories that they stand for: laws over all schedules, for any
-// machines that follow the steps of histories.
+// The nodes of a net, the machines of its actors, and the histories that they stand for: laws over
+// all schedules, for any machines that follow the steps of histories.
 #![tactic(auto)]
 
 mod laws;
 mod losses;
+mod node;
 mod scenes;
 mod schedule;
 mod taker;
 
 pub use laws::{dones_told_what_is_known, sent_messages_are_put, steps_spread_their_puts};
 pub use losses::make_losses;
+pub use node::Node;
 pub use scenes::{
     Meaning, first_scenes_stand, machines_stand_for_histories, schedules_follow_histories,
     turns_follow_steps,

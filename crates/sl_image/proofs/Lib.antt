@@ -13,3 +13,6 @@ pub mod Brought
 pub mod Polls
 pub mod Accounts
 pub mod Examples
+pub mod ObserverLists
+pub mod ObserverUnits
+pub mod ObserverStarts

@@ -7,3 +7,5 @@ pub mod Brought
 pub mod Polls
 pub mod Accounts
 pub mod Messages
+pub mod Leaves
+pub mod ObserverImage

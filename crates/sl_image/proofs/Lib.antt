@@ -16,3 +16,7 @@ pub mod Examples
 pub mod ObserverLists
 pub mod ObserverUnits
 pub mod ObserverStarts
+pub mod ObserverWorlds
+pub mod ObserverLinks
+pub mod ObserverTakes
+pub mod ObserverActs

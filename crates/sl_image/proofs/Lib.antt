@@ -20,3 +20,4 @@ pub mod ObserverWorlds
 pub mod ObserverLinks
 pub mod ObserverTakes
 pub mod ObserverActs
+pub mod ObserverAccounts

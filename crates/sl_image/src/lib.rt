@@ -11,7 +11,10 @@ pub use laws::{
     calls_follow_steps, calls_lead_to_id, counts_fit, entries_are_values, late_is_credited,
     read_is_row, row_stays, saved_is_row,
 };
-pub use observers::{observers_act, observers_start, observers_stay, observers_take};
+pub use observers::{
+    observers_act, observers_give_findings, observers_start, observers_stay, observers_take,
+    observers_tell,
+};
 pub use reports::{
     brought_rows_are_read, dones_bring_rows, dones_tell_dumps, dumps_answer_polls, dumps_bring_rows,
 };

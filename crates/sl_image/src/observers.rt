@@ -1,20 +1,31 @@
 // The observer's machine stands for the histories of a world. The functions do nothing: their
 // contracts are the laws, and the proofs are in proofs/.
-ghost use Rattle.std.specs.Prelude.{◌≡◌, ◌≢◌, ◌≤◌, ◌<◌, ◌+◌, ℕ, [], List, Some, None};
+ghost use Rattle.std.specs.Prelude.{◌≡◌, ◌≢◌, ◌≤◌, ◌<◌, ◌+◌, ◌^◌, ℕ, [], List, length, map, Some, None};
+ghost use Rattle.sl_net.specs.declared.actor.UnitId.{UnitId};
+ghost use Rattle.sl_net.specs.declared.actor.ActorId.TheVariants.{Unit as OfUnit};
 ghost use Rattle.sl_net.specs.declared.input.Snapshot.{Snapshot};
-ghost use Rattle.sl_net.specs.Net.{action_choice};
+ghost use Rattle.sl_net.specs.Parts.{numbers_from};
+ghost use Rattle.sl_net.specs.Net.{actor_of, action_choice, unit_place, data_channels};
 ghost use Rattle.sl_net.specs.Wired.{IsNet};
 ghost use Rattle.sl_wire.specs.declared.message.Msg.{Msg};
-ghost use Rattle.sl_observe.specs.Observer.{first_state, observer_take, observer_act};
+ghost use Rattle.sl_observe.specs.Observer.{first_state, observer_take, observer_act, unit_at, seen_of, saved_of};
+ghost use Rattle.sl_observe.specs.Observer.{floor_of as floor_told};
 ghost use Rattle.sl_cut.specs.declared.message.Message.{Message};
 ghost use Rattle.sl_cut.specs.declared.message.Step.{Step};
-ghost use Rattle.sl_cut.specs.History.{Losses, history};
+ghost use Rattle.sl_cut.specs.History.{Losses, history, id};
 ghost use Rattle.sl_cut.specs.Setup.{Setup};
+ghost use Rattle.sl_cut.specs.Knowledge.{observer, collected, issued, resent, upto_of, unit_floor, floor};
+ghost use Rattle.sl_cut.specs.End.{IsFinished};
+ghost use Rattle.sl_cut.specs.Findings.{finding, findings};
 ghost use Rattle.sl_cut.specs.World.{Entry, next_step, turn, world};
+ghost use Rattle.sl_image.specs.Rows.{row};
+ghost use Rattle.sl_image.specs.Short.{SendsShort};
+ghost use Rattle.sl_image.specs.Accounts.{accounts, finding_by};
 ghost use Rattle.sl_image.specs.Leaves.{Leaves, IsDone};
-ghost use Rattle.sl_image.specs.Messages.{IsMessage};
-ghost use Rattle.sl_image.specs.ObserverImage.{observer_of, IsObserverOf, IsTableOf, known_at};
+ghost use Rattle.sl_image.specs.Messages.{IsMessage, eight, lasts};
+ghost use Rattle.sl_image.specs.ObserverImage.{observer_of, IsObserverOf, IsTableOf, known_at, account_of};
 
+use crate::worlds::{accounts_give_findings, rows_are_held};
 use sl_net::nets_are_wired;
 use sl_observe::begins_take_all_links;
 
@@ -56,4 +67,42 @@ pub fn observers_act()
 {
     nets_are_wired();
     begins_take_all_links()
+}
+
+/// What the machine tells of its floor, of how many snapshots it issued and how often it resent, and
+/// of each unit, is what the world says: the row of a number that is collected is that of the
+/// unit's whole history.
+pub fn observers_tell()
+    ensures floor { (s : Setup) (lost : Losses) (table : Snapshot) (es : List Entry)
+        → floor_told (observer_of s.net table (world s lost es)) ≡ floor s.net (world s lost es) }
+    ensures issued { (s : Setup) (lost : Losses) (table : Snapshot) (es : List Entry)
+        → (observer_of s.net table (world s lost es)).issued ≡ issued s.net (observer (world s lost es)) }
+    ensures resent { (s : Setup) (lost : Losses) (table : Snapshot) (es : List Entry)
+        → (observer_of s.net table (world s lost es)).resent ≡ resent s.net (observer (world s lost es)) }
+    ensures seen { (s : Setup) (lost : Losses) (table : Snapshot) (es : List Entry) (u : ℕ) (i : UnitId) → actor_of s.net u ≡ OfUnit i
+        → seen_of (unit_at (observer_of s.net table (world s lost es)).units (unit_place s.net u))
+        ≡ record { id = id (collected s.net (world s lost es) u); last = eight (lasts s.net u (collected s.net (world s lost es) u)); floor = unit_floor s.net (world s lost es) u } }
+    ensures saved { (s : Setup) (lost : Losses) (table : Snapshot) (es : List Entry) (u k : ℕ) (i : UnitId) → IsNet s.net → SendsShort s → length es < 2 ^ 40 → actor_of s.net u ≡ OfUnit i
+        → 1 ≤ k → k ≤ upto_of s.net u (collected s.net (world s lost es) u)
+        → saved_of (unit_at (observer_of s.net table (world s lost es)).units (unit_place s.net u)) k ≡ Some (row (data_channels s.net u) k (history (world s lost es) u)) }
+    ensures unsaved { (s : Setup) (lost : Losses) (table : Snapshot) (es : List Entry) (u k : ℕ) (i : UnitId) → actor_of s.net u ≡ OfUnit i
+        → upto_of s.net u (collected s.net (world s lost es) u) < k
+        → saved_of (unit_at (observer_of s.net table (world s lost es)).units (unit_place s.net u)) k ≡ None }
+{
+    nets_are_wired();
+    rows_are_held();
+}
+
+/// The machine's units are the accounts of the units of the world, and give its findings: up to the
+/// floor at any time, and in a finished world all.
+pub fn observers_give_findings()
+    ensures accounts { (s : Setup) (lost : Losses) (table : Snapshot) (es : List Entry) → IsNet s.net → SendsShort s → length es < 2 ^ 40
+        → map account_of (observer_of s.net table (world s lost es)).units ≡ accounts s.net (world s lost es) }
+    ensures collected { (s : Setup) (lost : Losses) (table : Snapshot) (es : List Entry) (k : ℕ) → IsNet s.net → SendsShort s → length es < 2 ^ 40 → 1 ≤ k → k ≤ floor s.net (world s lost es)
+        → finding_by (observer_of s.net table (world s lost es)).issued (map account_of (observer_of s.net table (world s lost es)).units) k ≡ finding s.net lost (world s lost es) k }
+    ensures list { (s : Setup) (lost : Losses) (table : Snapshot) (es : List Entry) → IsNet s.net → SendsShort s → length es < 2 ^ 40 → IsFinished s lost (world s lost es)
+        → map (finding_by (observer_of s.net table (world s lost es)).issued (map account_of (observer_of s.net table (world s lost es)).units)) (numbers_from 1 s.count) ≡ (findings s lost es).list }
+{
+    rows_are_held();
+    accounts_give_findings()
 }

@@ -21,3 +21,5 @@ pub mod ObserverLinks
 pub mod ObserverTakes
 pub mod ObserverActs
 pub mod ObserverAccounts
+pub mod HostFrames
+pub mod HostSteps

@@ -76,7 +76,7 @@ begins-sent net ring us told k q = subst (λ ls. AreSent net ring us 0 told (sen
 
 -- Actions that are done.
 
-past-end : (xs : List ℕ) (k : ℕ) → slice_get xs k ≡ None → length xs ≤ k
+pub past-end : (xs : List ℕ) (k : ℕ) → slice_get xs k ≡ None → length xs ≤ k
 past-end [] k e = omega arith
 past-end (x ∷ xs) zero e = absurd cc
 past-end (x ∷ xs) (suc k) e = let p = past-end xs k e in omega (arith, p)
@@ -154,7 +154,7 @@ module _ (s : Setup) (lost : Losses) (table : Snapshot) (es : List Entry) (c rin
 
 -- Actions that are not done.
 
-get-past : (xs : List ℕ) (k : ℕ) → length xs ≤ k → slice_get xs k ≡ None
+pub get-past : (xs : List ℕ) (k : ℕ) → length xs ≤ k → slice_get xs k ≡ None
 get-past [] k p = refl
 get-past (x ∷ xs) zero p = absurd (omega (arith, p))
 get-past (x ∷ xs) (suc k) p = get-past xs k (omega (arith, p))

@@ -9,3 +9,4 @@ pub mod Accounts
 pub mod Messages
 pub mod Leaves
 pub mod ObserverImage
+pub mod HostImage

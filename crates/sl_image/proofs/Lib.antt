@@ -23,3 +23,4 @@ pub mod ObserverActs
 pub mod ObserverAccounts
 pub mod HostFrames
 pub mod HostSteps
+pub mod HostWires

@@ -2,11 +2,13 @@
 // from it, and of the findings that collected rows give.
 #![tactic(auto)]
 
+mod hosts;
 mod laws;
 mod observers;
 mod reports;
 mod worlds;
 
+pub use hosts::{hosts_act, hosts_start, hosts_stay, hosts_take};
 pub use laws::{
     calls_follow_steps, calls_lead_to_id, counts_fit, entries_are_values, late_is_credited,
     read_is_row, row_stays, saved_is_row,

@@ -1,0 +1,56 @@
+// A host's machine stands for the host's history. The functions do nothing: their contracts are the
+// laws, and the proofs are in proofs/.
+ghost use Rattle.std.specs.Prelude.{◌≡◌, ◌≢◌, ◌<◌, ◌^◌, ℕ, [], List, length, Some, None, slice_get};
+ghost use Rattle.sl_net.specs.declared.actor.ActorId.TheVariants.{Host as OfHost};
+ghost use Rattle.sl_net.specs.Input.{Input};
+ghost use Rattle.sl_net.specs.Net.{action_choice};
+ghost use Rattle.sl_net.specs.Wired.{IsNet};
+ghost use Rattle.sl_wire.specs.declared.message.Msg.{Msg};
+ghost use Rattle.sl_host.specs.Host.{frames_of, host_take, host_act};
+ghost use Rattle.sl_cut.specs.declared.message.Message.{Message};
+ghost use Rattle.sl_cut.specs.declared.message.Step.{Step};
+ghost use Rattle.sl_cut.specs.History.{Losses, history};
+ghost use Rattle.sl_cut.specs.Setup.{Setup, setup_of};
+ghost use Rattle.sl_cut.specs.World.{Entry, next_step, turn, world};
+ghost use Rattle.sl_image.specs.HostImage.{host_of, IsHostOf};
+ghost use Rattle.sl_image.specs.Leaves.{Leaves, IsDone};
+ghost use Rattle.sl_image.specs.Messages.{IsMessage};
+
+use sl_net::nets_are_wired;
+
+/// The first state of a host's machine stands for the empty history.
+pub fn hosts_start()
+    ensures { (i : Input) (lost : Losses) (a h : ℕ) → record { messages = frames_of i h; sent = 0; delivered = 0 } ≡ host_of (setup_of i) a h (history (world (setup_of i) lost []) a) }
+{}
+
+/// A turn of another actor changes nothing of what the machine stands for.
+pub fn hosts_stay()
+    ensures { (s : Setup) (lost : Losses) (es : List Entry) (a i : ℕ) (e : Entry) → e.0 ≢ a
+        → host_of s a i (history (turn s lost (world s lost es) e) a) ≡ host_of s a i (history (world s lost es) a) }
+{}
+
+/// A message that a host takes next, which stands for that of its step, leaves a state that stands
+/// for the world after the step, and the host puts nothing.
+pub fn hosts_take()
+    ensures { (s : Setup) (lost : Losses) (es : List Entry) (a c i ring b : ℕ) (told before : ℕ → ℕ) (step : Step) (m : Message) (x : Msg) → IsNet s.net
+        → slice_get s.net.actors a ≡ Some (OfHost i) → length es < 2 ^ 40 → next_step s lost (world s lost es) (a, c) ≡ Some step → step.taken ≡ Some m
+        → IsMessage s.net ring (λ u. history (world s lost es) u) b before m x
+        → Leaves (IsHostOf s a i (turn s lost (world s lost es) (a, c))) s.net ring (λ u. history (turn s lost (world s lost es) (a, c)) u) a told step.puts
+        (host_take (host_of s a i (history (world s lost es) a)) c x) }
+{
+    nets_are_wired();
+}
+
+/// A host's machine injects where the world's host does, leaves a state that stands for the world
+/// after the step, and puts the step's frame.
+pub fn hosts_act()
+    ensures did { (s : Setup) (lost : Losses) (es : List Entry) (a c i ring : ℕ) (told : ℕ → ℕ) (step : Step) → IsNet s.net
+        → slice_get s.net.actors a ≡ Some (OfHost i) → next_step s lost (world s lost es) (a, c) ≡ Some step → step.taken ≡ None
+        → IsDone (IsHostOf s a i (turn s lost (world s lost es) (a, c))) s.net ring (λ u. history (turn s lost (world s lost es) (a, c)) u) a told step.puts
+        (host_act (host_of s a i (history (world s lost es) a)) c) }
+    ensures idle { (s : Setup) (lost : Losses) (es : List Entry) (a i : ℕ) → slice_get s.net.actors a ≡ Some (OfHost i)
+        → next_step s lost (world s lost es) (a, action_choice s.net a) ≡ None
+        → host_act (host_of s a i (history (world s lost es) a)) (action_choice s.net a) ≡ None }
+{
+    nets_are_wired();
+}

@@ -27,7 +27,7 @@ use Rattle.sl_cut.proofs.Sizes.{history_size, world_size}
 use Rattle.sl_cut.proofs.Stamps.{took-by, acted-by, each-lost, put-fits}
 use Rattle.sl_cut.proofs.Turns.{Steps, turn-cases, taken-this, taken-other, taken-step}
 use Rattle.sl_image.specs.HostImage.{host_of, IsHostOf}
-use Rattle.sl_image.specs.Leaves.{Leaves, IsDone}
+use Rattle.sl_image.specs.Leaves.{Leaves, Does}
 use Rattle.sl_image.specs.Messages.{IsMessage, AreSent}
 use Rattle.sl_image.proofs.ObserverActs.{past-end, get-past}
 use Rattle.sl_image.proofs.ObserverWorlds.{grows-turn}
@@ -138,11 +138,11 @@ module _ (s : Setup) (lost : Losses) (es : List Entry) (a c i ring : ℕ) (told 
       by_frame (Some bytes) f p = record { bytes = bytes; found = f; puts = (let y : send_all (HostMsg bytes) (links_out s.net a FromHost) ≡ step.puts = cc in sym y); choice = d }
   injects fl (suc n) d p = absurd cc
 
-  pub host-acts : step.taken ≡ None → IsDone (IsHostOf s a i (turn s lost (world s lost es) (a, c))) s.net ring (λ u. history (turn s lost (world s lost es) (a, c)) u) a told step.puts (host_act (host_of s a i (history (world s lost es) a)) c)
+  pub host-acts : step.taken ≡ None → Does (IsHostOf s a i (turn s lost (world s lost es) (a, c))) s.net ring (λ u. history (turn s lost (world s lost es) (a, c)) u) a told step.puts (host_act (host_of s a i (history (world s lost es) a)) c)
   host-acts e = by_view (next-view s lost (world s lost es) (a, c) step x)
     where
       of_frame : length (links_into s.net a) ≤ step.choice → Injects
-          → IsDone (IsHostOf s a i (turn s lost (world s lost es) (a, c))) s.net ring (λ u. history (turn s lost (world s lost es) (a, c)) u) a told step.puts (host_act (host_of s a i (history (world s lost es) a)) c)
+          → Does (IsHostOf s a i (turn s lost (world s lost es) (a, c))) s.net ring (λ u. history (turn s lost (world s lost es) (a, c)) u) a told step.puts (host_act (host_of s a i (history (world s lost es) a)) c)
       of_frame p f =
           let w = world s lost es in let h = history w a in let g = grows-turn s lost es (a, c) step x in let d = f.choice in let one = k.one_in in
           let here : step.choice ≡ action_choice s.net a = omega (arith, p, d) in
@@ -158,7 +158,7 @@ module _ (s : Setup) (lost : Losses) (es : List Entry) (a c i ring : ℕ) (told 
           }
 
       by_view : Takes s lost (world s lost es) a step ⊎ Acts s (world s lost es) a step
-          → IsDone (IsHostOf s a i (turn s lost (world s lost es) (a, c))) s.net ring (λ u. history (turn s lost (world s lost es) (a, c)) u) a told step.puts (host_act (host_of s a i (history (world s lost es) a)) c)
+          → Does (IsHostOf s a i (turn s lost (world s lost es) (a, c))) s.net ring (λ u. history (turn s lost (world s lost es) (a, c)) u) a told step.puts (host_act (host_of s a i (history (world s lost es) a)) c)
       by_view (inl t) = absurd (let u : None ≡ Some t.took.message = sym e ∙ t.took.taken in cc)
       by_view (inr t) = of_frame (past-end (links_into s.net a) step.choice t.acted.past)
           (injects t.acted.floor (step.choice - action_choice s.net a) refl (acted-by s a (history (world s lost es) a) step (OfHost i) q t.acted))

@@ -11,7 +11,7 @@ use Rattle.sl_net.specs.declared.actor.UnitId.{UnitId}
 use Rattle.sl_net.specs.declared.input.Snapshot.{Snapshot}
 use Rattle.sl_net.specs.Parts.{below}
 use Rattle.sl_net.specs.Net.{Net, actor_of, action_choice, links_into, links_from, choice_of, is_unit, units, unit_place, data_channels}
-use Rattle.sl_net.specs.Wired.{IsNet, IsWired, Reports}
+use Rattle.sl_net.specs.Wired.{IsNet, IsWired}
 use Rattle.sl_net.proofs.Lists.{Member, Distinct, distinct-filter, distinct-from, each-at}
 use Rattle.sl_net.proofs.Filters.{each-passes}
 use Rattle.sl_net.proofs.Sizes.{length_map-is}
@@ -94,14 +94,8 @@ done-elsewhere place unit n ne = by_tells (eqb_tells place unit)
 -- a Done of a unit comes by the choice of its device, or tells what is known already
 by-device : (s : Setup) (lost : Losses) (w v : World) (step : Step) (u n : ℕ) (i : UnitId) → IsNet s.net → (z : IsWired s.net) → Ran s lost w → Ran s lost v → GrowsAt w v 0 step → actor_of s.net u ≡ OfUnit i
     → step.taken ≡ Some (DoneMsg (unit_place s.net u) n) → (known (unit_place s.net u) (observer v) ≡ n) × ((device_of (actor_of s.net u) ≡ step.choice) ⊎ (known (unit_place s.net u) (observer w) ≡ n))
-by-device s lost w v step u n i t z r k g q e = (now, by_tells (eqb_tells step.choice (choice_of s.net p.done)))
+by-device s lost w v step u n i t z r k g q e = (now, by_tells (eqb_tells step.choice (choice_of s.net (z.reports u i q).done)))
   where
-    p : Reports s.net u
-    p = z.reports u i q
-
-    place : ℕ
-    place = unit_place s.net u
-
     told : option_and_then (done_of (unit_place s.net u)) step.taken ≡ Some n
     told = ap (option_and_then (done_of (unit_place s.net u))) e ∙ ap (λ b. if b then Some n else None) (eq-eqb (unit_place s.net u) (unit_place s.net u) refl)
 
@@ -123,12 +117,6 @@ units-done : (s : Setup) (lost : Losses) (table : Snapshot) (es : List Entry) (c
     → units_after table.ring c y (map (λ u. unit_of s.net u (collected s.net (world s lost es) u)) (units s.net)) ≡ map (λ u. unit_of s.net u (collected s.net (turn s lost (world s lost es) (0, c)) u)) (units s.net)
 units-done s lost table es c place n step y t z f x e d = by_place (cases_lt place (length (units s.net)))
   where
-    w : World
-    w = world s lost es
-
-    v : World
-    v = turn s lost (world s lost es) (0, c)
-
     grows : GrowsAt (world s lost es) (turn s lost (world s lost es) (0, c)) 0 step
     grows = grows-turn s lost es (0, c) step x
 

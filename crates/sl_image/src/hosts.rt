@@ -3,7 +3,7 @@
 ghost use Rattle.std.specs.Prelude.{◌≡◌, ◌≢◌, ◌<◌, ◌^◌, ℕ, [], List, length, Some, None, slice_get};
 ghost use Rattle.sl_net.specs.declared.actor.ActorId.TheVariants.{Host as OfHost};
 ghost use Rattle.sl_net.specs.Input.{Input};
-ghost use Rattle.sl_net.specs.Net.{action_choice};
+ghost use Rattle.sl_net.specs.Net.{Net, action_choice, links_into, links_from};
 ghost use Rattle.sl_net.specs.Wired.{IsNet};
 ghost use Rattle.sl_wire.specs.declared.message.Msg.{Msg};
 ghost use Rattle.sl_host.specs.Host.{frames_of, host_take, host_act};
@@ -13,10 +13,16 @@ ghost use Rattle.sl_cut.specs.History.{Losses, history};
 ghost use Rattle.sl_cut.specs.Setup.{Setup, setup_of};
 ghost use Rattle.sl_cut.specs.World.{Entry, next_step, turn, world};
 ghost use Rattle.sl_image.specs.HostImage.{host_of, IsHostOf};
-ghost use Rattle.sl_image.specs.Leaves.{Leaves, IsDone};
+ghost use Rattle.sl_image.specs.Leaves.{Leaves, Does};
 ghost use Rattle.sl_image.specs.Messages.{IsMessage};
 
 use sl_net::nets_are_wired;
+
+/// A host has one link to it and one from it.
+pub fn hosts_have_two_links()
+    ensures ins { (net : Net) (a i : ℕ) → IsNet net → slice_get net.actors a ≡ Some (OfHost i) → length (links_into net a) ≡ 1 }
+    ensures outs { (net : Net) (a i : ℕ) → IsNet net → slice_get net.actors a ≡ Some (OfHost i) → length (links_from net a) ≡ 1 }
+{}
 
 /// The first state of a host's machine stands for the empty history.
 pub fn hosts_start()
@@ -46,7 +52,7 @@ pub fn hosts_take()
 pub fn hosts_act()
     ensures did { (s : Setup) (lost : Losses) (es : List Entry) (a c i ring : ℕ) (told : ℕ → ℕ) (step : Step) → IsNet s.net
         → slice_get s.net.actors a ≡ Some (OfHost i) → next_step s lost (world s lost es) (a, c) ≡ Some step → step.taken ≡ None
-        → IsDone (IsHostOf s a i (turn s lost (world s lost es) (a, c))) s.net ring (λ u. history (turn s lost (world s lost es) (a, c)) u) a told step.puts
+        → Does (IsHostOf s a i (turn s lost (world s lost es) (a, c))) s.net ring (λ u. history (turn s lost (world s lost es) (a, c)) u) a told step.puts
         (host_act (host_of s a i (history (world s lost es) a)) c) }
     ensures idle { (s : Setup) (lost : Losses) (es : List Entry) (a i : ℕ) → slice_get s.net.actors a ≡ Some (OfHost i)
         → next_step s lost (world s lost es) (a, action_choice s.net a) ≡ None

@@ -1,5 +1,5 @@
 // A unit's history as saved entries and rows: laws of what a unit saves, of the rows that are read
-// from it, and of the findings that collected rows give.
+// from it, of the findings that collected rows give, and of the histories that machines stand for.
 #![tactic(auto)]
 
 mod hosts;
@@ -8,7 +8,7 @@ mod observers;
 mod reports;
 mod worlds;
 
-pub use hosts::{hosts_act, hosts_start, hosts_stay, hosts_take};
+pub use hosts::{hosts_act, hosts_have_two_links, hosts_start, hosts_stay, hosts_take};
 pub use laws::{
     calls_follow_steps, calls_lead_to_id, counts_fit, entries_are_values, late_is_credited,
     read_is_row, row_stays, saved_is_row,

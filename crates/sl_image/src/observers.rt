@@ -21,7 +21,7 @@ ghost use Rattle.sl_cut.specs.World.{Entry, next_step, turn, world};
 ghost use Rattle.sl_image.specs.Rows.{row};
 ghost use Rattle.sl_image.specs.Short.{SendsShort};
 ghost use Rattle.sl_image.specs.Accounts.{accounts, finding_by};
-ghost use Rattle.sl_image.specs.Leaves.{Leaves, IsDone};
+ghost use Rattle.sl_image.specs.Leaves.{Leaves, Does};
 ghost use Rattle.sl_image.specs.Messages.{IsMessage, eight, lasts};
 ghost use Rattle.sl_image.specs.ObserverImage.{observer_of, IsObserverOf, IsTableOf, known_at, account_of};
 
@@ -59,7 +59,7 @@ pub fn observers_take()
 pub fn observers_act()
     ensures did { (s : Setup) (lost : Losses) (table : Snapshot) (es : List Entry) (c ring : ℕ) (told : ℕ → ℕ) (step : Step) → IsNet s.net → IsTableOf s table
         → next_step s lost (world s lost es) (0, c) ≡ Some step → step.taken ≡ None
-        → IsDone (IsObserverOf s.net table (turn s lost (world s lost es) (0, c))) s.net ring (λ u. history (turn s lost (world s lost es) (0, c)) u) 0 told step.puts
+        → Does (IsObserverOf s.net table (turn s lost (world s lost es) (0, c))) s.net ring (λ u. history (turn s lost (world s lost es) (0, c)) u) 0 told step.puts
         (observer_act (observer_of s.net table (world s lost es)) c) }
     ensures idle { (s : Setup) (lost : Losses) (table : Snapshot) (es : List Entry) (c : ℕ) → IsNet s.net → IsTableOf s table
         → next_step s lost (world s lost es) (0, c) ≡ None → action_choice s.net 0 ≤ c → c < action_choice s.net 0 + 2

@@ -30,3 +30,14 @@ pub mod ControlWays
 pub mod ControlPuts
 pub mod ControlTurns
 pub mod ControlStays
+pub mod ObserverLists
+pub mod ObserverUnits
+pub mod ObserverStarts
+pub mod ObserverWorlds
+pub mod ObserverLinks
+pub mod ObserverTakes
+pub mod ObserverActs
+pub mod ObserverAccounts
+pub mod HostFrames
+pub mod HostSteps
+pub mod HostWires

@@ -10,3 +10,6 @@ pub mod Messages
 pub mod UnitImage
 pub mod Fields
 pub mod ControlImage
+pub mod Leaves
+pub mod ObserverImage
+pub mod HostImage

@@ -1,0 +1,31 @@
+-- The frames that a host sends are those of its machine.
+use Rattle.std.proofs.Common.{◌≡◌, ℕ, List, [], ◌∷◌, ◌++◌, refl, sym, ap}
+use Rattle.std.specs.Prelude.{map}
+use Rattle.sl_net.specs.declared.input.Packet.{Packet}
+use Rattle.sl_net.specs.Input.{Input}
+use Rattle.sl_net.specs.Net.{action_choice}
+use Rattle.sl_flow.specs.Flow.{packets_of}
+use Rattle.sl_wire.specs.Frames.{frame}
+use Rattle.sl_host.specs.Host.{raws_of}
+use Rattle.sl_host.specs.Host.{plain_frame as plain_there, frames_of as frames_there}
+use Rattle.sl_cut.specs.Frame.{plain_frame}
+use Rattle.sl_cut.specs.History.{Losses, history, taken}
+use Rattle.sl_cut.specs.Setup.{frames_of, setup_of}
+use Rattle.sl_cut.specs.World.{world}
+use Rattle.sl_cut.proofs.Turns.{start-empty}
+use Rattle.sl_image.specs.HostImage.{host_of}
+
+plain-same : (p : Packet) → plain_there p ≡ plain_frame p
+unfolding frame plain_frame
+plain-same p = refl
+
+map-each : (ps : List Packet) → map plain_there ps ≡ map plain_frame ps
+map-each [] = refl
+map-each (p ∷ ps) = let a = plain-same p in let b = map-each ps in λ i. a i ∷ b i
+
+pub frames-same : (i : Input) (h : ℕ) → frames_there i h ≡ frames_of (setup_of i) h
+frames-same i h = ap (λ fs. fs ++ raws_of i.raws h) (map-each (packets_of i.flows h))
+
+pub host-start : (i : Input) (lost : Losses) (a h : ℕ) → record { messages = frames_there i h; sent = 0; delivered = 0 } ≡ host_of (setup_of i) a h (history (world (setup_of i) lost []) a)
+host-start i lost a h = let m = frames-same i h in let e = start-empty i.net a in let s = sym (ap (taken (action_choice i.net a)) e) in let d = sym (ap (taken 0) e) in
+    λ j. record { messages = m j; sent = s j; delivered = d j }

@@ -1,0 +1,181 @@
+-- The steps of hosts, by their machines.
+use Rattle.std.proofs.Common.{◌≡◌, ◌≢◌, ℕ, zero, suc, ◌-◌, ◌<◌, ◌≤◌, ◌^◌, List, [], ◌∷◌, length, refl, sym, ap, subst, ◌∙◌, Option, Some, None, arith, inl, inr}
+use Rattle.std.specs.Prelude.{◌⊎◌, true, slice_get, option_map, option_and_then}
+use Rattle.std.proofs.lemmas.Option.{slice_get_within}
+use Rattle.sl_machine.specs.Machine.{After}
+use Rattle.sl_net.specs.declared.actor.ActorId.TheVariants.{Host as OfHost}
+use Rattle.sl_net.specs.declared.actor.Sort.{Sort}
+use Rattle.sl_net.specs.declared.actor.Sort.TheVariants.{FromHost, ToHost, Cable, Crossbar, Init, Poll, Notice, Dump, Begin, Done}
+use Rattle.sl_net.specs.Net.{Net, actor_of, action_choice, link_of, links_into, links_from, links_out}
+use Rattle.sl_net.specs.Wires.{out_of}
+use Rattle.sl_net.specs.Wired.{IsWired, receives}
+use Rattle.sl_net.proofs.Sorts.{IsInto, is-into}
+use Rattle.sl_wire.specs.declared.message.Msg.{Msg}
+use Rattle.sl_wire.specs.declared.message.Msg.TheVariants as wire
+use Rattle.sl_host.specs.Host.{HostState, one_more, host_take, host_act, sending}
+use Rattle.sl_cut.specs.declared.message.Message.{Message}
+use Rattle.sl_cut.specs.declared.message.Message.TheVariants.{Host as HostMsg, Data, Probe as ProbeMsg, Init as InitMsg, Poll as PollMsg, Notice as NoticeMsg, Dump as DumpMsg, Begin as BeginMsg, Done as DoneMsg}
+use Rattle.sl_cut.specs.declared.message.Step.{Step}
+use Rattle.sl_cut.specs.Fit.{fits, fits_link}
+use Rattle.sl_cut.specs.History.{History, World, Losses, history, taken, put}
+use Rattle.sl_cut.specs.Made.{Ran}
+use Rattle.sl_cut.specs.Puts.{send_all, action}
+use Rattle.sl_cut.specs.Setup.{Setup, frames_of}
+use Rattle.sl_cut.specs.World.{Entry, next_step, step_by, acting, carried, turn, world}
+use Rattle.sl_cut.proofs.Ran.{Takes, Acts, next-view, ran}
+use Rattle.sl_cut.proofs.Sizes.{history_size, world_size}
+use Rattle.sl_cut.proofs.Stamps.{took-by, acted-by, each-lost, put-fits}
+use Rattle.sl_cut.proofs.Turns.{Steps, turn-cases, taken-this, taken-other, taken-step}
+use Rattle.sl_image.specs.HostImage.{host_of, IsHostOf}
+use Rattle.sl_image.specs.Leaves.{Leaves, Does}
+use Rattle.sl_image.specs.Messages.{IsMessage, AreSent}
+use Rattle.sl_image.proofs.ObserverActs.{past-end, get-past}
+use Rattle.sl_image.proofs.ObserverWorlds.{grows-turn}
+use Rattle.sl_image.proofs.Windows.{each-get}
+
+-- a host has one link to it and one from it
+pub record HostLinks (net : Net) (a : ℕ) : Type 0 where
+  pub one_in : length (links_into net a) ≡ 1
+  pub out : ℕ
+  pub outs : links_from net a ≡ out ∷ []
+  pub puts_on : links_out net a FromHost ≡ out ∷ []
+  pub is_out : out_of net out ≡ 0
+
+-- Another actor's turn.
+
+pub host-stays : (s : Setup) (lost : Losses) (w : World) (a i : ℕ) (e : Entry) → e.0 ≢ a → host_of s a i (history (turn s lost w e) a) ≡ host_of s a i (history w a)
+host-stays s lost w a i e ne = ap (host_of s a i) (by_cases (turn-cases s lost w e))
+  where
+    by_cases : (turn s lost w e ≡ w) ⊎ Steps s lost w e (turn s lost w e) → history (turn s lost w e) a ≡ history w a
+    by_cases (inl q) = ap (λ v. history v a) q
+    by_cases (inr t) = t.grows.other a (λ q. ne (sym q))
+
+-- What comes to a host is a frame.
+
+to-host : (i : ℕ) (t : Sort) → receives (OfHost i) t ≡ true → t ≡ ToHost
+to-host i ToHost q = refl
+to-host i FromHost q = absurd cc
+to-host i Cable q = absurd cc
+to-host i Crossbar q = absurd cc
+to-host i Init q = absurd cc
+to-host i Poll q = absurd cc
+to-host i Notice q = absurd cc
+to-host i Dump q = absurd cc
+to-host i Begin q = absurd cc
+to-host i Done q = absurd cc
+
+frame-fits : (m : Message) → fits ToHost m ≡ true → (b : List ℕ) × (m ≡ HostMsg b)
+frame-fits (HostMsg b) q = (b, refl)
+frame-fits (Data k p) q = absurd cc
+frame-fits (ProbeMsg k) q = absurd cc
+frame-fits (InitMsg k) q = absurd cc
+frame-fits PollMsg q = absurd cc
+frame-fits NoticeMsg q = absurd cc
+frame-fits (DumpMsg n) q = absurd cc
+frame-fits (BeginMsg k) q = absurd cc
+frame-fits (DoneMsg u n) q = absurd cc
+
+comes-frame : (s : Setup) (lost : Losses) (w : World) (a i : ℕ) (step : Step) → IsWired s.net → Ran s lost w → actor_of s.net a ≡ OfHost i → (t : Takes s lost w a step) → (b : List ℕ) × (t.took.message ≡ HostMsg b)
+comes-frame s lost w a i step z r q t = frame-fits t.took.message (ap (λ k. fits k t.took.message) (sym sort) ∙ fit)
+  where
+    into : IsInto s.net a t.took.link
+    into = is-into s.net a step.choice t.took.link t.took.into
+
+    sort : (link_of s.net t.took.link).sort ≡ ToHost
+    sort = to-host i (link_of s.net t.took.link).sort (ap (λ x. receives x (link_of s.net t.took.link).sort) (sym (ap (actor_of s.net) into.to ∙ q)) ∙ z.receiver t.took.link into.is_link)
+
+    fit : fits_link s.net t.took.link t.took.message ≡ true
+    fit = let from = (link_of s.net t.took.link).from in each-get (λ m. fits_link s.net t.took.link m ≡ true) (carried s.net lost w t.took.link) (taken step.choice (history w a)) t.took.message
+        (each-lost (λ m. fits_link s.net t.took.link m ≡ true) (lost t.took.link) 0 (put t.took.link (history w from)) (put-fits s from t.took.link (history w from) (r.made from))) t.found
+
+few-taken : (c : ℕ) (h : History) → taken c h ≤ length h
+few-taken c [] = omega arith
+few-taken c (step ∷ h) = let p = few-taken c h in let q = taken-step c step h in omega (arith, p, q)
+
+module _ (s : Setup) (lost : Losses) (es : List Entry) (a c i ring : ℕ) (told : ℕ → ℕ) (step : Step) (z : IsWired s.net) (q : actor_of s.net a ≡ OfHost i) (k : HostLinks s.net a) (x : next_step s lost (world s lost es) (a, c) ≡ Some step) where
+  abbrev LeavesIt : After HostState Msg → Type 0
+  LeavesIt y = Leaves (IsHostOf s a i (turn s lost (world s lost es) (a, c))) s.net ring (λ u. history (turn s lost (world s lost es) (a, c)) u) a told step.puts y
+
+  takes-frame : (b : List ℕ) → step.choice ≡ 0 → step.puts ≡ [] → length es < 2 ^ 40 → LeavesIt (host_take (host_of s a i (history (world s lost es) a)) c (wire.Host b))
+  takes-frame b e ps l =
+      let w = world s lost es in let h = history w a in let g = grows-turn s lost es (a, c) step x in
+      let n = few-taken 0 h in let m = history_size w a in let size = world_size s lost w es refl in let one = k.one_in in
+      let sent : taken (action_choice s.net a) h ≡ taken (action_choice s.net a) (history (turn s lost w (a, c)) a) = sym (ap (taken (action_choice s.net a)) g.same ∙ taken-other (action_choice s.net a) step h (λ p. absurd (omega (arith, p, e, one)))) in
+      let more : one_more (taken 0 h) ≡ suc (taken 0 h) = omega (arith, n, m, size, l) in
+      let delivered : one_more (taken 0 h) ≡ taken 0 (history (turn s lost w (a, c)) a) = more ∙ sym (ap (taken 0) g.same ∙ taken-this 0 step h e) in
+      record {
+        stands = λ j. record { messages = frames_of s i; sent = sent j; delivered = delivered j };
+        sent = subst (λ ps. AreSent s.net ring (λ u. history (turn s lost w (a, c)) u) a told ps []) (sym ps) tt;
+      }
+
+  pub host-takes : (b : ℕ) (before : ℕ → ℕ) (m : Message) (y : Msg) → step.taken ≡ Some m → length es < 2 ^ 40 → IsMessage s.net ring (λ u. history (world s lost es) u) b before m y
+      → LeavesIt (host_take (host_of s a i (history (world s lost es) a)) c y)
+  host-takes b before m y e l is = by_view (next-view s lost (world s lost es) (a, c) step x)
+    where
+      by_view : Takes s lost (world s lost es) a step ⊎ Acts s (world s lost es) a step → LeavesIt (host_take (host_of s a i (history (world s lost es) a)) c y)
+      by_view (inl t) =
+          let f = comes-frame s lost (world s lost es) a i step z (ran s lost es) q t in
+          let same : m ≡ HostMsg f.0 = (let u : Some m ≡ Some t.took.message = sym e ∙ t.took.taken in let v : m ≡ t.took.message = cc in v ∙ f.1) in
+          let frame : y ≡ wire.Host f.0 = subst (λ m. IsMessage s.net ring (λ u. history (world s lost es) u) b before m y) same is in
+          let low = slice_get_within (links_into s.net a) step.choice t.took.link t.took.into in let one = k.one_in in
+          subst (λ y. LeavesIt (host_take (host_of s a i (history (world s lost es) a)) c y)) (sym frame)
+          (takes-frame f.0 (omega (arith, low, one)) (took-by s a (history (world s lost es) a) step (OfHost i) q t.took) l)
+      by_view (inr t) = absurd (let u : None ≡ Some m = sym t.acted.taken ∙ e in cc)
+
+  -- the frame that a host injects
+  record Injects : Type 0 where
+    pub bytes : List ℕ
+    pub found : slice_get (frames_of s i) (taken (action_choice s.net a) (history (world s lost es) a)) ≡ Some bytes
+    pub puts : step.puts ≡ send_all (HostMsg bytes) (links_out s.net a FromHost)
+    pub choice : step.choice - action_choice s.net a ≡ 0
+
+  injects : (fl : ℕ) (n : ℕ) → step.choice - action_choice s.net a ≡ n → action s fl a (OfHost i) (history (world s lost es) a) n ≡ Some step.puts → Injects
+  injects fl zero d p = by_frame (slice_get (frames_of s i) (taken (action_choice s.net a) (history (world s lost es) a))) refl p
+    where
+      by_frame : (o : Option (List ℕ)) → slice_get (frames_of s i) (taken (action_choice s.net a) (history (world s lost es) a)) ≡ o
+          → option_map (λ bytes. send_all (HostMsg bytes) (links_out s.net a FromHost)) o ≡ Some step.puts → Injects
+      by_frame None f p = absurd cc
+      by_frame (Some bytes) f p = record { bytes = bytes; found = f; puts = (let y : send_all (HostMsg bytes) (links_out s.net a FromHost) ≡ step.puts = cc in sym y); choice = d }
+  injects fl (suc n) d p = absurd cc
+
+  pub host-acts : step.taken ≡ None → Does (IsHostOf s a i (turn s lost (world s lost es) (a, c))) s.net ring (λ u. history (turn s lost (world s lost es) (a, c)) u) a told step.puts (host_act (host_of s a i (history (world s lost es) a)) c)
+  host-acts e = by_view (next-view s lost (world s lost es) (a, c) step x)
+    where
+      of_frame : length (links_into s.net a) ≤ step.choice → Injects
+          → Does (IsHostOf s a i (turn s lost (world s lost es) (a, c))) s.net ring (λ u. history (turn s lost (world s lost es) (a, c)) u) a told step.puts (host_act (host_of s a i (history (world s lost es) a)) c)
+      of_frame p f =
+          let w = world s lost es in let h = history w a in let g = grows-turn s lost es (a, c) step x in let d = f.choice in let one = k.one_in in
+          let here : step.choice ≡ action_choice s.net a = omega (arith, p, d) in
+          let sent : suc (taken (action_choice s.net a) h) ≡ taken (action_choice s.net a) (history (turn s lost w (a, c)) a) = sym (ap (taken (action_choice s.net a)) g.same ∙ taken-this (action_choice s.net a) step h here) in
+          let delivered : taken 0 h ≡ taken 0 (history (turn s lost w (a, c)) a) = sym (ap (taken 0) g.same ∙ taken-other 0 step h (λ r. absurd (omega (arith, r, here, one)))) in
+          record {
+            after = sending (host_of s a i h) f.bytes;
+            is = ap (option_map (sending (host_of s a i h))) f.found;
+            leaves = record {
+              stands = λ j. record { messages = frames_of s i; sent = sent j; delivered = delivered j };
+              sent = subst (λ ps. AreSent s.net ring (λ u. history (turn s lost w (a, c)) u) a told ps ((0, wire.Host f.bytes) ∷ [])) (sym (f.puts ∙ ap (send_all (HostMsg f.bytes)) k.puts_on)) ((sym k.is_out, refl), tt);
+            };
+          }
+
+      by_view : Takes s lost (world s lost es) a step ⊎ Acts s (world s lost es) a step
+          → Does (IsHostOf s a i (turn s lost (world s lost es) (a, c))) s.net ring (λ u. history (turn s lost (world s lost es) (a, c)) u) a told step.puts (host_act (host_of s a i (history (world s lost es) a)) c)
+      by_view (inl t) = absurd (let u : None ≡ Some t.took.message = sym e ∙ t.took.taken in cc)
+      by_view (inr t) = of_frame (past-end (links_into s.net a) step.choice t.acted.past)
+          (injects t.acted.floor (step.choice - action_choice s.net a) refl (acted-by s a (history (world s lost es) a) step (OfHost i) q t.acted))
+
+-- Where nothing is left to inject.
+
+pub host-idle : (s : Setup) (lost : Losses) (w : World) (a i : ℕ) → slice_get s.net.actors a ≡ Some (OfHost i) → next_step s lost w (a, action_choice s.net a) ≡ None → host_act (host_of s a i (history w a)) (action_choice s.net a) ≡ None
+host-idle s lost w a i here x = of_found (slice_get (frames_of s i) (taken c (history w a))) refl
+    (ap (λ n. option_map (acting c) (action s 0 a (OfHost i) (history w a) n)) (let d : 0 ≡ c - c = omega arith in d)
+    ∙ sym (ap (option_and_then (step_by s lost w a c (slice_get (links_into s.net a) c))) here ∙ ap (λ o. step_by s lost w a c o (OfHost i)) (get-past (links_into s.net a) c (omega arith))) ∙ x)
+  where
+    c : ℕ
+    c = action_choice s.net a
+
+    of_found : (o : Option (List ℕ)) → slice_get (frames_of s i) (taken (action_choice s.net a) (history w a)) ≡ o
+        → option_map (acting (action_choice s.net a)) (option_map (λ bytes. send_all (HostMsg bytes) (links_out s.net a FromHost)) (slice_get (frames_of s i) (taken (action_choice s.net a) (history w a)))) ≡ None
+        → host_act (host_of s a i (history w a)) (action_choice s.net a) ≡ None
+    of_found None f p = ap (option_map (sending (host_of s a i (history w a)))) f
+    of_found (Some bytes) f p = absurd (let y : option_map (acting (action_choice s.net a)) (option_map (λ bytes. send_all (HostMsg bytes) (links_out s.net a FromHost)) (Some bytes)) ≡ None =
+        ap (λ o. option_map (acting (action_choice s.net a)) (option_map (λ bytes. send_all (HostMsg bytes) (links_out s.net a FromHost)) o)) (sym f) ∙ p in cc)

@@ -1,0 +1,229 @@
+-- What the observer's machine does with a message that comes.
+use Rattle.std.proofs.Common.{◌≡◌, ℕ, suc, ◌<◌, ◌≤◌, List, [], length, refl, sym, ap, subst, ◌∙◌, Some, None, arith, inl, inr, eq-eqb, get_or}
+use Rattle.std.specs.Prelude.{◌⊎◌, ◌==◌, true, false, nat_eq, if◌then◌else◌, map, slice_set, unwrap_or, option_and_then}
+use Rattle.std.proofs.lemmas.Bool.{cases_lt}
+use Rattle.std.proofs.lemmas.Bool.Decides.{eqb_tells}
+use Rattle.std.proofs.lemmas.List.{get_or-map, get_or_past, set_past}
+use Rattle.std.proofs.lemmas.Option.{slice_get_within}
+use Rattle.sl_machine.specs.Machine.{After}
+use Rattle.sl_net.specs.declared.actor.ActorId.TheVariants.{Observer, Unit as OfUnit}
+use Rattle.sl_net.specs.declared.actor.UnitId.{UnitId}
+use Rattle.sl_net.specs.declared.input.Snapshot.{Snapshot}
+use Rattle.sl_net.specs.Parts.{below}
+use Rattle.sl_net.specs.Net.{Net, actor_of, action_choice, links_into, links_from, choice_of, is_unit, units, unit_place, data_channels}
+use Rattle.sl_net.specs.Wired.{IsNet, IsWired}
+use Rattle.sl_net.proofs.Lists.{Member, Distinct, distinct-filter, distinct-from, each-at}
+use Rattle.sl_net.proofs.Filters.{each-passes}
+use Rattle.sl_net.proofs.Sizes.{length_map-is}
+use Rattle.sl_wire.specs.declared.message.Done.{Done}
+use Rattle.sl_wire.specs.declared.message.Msg.{Msg}
+use Rattle.sl_observe.specs.Observer.{UnitState, ObserverState, new_unit, unit_at, device_of, heard, units_after, observer_take}
+use Rattle.sl_cut.specs.declared.message.Message.{Message}
+use Rattle.sl_cut.specs.declared.message.Message.TheVariants.{Host, Data, Probe, Init, Poll, Notice, Dump as DumpMsg, Begin, Done as DoneMsg}
+use Rattle.sl_cut.specs.declared.message.Step.{Step}
+use Rattle.sl_cut.specs.History.{World, Losses, history, done_of, heard as heard_by, first}
+use Rattle.sl_cut.specs.Setup.{Setup}
+use Rattle.sl_cut.specs.Knowledge.{observer, known, issued, resent, collected}
+use Rattle.sl_cut.specs.World.{Entry, next_step, turn, world}
+use Rattle.sl_cut.specs.Made.{Ran}
+use Rattle.sl_cut.proofs.Turns.{GrowsAt, taken-other}
+use Rattle.sl_cut.proofs.Ran.{Takes, Acts, next-view, ran, ran-turn}
+use Rattle.sl_cut.proofs.Reported.{knows}
+use Rattle.sl_cut.proofs.Stamps.{took-by}
+use Rattle.sl_image.specs.Brought.{IsBrought}
+use Rattle.sl_image.specs.Leaves.{Leaves}
+use Rattle.sl_image.specs.Messages.{IsDoneOf, IsMessage, AreSent}
+use Rattle.sl_image.specs.ObserverImage.{unit_of, observer_of, IsObserverOf, IsTableOf, known_at}
+use Rattle.sl_image.proofs.Brought.{unit-done}
+use Rattle.sl_image.proofs.Channels.{few-channels}
+use Rattle.sl_image.proofs.ObserverLists.{place-at, place-past, map-same, map-set}
+use Rattle.sl_image.proofs.ObserverUnits.{Brings, hears}
+use Rattle.sl_image.proofs.ObserverLinks.{device-choice}
+use Rattle.sl_image.proofs.ObserverWorlds.{unit-at, grows-turn, step-choice}
+
+-- Places of units.
+
+units-distinct : (net : Net) → Distinct (units net)
+units-distinct net = distinct-filter (λ a. is_unit (actor_of net a)) (below (length net.actors)) (distinct-from 0 (length net.actors))
+
+pub place-of-unit : (net : Net) (j : ℕ) → j < length (units net) → unit_place net (get_or (units net) j 0) ≡ j
+place-of-unit net j p = place-at (units net) 0 j (units-distinct net) p ∙ (omega arith)
+
+-- the observer has none
+place-of-none : (net : Net) → IsWired net → length (units net) ≤ unit_place net 0
+place-of-none net z = let e = place-past (units net) 0 0 no in omega (arith, e)
+  where
+    no : Member 0 (units net) → ⊥
+    no m = let e : is_unit (actor_of net 0) ≡ true = each-at (λ a. is_unit (actor_of net a) ≡ true) 0 (units net) (each-passes (λ a. is_unit (actor_of net a)) (below (length net.actors))) m in
+        let f : is_unit (actor_of net 0) ≡ false = ap is_unit z.observer in cc
+
+-- What a step of the observer changes. It leads from the world w to v.
+
+module _ (s : Setup) (table : Snapshot) (w v : World) (step : Step) (z : IsWired s.net) (g : GrowsAt w v 0 step) where
+  pub same-unit : (u : ℕ) (i : UnitId) → actor_of s.net u ≡ OfUnit i → history v u ≡ history w u
+  same-unit u i q = g.other u (λ e. let b : Observer ≡ OfUnit i = sym z.observer ∙ ap (actor_of s.net) (sym e) ∙ q in cc)
+
+  pub same-known : (place : ℕ) → option_and_then (done_of place) step.taken ≡ None → known place (observer v) ≡ known place (observer w)
+  same-known place e = ap (known place) g.same ∙ ap (λ o. unwrap_or o (known place (observer w))) e
+
+  pub same-collected : (u : ℕ) (i : UnitId) → actor_of s.net u ≡ OfUnit i → option_and_then (done_of (unit_place s.net u)) step.taken ≡ None → collected s.net v u ≡ collected s.net w u
+  same-collected u i q e = let k = same-known (unit_place s.net u) e in let h = same-unit u i q in λ j. first (k j) (h j)
+
+  pub state-after : step.choice < action_choice s.net 0 → (us : List UnitState) → us ≡ map (λ u. unit_of s.net u (collected s.net v u)) (units s.net)
+      → record { ins = length (links_into s.net 0); outs = length (links_from s.net 0); snapshot = table; issued = issued s.net (observer w); resent = resent s.net (observer w); units = us } ≡ observer_of s.net table v
+  state-after l us e =
+      let k : issued s.net (observer v) ≡ issued s.net (observer w) = ap (issued s.net) g.same ∙ taken-other (action_choice s.net 0) step (observer w) (λ q. absurd (omega (arith, q, l))) in
+      let r : resent s.net (observer v) ≡ resent s.net (observer w) = ap (resent s.net) g.same ∙ taken-other (suc (action_choice s.net 0)) step (observer w) (λ q. absurd (omega (arith, q, l))) in
+      let a = sym k in let b = sym r in
+      λ i. record { ins = length (links_into s.net 0); outs = length (links_from s.net 0); snapshot = table; issued = a i; resent = b i; units = e i }
+
+  pub same-units : ((u : ℕ) (i : UnitId) → actor_of s.net u ≡ OfUnit i → option_and_then (done_of (unit_place s.net u)) step.taken ≡ None)
+      → map (λ u. unit_of s.net u (collected s.net w u)) (units s.net) ≡ map (λ u. unit_of s.net u (collected s.net v u)) (units s.net)
+  same-units h = map-same (λ u. unit_of s.net u (collected s.net w u)) (λ u. unit_of s.net u (collected s.net v u)) (units s.net)
+      (λ j p. let t = unit-at s.net j p in ap (unit_of s.net (get_or (units s.net) j 0)) (sym (same-collected (get_or (units s.net) j 0) t.0 t.1 (h (get_or (units s.net) j 0) t.0 t.1))))
+
+-- A Done.
+
+done-elsewhere : (place unit n : ℕ) → (place ≡ unit → ⊥) → done_of place (DoneMsg unit n) ≡ None
+done-elsewhere place unit n ne = by_tells (eqb_tells place unit)
+  where
+    by_tells : ((nat_eq place unit ≡ true) × (place ≡ unit)) ⊎ ((nat_eq place unit ≡ false) × (place ≡ unit → ⊥)) → (if place == unit then Some n else None) ≡ None
+    by_tells (inl q) = absurd (ne q.1)
+    by_tells (inr q) = ap (λ b. if b then Some n else None) q.0
+
+-- a Done of a unit comes by the choice of its device, or tells what is known already
+by-device : (s : Setup) (lost : Losses) (w v : World) (step : Step) (u n : ℕ) (i : UnitId) → IsNet s.net → (z : IsWired s.net) → Ran s lost w → Ran s lost v → GrowsAt w v 0 step → actor_of s.net u ≡ OfUnit i
+    → step.taken ≡ Some (DoneMsg (unit_place s.net u) n) → (known (unit_place s.net u) (observer v) ≡ n) × ((device_of (actor_of s.net u) ≡ step.choice) ⊎ (known (unit_place s.net u) (observer w) ≡ n))
+by-device s lost w v step u n i t z r k g q e = (now, by_tells (eqb_tells step.choice (choice_of s.net (z.reports u i q).done)))
+  where
+    told : option_and_then (done_of (unit_place s.net u)) step.taken ≡ Some n
+    told = ap (option_and_then (done_of (unit_place s.net u))) e ∙ ap (λ b. if b then Some n else None) (eq-eqb (unit_place s.net u) (unit_place s.net u) refl)
+
+    now : known (unit_place s.net u) (observer v) ≡ n
+    now = ap (known (unit_place s.net u)) g.same ∙ ap (λ o. unwrap_or o (known (unit_place s.net u) (observer w))) told
+
+    by_tells : ((nat_eq step.choice (choice_of s.net (z.reports u i q).done) ≡ true) × (step.choice ≡ choice_of s.net (z.reports u i q).done)) ⊎ ((nat_eq step.choice (choice_of s.net (z.reports u i q).done) ≡ false) × (step.choice ≡ choice_of s.net (z.reports u i q).done → ⊥))
+        → (device_of (actor_of s.net u) ≡ step.choice) ⊎ (known (unit_place s.net u) (observer w) ≡ n)
+    by_tells (inl y) = inl (ap device_of q ∙ sym (device-choice s.net u i t q (z.reports u i q)) ∙ sym y.1)
+    by_tells (inr y) = let d = (z.reports u i q).done in inr ((knows s lost w u i z r (z.reports u i q) q).told
+        ∙ sym (ap (λ b. if b then unwrap_or (option_and_then (done_of (unit_place s.net u)) step.taken) (heard_by (done_of (unit_place s.net u)) (choice_of s.net d) (observer w)) else heard_by (done_of (unit_place s.net u)) (choice_of s.net d) (observer w)) y.0)
+        ∙ sym (ap (heard_by (done_of (unit_place s.net u)) (choice_of s.net d)) g.same)
+        ∙ sym (knows s lost v u i z k (z.reports u i q) q).told ∙ now)
+
+-- the units after a Done of the unit at a place
+units-done : (s : Setup) (lost : Losses) (table : Snapshot) (es : List Entry) (c place n : ℕ) (step : Step) (y : Done) → IsNet s.net → (z : IsWired s.net) → IsTableOf s table
+    → next_step s lost (world s lost es) (0, c) ≡ Some step → step.taken ≡ Some (DoneMsg place n)
+    → IsDoneOf s.net (get_or (units s.net) place 0) (first (known place (observer (world s lost es))) (history (world s lost es) (get_or (units s.net) place 0))) (first n (history (world s lost es) (get_or (units s.net) place 0))) y
+    → units_after table.ring c y (map (λ u. unit_of s.net u (collected s.net (world s lost es) u)) (units s.net)) ≡ map (λ u. unit_of s.net u (collected s.net (turn s lost (world s lost es) (0, c)) u)) (units s.net)
+units-done s lost table es c place n step y t z f x e d = by_place (cases_lt place (length (units s.net)))
+  where
+    grows : GrowsAt (world s lost es) (turn s lost (world s lost es) (0, c)) 0 step
+    grows = grows-turn s lost es (0, c) step x
+
+    old : ℕ → UnitState
+    old u = unit_of s.net u (collected s.net (world s lost es) u)
+
+    new : ℕ → UnitState
+    new u = unit_of s.net u (collected s.net (turn s lost (world s lost es) (0, c)) u)
+
+    at_none : length (units s.net) ≤ place → units_after table.ring c y (map old (units s.net)) ≡ map new (units s.net)
+    at_none p = let k : y.unit ≡ unit_place s.net 0 = d.unit ∙ ap (unit_place s.net) (get_or_past (units s.net) place 0 p) in
+        let o = place-of-none s.net z in let m = length_map-is old (units s.net) in
+        set_past (map old (units s.net)) y.unit (heard table.ring c y (unit_at (map old (units s.net)) y.unit)) (omega (arith, k, o, m))
+        ∙ map-same old new (units s.net) (λ j l. let a = unit-at s.net j l in let u = get_or (units s.net) j 0 in
+        ap (unit_of s.net u) (sym (same-collected s table (world s lost es) (turn s lost (world s lost es) (0, c)) step z grows u a.0 a.1
+        (ap (option_and_then (done_of (unit_place s.net u))) e ∙ done-elsewhere (unit_place s.net u) place n (λ q. let b = place-of-unit s.net j l in absurd (omega (arith, q, b, l, p)))))))
+
+    at_unit : place < length (units s.net) → units_after table.ring c y (map old (units s.net)) ≡ map new (units s.net)
+    at_unit p = ap (λ k. slice_set (map old (units s.net)) k (heard table.ring c y (unit_at (map old (units s.net)) k))) (d.unit ∙ here)
+        ∙ ap (λ r. slice_set (map old (units s.net)) place (heard table.ring c y r)) (get_or-map old (units s.net) place 0 (new_unit 0 0) p)
+        ∙ map-set old new (units s.net) place (heard table.ring c y (old u)) p others this
+      where
+        u : ℕ
+        u = get_or (units s.net) place 0
+
+        here : unit_place s.net (get_or (units s.net) place 0) ≡ place
+        here = place-of-unit s.net place p
+
+        is : (i : UnitId) × (actor_of s.net (get_or (units s.net) place 0) ≡ OfUnit i)
+        is = unit-at s.net place p
+
+        others : (j : ℕ) → j < length (units s.net) → (j ≡ place → ⊥) → old (get_or (units s.net) j 0) ≡ new (get_or (units s.net) j 0)
+        others j l ne = let a = unit-at s.net j l in let o = get_or (units s.net) j 0 in
+            ap (unit_of s.net o) (sym (same-collected s table (world s lost es) (turn s lost (world s lost es) (0, c)) step z grows o a.0 a.1
+            (ap (option_and_then (done_of (unit_place s.net o))) e ∙ done-elsewhere (unit_place s.net o) place n (λ q. let b = place-of-unit s.net j l in ne (omega (arith, q, b))))))
+
+        taken : step.taken ≡ Some (DoneMsg (unit_place s.net (get_or (units s.net) place 0)) n)
+        taken = e ∙ ap (λ k. Some (DoneMsg k n)) (sym here)
+
+        known_by : (known (unit_place s.net (get_or (units s.net) place 0)) (observer (turn s lost (world s lost es) (0, c))) ≡ n)
+            × ((device_of (actor_of s.net (get_or (units s.net) place 0)) ≡ step.choice) ⊎ (known (unit_place s.net (get_or (units s.net) place 0)) (observer (world s lost es)) ≡ n))
+        known_by = by-device s lost (world s lost es) (turn s lost (world s lost es) (0, c)) step (get_or (units s.net) place 0) n is.0 t z (ran s lost es) (ran-turn s lost (world s lost es) (0, c) (ran s lost es)) grows is.1 taken
+
+        brought : IsBrought s.net s.window (get_or (units s.net) place 0) (history (world s lost es) (get_or (units s.net) place 0)) (known (unit_place s.net (get_or (units s.net) place 0)) (observer (world s lost es))) n
+        brought = unit-done s lost es c n step z x (get_or (units s.net) place 0) is.0 is.1 taken
+
+        brings : Brings s.net (get_or (units s.net) place 0) table.ring (collected s.net (world s lost es) (get_or (units s.net) place 0)) (first n (history (world s lost es) (get_or (units s.net) place 0))) y
+        brings = record {
+          few = few-channels s.net (get_or (units s.net) place 0) is.0 t is.1;
+          of = subst (λ k. IsDoneOf s.net (get_or (units s.net) place 0) (first (known k (observer (world s lost es))) (history (world s lost es) (get_or (units s.net) place 0))) (first n (history (world s lost es) (get_or (units s.net) place 0))) y) (sym here) d;
+          rises = brought.rises;
+          within = let a = brought.within in let b = f.window in let g = f.room in omega (arith, a, b, g);
+          stays = λ k l. brought.stays (data_channels s.net (get_or (units s.net) place 0)) k l;
+        }
+
+        by_choice : (device_of (actor_of s.net (get_or (units s.net) place 0)) ≡ step.choice) ⊎ (known (unit_place s.net (get_or (units s.net) place 0)) (observer (world s lost es)) ≡ n)
+            → (device_of (actor_of s.net (get_or (units s.net) place 0)) ≡ c) ⊎ (collected s.net (world s lost es) (get_or (units s.net) place 0) ≡ first n (history (world s lost es) (get_or (units s.net) place 0)))
+        by_choice (inl q) = inl (q ∙ step-choice s lost (world s lost es) (0, c) step x)
+        by_choice (inr q) = inr (ap (λ k. first k (history (world s lost es) (get_or (units s.net) place 0))) q)
+
+        this : heard table.ring c y (old (get_or (units s.net) place 0)) ≡ new (get_or (units s.net) place 0)
+        this = let k = sym known_by.0 in let h = sym (same-unit s table (world s lost es) (turn s lost (world s lost es) (0, c)) step z grows (get_or (units s.net) place 0) is.0 is.1) in
+            hears s.net (get_or (units s.net) place 0) table.ring c (collected s.net (world s lost es) (get_or (units s.net) place 0)) (first n (history (world s lost es) (get_or (units s.net) place 0))) y brings (by_choice known_by.1)
+            ∙ ap (unit_of s.net (get_or (units s.net) place 0)) (λ j. first (k j) (h j))
+
+    by_place : (place < length (units s.net)) ⊎ (length (units s.net) ≤ place) → units_after table.ring c y (map old (units s.net)) ≡ map new (units s.net)
+    by_place (inl p) = at_unit p
+    by_place (inr p) = at_none p
+
+-- Any message.
+
+-- a step that takes a message takes it from a link, and the observer puts nothing
+record IsTake (s : Setup) (step : Step) : Type 0 where
+  pub low : step.choice < action_choice s.net 0
+  pub puts : step.puts ≡ []
+
+is-take : (s : Setup) (lost : Losses) (w : World) (c : ℕ) (step : Step) (m : Message) → IsWired s.net → next_step s lost w (0, c) ≡ Some step → step.taken ≡ Some m → IsTake s step
+is-take s lost w c step m z x e = by_view (next-view s lost w (0, c) step x)
+  where
+    by_view : Takes s lost w 0 step ⊎ Acts s w 0 step → IsTake s step
+    by_view (inl t) = record { low = slice_get_within (links_into s.net 0) step.choice t.took.link t.took.into; puts = took-by s 0 (history w 0) step Observer z.observer t.took }
+    by_view (inr t) = absurd (let q : None ≡ Some m = sym t.acted.taken ∙ e in cc)
+
+module _ (s : Setup) (lost : Losses) (table : Snapshot) (es : List Entry) (c ring a : ℕ) (told : ℕ → ℕ) (step : Step) (t : IsNet s.net) (z : IsWired s.net) (f : IsTableOf s table) (x : next_step s lost (world s lost es) (0, c) ≡ Some step) where
+  abbrev LeavesIt : After ObserverState Msg → Type 0
+  LeavesIt y = Leaves (IsObserverOf s.net table (turn s lost (world s lost es) (0, c))) s.net ring (λ u. history (turn s lost (world s lost es) (0, c)) u) 0 told step.puts y
+
+  leaves : (m : Message) → step.taken ≡ Some m → (us : List UnitState) → us ≡ map (λ u. unit_of s.net u (collected s.net (turn s lost (world s lost es) (0, c)) u)) (units s.net)
+      → LeavesIt (record { state = record (observer_of s.net table (world s lost es)) { units = us }; puts = [] })
+  leaves m e us q = let k = is-take s lost (world s lost es) c step m z x e in record {
+    stands = state-after s table (world s lost es) (turn s lost (world s lost es) (0, c)) step z (grows-turn s lost es (0, c) step x) k.low us q;
+    sent = subst (λ ps. AreSent s.net ring (λ u. history (turn s lost (world s lost es) (0, c)) u) 0 told ps []) (sym k.puts) tt;
+  }
+
+  -- a message that is no Done
+  quiet : (m : Message) → step.taken ≡ Some m → ((place : ℕ) → done_of place m ≡ None) → LeavesIt (record { state = observer_of s.net table (world s lost es); puts = [] })
+  quiet m e h = leaves m e (map (λ u. unit_of s.net u (collected s.net (world s lost es) u)) (units s.net))
+      (same-units s table (world s lost es) (turn s lost (world s lost es) (0, c)) step z (grows-turn s lost es (0, c) step x) (λ u i q. ap (option_and_then (done_of (unit_place s.net u))) e ∙ h (unit_place s.net u)))
+
+  pub takes : (m : Message) (y : Msg) → step.taken ≡ Some m → IsMessage s.net ring (λ u. history (world s lost es) u) a (known_at (world s lost es)) m y → LeavesIt (observer_take (observer_of s.net table (world s lost es)) c y)
+  takes (Host b) y e k = subst (λ y. LeavesIt (observer_take (observer_of s.net table (world s lost es)) c y)) (sym k) (quiet (Host b) e (λ p. refl))
+  takes (Data j p) y e k = subst (λ y. LeavesIt (observer_take (observer_of s.net table (world s lost es)) c y)) (sym k) (quiet (Data j p) e (λ p. refl))
+  takes (Probe j) y e k = subst (λ y. LeavesIt (observer_take (observer_of s.net table (world s lost es)) c y)) (sym k) (quiet (Probe j) e (λ p. refl))
+  takes (Init j) y e k = subst (λ y. LeavesIt (observer_take (observer_of s.net table (world s lost es)) c y)) (sym k) (quiet (Init j) e (λ p. refl))
+  takes Poll y e k = subst (λ y. LeavesIt (observer_take (observer_of s.net table (world s lost es)) c y)) (sym k) (quiet Poll e (λ p. refl))
+  takes Notice y e k = subst (λ y. LeavesIt (observer_take (observer_of s.net table (world s lost es)) c y)) (sym k) (quiet Notice e (λ p. refl))
+  takes (DumpMsg n) y e k = subst (λ y. LeavesIt (observer_take (observer_of s.net table (world s lost es)) c y)) (sym k.is) (quiet (DumpMsg n) e (λ p. refl))
+  takes (Begin n) y e k = subst (λ y. LeavesIt (observer_take (observer_of s.net table (world s lost es)) c y)) (sym k) (quiet (Begin n) e (λ p. refl))
+  takes (DoneMsg place n) y e k = subst (λ y. LeavesIt (observer_take (observer_of s.net table (world s lost es)) c y)) (sym k.is)
+      (leaves (DoneMsg place n) e (units_after table.ring c k.done (map (λ u. unit_of s.net u (collected s.net (world s lost es) u)) (units s.net))) (units-done s lost table es c place n step k.done t z f x e k.of))

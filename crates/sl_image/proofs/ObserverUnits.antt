@@ -1,0 +1,112 @@
+-- A unit as the observer has it: what a report changes.
+use Rattle.std.proofs.Common.{◌≡◌, ℕ, suc, ◌+◌, ◌-◌, ◌≤◌, List, [], ◌++◌, length, sym, ap, ◌∙◌, arith, inl, inr, eq-eqb}
+use Rattle.std.specs.Prelude.{◌⊎◌, ◌==◌, ◌&&◌, true, false, Bool, map, take, replicate, if◌then◌else◌}
+use Rattle.std.proofs.lemmas.Bool.{le-leb, and_from}
+use Rattle.std.proofs.lemmas.List.{map-append}
+use Rattle.sl_net.specs.Parts.{numbers_from}
+use Rattle.sl_net.specs.Net.{Net, actor_of, choices_of, data_channels}
+use Rattle.sl_net.specs.declared.actor.Sort.TheVariants.{Init}
+use Rattle.sl_net.proofs.Counting.{length_numbers}
+use Rattle.sl_net.proofs.Sizes.{length_map-is}
+use Rattle.sl_net.proofs.NetWired.{map-map}
+use Rattle.sl_saves.specs.declared.entry.Saved.{Saved}
+use Rattle.sl_saves.specs.Views.{held_saved}
+use Rattle.sl_wire.specs.declared.message.Done.{Done}
+use Rattle.sl_observe.specs.Least.{least_of as least_of_there}
+use Rattle.sl_observe.specs.Observer.{device_of, reached, is_after, is_next, told, heard, first_unit}
+use Rattle.sl_cut.specs.Words.{least_of}
+use Rattle.sl_cut.specs.History.{History, id, last}
+use Rattle.sl_cut.specs.Knowledge.{upto_of, floor_of}
+use Rattle.sl_image.specs.Rows.{row}
+use Rattle.sl_image.specs.Messages.{eight, lasts, held_row, span, IsDoneOf}
+use Rattle.sl_image.specs.ObserverImage.{unit_of}
+use Rattle.sl_cut.proofs.Near.{least-start}
+use Rattle.sl_image.proofs.ObserverLists.{map-numbers, numbers-more, rows-follow, take-front, take-zeros, least-of-same}
+
+abbrev held : Net → ℕ → History → ℕ → Saved
+held net u g k = held_saved (row (data_channels net u) k g)
+
+-- what the Done d of the unit u brings, over the history that was known before
+pub record Brings (net : Net) (u ring : ℕ) (before now : History) (d : Done) : Type 0 where
+  pub few : length (data_channels net u) ≤ 8
+  pub of : IsDoneOf net u before now d
+  pub rises : upto_of net u before ≤ upto_of net u now
+  pub within : upto_of net u now ≤ upto_of net u before + ring
+  pub stays : (k : ℕ) → k ≤ upto_of net u before → row (data_channels net u) k now ≡ row (data_channels net u) k before
+
+-- The rows come next.
+
+row-count : (net : Net) (u : ℕ) (g : History) (s n : ℕ) → length (map (held_row net u g) (numbers_from s n)) ≡ n
+row-count net u g s n = length_map-is (held_row net u g) (numbers_from s n) ∙ length_numbers s n
+
+count-before : (net : Net) (u : ℕ) (g : History) → length (unit_of net u g).rows ≡ upto_of net u g
+count-before net u g = length_map-is (held net u g) (numbers_from 1 (upto_of net u g)) ∙ length_numbers 1 (upto_of net u g)
+
+pub channels-are : (net : Net) (u : ℕ) (g : History) → length (data_channels net u) ≤ 8 → take (length (data_channels net u)) (eight (lasts net u g)) ≡ lasts net u g
+channels-are net u g l = let n : length (lasts net u g) ≡ length (data_channels net u) = length_map-is (λ c. last c g) (data_channels net u) in
+    ap (λ k. take k (eight (lasts net u g))) (sym n) ∙ take-front (lasts net u g) (replicate 8 0) 8 (omega (arith, n, l))
+
+reached-is : (net : Net) (u ring : ℕ) (before now : History) (d : Done) → Brings net u ring before now d → reached (unit_of net u before) d ≡ upto_of net u now
+reached-is net u ring before now d b = ap (λ n. least_of_there n (take (length (data_channels net u)) d.last)) b.of.id ∙ ap (λ xs. least_of_there (id now) (take (length (data_channels net u)) xs)) b.of.last
+    ∙ ap (least_of_there (id now)) (channels-are net u now b.few) ∙ least-of-same (id now) (lasts net u now)
+
+next-is : (net : Net) (u ring : ℕ) (before now : History) (d : Done) → Brings net u ring before now d → is_next ring (unit_of net u before) d ≡ true
+next-is net u ring before now d b = and_from _ _ (le-leb (length d.rows) ring (omega (arith, n, w))) (and_from _ _
+    (eq-eqb (length (unit_of net u before).rows + length d.rows) (reached (unit_of net u before) d) (omega (arith, n, m, r, i)))
+    (ap (λ a. is_after a d.rows) m ∙ ap (is_after (upto_of net u before)) b.of.rows ∙ rows-follow (held net u now) (upto_of net u before) (upto_of net u now - upto_of net u before)))
+  where
+    n : length d.rows ≡ upto_of net u now - upto_of net u before
+    n = ap length b.of.rows ∙ row-count net u now _ _
+
+    m : length (unit_of net u before).rows ≡ upto_of net u before
+    m = count-before net u before
+
+    r : reached (unit_of net u before) d ≡ upto_of net u now
+    r = reached-is net u ring before now d b
+
+    i : upto_of net u before ≤ upto_of net u now
+    i = b.rises
+
+    w : upto_of net u now ≤ upto_of net u before + ring
+    w = b.within
+
+-- The rows that were there, and then those of the Done, are those of the history that is known now.
+
+rows-are : (net : Net) (u ring : ℕ) (before now : History) (d : Done) → Brings net u ring before now d → (unit_of net u before).rows ++ map (λ r. r.1) d.rows ≡ (unit_of net u now).rows
+rows-are net u ring before now d b = let a = upto_of net u before in let c = upto_of net u now in let i = b.rises in
+    ap (λ rs. rs ++ map (λ r. r.1) d.rows) (map-numbers (held net u before) (held net u now) 1 a (λ k p q. ap held_saved (sym (b.stays k (omega (arith, q))))))
+    ∙ ap (λ rs. map (held net u now) (numbers_from 1 a) ++ map (λ r. r.1) rs) b.of.rows
+    ∙ ap (λ rs. map (held net u now) (numbers_from 1 a) ++ rs) (map-map (λ r. r.1) (held_row net u now) (span a c))
+    ∙ sym (map-append (held net u now) (numbers_from 1 a) (span a c))
+    ∙ ap (map (held net u now)) (let e : a + (c - a) ≡ c = omega (arith, i) in let z : suc a ≡ 1 + a = omega arith in
+    ap (λ n. numbers_from 1 a ++ numbers_from n (c - a)) z ∙ sym (numbers-more 1 a (c - a)) ∙ ap (numbers_from 1) e)
+
+told-is : (net : Net) (u ring : ℕ) (before now : History) (d : Done) → Brings net u ring before now d → told d (unit_of net u before) ≡ unit_of net u now
+told-is net u ring before now d b = let e = b.of.id in let l = b.of.last in let f = b.of.floor in let r = rows-are net u ring before now d b in
+    λ i. record { device = device_of (actor_of net u); channels = length (data_channels net u); id = e i; last = l i; floor = f i; rows = r i }
+
+-- A Done that comes by the choice of the unit's device tells it; any other that tells no more changes nothing.
+pub hears : (net : Net) (u ring c : ℕ) (before now : History) (d : Done) → Brings net u ring before now d → (device_of (actor_of net u) ≡ c) ⊎ (before ≡ now)
+    → heard ring c d (unit_of net u before) ≡ unit_of net u now
+hears net u ring c before now d b (inl q) = ap (λ x. if x && is_next ring (unit_of net u before) d then told d (unit_of net u before) else unit_of net u before) (eq-eqb (device_of (actor_of net u)) c q)
+    ∙ ap (λ x. if x then told d (unit_of net u before) else unit_of net u before) (next-is net u ring before now d b) ∙ told-is net u ring before now d b
+hears net u ring c before now d b (inr q) = by_bool ((device_of (actor_of net u) == c) && is_next ring (unit_of net u before) d)
+  where
+    by_bool : (x : Bool) → (if x then told d (unit_of net u before) else unit_of net u before) ≡ unit_of net u now
+    by_bool true = told-is net u ring before now d b
+    by_bool false = ap (unit_of net u) q
+
+-- Before the first report.
+
+least-zero : (cs : List ℕ) → least_of 0 (map (λ c. last c []) cs) ≡ 0
+least-zero cs = let l = least-start (map (λ c. last c []) cs) 0 in omega (arith, l)
+
+upto-zero : (net : Net) (u : ℕ) → upto_of net u [] ≡ 0
+upto-zero net u = least-zero (data_channels net u)
+
+floor-zero : (net : Net) (u : ℕ) → floor_of net u [] ≡ 0
+floor-zero net u = let z = upto-zero net u in let l = least-start (map (λ c. last c []) (choices_of net u Init)) (upto_of net u []) in omega (arith, l, z)
+
+pub unit-start : (net : Net) (u : ℕ) → first_unit net u ≡ unit_of net u []
+unit-start net u = let l = sym (take-zeros (data_channels net u) 8 8 (omega arith)) in let f = sym (floor-zero net u) in let r = ap (λ n. map (held net u []) (numbers_from 1 n)) (sym (upto-zero net u)) in
+    λ i. record { device = device_of (actor_of net u); channels = length (data_channels net u); id = 0; last = l i; floor = f i; rows = r i }

@@ -1,0 +1,5 @@
+use Rattle.sl_image.proofs.ObserverStarts.{observer-start}
+use Rattle.sl_image.proofs.observers.observers_start.Goals as goal
+
+pub returns : goal.returns
+returns c s lost table = observer-start s.net table

@@ -1,0 +1,35 @@
+use Rattle.std.proofs.Common.{length, ap, ◌∙◌}
+use Rattle.sl_net.specs.Net.{units, unit_place, data_channels}
+use Rattle.sl_net.proofs.Sizes.{length_map-is}
+use Rattle.sl_observe.specs.Observer.{unit_at, seen_of, saved_of}
+use Rattle.sl_observe.specs.Observer.{floor_of as floor_told}
+use Rattle.sl_cut.specs.Knowledge.{observer, known, collected}
+use Rattle.sl_cut.specs.World.{world}
+use Rattle.sl_cut.proofs.Ran.{ran}
+use Rattle.sl_image.specs.ObserverImage.{unit_of}
+use Rattle.sl_image.proofs.ObserverAccounts.{unit-there, saved-there, none-past}
+use Rattle.sl_image.proofs.ObserverActs.{floor-same}
+use Rattle.sl_image.proofs.observers.observers_tell.Goals as goal
+
+pub returns-clause-floor : goal.returns-clause-floor
+returns-clause-floor c s lost table es o h = ap floor_told h ∙ floor-same s.net table (world s lost es)
+
+pub returns-clause-issued : goal.returns-clause-issued
+returns-clause-issued c s lost table es o h = ap (λ o. o.issued) h
+
+pub returns-clause-resent : goal.returns-clause-resent
+returns-clause-resent c s lost table es o h = ap (λ o. o.resent) h
+
+pub returns-clause-units : goal.returns-clause-units
+returns-clause-units c s lost table es o h = ap (λ o. length o.units) h ∙ length_map-is (λ u. unit_of s.net u (collected s.net (world s lost es) u)) (units s.net)
+
+pub returns-clause-seen : goal.returns-clause-seen
+returns-clause-seen c s lost table es o u i h q = ap (λ o. seen_of (unit_at o.units (unit_place s.net u))) h ∙ ap seen_of (unit-there s.net table (world s lost es) u i q)
+
+pub returns-clause-saved : goal.returns-clause-saved
+returns-clause-saved c s lost table es o u k i n t l h q one p = ap (λ o. saved_of (unit_at o.units (unit_place s.net u)) k) h
+    ∙ saved-there s lost table (world s lost es) u k i (c.nets_are_wired.ensures s.net n) (ran s lost es) q
+    (c.rows_are_held.ensures s lost es (data_channels s.net u) u k (known (unit_place s.net u) (observer (world s lost es))) t l) one p
+
+pub returns-clause-unsaved : goal.returns-clause-unsaved
+returns-clause-unsaved c s lost table es o u k i h q p = ap (λ o. saved_of (unit_at o.units (unit_place s.net u)) k) h ∙ none-past s.net table (world s lost es) u k i q p

@@ -1,0 +1,115 @@
+// The observer's machine stands for the histories of a world. The functions do nothing: their
+// contracts are the laws, and the proofs are in proofs/.
+ghost use Rattle.std.specs.Prelude.{◌≡◌, ◌≢◌, ◌≤◌, ◌<◌, ◌+◌, ◌^◌, ℕ, [], List, length, map, Some, None};
+ghost use Rattle.sl_net.specs.declared.actor.UnitId.{UnitId};
+ghost use Rattle.sl_net.specs.declared.actor.ActorId.TheVariants.{Unit as OfUnit};
+ghost use Rattle.sl_net.specs.declared.input.Snapshot.{Snapshot};
+ghost use Rattle.sl_net.specs.Parts.{numbers_from};
+ghost use Rattle.sl_net.specs.Net.{actor_of, action_choice, units, unit_place, data_channels};
+ghost use Rattle.sl_net.specs.Wired.{IsNet};
+ghost use Rattle.sl_wire.specs.declared.message.Msg.{Msg};
+ghost use Rattle.sl_observe.specs.Observer.{ObserverState, first_state, observer_take, observer_act, unit_at, seen_of, saved_of};
+ghost use Rattle.sl_observe.specs.Observer.{floor_of as floor_told};
+ghost use Rattle.sl_cut.specs.declared.message.Message.{Message};
+ghost use Rattle.sl_cut.specs.declared.message.Step.{Step};
+ghost use Rattle.sl_cut.specs.History.{Losses, history, id};
+ghost use Rattle.sl_cut.specs.Setup.{Setup};
+ghost use Rattle.sl_cut.specs.Knowledge.{observer, collected, issued, resent, upto_of, unit_floor, floor};
+ghost use Rattle.sl_cut.specs.End.{IsFinished};
+ghost use Rattle.sl_cut.specs.Findings.{finding, findings};
+ghost use Rattle.sl_cut.specs.World.{Entry, next_step, turn, world};
+ghost use Rattle.sl_image.specs.Rows.{row};
+ghost use Rattle.sl_image.specs.Short.{SendsShort};
+ghost use Rattle.sl_image.specs.Accounts.{accounts, finding_by};
+ghost use Rattle.sl_image.specs.Leaves.{Leaves, Does};
+ghost use Rattle.sl_image.specs.Messages.{IsMessage, eight, lasts};
+ghost use Rattle.sl_image.specs.ObserverImage.{IsObserverOf, IsTableOf, known_at, account_of};
+
+use crate::worlds::{accounts_give_findings, rows_are_held};
+use sl_net::nets_are_wired;
+use sl_observe::begins_take_all_links;
+
+/// The machine's first state stands for the world in which nothing has happened.
+pub fn observers_start()
+    ensures { (s : Setup) (lost : Losses) (table : Snapshot) → IsObserverOf s.net table (world s lost []) (first_state s.net table) }
+{}
+
+/// A turn of another actor changes nothing of what the machine stands for.
+pub fn observers_stay()
+    ensures { (s : Setup) (lost : Losses) (table : Snapshot) (es : List Entry) (e : Entry) (o : ObserverState) → IsNet s.net → e.0 ≢ 0
+        → IsObserverOf s.net table (world s lost es) o → IsObserverOf s.net table (turn s lost (world s lost es) e) o }
+{
+    nets_are_wired();
+}
+
+/// A message that the observer takes next, which stands for that of its step by what was told
+/// before, leaves a state that stands for the world after the step, and the observer puts nothing.
+pub fn observers_take()
+    ensures { (s : Setup) (lost : Losses) (table : Snapshot) (es : List Entry) (c ring a : ℕ) (told : ℕ → ℕ) (step : Step) (m : Message) (x : Msg) (o : ObserverState)
+        → IsNet s.net → IsTableOf s table → IsObserverOf s.net table (world s lost es) o
+        → next_step s lost (world s lost es) (0, c) ≡ Some step → step.taken ≡ Some m
+        → IsMessage s.net ring (λ u. history (world s lost es) u) a (known_at (world s lost es)) m x
+        → Leaves (IsObserverOf s.net table (turn s lost (world s lost es) (0, c))) s.net ring (λ u. history (turn s lost (world s lost es) (0, c)) u) 0 told step.puts
+        (observer_take o c x) }
+{
+    nets_are_wired();
+}
+
+/// The observer's machine issues and resends where the world's observer does, leaves a state that
+/// stands for the world after the step, and puts the step's Begins.
+pub fn observers_act()
+    ensures did { (s : Setup) (lost : Losses) (table : Snapshot) (es : List Entry) (c ring : ℕ) (told : ℕ → ℕ) (step : Step) (o : ObserverState)
+        → IsNet s.net → IsTableOf s table → IsObserverOf s.net table (world s lost es) o
+        → next_step s lost (world s lost es) (0, c) ≡ Some step → step.taken ≡ None
+        → Does (IsObserverOf s.net table (turn s lost (world s lost es) (0, c))) s.net ring (λ u. history (turn s lost (world s lost es) (0, c)) u) 0 told step.puts
+        (observer_act o c) }
+    ensures idle { (s : Setup) (lost : Losses) (table : Snapshot) (es : List Entry) (c : ℕ) (o : ObserverState)
+        → IsNet s.net → IsTableOf s table → IsObserverOf s.net table (world s lost es) o
+        → next_step s lost (world s lost es) (0, c) ≡ None → action_choice s.net 0 ≤ c → c < action_choice s.net 0 + 2
+        → observer_act o c ≡ None }
+{
+    nets_are_wired();
+    begins_take_all_links()
+}
+
+/// What the machine tells of its floor, of how many snapshots it issued and how often it resent, and
+/// of each unit, is what the world says: the row of a number that is collected is that of the
+/// unit's whole history.
+pub fn observers_tell()
+    ensures floor { (s : Setup) (lost : Losses) (table : Snapshot) (es : List Entry) (o : ObserverState) → IsObserverOf s.net table (world s lost es) o
+        → floor_told o ≡ floor s.net (world s lost es) }
+    ensures issued { (s : Setup) (lost : Losses) (table : Snapshot) (es : List Entry) (o : ObserverState) → IsObserverOf s.net table (world s lost es) o
+        → o.issued ≡ issued s.net (observer (world s lost es)) }
+    ensures resent { (s : Setup) (lost : Losses) (table : Snapshot) (es : List Entry) (o : ObserverState) → IsObserverOf s.net table (world s lost es) o
+        → o.resent ≡ resent s.net (observer (world s lost es)) }
+    ensures units { (s : Setup) (lost : Losses) (table : Snapshot) (es : List Entry) (o : ObserverState) → IsObserverOf s.net table (world s lost es) o
+        → length o.units ≡ length (units s.net) }
+    ensures seen { (s : Setup) (lost : Losses) (table : Snapshot) (es : List Entry) (o : ObserverState) (u : ℕ) (i : UnitId) → IsObserverOf s.net table (world s lost es) o
+        → actor_of s.net u ≡ OfUnit i → seen_of (unit_at o.units (unit_place s.net u))
+        ≡ record { id = id (collected s.net (world s lost es) u); last = eight (lasts s.net u (collected s.net (world s lost es) u)); floor = unit_floor s.net (world s lost es) u } }
+    ensures saved { (s : Setup) (lost : Losses) (table : Snapshot) (es : List Entry) (o : ObserverState) (u k : ℕ) (i : UnitId) → IsNet s.net → SendsShort s → length es < 2 ^ 40
+        → IsObserverOf s.net table (world s lost es) o → actor_of s.net u ≡ OfUnit i → 1 ≤ k → k ≤ upto_of s.net u (collected s.net (world s lost es) u)
+        → saved_of (unit_at o.units (unit_place s.net u)) k ≡ Some (row (data_channels s.net u) k (history (world s lost es) u)) }
+    ensures unsaved { (s : Setup) (lost : Losses) (table : Snapshot) (es : List Entry) (o : ObserverState) (u k : ℕ) (i : UnitId) → IsObserverOf s.net table (world s lost es) o
+        → actor_of s.net u ≡ OfUnit i → upto_of s.net u (collected s.net (world s lost es) u) < k
+        → saved_of (unit_at o.units (unit_place s.net u)) k ≡ None }
+{
+    nets_are_wired();
+    rows_are_held();
+}
+
+/// The machine's units are the accounts of the units of the world, and give its findings: up to the
+/// floor at any time, and in a finished world all.
+pub fn observers_give_findings()
+    ensures accounts { (s : Setup) (lost : Losses) (table : Snapshot) (es : List Entry) (o : ObserverState) → IsNet s.net → SendsShort s → length es < 2 ^ 40
+        → IsObserverOf s.net table (world s lost es) o → map account_of o.units ≡ accounts s.net (world s lost es) }
+    ensures collected { (s : Setup) (lost : Losses) (table : Snapshot) (es : List Entry) (o : ObserverState) (k : ℕ) → IsNet s.net → SendsShort s → length es < 2 ^ 40
+        → IsObserverOf s.net table (world s lost es) o → 1 ≤ k → k ≤ floor s.net (world s lost es)
+        → finding_by o.issued (map account_of o.units) k ≡ finding s.net lost (world s lost es) k }
+    ensures list { (s : Setup) (lost : Losses) (table : Snapshot) (es : List Entry) (o : ObserverState) → IsNet s.net → SendsShort s → length es < 2 ^ 40
+        → IsObserverOf s.net table (world s lost es) o → IsFinished s lost (world s lost es)
+        → map (finding_by o.issued (map account_of o.units)) (numbers_from 1 s.count) ≡ (findings s lost es).list }
+{
+    rows_are_held();
+    accounts_give_findings()
+}

@@ -110,81 +110,74 @@ by-device s lost w v step u n i t z r k g q e = (now, by_tells (eqb_tells step.c
         ∙ sym (ap (heard_by (done_of (unit_place s.net u)) (choice_of s.net d)) g.same)
         ∙ sym (knows s lost v u i z k (z.reports u i q) q).told ∙ now)
 
--- the units after a Done of the unit at a place
-units-done : (s : Setup) (lost : Losses) (table : Snapshot) (es : List Entry) (c place n : ℕ) (step : Step) (y : Done) → IsNet s.net → (z : IsWired s.net) → IsTableOf s table
-    → next_step s lost (world s lost es) (0, c) ≡ Some step → step.taken ≡ Some (DoneMsg place n)
-    → IsDoneOf s.net (get_or (units s.net) place 0) (first (known place (observer (world s lost es))) (history (world s lost es) (get_or (units s.net) place 0))) (first n (history (world s lost es) (get_or (units s.net) place 0))) y
-    → units_after table.ring c y (map (λ u. unit_of s.net u (collected s.net (world s lost es) u)) (units s.net)) ≡ map (λ u. unit_of s.net u (collected s.net (turn s lost (world s lost es) (0, c)) u)) (units s.net)
-units-done s lost table es c place n step y t z f x e d = by_place (cases_lt place (length (units s.net)))
-  where
-    grows : GrowsAt (world s lost es) (turn s lost (world s lost es) (0, c)) 0 step
-    grows = grows-turn s lost es (0, c) step x
+module _ (s : Setup) (lost : Losses) (table : Snapshot) (es : List Entry) (c n : ℕ) (step : Step) (y : Done) (t : IsNet s.net) (z : IsWired s.net) (f : IsTableOf s table) (x : next_step s lost (world s lost es) (0, c) ≡ Some step) where
+  abbrev w : World
+  w = world s lost es
 
-    old : ℕ → UnitState
-    old u = unit_of s.net u (collected s.net (world s lost es) u)
+  abbrev v : World
+  v = turn s lost (world s lost es) (0, c)
 
-    new : ℕ → UnitState
-    new u = unit_of s.net u (collected s.net (turn s lost (world s lost es) (0, c)) u)
+  abbrev old : ℕ → UnitState
+  old u = unit_of s.net u (collected s.net w u)
 
-    at_none : length (units s.net) ≤ place → units_after table.ring c y (map old (units s.net)) ≡ map new (units s.net)
-    at_none p = let k : y.unit ≡ unit_place s.net 0 = d.unit ∙ ap (unit_place s.net) (get_or_past (units s.net) place 0 p) in
-        let o = place-of-none s.net z in let m = length_map-is old (units s.net) in
-        set_past (map old (units s.net)) y.unit (heard table.ring c y (unit_at (map old (units s.net)) y.unit)) (omega (arith, k, o, m))
-        ∙ map-same old new (units s.net) (λ j l. let a = unit-at s.net j l in let u = get_or (units s.net) j 0 in
-        ap (unit_of s.net u) (sym (same-collected s table (world s lost es) (turn s lost (world s lost es) (0, c)) step z grows u a.0 a.1
-        (ap (option_and_then (done_of (unit_place s.net u))) e ∙ done-elsewhere (unit_place s.net u) place n (λ q. let b = place-of-unit s.net j l in absurd (omega (arith, q, b, l, p)))))))
+  abbrev new : ℕ → UnitState
+  new u = unit_of s.net u (collected s.net v u)
 
-    at_unit : place < length (units s.net) → units_after table.ring c y (map old (units s.net)) ≡ map new (units s.net)
-    at_unit p = ap (λ k. slice_set (map old (units s.net)) k (heard table.ring c y (unit_at (map old (units s.net)) k))) (d.unit ∙ here)
-        ∙ ap (λ r. slice_set (map old (units s.net)) place (heard table.ring c y r)) (get_or-map old (units s.net) place 0 (new_unit 0 0) p)
-        ∙ map-set old new (units s.net) place (heard table.ring c y (old u)) p others this
-      where
-        u : ℕ
-        u = get_or (units s.net) place 0
+  grows : GrowsAt w v 0 step
+  grows = grows-turn s lost es (0, c) step x
 
-        here : unit_place s.net (get_or (units s.net) place 0) ≡ place
-        here = place-of-unit s.net place p
+  -- its unit
+  unit-done-is : (u : ℕ) (i : UnitId) → actor_of s.net u ≡ OfUnit i → step.taken ≡ Some (DoneMsg (unit_place s.net u) n) → IsDoneOf s.net u (collected s.net w u) (first n (history w u)) y
+      → heard table.ring c y (old u) ≡ new u
+  unit-done-is u i q e d = let k = sym known_by.0 in let h = sym (same-unit s table w v step z grows u i q) in
+      hears s.net u table.ring c (collected s.net w u) (first n (history w u)) y brings (by_choice known_by.1) ∙ ap (unit_of s.net u) (λ j. first (k j) (h j))
+    where
+      known_by : (known (unit_place s.net u) (observer v) ≡ n) × ((device_of (actor_of s.net u) ≡ step.choice) ⊎ (known (unit_place s.net u) (observer w) ≡ n))
+      known_by = by-device s lost w v step u n i t z (ran s lost es) (ran-turn s lost w (0, c) (ran s lost es)) grows q e
 
-        is : (i : UnitId) × (actor_of s.net (get_or (units s.net) place 0) ≡ OfUnit i)
-        is = unit-at s.net place p
+      brought : IsBrought s.net s.window u (history w u) (known (unit_place s.net u) (observer w)) n
+      brought = unit-done s lost es c n step z x u i q e
 
-        others : (j : ℕ) → j < length (units s.net) → (j ≡ place → ⊥) → old (get_or (units s.net) j 0) ≡ new (get_or (units s.net) j 0)
-        others j l ne = let a = unit-at s.net j l in let o = get_or (units s.net) j 0 in
-            ap (unit_of s.net o) (sym (same-collected s table (world s lost es) (turn s lost (world s lost es) (0, c)) step z grows o a.0 a.1
-            (ap (option_and_then (done_of (unit_place s.net o))) e ∙ done-elsewhere (unit_place s.net o) place n (λ q. let b = place-of-unit s.net j l in ne (omega (arith, q, b))))))
+      brings : Brings s.net u table.ring (collected s.net w u) (first n (history w u)) y
+      brings = record {
+        few = few-channels s.net u i t q;
+        of = d;
+        rises = brought.rises;
+        within = let a = brought.within in let b = f.window in let g = f.room in omega (arith, a, b, g);
+        stays = λ k l. brought.stays (data_channels s.net u) k l;
+      }
 
-        taken : step.taken ≡ Some (DoneMsg (unit_place s.net (get_or (units s.net) place 0)) n)
-        taken = e ∙ ap (λ k. Some (DoneMsg k n)) (sym here)
+      by_choice : (device_of (actor_of s.net u) ≡ step.choice) ⊎ (known (unit_place s.net u) (observer w) ≡ n) → (device_of (actor_of s.net u) ≡ c) ⊎ (collected s.net w u ≡ first n (history w u))
+      by_choice (inl q) = inl (q ∙ step-choice s lost w (0, c) step x)
+      by_choice (inr q) = inr (ap (λ k. first k (history w u)) q)
 
-        known_by : (known (unit_place s.net (get_or (units s.net) place 0)) (observer (turn s lost (world s lost es) (0, c))) ≡ n)
-            × ((device_of (actor_of s.net (get_or (units s.net) place 0)) ≡ step.choice) ⊎ (known (unit_place s.net (get_or (units s.net) place 0)) (observer (world s lost es)) ≡ n))
-        known_by = by-device s lost (world s lost es) (turn s lost (world s lost es) (0, c)) step (get_or (units s.net) place 0) n is.0 t z (ran s lost es) (ran-turn s lost (world s lost es) (0, c) (ran s lost es)) grows is.1 taken
+  -- any other unit
+  other-unit : (place j : ℕ) → j < length (units s.net) → (j ≡ place → ⊥) → step.taken ≡ Some (DoneMsg place n) → old (get_or (units s.net) j 0) ≡ new (get_or (units s.net) j 0)
+  other-unit place j l ne e = let a = unit-at s.net j l in let u = get_or (units s.net) j 0 in
+      ap (unit_of s.net u) (sym (same-collected s table w v step z grows u a.0 a.1
+      (ap (option_and_then (done_of (unit_place s.net u))) e ∙ done-elsewhere (unit_place s.net u) place n (λ q. let b = place-of-unit s.net j l in ne (omega (arith, q, b))))))
 
-        brought : IsBrought s.net s.window (get_or (units s.net) place 0) (history (world s lost es) (get_or (units s.net) place 0)) (known (unit_place s.net (get_or (units s.net) place 0)) (observer (world s lost es))) n
-        brought = unit-done s lost es c n step z x (get_or (units s.net) place 0) is.0 is.1 taken
+  -- all units, after a Done of the one at a place
+  units-done : (place : ℕ) → step.taken ≡ Some (DoneMsg place n)
+      → IsDoneOf s.net (get_or (units s.net) place 0) (first (known place (observer w)) (history w (get_or (units s.net) place 0))) (first n (history w (get_or (units s.net) place 0))) y
+      → units_after table.ring c y (map old (units s.net)) ≡ map new (units s.net)
+  units-done place e d = by_place (cases_lt place (length (units s.net)))
+    where
+      u : ℕ
+      u = get_or (units s.net) place 0
 
-        brings : Brings s.net (get_or (units s.net) place 0) table.ring (collected s.net (world s lost es) (get_or (units s.net) place 0)) (first n (history (world s lost es) (get_or (units s.net) place 0))) y
-        brings = record {
-          few = few-channels s.net (get_or (units s.net) place 0) is.0 t is.1;
-          of = subst (λ k. IsDoneOf s.net (get_or (units s.net) place 0) (first (known k (observer (world s lost es))) (history (world s lost es) (get_or (units s.net) place 0))) (first n (history (world s lost es) (get_or (units s.net) place 0))) y) (sym here) d;
-          rises = brought.rises;
-          within = let a = brought.within in let b = f.window in let g = f.room in omega (arith, a, b, g);
-          stays = λ k l. brought.stays (data_channels s.net (get_or (units s.net) place 0)) k l;
-        }
-
-        by_choice : (device_of (actor_of s.net (get_or (units s.net) place 0)) ≡ step.choice) ⊎ (known (unit_place s.net (get_or (units s.net) place 0)) (observer (world s lost es)) ≡ n)
-            → (device_of (actor_of s.net (get_or (units s.net) place 0)) ≡ c) ⊎ (collected s.net (world s lost es) (get_or (units s.net) place 0) ≡ first n (history (world s lost es) (get_or (units s.net) place 0)))
-        by_choice (inl q) = inl (q ∙ step-choice s lost (world s lost es) (0, c) step x)
-        by_choice (inr q) = inr (ap (λ k. first k (history (world s lost es) (get_or (units s.net) place 0))) q)
-
-        this : heard table.ring c y (old (get_or (units s.net) place 0)) ≡ new (get_or (units s.net) place 0)
-        this = let k = sym known_by.0 in let h = sym (same-unit s table (world s lost es) (turn s lost (world s lost es) (0, c)) step z grows (get_or (units s.net) place 0) is.0 is.1) in
-            hears s.net (get_or (units s.net) place 0) table.ring c (collected s.net (world s lost es) (get_or (units s.net) place 0)) (first n (history (world s lost es) (get_or (units s.net) place 0))) y brings (by_choice known_by.1)
-            ∙ ap (unit_of s.net (get_or (units s.net) place 0)) (λ j. first (k j) (h j))
-
-    by_place : (place < length (units s.net)) ⊎ (length (units s.net) ≤ place) → units_after table.ring c y (map old (units s.net)) ≡ map new (units s.net)
-    by_place (inl p) = at_unit p
-    by_place (inr p) = at_none p
+      by_place : (place < length (units s.net)) ⊎ (length (units s.net) ≤ place) → units_after table.ring c y (map old (units s.net)) ≡ map new (units s.net)
+      by_place (inl p) = let here = place-of-unit s.net place p in let is = unit-at s.net place p in
+          let same : IsDoneOf s.net (get_or (units s.net) place 0) (collected s.net w (get_or (units s.net) place 0)) (first n (history w (get_or (units s.net) place 0))) y =
+          subst (λ k. IsDoneOf s.net (get_or (units s.net) place 0) (first (known k (observer w)) (history w (get_or (units s.net) place 0))) (first n (history w (get_or (units s.net) place 0))) y) (sym here) d in
+          ap (λ k. slice_set (map old (units s.net)) k (heard table.ring c y (unit_at (map old (units s.net)) k))) (d.unit ∙ here)
+          ∙ ap (λ r. slice_set (map old (units s.net)) place (heard table.ring c y r)) (get_or-map old (units s.net) place 0 (new_unit 0 0) p)
+          ∙ map-set old new (units s.net) place (heard table.ring c y (old u)) p (λ j l ne. other-unit place j l ne e)
+          (unit-done-is (get_or (units s.net) place 0) is.0 is.1 (e ∙ ap (λ k. Some (DoneMsg k n)) (sym here)) same)
+      by_place (inr p) = let k : y.unit ≡ unit_place s.net 0 = d.unit ∙ ap (unit_place s.net) (get_or_past (units s.net) place 0 p) in
+          let o = place-of-none s.net z in let m = length_map-is old (units s.net) in
+          set_past (map old (units s.net)) y.unit (heard table.ring c y (unit_at (map old (units s.net)) y.unit)) (omega (arith, k, o, m))
+          ∙ map-same old new (units s.net) (λ j l. other-unit place j l (λ q. omega (arith, q, l, p)) e)
 
 -- Any message.
 
@@ -226,4 +219,4 @@ module _ (s : Setup) (lost : Losses) (table : Snapshot) (es : List Entry) (c rin
   takes (DumpMsg n) y e k = subst (λ y. LeavesIt (observer_take (observer_of s.net table (world s lost es)) c y)) (sym k.is) (quiet (DumpMsg n) e (λ p. refl))
   takes (Begin n) y e k = subst (λ y. LeavesIt (observer_take (observer_of s.net table (world s lost es)) c y)) (sym k) (quiet (Begin n) e (λ p. refl))
   takes (DoneMsg place n) y e k = subst (λ y. LeavesIt (observer_take (observer_of s.net table (world s lost es)) c y)) (sym k.is)
-      (leaves (DoneMsg place n) e (units_after table.ring c k.done (map (λ u. unit_of s.net u (collected s.net (world s lost es) u)) (units s.net))) (units-done s lost table es c place n step k.done t z f x e k.of))
+      (leaves (DoneMsg place n) e (units_after table.ring c k.done (map (λ u. unit_of s.net u (collected s.net (world s lost es) u)) (units s.net))) (units-done s lost table es c n step k.done t z f x place e k.of))

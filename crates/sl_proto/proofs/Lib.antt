@@ -1,0 +1,2 @@
+pub mod HostLinks
+pub mod Counts

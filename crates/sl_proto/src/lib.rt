@@ -2,6 +2,7 @@
 // all schedules, for any machines that follow the steps of histories.
 #![tactic(auto)]
 
+mod build;
 mod laws;
 mod losses;
 mod node;
@@ -9,6 +10,7 @@ mod scenes;
 mod schedule;
 mod taker;
 
+pub use build::{build_nodes, build_world};
 pub use laws::{dones_told_what_is_known, sent_messages_are_put, steps_spread_their_puts};
 pub use losses::make_losses;
 pub use node::Node;

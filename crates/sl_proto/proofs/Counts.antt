@@ -1,0 +1,126 @@
+-- The numbers of the links and actions of the nodes.
+use Rattle.std.proofs.Common.{◌≡◌, ℕ, suc, ◌+◌, ◌-◌, ◌<◌, ◌≤◌, List, [], ◌∷◌, ◌++◌, length, refl, sym, ap, subst, ◌∙◌, Option, None, get_or, map, arith, inl, inr}
+use Rattle.std.specs.Prelude.{◌⊎◌, true, false, if◌then◌else◌, nat_eq, slice_index}
+use Rattle.std.proofs.lemmas.Bool.Decides.{eqb_tells}
+use Rattle.std.proofs.lemmas.List.{length-map, map_push}
+use Rattle.std.proofs.lemmas.List.Elements.{All-push}
+use Rattle.sl_machine.specs.Machine.{Counts}
+use Rattle.sl_machine.specs.Fit.{HasCounts}
+use Rattle.sl_net.specs.declared.actor.ActorId.{ActorId}
+use Rattle.sl_net.specs.declared.actor.ActorId.TheVariants.{Observer, Control, Unit as OfUnit, Host as OfHost}
+use Rattle.sl_net.specs.declared.actor.UnitId.{UnitId}
+use Rattle.sl_net.specs.declared.actor.Side.{Side}
+use Rattle.sl_net.specs.declared.actor.Side.TheVariants.{Ingress, Egress}
+use Rattle.sl_net.specs.Input.{Input}
+use Rattle.sl_net.specs.Parts.{Parts, below}
+use Rattle.sl_net.specs.Fault.{fault_of}
+use Rattle.sl_net.specs.Net.{Net, net_of, actor_of, nobody, actors_of, place_of, links_into, links_from, link_numbers, place_in, units, unit_place}
+use Rattle.sl_net.specs.Roster.{IsActor}
+use Rattle.sl_net.specs.Wired.{IsWired}
+use Rattle.sl_net.specs.Wiring.{plan_of, actions_of, wired_link, wired_links}
+use Rattle.sl_net.proofs.Lists.{Member}
+use Rattle.sl_net.proofs.Counting.{length_numbers, map_below_more}
+use Rattle.sl_net.proofs.ReportWays.{unit-listed}
+use Rattle.sl_net.proofs.Actors.{place-at}
+use Rattle.sl_net.proofs.NetWired.{map-map, numbers-suc}
+use Rattle.sl_unit.specs.Step.{UnitState, counts_of}
+use Rattle.sl_unit.specs.Made.{wires_of, entrance_by, exit_by, device_of, ports_of, ingress_state, egress_state}
+use Rattle.sl_host.specs.Host.{host_counts}
+use Rattle.sl_proto.specs.declared.node.Node.{Node}
+use Rattle.sl_proto.specs.Nodes.{UnitNode, node_state, node_counts, node_ready}
+use Rattle.sl_proto.specs.Built.{counts_at, first_unit, first_at, AreNodes}
+use Rattle.sl_proto.proofs.HostLinks.{one_into, one_from}
+
+-- an actor's place is its number
+pub place_is : (net : Net) (a : ℕ) (x : ActorId) → net ≡ net_of net.parts → a < length net.actors → actor_of net a ≡ x → place_of x net.actors ≡ a
+place_is net a x made = subst (λ n. a < length n.actors → actor_of n a ≡ x → place_of x n.actors ≡ a) (sym made)
+    (λ low q. ap (λ y. place_of y (actors_of net.parts)) (sym q) ∙ place-at net.parts a low)
+
+pub unit_fits : (net : Net) (a : ℕ) (u : UnitId) (ports : List (Option ℕ)) (bits : ℕ) → actor_of net a ≡ OfUnit u → counts_of (wires_of net a ports bits) ≡ counts_at net a
+unit_fits net a u ports bits q =
+    let ins : length (map (entrance_by net a) (below (length (links_into net a)))) ≡ length (links_into net a) =
+    length-map (below (length (links_into net a))) (entrance_by net a) ∙ length_numbers 0 (length (links_into net a)) in
+    let outs : length (map (exit_by net) (links_from net a)) ≡ length (links_from net a) = length-map (links_from net a) (exit_by net) in
+    let actions : 0 ≡ actions_of (actor_of net a) = sym (ap actions_of q) in
+    λ i. record { ins = ins i; outs = outs i; actions = actions i }
+
+pub unit_counts_are : (input : Input) (a : ℕ) (u : UnitId) (side : Side) (s : UnitState) → actor_of input.net a ≡ OfUnit u → UnitNode s ≡ first_unit input a side → counts_of s.wires ≡ counts_at input.net a
+unit_counts_are input a u Ingress s q e =
+    let z : s ≡ ingress_state input.net a input.snapshot = cc in
+    ap (λ t. counts_of t.wires) z ∙ unit_fits input.net a u (ports_of input.net (device_of (actor_of input.net a))) input.snapshot.width q
+unit_counts_are input a u Egress s q e =
+    let z : s ≡ egress_state input.net a input.snapshot = cc in
+    ap (λ t. counts_of t.wires) z ∙ unit_fits input.net a u [] input.snapshot.width q
+
+host_fits_at : (parts : Parts) (a h : ℕ) → fault_of parts ≡ None → IsActor parts (OfHost h) → a < length (actors_of parts) → actor_of (net_of parts) a ≡ OfHost h → host_counts ≡ counts_at (net_of parts) a
+host_fits_at parts a h right k low q =
+    let place : place_of (OfHost h) (actors_of parts) ≡ a = ap (λ y. place_of y (actors_of parts)) (sym q) ∙ place-at parts a low in
+    let ins : 1 ≡ length (links_into (net_of parts) a) = sym (one_into parts h k) ∙ ap (λ n. length (links_into (net_of parts) n)) place in
+    let outs : 1 ≡ length (links_from (net_of parts) a) = sym (one_from parts h right k) ∙ ap (λ n. length (links_from (net_of parts) n)) place in
+    let actions : 1 ≡ actions_of (actor_of (net_of parts) a) = sym (ap actions_of q) in
+    λ i. record { ins = ins i; outs = outs i; actions = actions i }
+
+pub host_fits : (net : Net) (a h : ℕ) → net ≡ net_of net.parts → fault_of net.parts ≡ None → IsActor net.parts (OfHost h) → a < length net.actors → actor_of net a ≡ OfHost h → host_counts ≡ counts_at net a
+host_fits net a h made right k = subst (λ n. a < length n.actors → actor_of n a ≡ OfHost h → host_counts ≡ counts_at n a) (sym made) (host_fits_at net.parts a h right k)
+
+-- The numbers of all of them.
+
+all_at : (xs : List ActorId) (d : ActorId) → map (λ i. get_or xs i d) (below (length xs)) ≡ xs
+all_at [] d = refl
+all_at (x ∷ xs) d = ap (λ ns. x ∷ map (λ i. get_or (x ∷ xs) i d) ns) (numbers-suc 0 (length xs)) ∙ ap (λ r. x ∷ r) (map-map (λ i. get_or (x ∷ xs) i d) (λ i. suc i) (below (length xs)) ∙ all_at xs d)
+
+pub fits_of : (net : Net) (nodes : List Node) → map node_counts nodes ≡ map (counts_at net) (below (length net.actors)) → HasCounts node_counts (plan_of net) nodes
+fits_of net nodes h =
+    let actors = below (length net.actors) in
+    record {
+      ins_are = sym (map-map (λ (n : Counts). n.ins) node_counts nodes) ∙ ap (map (λ (n : Counts). n.ins)) h ∙ map-map (λ (n : Counts). n.ins) (counts_at net) actors;
+      outs_are = sym (map-map (λ (n : Counts). n.outs) node_counts nodes) ∙ ap (map (λ (n : Counts). n.outs)) h ∙ map-map (λ (n : Counts). n.outs) (counts_at net) actors;
+      actions_are = sym (map-map (λ (n : Counts). n.actions) node_counts nodes) ∙ ap (map (λ (n : Counts). n.actions)) h ∙ map-map (λ (n : Counts). n.actions) (counts_at net) actors
+          ∙ sym (map-map actions_of (actor_of net) actors) ∙ ap (map actions_of) (all_at net.actors nobody);
+    }
+
+pub link_count : (net : Net) → length (wired_links net) ≡ length net.links
+link_count net = length-map (link_numbers net) (wired_link net) ∙ length_numbers 0 (length net.links)
+
+-- Units by their places.
+
+place_finds : (n x : ℕ) (xs : List ℕ) → Member x xs → (place_in n x xs < n + length xs) × (n ≤ place_in n x xs) × (get_or xs (place_in n x xs - n) 0 ≡ x)
+place_finds n x [] m = absurd m
+place_finds n x (y ∷ ys) m = by_tells (λ k. place_finds (suc n) x ys k) (eqb_tells y x) m
+  where
+    by_tells : (Member x ys → (place_in (suc n) x ys < suc n + length ys) × (suc n ≤ place_in (suc n) x ys) × (get_or ys (place_in (suc n) x ys - suc n) 0 ≡ x)) → ((nat_eq y x ≡ true) × (y ≡ x)) ⊎ ((nat_eq y x ≡ false) × (y ≡ x → ⊥)) → (x ≡ y) ⊎ Member x ys
+        → (place_in n x (y ∷ ys) < n + length (y ∷ ys)) × (n ≤ place_in n x (y ∷ ys)) × (get_or (y ∷ ys) (place_in n x (y ∷ ys) - n) 0 ≡ x)
+    by_tells ih (inl e) k = let p : place_in n x (y ∷ ys) ≡ n = ap (λ b. if b then n else place_in (suc n) x ys) e.0 in
+        let z : place_in n x (y ∷ ys) - n ≡ 0 = omega (arith, p) in
+        (omega (arith, p), omega (arith, p), ap (λ j. get_or (y ∷ ys) j 0) z ∙ e.1)
+    by_tells ih (inr e) (inl k) = absurd (e.1 (sym k))
+    by_tells ih (inr e) (inr k) = let r = ih k in let p : place_in n x (y ∷ ys) ≡ place_in (suc n) x ys = ap (λ b. if b then n else place_in (suc n) x ys) e.0 in
+        let z : place_in n x (y ∷ ys) - n ≡ suc (place_in (suc n) x ys - suc n) = omega (arith, p, r.0, r.1) in
+        (omega (arith, p, r.0), omega (arith, p, r.1), ap (λ j. get_or (y ∷ ys) j 0) z ∙ r.2)
+
+-- an actor that is a unit stands at its place among the units
+pub record StandsAt (net : Net) (a place : ℕ) : Type 0 where
+  pub within : place < length (units net)
+  pub is : slice_index (units net) place ≡ a
+
+pub unit_stands : (net : Net) (a : ℕ) (u : UnitId) → actor_of net a ≡ OfUnit u → StandsAt net a (unit_place net a)
+unit_stands net a u q = let r = place_finds 0 a (units net) (unit-listed net a u q) in
+    let z : unit_place net a - 0 ≡ unit_place net a = omega arith in
+    record { within = omega (arith, r.0); is = ap (λ j. get_or (units net) j 0) (sym z) ∙ r.2 }
+
+-- The observer.
+
+pub observer_at : (net : Net) (a : ℕ) → IsWired net → actor_of net a ≡ Observer → a ≡ 0
+observer_at net a wired q = wired.one_observer a q
+
+-- One node more.
+
+pub node_added : (input : Input) (count : ℕ) (nodes more : List Node) (node : Node) → more ≡ nodes ++ node ∷ [] → AreNodes input count nodes → node_state node ≡ first_at input count
+    → node_counts node ≡ counts_at input.net count → node_ready node ≡ None → AreNodes input (count + 1) more
+node_added input count nodes more node pushed so_far state counts ready =
+    subst (AreNodes input (count + 1)) (sym pushed)
+    (record {
+      states = map_push node_state nodes node ∙ ap (λ xs. xs ++ node_state node ∷ []) so_far.states ∙ ap (λ x. map (first_at input) (below count) ++ x ∷ []) state ∙ sym (map_below_more (first_at input) count);
+      counts = map_push node_counts nodes node ∙ ap (λ xs. xs ++ node_counts node ∷ []) so_far.counts ∙ ap (λ x. map (counts_at input.net) (below count) ++ x ∷ []) counts ∙ sym (map_below_more (counts_at input.net) count);
+      ready = All-push (λ n. node_ready n ≡ None) nodes node so_far.ready ready;
+    })

@@ -1,0 +1,185 @@
+// The nodes of an input, and the world of them.
+ghost use Rattle.std.specs.Prelude.{◌≡◌, ◌<◌, ◌++◌, ◌∷◌, [], IfOk, OnOk, None, Some, length, map, slice_index};
+ghost use Rattle.std.specs.List.{All};
+ghost use Rattle.sl_machine.specs.Fit.{HasCounts};
+ghost use Rattle.sl_net.specs.Net.{actor_of, units};
+ghost use Rattle.sl_net.specs.Roster.{IsActor};
+ghost use Rattle.sl_net.specs.Wiring.{plan_of};
+ghost use Rattle.sl_route.specs.Routes.{IsRoutesOf};
+ghost use Rattle.sl_loss.specs.Loss.{IsFresh};
+ghost use Rattle.sl_unit.specs.Made.{side_of, unit_at};
+ghost use Rattle.sl_world.specs.Scene.{first_scene};
+ghost use Rattle.sl_world.specs.World.{scene};
+ghost use Rattle.sl_proto.specs.Nodes.{node_state, node_counts, node_ready};
+ghost use Rattle.sl_proto.specs.Built.{IsBuildable, first_unit, first_node, first_at, first_states, counts_at, AreNodes};
+
+use crate::node::Node;
+use sl_control::Control;
+use sl_host::Host;
+use sl_loss::Loss;
+use sl_machine::Memory;
+use sl_net::{ActorId, Input, Side, UnitId, nets_are_wired};
+use sl_observe::Observer;
+use sl_route::Routes;
+use sl_unit::Unit;
+use sl_world::World;
+use std::alloc::Global;
+
+/// The observer's node.
+#[tactic(auto, using(crate::proofs::Counts::observer_at))]
+fn make_observer(alloc: Global, input: &Input, actor: u32) -> Result<Node, Memory>
+    requires actor { actor_of input.now.net actor ≡ ActorId.Observer }
+    ensures state { IfOk result (λ node. node_state node ≡ first_node input.now actor ActorId.Observer) }
+    ensures counts { IfOk result (λ node. node_counts node ≡ counts_at input.now.net actor) }
+    ensures ready { IfOk result (λ node. node_ready node ≡ None) }
+{
+    // A net is that of its parts, so its first actor alone is the observer.
+    let _parts = input.net.parts();
+    nets_are_wired();
+    let observer = Observer::new(alloc, &input.net, &input.snapshot)?;
+    Ok(Node::Observer(observer))
+}
+
+/// The node of a control plane.
+#[tactic(auto, using(crate::proofs::Counts::place_is))]
+fn make_control(alloc: Global, input: &Input, actor: u32, device: u32) -> Result<Node, Memory>
+    requires below { actor < length input.now.net.actors }
+    requires actor { actor_of input.now.net actor ≡ ActorId.Control device }
+    requires device { device < length input.now.net.parts.devices }
+    ensures state { IfOk result (λ node. node_state node ≡ first_node input.now actor (ActorId.Control device)) }
+    ensures counts { IfOk result (λ node. node_counts node ≡ counts_at input.now.net actor) }
+    ensures ready { IfOk result (λ node. node_ready node ≡ None) }
+{
+    let _parts = input.net.parts();
+    let control = Control::new(alloc, &input.net, device, &input.snapshot)?;
+    Ok(Node::Control(control))
+}
+
+/// The unit at a place among the units.
+fn unit_at(
+    alloc: Global,
+    input: &Input,
+    routes: &Routes,
+    place: u32,
+    side: Side,
+) -> Result<Unit, Memory>
+    requires place { place < length (units input.now.net) }
+    requires side { side_of (unit_at input.now.net place) ≡ Some side }
+    requires routes { IsRoutesOf input.now.net routes.now }
+    requires input { IsBuildable input.now }
+    ensures state { IfOk result (λ unit. node_state (Node.Unit unit) ≡ first_unit input.now (slice_index (units input.now.net) place) side) }
+    ensures ready { IfOk result (λ unit. node_ready (Node.Unit unit) ≡ None) }
+{
+    match side {
+        Side::Ingress => Unit::ingress(alloc, &input.net, routes, place, &input.snapshot),
+        Side::Egress => Unit::egress(alloc, &input.net, place, &input.snapshot),
+    }
+}
+
+/// The node of a unit.
+#[tactic(auto, using(crate::proofs::Counts::unit_stands, crate::proofs::Counts::unit_fits))]
+fn make_unit(
+    alloc: Global,
+    input: &Input,
+    routes: &Routes,
+    actor: u32,
+    unit: UnitId,
+) -> Result<Node, Memory>
+    requires below { actor < length input.now.net.actors }
+    requires actor { actor_of input.now.net actor ≡ ActorId.Unit unit }
+    requires routes { IsRoutesOf input.now.net routes.now }
+    requires input { IsBuildable input.now }
+    ensures state { IfOk result (λ node. node_state node ≡ first_node input.now actor (ActorId.Unit unit)) }
+    ensures counts { IfOk result (λ node. node_counts node ≡ counts_at input.now.net actor) }
+    ensures ready { IfOk result (λ node. node_ready node ≡ None) }
+{
+    let place = input.net.unit_place(actor);
+    let unit = unit_at(alloc, input, routes, place, unit.side)?;
+    Ok(Node::Unit(unit))
+}
+
+/// The node of a host.
+fn make_host(alloc: Global, input: &Input, actor: u32, host: u32) -> Result<Node, Memory>
+    requires below { actor < length input.now.net.actors }
+    requires actor { actor_of input.now.net actor ≡ ActorId.Host host }
+    requires part { IsActor input.now.net.parts (ActorId.Host host) }
+    requires input { IsBuildable input.now }
+    ensures state { IfOk result (λ node. node_state node ≡ first_node input.now actor (ActorId.Host host)) }
+    ensures counts { IfOk result (λ node. node_counts node ≡ counts_at input.now.net actor) }
+    ensures ready { IfOk result (λ node. node_ready node ≡ None) }
+{
+    let _parts = input.net.parts();
+    let node = Host::new(alloc, host, input)?;
+    Ok(Node::Host(node))
+}
+
+/// The node of an actor.
+fn make_node(alloc: Global, input: &Input, routes: &Routes, actor: u32) -> Result<Node, Memory>
+    requires below { actor < length input.now.net.actors }
+    requires routes { IsRoutesOf input.now.net routes.now }
+    requires input { IsBuildable input.now }
+    ensures state { IfOk result (λ node. node_state node ≡ first_at input.now actor) }
+    ensures counts { IfOk result (λ node. node_counts node ≡ counts_at input.now.net actor) }
+    ensures ready { IfOk result (λ node. node_ready node ≡ None) }
+{
+    match input.net.actor(actor) {
+        ActorId::Observer => make_observer(alloc, input, actor),
+        ActorId::Control(device) => make_control(alloc, input, actor, device),
+        ActorId::Unit(unit) => make_unit(alloc, input, routes, actor, unit),
+        ActorId::Host(host) => make_host(alloc, input, actor, host),
+    }
+}
+
+/// Adds a node at the end.
+fn add_node(nodes: &mut Vec<Node>, node: Node) -> Result<(), Memory>
+    ensures { OnOk result (nodes.new.items ≡ nodes.old.items ++ node ∷ []) }
+{
+    match nodes.push(node) {
+        Ok(()) => Ok(()),
+        Err(_) => Err(Memory),
+    }
+}
+
+/// The nodes of all actors in order.
+fn list_nodes(alloc: Global, input: &Input, routes: &Routes) -> Result<Vec<Node>, Memory>
+    requires routes { IsRoutesOf input.now.net routes.now }
+    requires input { IsBuildable input.now }
+    ensures { IfOk result (λ nodes. AreNodes input.now (length input.now.net.actors) nodes.items) }
+{
+    let mut nodes = Vec::new(alloc);
+    for actor in 0..input.net.actors().len() {
+        let node = make_node(alloc, input, routes, actor as u32)?;
+        add_node(&mut nodes, node)?;
+    }
+    Ok(nodes)
+}
+
+/// The nodes of an input before their first turn, one per actor in the order of its net's actors.
+/// They fit the net's wiring, and none is ready for a turn.
+pub fn build_nodes(alloc: Global, input: &Input) -> Result<Vec<Node>, Memory>
+    requires { IsBuildable input.now }
+    ensures states { IfOk result (λ nodes. map node_state nodes.items ≡ first_states input.now) }
+    ensures fit { IfOk result (λ nodes. HasCounts node_counts (plan_of input.now.net) nodes.items) }
+    ensures ready { IfOk result (λ nodes. All (λ node. node_ready node ≡ None) nodes.items) }
+{
+    let routes = Routes::make(alloc, &input.net)?;
+    let nodes = list_nodes(alloc, input, &routes)?;
+    Ok(nodes)
+}
+
+/// The world of an input's nodes, where nothing has happened yet. There is one place in the losses
+/// for each link. After want of memory the losses are given up.
+#[tactic(auto, using(crate::proofs::Counts::link_count))]
+pub fn build_world(
+    alloc: Global,
+    input: &Input,
+    losses: Vec<Option<Loss>>,
+) -> Result<World<Node>, Memory>
+    requires input { IsBuildable input.now }
+    requires losses { length losses.items ≡ length input.now.net.links }
+    requires fresh { All IsFresh losses.items }
+    ensures { IfOk result (λ world. scene world ≡ first_scene (plan_of input.now.net) (first_states input.now) losses.items) }
+{
+    let nodes = build_nodes(alloc, input)?;
+    World::new(alloc, nodes, input.net.wiring(), losses)
+}

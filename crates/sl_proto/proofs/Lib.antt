@@ -9,3 +9,5 @@ pub mod Schedules
 pub mod Sent
 pub mod Fresh
 pub mod Driven
+pub mod NodeTells
+pub mod NodeSteps

@@ -46,10 +46,10 @@ pub record TellsOf (net : Net) (a place : ℕ) : Type 0 where
   pub at : place ≡ unit_place net unit
   pub by : (r : Reports net unit) → r.control ≡ a
 
-abbrev SaidOf : Net → ℕ → Message → Type 0
+abbrev pub SaidOf : Net → ℕ → Message → Type 0
 SaidOf net a m = (place n : ℕ) → m ≡ DoneMsg place n → TellsOf net a place
 
-abbrev PutOf : Net → ℕ → Put → Type 0
+abbrev pub PutOf : Net → ℕ → Put → Type 0
 PutOf net a p = SaidOf net a p.message
 
 each-send : (net : Net) (a : ℕ) (m : Message) (ls : List ℕ) → SaidOf net a m → Each (PutOf net a) (send_all m ls)
@@ -101,7 +101,7 @@ control-of net a h c NoticeMsg z = each-flat (PutOf net a) (λ v. if c == v.noti
 control-of net a h c (DumpMsg n) z = answers-of net a c n h z
 control-of net a h c _ z = tt
 
-step-of : (s : Setup) (a d : ℕ) (h : History) (step : Step) → IsWired s.net → actor_of s.net a ≡ Control d → Took s a h step ⊎ Acted s a h step → Each (PutOf s.net a) step.puts
+pub step-of : (s : Setup) (a d : ℕ) (h : History) (step : Step) → IsWired s.net → actor_of s.net a ≡ Control d → Took s a h step ⊎ Acted s a h step → Each (PutOf s.net a) step.puts
 step-of s a d h step z q (inl x) = subst (Each (PutOf s.net a)) (sym (took-by s a h step (Control d) q x)) (control-of s.net a h step.choice x.message z)
 step-of s a d h step z q (inr x) = of_choice (step.choice - action_choice s.net a) (acted-by s a h step (Control d) q x)
   where
@@ -113,7 +113,7 @@ step-of s a d h step z q (inr x) = of_choice (step.choice - action_choice s.net 
     of_choice zero e = of_guard (not (is_swept s.net a h)) e
     of_choice (suc n) e = absurd cc
 
-put-of : (s : Setup) (a d l : ℕ) (h : History) → IsWired s.net → actor_of s.net a ≡ Control d → IsMade s a h → Each (SaidOf s.net a) (put l h)
+pub put-of : (s : Setup) (a d l : ℕ) (h : History) → IsWired s.net → actor_of s.net a ≡ Control d → IsMade s a h → Each (SaidOf s.net a) (put l h)
 put-of s a d l [] z q m = tt
 put-of s a d l (step ∷ h) z q m = each-append (SaidOf s.net a) (put l h) (on_link l step.puts) (put-of s a d l h z q m.1) (each-on-link (λ l k. SaidOf s.net a k) l step.puts (step-of s a d h step z q m.0))
 
@@ -151,7 +151,7 @@ dump-fits : (t : Sort) (n : ℕ) → fits t (DumpMsg n) ≡ true → t ≡ Dump
 dump-fits Dump n h = refl
 dump-fits _ n h = absurd (cc)
 
-done-fits : (t : Sort) (place n : ℕ) → fits t (DoneMsg place n) ≡ true → t ≡ Done
+pub done-fits : (t : Sort) (place n : ℕ) → fits t (DoneMsg place n) ≡ true → t ≡ Done
 done-fits Done place n h = refl
 done-fits _ place n h = absurd (cc)
 

@@ -11,3 +11,5 @@ pub mod Fresh
 pub mod Driven
 pub mod HostLinks
 pub mod Counts
+pub mod NodeTells
+pub mod NodeSteps

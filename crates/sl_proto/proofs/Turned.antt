@@ -42,7 +42,7 @@ got (x ∷ xs) zero p = (x, refl)
 got (x ∷ xs) (suc i) p = got xs i (omega (arith, p))
 
 -- a step is by the choice of its entry
-step-choice : (s : Setup) (lost : Losses) (w : World) (a c : ℕ) (step : Step) → next_step s lost w (a, c) ≡ Some step → step.choice ≡ c
+pub step-choice : (s : Setup) (lost : Losses) (w : World) (a c : ℕ) (step : Step) → next_step s lost w (a, c) ≡ Some step → step.choice ≡ c
 step-choice s lost w a c step n = let t = stepped s lost w (a, c) step n in of_link t.actor (slice_get (links_into s.net a) c) t.by
   where
     of_message : (x : ActorId) (l : ℕ) (o : Option Message) → option_map (λ m. taking c m (puts_of s a x (history w a) c l m)) o ≡ Some step → step.choice ≡ c

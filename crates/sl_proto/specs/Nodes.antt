@@ -1,6 +1,6 @@
 -- The nodes of a net: machines of one type, of which each is the observer, a control plane, a unit or a host.
 --     node_take, node_act     a turn of a node is its machine's turn
-use Rattle.std.specs.Prelude.{ℕ, Option, option_map}
+use Rattle.std.specs.Prelude.{ℕ, ◌+◌, nat_lt, if◌then◌else◌, Option, None, option_map}
 use Rattle.sl_machine.specs.Machine.{After, Rules, Counts}
 use Rattle.sl_wire.specs.declared.message.Msg.{Msg}
 use Rattle.sl_observe.specs.Observer.{ObserverState, observer_rules, observer_counts}
@@ -27,11 +27,15 @@ node_take (ControlNode s) link m = as_node ControlNode (control_rules.take s lin
 node_take (UnitNode s) link m = as_node UnitNode (unit_rules.take s link m)
 node_take (HostNode s) link m = as_node HostNode (host_rules.take s link m)
 
+-- a choice that the machine doesn't have is no action of it
+abbrev pub if_choice : {A : Type 0} → Counts → ℕ → Option A → Option A
+if_choice n choice acted = if nat_lt choice (n.ins + n.actions) then acted else None
+
 abbrev pub node_act : NodeState → ℕ → Option (After NodeState Msg)
-node_act (ObserverNode s) action = option_map (as_node ObserverNode) (observer_rules.act s action)
+node_act (ObserverNode s) action = if_choice (observer_counts s) action (option_map (as_node ObserverNode) (observer_rules.act s action))
 node_act (ControlNode s) action = option_map (as_node ControlNode) (control_rules.act s action)
 node_act (UnitNode s) action = option_map (as_node UnitNode) (unit_rules.act s action)
-node_act (HostNode s) action = option_map (as_node HostNode) (host_rules.act s action)
+node_act (HostNode s) action = if_choice host_counts action (option_map (as_node HostNode) (host_rules.act s action))
 
 abbrev pub node_rules : Rules NodeState Msg
 node_rules = record { take = node_take; act = node_act }

@@ -1,0 +1,64 @@
+// Laws of the nodes of a net: they follow the steps of histories, so that a scene of them stands for
+// a world. The functions do nothing: their contracts are the laws, and the proofs are in proofs/.
+ghost use Rattle.std.specs.Prelude.{◌≡◌, ℕ, ◌^◌, ◌<◌, List, length, Option, Some};
+ghost use Rattle.sl_loss.specs.Loss.{Loss};
+ghost use Rattle.sl_net.specs.declared.input.Snapshot.{Snapshot};
+ghost use Rattle.sl_net.specs.Wiring.{plan_of};
+ghost use Rattle.sl_wire.specs.declared.message.Msg.{Msg};
+ghost use Rattle.sl_cut.specs.History.{Losses};
+ghost use Rattle.sl_cut.specs.Setup.{Setup};
+ghost use Rattle.sl_cut.specs.World.{Entry, world, IsLegal, kept};
+ghost use Rattle.sl_cut.specs.Fuel.{IsBookOf};
+ghost use Rattle.sl_world.specs.Scene.{Scene, first_scene, after_all, run_of};
+ghost use Rattle.sl_world.specs.Scene.{kept as scene_kept};
+ghost use Rattle.sl_proto.specs.Follow.{Follow};
+ghost use Rattle.sl_proto.specs.Image.{IsImage, IsFirst};
+ghost use Rattle.sl_proto.specs.Meaning.{NodeStands, IsRunnable};
+ghost use Rattle.sl_proto.specs.Nodes.{NodeState, node_rules};
+
+use sl_image::{
+    controls_act, controls_stay, controls_take, hosts_act, hosts_have_two_links, hosts_stay,
+    hosts_take, observers_act, observers_stay, observers_take, units_stay, units_take_messages,
+};
+use sl_net::nets_are_wired;
+
+/// Each turn of a node does the step of its actor, and is idle where this has none.
+pub fn nodes_follow()
+    ensures { (s : Setup) (table : Snapshot) (lost : Losses) → IsRunnable s table lost → Follow s lost table.ring (NodeStands s table) node_rules }
+{
+    nets_are_wired();
+    units_take_messages();
+    units_stay();
+    controls_take();
+    controls_act();
+    controls_stay();
+    observers_take();
+    observers_act();
+    observers_stay();
+    hosts_have_two_links();
+    hosts_take();
+    hosts_act();
+    hosts_stay()
+}
+
+/// A scene of nodes that begins with nothing done stands, after any schedule, for the world of whole
+/// histories of this schedule. It is legal in both or in neither; the entries that are kept are
+/// the same, and the book has these, numbered from 1.
+pub fn nodes_stand_for_histories()
+    ensures image { (s : Setup) (table : Snapshot) (lost : Losses) (states : List NodeState) (losses : List (Option Loss)) (es : List Entry) → IsRunnable s table lost
+        → IsFirst s lost (NodeStands s table) states losses → length es < 2 ^ 40
+        → IsImage s lost table.ring (NodeStands s table) (world s lost es) (after_all node_rules (first_scene (plan_of s.net) states losses) es) }
+    ensures kept { (s : Setup) (table : Snapshot) (lost : Losses) (states : List NodeState) (losses : List (Option Loss)) (es : List Entry) → IsRunnable s table lost
+        → IsFirst s lost (NodeStands s table) states losses → length es < 2 ^ 40 → scene_kept node_rules (first_scene (plan_of s.net) states losses) es ≡ kept s lost es }
+    ensures book { (s : Setup) (table : Snapshot) (lost : Losses) (states : List NodeState) (losses : List (Option Loss)) (es : List Entry) → IsRunnable s table lost
+        → IsFirst s lost (NodeStands s table) states losses → length es < 2 ^ 40
+        → IsBookOf (record { entries = (after_all node_rules (first_scene (plan_of s.net) states losses) es).book }) (kept s lost es) }
+    ensures legal { (s : Setup) (table : Snapshot) (lost : Losses) (states : List NodeState) (losses : List (Option Loss)) (es : List Entry) → IsRunnable s table lost
+        → IsFirst s lost (NodeStands s table) states losses → length es < 2 ^ 40 → IsLegal s lost es
+        → run_of node_rules (first_scene (plan_of s.net) states losses) es ≡ Some (after_all node_rules (first_scene (plan_of s.net) states losses) es) }
+    ensures only { (s : Setup) (table : Snapshot) (lost : Losses) (states : List NodeState) (losses : List (Option Loss)) (es : List Entry) (v : Scene NodeState Msg) → IsRunnable s table lost
+        → IsFirst s lost (NodeStands s table) states losses → length es < 2 ^ 40 → run_of node_rules (first_scene (plan_of s.net) states losses) es ≡ Some v → IsLegal s lost es }
+{
+    nets_are_wired();
+    nodes_follow()
+}

@@ -15,7 +15,7 @@ pub use build::{build_nodes, build_world};
 pub use laws::{dones_told_what_is_known, sent_messages_are_put, steps_spread_their_puts};
 pub use losses::make_losses;
 pub use node::Node;
-pub use nodes::{nodes_follow, nodes_stand_for_histories};
+pub use nodes::{nodes_follow, nodes_stand_for_histories, nodes_start};
 pub use scenes::{
     Meaning, first_scenes_stand, machines_stand_for_histories, schedules_follow_histories,
     turns_follow_steps,

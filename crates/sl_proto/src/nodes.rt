@@ -1,24 +1,27 @@
 // Laws of the nodes of a net: they follow the steps of histories, so that a scene of them stands for
 // a world. The functions do nothing: their contracts are the laws, and the proofs are in proofs/.
-ghost use Rattle.std.specs.Prelude.{◌≡◌, ℕ, ◌^◌, ◌<◌, List, length, Option, Some};
+ghost use Rattle.std.specs.Prelude.{◌≡◌, ℕ, ◌^◌, ◌<◌, List, length, Option, Some, slice_get};
 ghost use Rattle.sl_loss.specs.Loss.{Loss};
 ghost use Rattle.sl_net.specs.declared.input.Snapshot.{Snapshot};
+ghost use Rattle.sl_net.specs.Input.{Input};
 ghost use Rattle.sl_net.specs.Wiring.{plan_of};
 ghost use Rattle.sl_wire.specs.declared.message.Msg.{Msg};
 ghost use Rattle.sl_cut.specs.History.{Losses};
-ghost use Rattle.sl_cut.specs.Setup.{Setup};
-ghost use Rattle.sl_cut.specs.World.{Entry, world, IsLegal, kept};
+ghost use Rattle.sl_unit.specs.Made.{IsRanged};
+ghost use Rattle.sl_cut.specs.Setup.{Setup, setup_of};
+ghost use Rattle.sl_cut.specs.World.{Entry, start, world, IsLegal, kept};
 ghost use Rattle.sl_cut.specs.Fuel.{IsBookOf};
 ghost use Rattle.sl_world.specs.Scene.{Scene, first_scene, after_all, run_of};
 ghost use Rattle.sl_world.specs.Scene.{kept as scene_kept};
 ghost use Rattle.sl_proto.specs.Follow.{Follow};
 ghost use Rattle.sl_proto.specs.Image.{IsImage, IsFirst};
-ghost use Rattle.sl_proto.specs.Meaning.{NodeStands, IsRunnable};
+ghost use Rattle.sl_proto.specs.Meaning.{NodeStands, IsRunnable, first_nodes};
 ghost use Rattle.sl_proto.specs.Nodes.{NodeState, node_rules};
 
 use sl_image::{
-    controls_act, controls_stay, controls_take, hosts_act, hosts_have_two_links, hosts_stay,
-    hosts_take, observers_act, observers_stay, observers_take, units_stay, units_take_messages,
+    controls_act, controls_start, controls_stay, controls_take, hosts_act, hosts_have_two_links,
+    hosts_start, hosts_stay, hosts_take, new_units_stand, observers_act, observers_start,
+    observers_stay, observers_take, units_stay, units_take_messages,
 };
 use sl_net::nets_are_wired;
 
@@ -39,6 +42,18 @@ pub fn nodes_follow()
     hosts_take();
     hosts_act();
     hosts_stay()
+}
+
+/// The first states of the nodes are one for each actor, and stand for the world where nothing has
+/// happened.
+pub fn nodes_start()
+    ensures each { (i : Input) → length (first_nodes i) ≡ length i.net.actors }
+    ensures stand { (i : Input) (a : ℕ) (state : NodeState) → IsRanged i.snapshot → slice_get (first_nodes i) a ≡ Some state → NodeStands (setup_of i) i.snapshot (start i.net) a state }
+{
+    new_units_stand();
+    controls_start();
+    observers_start();
+    hosts_start()
 }
 
 /// A scene of nodes that begins with nothing done stands, after any schedule, for the world of whole

@@ -1,0 +1,39 @@
+use Rattle.std.proofs.Common.{◌≡◌, ◌<◌, [], length, refl, sym, subst, ◌∙◌, arith}
+use Rattle.std.specs.Prelude.{false}
+use Rattle.std.proofs.lemmas.Option.{get_or_from_slice_get, slice_get_within}
+use Rattle.sl_net.specs.declared.actor.ActorId.{ActorId}
+use Rattle.sl_net.specs.declared.actor.ActorId.TheVariants.{Observer, Control, Unit as OfUnit, Host as OfHost}
+use Rattle.sl_net.specs.declared.actor.Side.{Side}
+use Rattle.sl_net.specs.declared.actor.Side.TheVariants.{Ingress, Egress}
+use Rattle.sl_net.specs.declared.actor.UnitId.{UnitId}
+use Rattle.sl_net.specs.Net.{actor_of}
+use Rattle.sl_net.proofs.Counting.{at_below, length_below}
+use Rattle.sl_cut.specs.Setup.{setup_of}
+use Rattle.sl_cut.specs.World.{start}
+use Rattle.sl_cut.proofs.Turns.{start-empty}
+use Rattle.sl_image.specs.UnitImage.{new_state, IsUnitOf}
+use Rattle.sl_proto.specs.Meaning.{StandsAs, NodeStands, first_node, first_nodes}
+use Rattle.sl_proto.proofs.NodeSteps.{stands-here}
+use Rattle.sl_proto.proofs.nodes.nodes_start.Goals as goal
+
+pub returns-clause-each : goal.returns-clause-each
+returns-clause-each c i = length_below (λ a. first_node i a (actor_of i.net a)) (length i.net.actors)
+
+pub returns-clause-stand : goal.returns-clause-stand
+returns-clause-stand c i a state ranged here = subst (NodeStands (setup_of i) i.snapshot (start i.net) a) is (stands-here (setup_of i) i.snapshot (start i.net) a (actor_of i.net a) (first_node i a (actor_of i.net a)) refl (by_actor (actor_of i.net a)))
+  where
+    low : a < length i.net.actors
+    low = let n = slice_get_within (first_nodes i) a state here in let m = length_below (λ a. first_node i a (actor_of i.net a)) (length i.net.actors) in omega (arith, n, m)
+
+    is : first_node i a (actor_of i.net a) ≡ state
+    is = sym (at_below (λ a. first_node i a (actor_of i.net a)) (length i.net.actors) a state low) ∙ get_or_from_slice_get (first_nodes i) a state state here
+
+    by_side : (u : UnitId) (x : Side) → u.side ≡ x → IsUnitOf i.net i.snapshot a u [] (new_state i.net a i.snapshot x)
+    by_side u Ingress q = c.new_units_stand.ensures.ingress i.net i.snapshot a u ranged q
+    by_side u Egress q = c.new_units_stand.ensures.egress i.net i.snapshot a u ranged q
+
+    by_actor : (y : ActorId) → StandsAs (setup_of i) i.snapshot (start i.net) a y (first_node i a y)
+    by_actor Observer = c.observers_start.ensures (setup_of i) (λ l n. false) i.snapshot
+    by_actor (Control d) = c.controls_start.ensures.stands i.net a i.snapshot.ring
+    by_actor (OfUnit u) = subst (λ h. IsUnitOf i.net i.snapshot a u h (new_state i.net a i.snapshot u.side)) (sym (start-empty i.net a)) (by_side u u.side refl)
+    by_actor (OfHost h) = c.hosts_start.ensures i (λ l n. false) a h

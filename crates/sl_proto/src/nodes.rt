@@ -15,7 +15,8 @@ ghost use Rattle.sl_world.specs.Scene.{Scene, first_scene, after_all, run_of};
 ghost use Rattle.sl_world.specs.Scene.{kept as scene_kept};
 ghost use Rattle.sl_proto.specs.Follow.{Follow};
 ghost use Rattle.sl_proto.specs.Image.{IsImage, IsFirst};
-ghost use Rattle.sl_proto.specs.Meaning.{NodeStands, IsRunnable, first_nodes};
+ghost use Rattle.sl_proto.specs.Meaning.{NodeStands, IsRunnable};
+ghost use Rattle.sl_proto.specs.Built.{first_states};
 ghost use Rattle.sl_proto.specs.Nodes.{NodeState, node_rules};
 
 use sl_image::{
@@ -47,8 +48,8 @@ pub fn nodes_follow()
 /// The first states of the nodes are one for each actor, and stand for the world where nothing has
 /// happened.
 pub fn nodes_start()
-    ensures each { (i : Input) → length (first_nodes i) ≡ length i.net.actors }
-    ensures stand { (i : Input) (a : ℕ) (state : NodeState) → IsRanged i.snapshot → slice_get (first_nodes i) a ≡ Some state → NodeStands (setup_of i) i.snapshot (start i.net) a state }
+    ensures each { (i : Input) → length (first_states i) ≡ length i.net.actors }
+    ensures stand { (i : Input) (a : ℕ) (state : NodeState) → IsRanged i.snapshot → slice_get (first_states i) a ≡ Some state → NodeStands (setup_of i) i.snapshot (start i.net) a state }
 {
     new_units_stand();
     controls_start();

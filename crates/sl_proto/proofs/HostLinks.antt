@@ -5,7 +5,6 @@ use Rattle.std.specs.List.{list_any}
 use Rattle.std.proofs.lemmas.Bool.{eqb-true}
 use Rattle.sl_net.specs.declared.actor.ActorId.{ActorId}
 use Rattle.sl_net.specs.declared.actor.ActorId.TheVariants.{Observer, Control, Unit as OfUnit, Host as OfHost}
-use Rattle.sl_net.specs.declared.actor.UnitId.{UnitId}
 use Rattle.sl_net.specs.declared.actor.Side.{Side}
 use Rattle.sl_net.specs.declared.actor.Side.TheVariants.{Ingress, Egress}
 use Rattle.sl_net.specs.declared.actor.Sort.{Sort}
@@ -16,7 +15,7 @@ use Rattle.sl_net.specs.Parts.{Parts, other_end, host_at, host_from, same_port}
 use Rattle.sl_net.specs.declared.fault.NetFault.TheVariants.{N7}
 use Rattle.sl_net.specs.Fault.{fault_of, first_clash, takes_used_port, has_guest}
 use Rattle.sl_net.specs.Valid.{IsValid}
-use Rattle.sl_net.specs.Net.{net_of, link_of, link_numbers, links_into, links_from, no_link, ingress, egress, actors_of, Incoming, incoming, from_outside, from_host_or_cable, to_host, place_of}
+use Rattle.sl_net.specs.Net.{net_of, link_of, link_numbers, links_into, links_from, no_link, ingress, actors_of, Incoming, incoming, from_outside, from_host_or_cable, to_host, place_of}
 use Rattle.sl_net.specs.Roster.{IsActor}
 use Rattle.sl_net.specs.Wired.{sends, receives, unit_receives}
 use Rattle.sl_net.proofs.Lists.{Each, each-imp, each-at, each-both, each-below, each-index, Member, member-left, member-parts, member-filter, member-from, distinct-filter, distinct-from}
@@ -27,9 +26,6 @@ use Rattle.sl_net.proofs.Linked.{Joined, each-joined, same-place, link_from, Lin
 use Rattle.sl_net.proofs.NetWired.{into-links, no-reason, valid}
 
 -- The port of a host.
-
-at_of : HostPart → PortRef
-at_of h = h.at
 
 abbrev stands_at : List HostPart → ℕ → PortRef → Type 0
 stands_at hs i p = slice_get (map (λ part. part.at) hs) i ≡ Some p

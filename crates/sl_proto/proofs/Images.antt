@@ -117,10 +117,6 @@ heard-this c step h m q t = by_tells (eqb_tells step.choice c)
         ∙ (λ i place. unwrap_or (option_and_then (done_of place) (t i)) (told_by c h place))
     by_tells (inr e) = absurd (e.1 q)
 
--- no link comes to the actor by the choice of this one but itself
-pub record Unread (net : Net) (a c : ℕ) (k : ℕ) : Type 0 where
-  pub other : (link_of net k).to ≡ a → choice_of net k ≡ c → ⊥
-
 pub told-still : (net : Net) (w v : World) (a : ℕ) (step : Step) (k : ℕ) → GrowsAt w v a step → ((link_of net k).to ≡ a → choice_of net k ≡ step.choice → ⊥) → (told_at net v k ≡ told_at net w k) × (taken_at net v k ≡ taken_at net w k)
 told-still net w v a step k g ne = by_tells (link_of net k).to (eqb_tells (link_of net k).to a) ne
   where

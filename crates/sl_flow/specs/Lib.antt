@@ -1,1 +1,3 @@
 pub mod Flow
+pub mod Sample
+pub mod InputText

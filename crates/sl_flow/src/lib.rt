@@ -1,9 +1,16 @@
-// Workloads: the packets that a host sends.
+// Workloads: the packets that a host sends, and the sample inputs.
 #![tactic(auto)]
 
+mod fault;
+mod leaf_spine;
 mod packets;
+mod sample;
+mod text;
 
+pub use fault::SampleFault;
 pub use packets::packets_of;
+pub use sample::sample_parts;
+pub use text::sample_input;
 
 #[cfg(test)]
 mod tests;

@@ -18,7 +18,7 @@ use Rattle.sl_cut.specs.Words.{weigh}
 use Rattle.sl_net.proofs.Actors.{each-actor, place-at}
 use Rattle.sl_net.proofs.Counting.{length_numbers}
 use Rattle.sl_net.proofs.Filters.{each-passes}
-use Rattle.sl_net.proofs.Lists.{Member, distinct-filter, distinct-from, each-at, each-below, each-index, kept-member, member-from}
+use Rattle.sl_net.proofs.Lists.{Member, distinct-filter, distinct-from, each-at, each-below, each-index, kept-member}
 use Rattle.sl_net.proofs.NetWired.{filter-map, numbers-suc}
 use Rattle.sl_net.proofs.Sizes.{length_map-is}
 use Rattle.sl_finish.proofs.Distance.{all_channels, all_frames, channels_of, frames_at, observer_of, observers}

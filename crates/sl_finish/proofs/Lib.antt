@@ -26,4 +26,5 @@ pub mod Enough
 pub mod Scripts
 pub mod Fuel
 pub mod Examples
+pub mod SortCounts
 pub mod Small

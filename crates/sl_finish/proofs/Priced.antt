@@ -49,7 +49,7 @@ once f n c (x ∷ xs) d k = by_tells (eqb_tells c (f x)) (once f n c xs d.1 (λ 
         omega (arith, e, none xs (λ y m z. d.0 (subst (λ w. Member w xs) (sym (k x y (inl refl) (inr m) q.1 z)) m)))
     by_tells (inr q) ih = let e : (if c == f x then n else 0) ≡ 0 = ap (λ b. if b then n else 0) q.0 in omega (arith, e, ih)
 
-weigh-map : {A B : Type 0} (f : B → ℕ) (g : A → B) (xs : List A) → weigh f (map g xs) ≡ weigh (λ x. f (g x)) xs
+pub weigh-map : {A B : Type 0} (f : B → ℕ) (g : A → B) (xs : List A) → weigh f (map g xs) ≡ weigh (λ x. f (g x)) xs
 weigh-map f g [] = refl
 weigh-map f g (x ∷ xs) = ap (λ n. f (g x) + n) (weigh-map f g xs)
 

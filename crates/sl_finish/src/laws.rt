@@ -1,7 +1,8 @@
 // Laws of finishing, and of how many turns a run has: for each net of valid parts, each setup,
 // each schedule and each loss table. The functions do nothing: their contracts are the laws, and
 // the proofs are in proofs/.
-ghost use Rattle.std.specs.Prelude.{◌≡◌, ℕ, suc, ◌+◌, ◌*◌, ◌^◌, ◌<◌, ◌≤◌, List, [], ◌++◌, length, Some, IsSome};
+ghost use Rattle.std.specs.Prelude.{◌≡◌, ℕ, suc, ◌+◌, ◌*◌, ◌^◌, ◌<◌, ◌≤◌, List, [], ◌++◌, map, length, Some, IsSome};
+ghost use Rattle.std.specs.List.{sum};
 ghost use Rattle.sl_net.specs.Input.{Input};
 ghost use Rattle.sl_net.specs.Wired.{IsNet};
 ghost use Rattle.sl_cut.specs.declared.message.Step.{Step};
@@ -85,10 +86,16 @@ pub fn input_bound_is_enough_fuel()
         → IsSome (finish fuel (setup_of i) lost (world (setup_of i) lost (expand i.net i.script))) }
 {}
 
-/// Within the limits of inputs the bound is below 2^40.
+/// Within the limits of inputs the bound is below 2^27.
 pub fn bounds_are_small()
     ensures { (s : Setup) (sweeps : ℕ) → IsNet s.net → s.count ≤ 1000 → s.retries ≤ 100 → frame_count s ≤ 200000
-        → sweeps ≤ 2 ^ 20 → bound_of s sweeps < 2 ^ 40 }
+        → sweeps ≤ 2 ^ 20 → bound_of s sweeps < 2 ^ 27 }
+{}
+
+/// So is the bound of an input with at most 2^20 script entries: no more of them are sweeps.
+pub fn input_bounds_are_small()
+    ensures { (i : Input) → IsNet i.net → i.snapshot.count ≤ 1000 → i.snapshot.retries ≤ 100
+        → sum (map (λ f. f.count) i.flows) + length i.raws ≤ 200000 → length i.script ≤ 2 ^ 20 → input_bound i < 2 ^ 27 }
 {}
 
 /// The bound on the first net with one snapshot and no retry: 84, 4 for each packet and raw frame,

@@ -6,5 +6,8 @@ pub mod EachLemmas
 pub mod ScriptLemmas
 pub mod OneChoice
 pub mod Steps
+pub mod Shorter
+pub mod Arrays
+pub mod Entries
 pub mod Ranges
 pub mod Settled

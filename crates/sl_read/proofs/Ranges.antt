@@ -1,7 +1,7 @@
 -- What the tables say is within its ranges.
 use Rattle.std.proofs.Common.{◌≡◌, ℕ, suc, ◌+◌, ◌-◌, ◌<◌, ◌≤◌, ◌^◌, List, [], ◌∷◌, length, Bool, true, false, Option, Some, None, Ok, refl, subst, arith}
-use Rattle.std.specs.Prelude.{nat_lt, if◌then◌else◌, option_map}
-use Rattle.std.proofs.lemmas.Bool.{ltb-false}
+use Rattle.std.specs.Prelude.{nat_lt, nat_le, ◌&&◌, ◌*◌, if◌then◌else◌, option_map, IfSome}
+use Rattle.std.proofs.lemmas.Bool.{ltb-false, leb-true, and_parts}
 use Rattle.toml.specs.Data.{Items, Members}
 use Rattle.sl_net.proofs.Lists.{Each}
 use Rattle.sl_net.specs.declared.input.Snapshot.{Snapshot}
@@ -17,10 +17,12 @@ use Rattle.sl_read.specs.Accepted.{IsSnapshot}
 use Rattle.sl_read.specs.Paths.{at}
 use Rattle.sl_read.specs.Fields.{only, required_text, required_form}
 use Rattle.sl_read.specs.Rows.{optional_tables, rows}
-use Rattle.sl_read.specs.Forms.{name_of, byte_of, pairs_of, hex_of}
+use Rattle.sl_read.specs.Forms.{name_of, digit_of, byte_of, pairs_of, hex_of}
 use Rattle.sl_read.specs.Tables.{device_of, cable_of, host_of, any_script_of, snapshot_of, drop_of, count_items, few_drops, drops_at, loss_of, any_loss_of, flow_of, raw_of}
 use Rattle.sl_read.specs.Sections.{Sections, sections_of}
 use Rattle.sl_read.specs.Documents.{walk_of, document_of}
+use Rattle.sl_read.proofs.Arrays.{FewInMembers}
+use Rattle.sl_read.proofs.Entries.{any_script_few, sections_few}
 use Rattle.sl_read.proofs.Steps.{bind_ok, same_ok, not_held, and_then_some, map_some, same_some, formed_ok, number_then, option_then, rows_ok}
 
 snapshot_ok : (ms : Members) (s : Snapshot) → snapshot_of ms ≡ Ok s → IsSnapshot s
@@ -114,24 +116,61 @@ hex_short text bytes h = by_test (nat_lt 128 (length text)) refl h
     by_test true q h = absurd (cc)
     by_test false q h = omega (arith, ltb-false 128 (length text) q, pairs_short text bytes h)
 
-raw_ok : (i : ℕ) (ms : Members) (r : RawRow) → raw_of i ms ≡ Ok r → length r.bytes ≤ 64
+digit_low : (c d : ℕ) → digit_of c ≡ Some d → d ≤ 15
+digit_low c d h = by_tests (nat_le 48 c && nat_le c 57) (nat_le 97 c && nat_le c 102) refl refl h
+  where
+    by_tests : (a b : Bool) → (nat_le 48 c && nat_le c 57) ≡ a → (nat_le 97 c && nat_le c 102) ≡ b → (if a then Some (c - 48) else if b then Some (c - 97 + 10) else None) ≡ Some d → d ≤ 15
+    by_tests true b p q h = let most : c ≤ 57 = leb-true c 57 (and_parts (nat_le 48 c) (nat_le c 57) p).1 in let is : c - 48 ≡ d = same_some (c - 48) d h in omega (arith, most, is)
+    by_tests false true p q h = let most : c ≤ 102 = leb-true c 102 (and_parts (nat_le 97 c) (nat_le c 102) q).1 in let is : c - 97 + 10 ≡ d = same_some (c - 97 + 10) d h in omega (arith, most, is)
+    by_tests false false p q h = absurd (cc)
+
+byte_low : (high low b : ℕ) → byte_of high low ≡ Some b → b < 256
+byte_low high low b h =
+    let x = and_then_some (λ h. option_map (λ l. h * 16 + l) (digit_of low)) (digit_of high) b h in
+    let y = map_some (λ l. x.0 * 16 + l) (digit_of low) b x.2 in
+    let p = digit_low high x.0 x.1 in
+    let q = digit_low low y.0 y.1 in
+    omega (arith, p, q, y.2)
+
+pairs_low : (text bytes : List ℕ) → pairs_of text ≡ Some bytes → Each (λ b. b < 256) bytes
+pairs_low [] bytes h = subst (Each (λ b. b < 256)) (same_some [] bytes h) tt
+pairs_low (high ∷ []) bytes h = absurd (cc)
+pairs_low (high ∷ low ∷ rest) bytes h =
+    let x = and_then_some (λ byte. option_map (λ bytes. byte ∷ bytes) (pairs_of rest)) (byte_of high low) bytes h in
+    let y = map_some (λ bytes. x.0 ∷ bytes) (pairs_of rest) bytes x.2 in
+    subst (Each (λ b. b < 256)) y.2 (byte_low high low x.0 x.1, pairs_low rest y.0 y.1)
+
+-- at most 64 bytes, each below 256
+pub record IsRawRow (r : RawRow) : Type 0 where
+  pub few : length r.bytes ≤ 64
+  pub bytes : Each (λ b. b < 256) r.bytes
+
+hex_low : (text bytes : List ℕ) → hex_of text ≡ Some bytes → Each (λ b. b < 256) bytes
+hex_low text bytes h = by_test (nat_lt 128 (length text)) h
+  where
+    by_test : (b : Bool) → (if b then None else pairs_of text) ≡ Some bytes → Each (λ b. b < 256) bytes
+    by_test true h = absurd (cc)
+    by_test false h = pairs_low text bytes h
+
+raw_ok : (i : ℕ) (ms : Members) (r : RawRow) → raw_of i ms ≡ Ok r → IsRawRow r
 raw_ok i ms r h =
     let a = bind_ok (only (table.Raw i) (From ∷ Hex ∷ []) ms) _ r h in
     let from = bind_ok (required_form name_of (table.Raw i) From ms) _ r a.2 in
     let bytes = bind_ok (required_form hex_of (table.Raw i) Hex ms) _ r from.2 in
     let text = bind_ok (required_text (table.Raw i) Hex ms) _ bytes.0 bytes.1 in
-    let short = hex_short text.0 bytes.0 (formed_ok (at (table.Raw i) Hex) (hex_of text.0) bytes.0 text.2) in
-    subst (λ (r : RawRow). length r.bytes ≤ 64) (same_ok _ r bytes.2) short
+    let formed = formed_ok (at (table.Raw i) Hex) (hex_of text.0) bytes.0 text.2 in
+    subst IsRawRow (same_ok _ r bytes.2) (record { few = hex_short text.0 bytes.0 formed; bytes = hex_low text.0 bytes.0 formed })
 
 pub record IsDocument (d : Document) : Type 0 where
   pub snapshot : IsSnapshot d.snapshot
   pub loss : IsLossRow d.loss
   pub flows : Each IsFlowRow d.flows
-  pub raws : Each (λ (r : RawRow). length r.bytes ≤ 64) d.raws
+  pub raws : Each IsRawRow d.raws
+  pub script : length d.script ≤ 1048576
 
-walk_ok : (s : Sections) (d : Document) → walk_of s ≡ Ok d → IsDocument d
+walk_ok : (s : Sections) (d : Document) → IfSome s.script (FewInMembers 1048576) → walk_of s ≡ Ok d → IsDocument d
 unfolding walk_of
-walk_ok s d h =
+walk_ok s d few h =
     let devices = bind_ok (rows Top Device device_of 0 s.devices) _ d h in
     let cables = bind_ok (rows Top Cable cable_of 0 s.cables) _ d devices.2 in
     let hosts = bind_ok (rows Top Host host_of 0 s.hosts) _ d cables.2 in
@@ -141,9 +180,9 @@ walk_ok s d h =
     let raws = bind_ok (rows Top Raw raw_of 0 s.raws) _ d flows.2 in
     let script = bind_ok (any_script_of s.script) _ d raws.2 in
     let f = rows_ok Top Flow flow_of IsFlowRow flow_ok 0 s.flows flows.0 flows.1 in
-    let r = rows_ok Top Raw raw_of (λ (r : RawRow). length r.bytes ≤ 64) raw_ok 0 s.raws raws.0 raws.1 in
-    subst IsDocument (same_ok _ d script.2) (record { snapshot = snapshot_ok s.snapshot snapshot.0 snapshot.1; loss = any_loss_ok s.loss loss.0 loss.1; flows = f.0; raws = r.0 })
+    let r = rows_ok Top Raw raw_of IsRawRow raw_ok 0 s.raws raws.0 raws.1 in
+    subst IsDocument (same_ok _ d script.2) (record { snapshot = snapshot_ok s.snapshot snapshot.0 snapshot.1; loss = any_loss_ok s.loss loss.0 loss.1; flows = f.0; raws = r.0; script = any_script_few 1048576 s.script script.0 few script.1 })
 
-pub document_ok : (ms : Members) (d : Document) → document_of ms ≡ Ok d → IsDocument d
+pub document_ok : (ms : Members) (d : Document) → FewInMembers 1048576 ms → document_of ms ≡ Ok d → IsDocument d
 unfolding document_of
-document_ok ms d h = let a = bind_ok (sections_of ms) walk_of d h in walk_ok a.0 d a.2
+document_ok ms d few h = let a = bind_ok (sections_of ms) walk_of d h in walk_ok a.0 d (sections_few 1048576 ms a.0 few a.1) a.2

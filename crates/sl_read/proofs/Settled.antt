@@ -1,7 +1,8 @@
 -- An accepted input is within its ranges.
-use Rattle.std.proofs.Common.{◌≡◌, ℕ, ◌+◌, ◌<◌, ◌≤◌, List, [], ◌∷◌, length, Bool, true, false, Option, Some, None, Result, Ok, Err, refl, sym, ap, subst, ◌∙◌, arith, inl, inr}
-use Rattle.std.specs.Prelude.{codes, ◌==◌, ◌⊎◌, ◌&&◌, nat_eq, nat_lt, nat_le, if◌then◌else◌, bytes_eq, option_and_then}
+use Rattle.std.proofs.Common.{◌≡◌, ℕ, suc, ◌+◌, ◌<◌, ◌≤◌, List, [], ◌∷◌, length, Bool, true, false, Option, Some, None, Result, Ok, Err, refl, sym, ap, subst, ◌∙◌, arith, inl, inr}
+use Rattle.std.specs.Prelude.{codes, ◌==◌, ◌⊎◌, ◌&&◌, nat_eq, nat_lt, nat_le, if◌then◌else◌, bytes_eq, option_and_then, IfSome}
 use Rattle.std.specs.List.{All, sum_by, position, before_first, after_first}
+use Rattle.std.specs.Str.{is_utf8}
 use Rattle.std.proofs.lemmas.Bool.{and_parts, ltb-true, ltb-false}
 use Rattle.std.proofs.lemmas.Bool.Decides.{nat_tests}
 use Rattle.std.proofs.lemmas.List.Quantifiers.{position-Some}
@@ -43,8 +44,10 @@ use Rattle.sl_read.specs.Forms.{pass_of, positive}
 use Rattle.sl_read.specs.Places.{each, known, host_place, flow_part, raw_part, parts_of}
 use Rattle.sl_read.specs.Choices.{first, choices, choice_named, is_lossy, lossy_link, link_named, drop_part, pass_or, as_choice, entry_of, fits, fitting, passes, entries_of}
 use Rattle.sl_read.specs.Inputs.{unless_refused, built, net_in, packets, few_packets, traffic_in, contents_in, settled, tables_of, parsed, text_of, reading_of, numbered, input_of}
+use Rattle.sl_read.proofs.Shorter.{IsShort, some-if, some-then}
+use Rattle.sl_read.proofs.Arrays.{FewInMembers, document-few}
 use Rattle.sl_read.proofs.Steps.{bind_ok, same_ok, same_some, held, not_held, kept, and_then_some, map_some, known_ok, each_ok}
-use Rattle.sl_read.proofs.Ranges.{IsDocument, IsDropRow, IsFlowRow, document_ok}
+use Rattle.sl_read.proofs.Ranges.{IsDocument, IsRawRow, IsDropRow, IsFlowRow, document_ok}
 use Rattle.sl_read.proofs.OneChoice.{each_has}
 
 -- Hosts by their names.
@@ -63,10 +66,10 @@ flow_settled parts i x y p h =
     subst (IsFlow parts) (same_ok _ y to.2)
     (record { from = host_low (at (table.Flow i) From) parts.hosts x.from from.0 from.1; to = host_low (at (table.Flow i) To) parts.hosts x.to to.0 to.1; count = p.count; bytes = p.bytes; hops = p.hops })
 
-raw_settled : (parts : Parts) (i : ℕ) (x : RawRow) (y : RawPart) → length x.bytes ≤ 64 → raw_part parts.hosts i x ≡ Ok y → IsRaw parts y
+raw_settled : (parts : Parts) (i : ℕ) (x : RawRow) (y : RawPart) → IsRawRow x → raw_part parts.hosts i x ≡ Ok y → IsRaw parts y
 raw_settled parts i x y p h =
     let from = bind_ok (known (at (table.Raw i) From) (host_place parts.hosts x.from)) _ y h in
-    subst (IsRaw parts) (same_ok _ y from.2) (record { from = host_low (at (table.Raw i) From) parts.hosts x.from from.0 from.1; bytes = p })
+    subst (IsRaw parts) (same_ok _ y from.2) (record { from = host_low (at (table.Raw i) From) parts.hosts x.from from.0 from.1; few = p.few; bytes = all-from_each (λ b. b < 256) x.bytes p.bytes })
 
 -- The net.
 
@@ -148,16 +151,16 @@ fits_ok i used (Some x) e h =
     let le : nat_le (used + passes x) 10000 ≡ true = t.0 in
     (ap Some t.1, subst (λ e. used + passes e ≤ 10000) t.1 (grind (arith, nat_tests)))
 
-entries_ok : (net : Net) (i used : ℕ) (texts : List (List ℕ)) (es : List Script1) → used ≤ 10000 → entries_of net i used texts ≡ Ok es → Each (IsEntry net) es × (used + sum_by passes es ≤ 10000)
+entries_ok : (net : Net) (i used : ℕ) (texts : List (List ℕ)) (es : List Script1) → used ≤ 10000 → entries_of net i used texts ≡ Ok es → Each (IsEntry net) es × (used + sum_by passes es ≤ 10000) × (length es ≡ length texts)
 unfolding fitting
-entries_ok net i used [] es p h = subst (λ es. Each (IsEntry net) es × (used + sum_by passes es ≤ 10000)) (same_ok [] es h) (tt, omega arith)
+entries_ok net i used [] es p h = subst (λ es. Each (IsEntry net) es × (used + sum_by passes es ≤ 10000) × (length es ≡ 0)) (same_ok [] es h) (tt, omega arith, refl)
 entries_ok net i used (t ∷ ts) es p h =
     let a = bind_ok (fitting net i used t) _ es h in
     let f = fits_ok i used (entry_of net t) a.0 a.1 in
     let b = bind_ok (entries_of net (i + 1) (used + passes a.0) ts) _ es a.2 in
     let r = entries_ok net (i + 1) (used + passes a.0) ts b.0 f.1 b.1 in
     let more : sum_by passes (a.0 ∷ b.0) ≡ passes a.0 + sum_by passes b.0 = sum_by-cons passes a.0 b.0 in
-    subst (λ es. Each (IsEntry net) es × (used + sum_by passes es ≤ 10000)) (same_ok (a.0 ∷ b.0) es b.2) ((entry_ok net t a.0 f.0, r.0), omega (arith, more, r.1))
+    subst (λ es. Each (IsEntry net) es × (used + sum_by passes es ≤ 10000) × (length es ≡ suc (length ts))) (same_ok (a.0 ∷ b.0) es b.2) ((entry_ok net t a.0 f.0, r.0), omega (arith, more, r.1), ap suc r.2)
 
 few_packets_ok : (flows : List Flow) (raws : List RawPart) (x : Unit {0}) → few_packets flows raws ≡ Ok x → packets flows raws ≤ 200000
 unfolding few_packets
@@ -176,7 +179,7 @@ traffic_ok parts doc t d h =
     let raws = bind_ok (each (raw_part parts.hosts) 0 doc.raws) _ t flows.2 in
     subst (IsTraffic parts) (same_ok _ t raws.2) (record {
       flows = all-from_each (IsFlow parts) flows.0 (each_ok (flow_part parts.hosts) IsFlowRow (IsFlow parts) (flow_settled parts) 0 doc.flows flows.0 d.flows flows.1).0;
-      raws = all-from_each (IsRaw parts) raws.0 (each_ok (raw_part parts.hosts) (λ (r : RawRow). length r.bytes ≤ 64) (IsRaw parts) (raw_settled parts) 0 doc.raws raws.0 d.raws raws.1).0;
+      raws = all-from_each (IsRaw parts) raws.0 (each_ok (raw_part parts.hosts) IsRawRow (IsRaw parts) (raw_settled parts) 0 doc.raws raws.0 d.raws raws.1).0;
     })
 
 record IsFilled (net : Net) (c : Contents) : Type 0 where
@@ -184,6 +187,7 @@ record IsFilled (net : Net) (c : Contents) : Type 0 where
   flows : All (IsFlow net.parts) c.flows
   raws : All (IsRaw net.parts) c.raws
   script : All (IsEntry net) c.script
+  few_entries : length c.script ≤ 1048576
   few_passes : sum_by passes c.script ≤ 10000
   few_packets : packets c.flows c.raws ≤ 200000
 
@@ -203,6 +207,7 @@ contents_ok net doc c d h =
       flows = t.flows;
       raws = t.raws;
       script = all-from_each (IsEntry net) script.0 s.0;
+      few_entries = omega (arith, s.2, d.script);
       few_passes = omega (arith, s.1);
       few_packets = few_packets_ok traffic.0.flows traffic.0.raws few.0 few.1;
     })
@@ -216,12 +221,16 @@ settled_ok doc input d h =
     let b = built_ok parts.0 net.0 parts.2 in
     let f = contents_ok net.0 doc contents.0 d contents.1 in
     subst IsAccepted (same_ok _ input contents.2)
-    (record { net = b.made; right = b.right; snapshot = d.snapshot; loss = f.loss; flows = f.flows; raws = f.raws; script = f.script; few_passes = f.few_passes; few_packets = f.few_packets })
+    (record { net = b.made; right = b.right; snapshot = d.snapshot; loss = f.loss; flows = f.flows; raws = f.raws; script = f.script; few_entries = f.few_entries; few_passes = f.few_passes; few_packets = f.few_packets })
 
-parsed_ok : (o : Option Members) (input : Input) → parsed o ≡ Ok input → IsAccepted input
+parsed_ok : (o : Option Members) (input : Input) → IfSome o (FewInMembers 1048576) → parsed o ≡ Ok input → IsAccepted input
 unfolding tables_of
-parsed_ok None input h = absurd (cc)
-parsed_ok (Some ms) input h = let doc = bind_ok (document_of ms) settled input h in settled_ok doc.0 input (document_ok ms doc.0 doc.1) doc.2
+parsed_ok None input few h = absurd (cc)
+parsed_ok (Some ms) input few h = let doc = bind_ok (document_of ms) settled input h in settled_ok doc.0 input (document_ok ms doc.0 few doc.1) doc.2
+
+-- of at most 1048576 bytes
+bytes_few : (bytes : List ℕ) → length bytes ≤ 1048576 → IfSome (option_and_then parse_document (text_of bytes)) (FewInMembers 1048576)
+bytes_few bytes h = some-then (IsShort 1048576) (FewInMembers 1048576) parse_document (text_of bytes) (some-if (IsShort 1048576) (is_utf8 bytes) (Some bytes) None h tt) (λ text short. document-few 1048576 text short)
 
 numbered_ok : (r : Result Input Refusal) (input : Input) → numbered r ≡ Ok input → r ≡ Ok input
 numbered_ok (Ok x) input h = let e : x ≡ input = cc in ap Ok e
@@ -229,8 +238,8 @@ numbered_ok (Err e) input h = absurd (cc)
 
 pub accepted : (bytes : List ℕ) (input : Input) → input_of bytes ≡ Ok input → IsAccepted input
 unfolding reading_of
-accepted bytes input h = parsed_ok (option_and_then parse_document (text_of bytes)) input (by_length (nat_lt 1048576 (length bytes)) (numbered_ok (reading_of bytes) input h))
+accepted bytes input h = by_length (nat_lt 1048576 (length bytes)) refl (numbered_ok (reading_of bytes) input h)
   where
-    by_length : (b : Bool) → (if b then Err TooLong else parsed (option_and_then parse_document (text_of bytes))) ≡ Ok input → parsed (option_and_then parse_document (text_of bytes)) ≡ Ok input
-    by_length true h = absurd (cc)
-    by_length false h = h
+    by_length : (b : Bool) → nat_lt 1048576 (length bytes) ≡ b → (if b then Err TooLong else parsed (option_and_then parse_document (text_of bytes))) ≡ Ok input → IsAccepted input
+    by_length true q h = absurd (cc)
+    by_length false q h = parsed_ok (option_and_then parse_document (text_of bytes)) input (bytes_few bytes (ltb-false 1048576 (length bytes) q)) h

@@ -53,7 +53,8 @@ pub record IsFlow (parts : Parts) (f : Flow) : Type 0 where
 
 pub record IsRaw (parts : Parts) (r : RawPart) : Type 0 where
   pub from : r.from < length parts.hosts
-  pub bytes : length r.bytes ≤ 64
+  pub few : length r.bytes ≤ 64
+  pub bytes : All (λ b. b < 256) r.bytes
 
 -- some passes, or a choice of the net
 abbrev pub IsEntry : Net → Script1 → Type 0
@@ -68,5 +69,6 @@ pub record IsAccepted (input : Input) : Type 0 where
   pub flows : All (IsFlow input.net.parts) input.flows
   pub raws : All (IsRaw input.net.parts) input.raws
   pub script : All (IsEntry input.net) input.script
+  pub few_entries : length input.script ≤ 1048576
   pub few_passes : sum_by passes input.script ≤ 10000
   pub few_packets : packets input.flows input.raws ≤ 200000

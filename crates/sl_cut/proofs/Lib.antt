@@ -26,4 +26,3 @@ pub mod ForwardFindings
 pub mod Walks
 pub mod KnownVerdict
 pub mod NoActor
-pub mod Finished

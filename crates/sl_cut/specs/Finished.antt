@@ -8,7 +8,7 @@ use Rattle.sl_cut.specs.Setup.{setup_of}
 use Rattle.sl_cut.specs.World.{world, kept, IsLegal}
 use Rattle.sl_cut.specs.Schedule.{expand}
 use Rattle.sl_cut.specs.End.{IsFin}
-use Rattle.sl_cut.specs.Fuel.{schedule_of, numbers_of}
+use Rattle.sl_cut.specs.Books.{schedule_of, numbers_of}
 
 -- the first entries, so many as front says, are those of the script that aren't idle; the others are what finishing takes from the world that they
 -- reach; none of all is idle; and they are numbered from 1

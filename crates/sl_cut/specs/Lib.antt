@@ -15,8 +15,7 @@ pub mod End
 pub mod Bound
 pub mod Losses
 pub mod Findings
-pub mod Runs
-pub mod Fuel
+pub mod Books
 pub mod Finished
 pub mod Fit
 pub mod Late

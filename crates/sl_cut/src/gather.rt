@@ -14,7 +14,7 @@ ghost use Rattle.sl_flow.specs.Flow.{HasAddresses};
 
 use crate::counting::{bad, expired, noroute};
 use crate::findings::{Counts, Drops, Finding, FindingList, Findings, Rows1};
-use crate::follow::{Run, follow};
+use crate::follow::follow;
 use crate::history::World;
 use crate::judge::verdict;
 use crate::knowledge::{floor, issued, resent};
@@ -228,9 +228,8 @@ fn findings_after(
     requires small { length schedule.now < 2 ^ 40 }
     ensures { IfOk result (λ all. all ≡ findings (setup_of input.now) (losses input.now) schedule.now) }
 {
-    let mut run = Run::new(alloc, input)?;
-    follow(alloc, input, &mut run, schedule)?;
-    findings_in(alloc, input, run.world())
+    let world = follow(alloc, input, schedule)?;
+    findings_in(alloc, input, &world)
 }
 
 /// The findings of the world that a schedule reaches, from whole histories. Idle entries change

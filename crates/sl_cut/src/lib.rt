@@ -6,7 +6,6 @@ mod control;
 mod counting;
 mod ends_laws;
 mod findings;
-mod finish;
 mod flow;
 mod follow;
 mod frames;
@@ -18,7 +17,6 @@ mod laws;
 mod losses;
 mod message;
 mod route;
-mod schedule;
 mod sends;
 mod step;
 mod tell;
@@ -29,7 +27,6 @@ mod wires;
 
 pub use ends_laws::finishing_is_legal;
 pub use findings::{Counts, Drops, Finding, FindingList, Findings, Lost, Row, Rows1};
-pub use finish::{RunBook, run_histories};
 pub use gather::findings_of;
 pub use history::{History, World};
 pub use laws::{

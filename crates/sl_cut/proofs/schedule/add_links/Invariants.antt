@@ -1,7 +1,0 @@
-use Rattle.sl_net.specs.Parts.{below}
-use Rattle.std.proofs.Common.{◌++◌, ◌≡◌}
-use Rattle.std.specs.Prelude.{map}
-use Rattle.sl_cut.proofs.schedule.add_links.Given as goal
-
-abbrev pub invariant-loop-choice : goal.invariant-loop-choice
-invariant-loop-choice l = l.entries.items ≡ l.initial.entries.items ++ map (λ c. (l.actor, c)) (below l.choice)

@@ -1,9 +1,0 @@
-use Rattle.sl_cut.proofs.ForwardLists.{flat_map_below_more}
-use Rattle.sl_cut.specs.Schedule.{sweep_of}
-use Rattle.sl_net.specs.Net.{actor_of}
-use Rattle.std.proofs.Common.{arith}
-use Rattle.std.proofs.lemmas.Grind.{common_steps}
-use Rattle.sl_cut.proofs.schedule.all_sweeps.Goals as goal
-
-pub loop-actor-preserved : goal.loop-actor-preserved
-loop-actor-preserved c = rw (flat_map_below_more (λ a. sweep_of c.args.net.now a (actor_of c.args.net.now a)) c.loop-actor.actor) (rw c.sweeps.ensures (grind (arith, common_steps)))

@@ -148,7 +148,7 @@ done-sort _ place n h = absurd (cc)
 
 -- Sizes.
 
-put-small : (s : Setup) (a l : ℕ) (h : History) → IsWired s.net → IsMade s a h → length (put l h) ≤ length h
+pub put-small : (s : Setup) (a l : ℕ) (h : History) → IsWired s.net → IsMade s a h → length (put l h) ≤ length h
 put-small s a l [] z m = omega arith
 put-small s a l (step ∷ h) z m = let ih = put-small s a l h z m.1 in let k = one-each l step.puts (step-spread s a h step z m.0).apart in omega (arith, ih, k, length-append (put l h) (on_link l step.puts))
 

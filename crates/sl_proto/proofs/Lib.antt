@@ -8,8 +8,14 @@ pub mod Turned
 pub mod Schedules
 pub mod Sent
 pub mod Fresh
-pub mod Driven
 pub mod HostLinks
 pub mod Counts
 pub mod NodeTells
 pub mod NodeSteps
+pub mod Trails
+pub mod Endings
+pub mod Standing
+pub mod FirstNode
+pub mod Choices
+pub mod Judged
+pub mod Told

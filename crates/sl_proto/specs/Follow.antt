@@ -2,7 +2,7 @@
 --     StandsAfter ..     what a turn leaves stands for the step of the turn
 --     FollowSteps ..     each turn of a machine does the step of its actor, and is idle where this has none
 --     Follow ..          so it is in a net that is one
-use Rattle.std.specs.Prelude.{◌≡◌, ℕ, ◌^◌, ◌<◌, ◌≤◌, length, take, List, Option, Some, None, slice_get}
+use Rattle.std.specs.Prelude.{◌≡◌, ℕ, ◌^◌, ◌<◌, length, List, Option, Some, None, slice_get}
 use Rattle.sl_machine.specs.Machine.{After, Rules}
 use Rattle.sl_machine.specs.Plan.{IsSound}
 use Rattle.sl_net.specs.Wiring.{plan_of}
@@ -13,10 +13,9 @@ use Rattle.sl_cut.specs.declared.message.Message.{Message}
 use Rattle.sl_cut.specs.declared.message.Step.{Step}
 use Rattle.sl_cut.specs.History.{World, Losses, history}
 use Rattle.sl_cut.specs.Setup.{Setup}
-use Rattle.sl_cut.specs.World.{Entry, IsLossTable, next_step, turn, run, world}
+use Rattle.sl_cut.specs.World.{Entry, IsLossTable, next_step, turn, world}
 use Rattle.sl_image.specs.Messages.{IsMessage}
-use Rattle.sl_world.specs.Scene.{Scene}
-use Rattle.sl_proto.specs.Image.{told_by, ArePut, IsImage}
+use Rattle.sl_proto.specs.Image.{told_by, ArePut}
 
 -- the turn (a, c) with this step leads from the world w to the world v
 pub record StandsAfter {S : Type 0} (s : Setup) (ring : ℕ) (Stands : World → ℕ → S → Type 0) (w v : World) (a : ℕ) (step : Step) (after : After S Msg) : Type 0 where
@@ -52,9 +51,3 @@ pub record Follow {S : Type 0} (s : Setup) (lost : Losses) (ring : ℕ) (Stands 
   pub sound : IsSound (plan_of s.net)
   pub table : IsLossTable s.net lost
   pub steps : FollowSteps s lost ring Stands rules
-
--- the scene stands for the world after the first entries of a schedule
-pub record StandsAtFront {S : Type 0} (s : Setup) (lost : Losses) (ring : ℕ) (Stands : World → ℕ → S → Type 0) (w : World) (schedule : List Entry) (v : Scene S Msg) : Type 0 where
-  pub entries : ℕ
-  pub within : entries ≤ length schedule
-  pub stands : IsImage s lost ring Stands (run s lost w (take entries schedule)) v

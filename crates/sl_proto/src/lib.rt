@@ -3,22 +3,32 @@
 #![tactic(auto)]
 
 mod build;
+mod finishing;
+mod gather;
 mod laws;
 mod losses;
 mod node;
 mod nodes;
 mod scenes;
 mod schedule;
+mod script;
 mod taker;
+mod verdicts;
 
 pub use build::{build_nodes, build_world};
+pub use finishing::{finish, settle};
+pub use gather::findings;
 pub use laws::{dones_told_what_is_known, sent_messages_are_put, steps_spread_their_puts};
 pub use losses::make_losses;
 pub use node::Node;
-pub use nodes::{nodes_follow, nodes_stand_for_histories, nodes_start};
+pub use nodes::{
+    nodes_follow, nodes_follow_their_books, nodes_stand_at_first, nodes_stand_for_histories,
+    nodes_start,
+};
 pub use scenes::{
     Meaning, first_scenes_stand, machines_stand_for_histories, schedules_follow_histories,
     turns_follow_steps,
 };
-pub use schedule::{all_sweeps, expand, pass_of};
-pub use taker::{Taker, drive};
+pub use schedule::{all_sweeps, expand, pass_of, passes_are_choices};
+pub use script::drive_script;
+pub use taker::{Taker, drive, drive_within};

@@ -1,23 +1,26 @@
 // Laws of the nodes of a net: they follow the steps of histories, so that a scene of them stands for
 // a world. The functions do nothing: their contracts are the laws, and the proofs are in proofs/.
-ghost use Rattle.std.specs.Prelude.{◌≡◌, ℕ, ◌^◌, ◌<◌, List, length, Option, Some, slice_get};
+ghost use Rattle.std.specs.Prelude.{◌≡◌, ℕ, ◌+◌, ◌^◌, ◌<◌, List, length, Option, Some, None, slice_get, slice_index_or};
 ghost use Rattle.sl_loss.specs.Loss.{Loss};
 ghost use Rattle.sl_net.specs.declared.input.Snapshot.{Snapshot};
+ghost use Rattle.sl_net.specs.Net.{Net};
 ghost use Rattle.sl_net.specs.Input.{Input};
+ghost use Rattle.sl_net.specs.Wired.{IsNet};
 ghost use Rattle.sl_net.specs.Wiring.{plan_of};
 ghost use Rattle.sl_wire.specs.declared.message.Msg.{Msg};
 ghost use Rattle.sl_cut.specs.History.{Losses};
 ghost use Rattle.sl_unit.specs.Made.{IsRanged};
 ghost use Rattle.sl_cut.specs.Setup.{Setup, setup_of};
 ghost use Rattle.sl_cut.specs.World.{Entry, start, world, IsLegal, kept};
-ghost use Rattle.sl_cut.specs.Fuel.{IsBookOf};
 ghost use Rattle.sl_world.specs.Scene.{Scene, first_scene, after_all, run_of};
 ghost use Rattle.sl_world.specs.Scene.{kept as scene_kept};
 ghost use Rattle.sl_proto.specs.Follow.{Follow};
-ghost use Rattle.sl_proto.specs.Image.{IsImage, IsFirst};
+ghost use Rattle.sl_proto.specs.Image.{GoesOn, IsImage, IsFirst};
 ghost use Rattle.sl_proto.specs.Meaning.{NodeStands, IsRunnable};
 ghost use Rattle.sl_proto.specs.Built.{first_states};
 ghost use Rattle.sl_proto.specs.Nodes.{NodeState, node_rules};
+ghost use Rattle.sl_proto.specs.Runs.{Follows, IsBookOf};
+ghost use Rattle.sl_proto.specs.Standing.{Case, case_of, run_at, StandsFor, HasObserver};
 
 use sl_image::{
     controls_act, controls_start, controls_stay, controls_take, hosts_act, hosts_have_two_links,
@@ -74,6 +77,29 @@ pub fn nodes_stand_for_histories()
         → run_of node_rules (first_scene (plan_of s.net) states losses) es ≡ Some (after_all node_rules (first_scene (plan_of s.net) states losses) es) }
     ensures only { (s : Setup) (table : Snapshot) (lost : Losses) (states : List NodeState) (losses : List (Option Loss)) (es : List Entry) (v : Scene NodeState Msg) → IsRunnable s table lost
         → IsFirst s lost (NodeStands s table) states losses → length es < 2 ^ 40 → run_of node_rules (first_scene (plan_of s.net) states losses) es ≡ Some v → IsLegal s lost es }
+{
+    nets_are_wired();
+    nodes_follow()
+}
+
+/// The first scene of an input's nodes stands for the world of its book, which is empty. Its first
+/// node is the observer.
+pub fn nodes_stand_at_first()
+    ensures stands { (i : Input) (lost : Losses) (losses : List (Option Loss)) → IsRunnable (setup_of i) i.snapshot lost → IsRanged i.snapshot → length losses ≡ length i.net.links
+        → ((l : ℕ) → l < length i.net.links → GoesOn (lost l) 0 (slice_index_or losses l None)) → StandsFor i.net (case_of i lost) (first_scene (plan_of i.net) (first_states i) losses) }
+    ensures observer { (i : Input) (losses : List (Option Loss)) → IsNet i.net → HasObserver (first_scene (plan_of i.net) (first_states i) losses) }
+{
+    nets_are_wired();
+    nodes_start()
+}
+
+/// A scene of nodes that stands for the world of its book goes on to do so along any schedule, and
+/// its book gains the entries that aren't idle. The observer's node stays where it is.
+pub fn nodes_follow_their_books()
+    ensures stands { (net : Net) (x : Case) (v : Scene NodeState Msg) (es : List Entry) → StandsFor net x v → length v.book + length es < 2 ^ 40 → StandsFor net x (after_all node_rules v es) }
+    ensures follows { (net : Net) (x : Case) (v : Scene NodeState Msg) (es : List Entry) → StandsFor net x v → length v.book + length es < 2 ^ 40
+        → Follows x.setup x.lost (run_at x v) es (run_at x (after_all node_rules v es)) }
+    ensures observer { (v : Scene NodeState Msg) (es : List Entry) → HasObserver v → HasObserver (after_all node_rules v es) }
 {
     nets_are_wired();
     nodes_follow()

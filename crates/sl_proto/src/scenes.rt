@@ -8,10 +8,10 @@ ghost use Rattle.sl_wire.specs.declared.message.Msg.{Msg};
 ghost use Rattle.sl_cut.specs.History.{World, Losses};
 ghost use Rattle.sl_cut.specs.Setup.{Setup};
 ghost use Rattle.sl_cut.specs.World.{Entry, start, next_step, turn, run, world, IsLegalFrom, IsLegal, kept_from, kept};
-ghost use Rattle.sl_cut.specs.Fuel.{IsBookOf};
 ghost use Rattle.sl_world.specs.Scene.{Scene, first_scene, turn_of, after_all, run_of, last_number};
 ghost use Rattle.sl_world.specs.Scene.{kept as scene_kept};
 ghost use Rattle.sl_world.specs.Legal.{numbered_from};
+ghost use Rattle.sl_proto.specs.Runs.{IsBookOf};
 ghost use Rattle.sl_proto.specs.Image.{IsImage, IsTurned, IsFirst};
 ghost use Rattle.sl_proto.specs.Follow.{Follow};
 

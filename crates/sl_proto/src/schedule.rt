@@ -1,10 +1,14 @@
 // The schedules of scripts and passes.
-ghost use Rattle.std.specs.Prelude.{◌≡◌, ℕ, ◌<◌, [], ◌∷◌, ◌++◌, length, OnOk, IfOk, if◌then◌else◌};
-ghost use Rattle.sl_net.specs.Net.{actor_of};
-ghost use Rattle.sl_cut.specs.Schedule.{link_entries, first_action, pass_actions, sweep_of, pass, pass_of, passes_of, sweeps, expand_one, expand};
+ghost use Rattle.std.specs.Prelude.{◌≡◌, ℕ, ◌<◌, [], ◌∷◌, ◌++◌, Bool, length, All, OnOk, IfOk, if◌then◌else◌};
+ghost use Rattle.sl_machine.specs.Plan.{HasChoice};
+ghost use Rattle.sl_net.specs.Net.{Net, actor_of};
+ghost use Rattle.sl_net.specs.Spelling as spelling;
+ghost use Rattle.sl_net.specs.Wired.{IsNet};
+ghost use Rattle.sl_net.specs.Wiring.{plan_of};
+ghost use Rattle.sl_cut.specs.Schedule.{link_entries, first_action, pass_actions, sweep_of, pass, pass_of, passes_of, sweeps, resend_entry, expand_one, expand};
 
 use sl_machine::Memory;
-use sl_net::{ActorId, Net, Script1};
+use sl_net::{ActorId, Net, Script1, nets_are_wired};
 use std::alloc::Global;
 
 fn add_entry(entries: &mut Vec<(u32, u32)>, entry: (u32, u32)) -> Result<(), Memory>
@@ -124,6 +128,17 @@ fn add_script(
         Script1::Pass(count) => add_passes(entries, once, count),
         Script1::Choice { actor, choice } => add_entry(entries, (actor, choice)),
     }
+}
+
+/// The entries of a pass, of the sweeps and of resending are choices of the net's actors, and so is
+/// each choice that has a spelling.
+pub fn passes_are_choices()
+    ensures passes { (net : Net) (settling : Bool) → IsNet net → All (λ e. HasChoice (plan_of net) e.0 e.1) (pass_of net settling) }
+    ensures sweeps { (net : Net) → IsNet net → All (λ e. HasChoice (plan_of net) e.0 e.1) (sweeps net) }
+    ensures resend { (net : Net) → IsNet net → All (λ e. HasChoice (plan_of net) e.0 e.1) (resend_entry net ∷ []) }
+    ensures spelled { (net : Net) (a c : ℕ) → spelling.HasChoice net a c → HasChoice (plan_of net) a c }
+{
+    nets_are_wired()
 }
 
 /// The schedule of a script: so many passes, or one choice, in order.

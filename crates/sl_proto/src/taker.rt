@@ -1,62 +1,83 @@
-// Whoever takes turns: a world of machines, as data, and schedules of its turns.
-ghost use Rattle.std.specs.Prelude.{◌≡◌, ℕ, ◌+◌, ◌<◌, ◌≤◌, ◌^◌, List, length, All, Ok, Some, None, OnOk, OnErr};
-ghost use Rattle.sl_machine.specs.Machine.{Rules};
+// Whoever takes turns: a world of nodes, as data, and schedules of its turns.
+ghost use Rattle.std.specs.Prelude.{◌≡◌, ℕ, ◌+◌, ◌<◌, ◌≤◌, ◌^◌, ◌++◌, List, length, All, Ok, Some, None, OnOk, OnErr, slice_get};
 ghost use Rattle.sl_machine.specs.Plan.{HasChoice};
 ghost use Rattle.sl_net.specs.Wiring.{plan_of};
 ghost use Rattle.sl_wire.specs.declared.message.Msg.{Msg};
-ghost use Rattle.sl_cut.specs.History.{World, Losses};
-ghost use Rattle.sl_cut.specs.Setup.{Setup};
-ghost use Rattle.sl_cut.specs.World.{Entry, run, world};
 ghost use Rattle.sl_world.specs.Scene.{Scene, turn_of, after_turn, after_all, IsFront};
-ghost use Rattle.sl_proto.specs.Image.{IsImage};
-ghost use Rattle.sl_proto.specs.Follow.{Follow, StandsAtFront};
+ghost use Rattle.sl_proto.specs.Nodes.{NodeState, ObserverNode, node_rules};
+ghost use Rattle.sl_proto.specs.Runs.{Follows};
+ghost use Rattle.sl_proto.specs.Standing.{Case, run_at, StandsFor, HasObserver};
 
+use crate::node::Node;
+use crate::nodes::nodes_follow_their_books;
 use sl_machine::Memory;
-use sl_net::{Net, nets_are_wired};
-use sl_world::Turn;
+use sl_net::Net;
+use sl_observe::Observer;
+use sl_world::{Turn, World};
 
-/// Takes turns of a world of machines.
+/// Takes turns of a world of nodes.
 pub trait Taker {
-    ghost State: { Type 0 };
-
-    /// In this world of histories, this is the state of this actor.
-    ghost stands: { World → ℕ → State → Type 0 };
-
-    /// What the turns of machines do.
-    ghost rules: { Rules State Msg };
-
-    /// The world of machines that it stands for.
-    ghost scene: { Self → Scene State Msg };
+    /// The world of nodes that it stands for.
+    ghost scene: { Self → Scene NodeState Msg };
 
     /// One turn of an actor. A turn that is refused for memory has changed nothing.
     fn turn(&mut self, actor: u32, choice: u32) -> Result<Turn, Memory>
         requires choice { HasChoice (scene self.old).plan actor choice }
         requires book { length (scene self.old).book < 2 ^ 40 }
-        ensures after { OnOk result (scene self.new ≡ after_turn rules (scene self.old) (actor, choice)) }
-        ensures did { result ≡ Ok Turn.Did → turn_of rules (scene self.old) actor choice ≡ Some (scene self.new) }
-        ensures idle { result ≡ Ok Turn.Idle → turn_of rules (scene self.old) actor choice ≡ None }
+        ensures after { OnOk result (scene self.new ≡ after_turn node_rules (scene self.old) (actor, choice)) }
+        ensures did { result ≡ Ok Turn.Did → turn_of node_rules (scene self.old) actor choice ≡ Some (scene self.new) }
+        ensures idle { result ≡ Ok Turn.Idle → turn_of node_rules (scene self.old) actor choice ≡ None }
         ensures err { OnErr result (scene self.new ≡ scene self.old) }
         ensures plan { (scene self.new).plan ≡ (scene self.old).plan }
         ensures book { length (scene self.new).book ≤ length (scene self.old).book + 1 };
+
+    /// The observer, where the first node is one.
+    fn observer(&self) -> &Observer
+        requires { HasObserver (scene self.now) }
+        ensures { slice_get (scene self.now).states 0 ≡ Some (ObserverNode result.now.state) };
+
+    /// How many turns its book has.
+    fn entries(&self) -> u64
+        ensures { result ≡ length (scene self.now).book };
+}
+
+impl Taker for World<Node> {
+    ghost use Rattle.sl_world.specs.World.{scene as world_scene};
+
+    ghost scene = { world_scene };
+
+    fn turn(&mut self, actor: u32, choice: u32) -> Result<Turn, Memory> {
+        World::turn(self, actor, choice)
+    }
+
+    fn observer(&self) -> &Observer {
+        match self.machine(0) {
+            Node::Observer(observer) => observer,
+            _ => unreachable!(),
+        }
+    }
+
+    fn entries(&self) -> u64 {
+        self.book().entries.len() as u64
+    }
 }
 
 /// Takes the turns of a whole schedule; after want of memory, those of a front of it. Where the
-/// machines follow the steps of histories and stand for a world, they stand afterwards for the
-/// world after these turns.
+/// nodes stand for the world of their book, they go on to stand for that of their book, which has
+/// the turns of the schedule that aren't idle besides.
 pub fn drive<T: Taker>(net: &Net, taker: &mut T, schedule: &[(u32, u32)]) -> Result<(), Memory>
     requires plan { (T.scene taker.old).plan ≡ plan_of net.now }
     requires choices { All (λ e. HasChoice (plan_of net.now) e.0 e.1) schedule.now }
     requires book { length (T.scene taker.old).book + length schedule.now < 2 ^ 40 }
-    ensures ok { OnOk result (T.scene taker.new ≡ after_all T.rules (T.scene taker.old) schedule.now) }
-    ensures front { IsFront T.rules (T.scene taker.old) schedule.now (T.scene taker.new) }
+    ensures ok { OnOk result (T.scene taker.new ≡ after_all node_rules (T.scene taker.old) schedule.now) }
+    ensures front { IsFront node_rules (T.scene taker.old) schedule.now (T.scene taker.new) }
     ensures plan { (T.scene taker.new).plan ≡ plan_of net.now }
     ensures book { length (T.scene taker.new).book ≤ length (T.scene taker.old).book + length schedule.now }
-    ensures image { (s : Setup) (lost : Losses) (ring : ℕ) (es : List Entry) → Follow s lost ring T.stands T.rules → length es + length schedule.now < 2 ^ 40
-        → IsImage s lost ring T.stands (world s lost es) (T.scene taker.old) → OnOk result (IsImage s lost ring T.stands (run s lost (world s lost es) schedule.now) (T.scene taker.new)) }
-    ensures stands { (s : Setup) (lost : Losses) (ring : ℕ) (es : List Entry) → Follow s lost ring T.stands T.rules → length es + length schedule.now < 2 ^ 40
-        → IsImage s lost ring T.stands (world s lost es) (T.scene taker.old) → StandsAtFront s lost ring T.stands (world s lost es) schedule.now (T.scene taker.new) }
+    ensures observer { HasObserver (T.scene taker.old) → HasObserver (T.scene taker.new) }
+    ensures stands { (x : Case) → StandsFor net.now x (T.scene taker.old) → StandsFor net.now x (T.scene taker.new) }
+    ensures follows { (x : Case) → StandsFor net.now x (T.scene taker.old) → OnOk result (Follows x.setup x.lost (run_at x (T.scene taker.old)) schedule.now (run_at x (T.scene taker.new))) }
 {
-    nets_are_wired();
+    nodes_follow_their_books();
     turns(taker, schedule)
 }
 
@@ -64,8 +85,8 @@ pub fn drive<T: Taker>(net: &Net, taker: &mut T, schedule: &[(u32, u32)]) -> Res
 fn turns<T: Taker>(taker: &mut T, schedule: &[(u32, u32)]) -> Result<(), Memory>
     requires choices { All (λ e. HasChoice (T.scene taker.old).plan e.0 e.1) schedule.now }
     requires book { length (T.scene taker.old).book + length schedule.now < 2 ^ 40 }
-    ensures ok { OnOk result (T.scene taker.new ≡ after_all T.rules (T.scene taker.old) schedule.now) }
-    ensures front { IsFront T.rules (T.scene taker.old) schedule.now (T.scene taker.new) }
+    ensures ok { OnOk result (T.scene taker.new ≡ after_all node_rules (T.scene taker.old) schedule.now) }
+    ensures front { IsFront node_rules (T.scene taker.old) schedule.now (T.scene taker.new) }
     ensures plan { (T.scene taker.new).plan ≡ (T.scene taker.old).plan }
     ensures book { length (T.scene taker.new).book ≤ length (T.scene taker.old).book + length schedule.now }
 {
@@ -73,4 +94,27 @@ fn turns<T: Taker>(taker: &mut T, schedule: &[(u32, u32)]) -> Result<(), Memory>
         taker.turn(*actor, *choice)?;
     }
     Ok(())
+}
+
+/// Takes the turns of a whole schedule, as `drive` does, where the book stays below 2^40 entries
+/// with them. A longer book would fill any memory, so it is answered as want of memory.
+pub fn drive_within<T: Taker>(
+    net: &Net,
+    taker: &mut T,
+    schedule: &[(u32, u32)],
+) -> Result<(), Memory>
+    requires plan { (T.scene taker.old).plan ≡ plan_of net.now }
+    requires choices { All (λ e. HasChoice (plan_of net.now) e.0 e.1) schedule.now }
+    ensures plan { (T.scene taker.new).plan ≡ plan_of net.now }
+    ensures observer { HasObserver (T.scene taker.old) → HasObserver (T.scene taker.new) }
+    ensures stands { (x : Case) → StandsFor net.now x (T.scene taker.old) → StandsFor net.now x (T.scene taker.new) }
+    ensures follows { (x : Case) → StandsFor net.now x (T.scene taker.old) → OnOk result (Follows x.setup x.lost (run_at x (T.scene taker.old)) schedule.now (run_at x (T.scene taker.new))) }
+{
+    let limit: u64 = 1 << 40;
+    let entries = taker.entries();
+    let more = schedule.len() as u64;
+    if entries >= limit || more >= limit - entries {
+        return Err(Memory);
+    }
+    drive(net, taker, schedule)
 }

@@ -1,10 +1,8 @@
-use Rattle.std.proofs.Common.{◌≡◌, ℕ, suc, ◌+◌, List, [], ◌∷◌, refl, sym, ap, ◌∙◌, arith}
-use Rattle.sl_cut.specs.World.{Entry, kept}
-use Rattle.sl_cut.specs.Fuel.{numbered}
-use Rattle.sl_cut.proofs.Trails.{numbered_book}
+use Rattle.std.proofs.Common.{[], arith}
+use Rattle.sl_cut.specs.World.{kept}
 use Rattle.sl_world.specs.Scene.{first_scene}
-use Rattle.sl_world.specs.Legal.{numbered_from}
 use Rattle.sl_net.specs.Wiring.{plan_of}
+use Rattle.sl_proto.proofs.Standing.{numbered_book}
 use Rattle.sl_proto.proofs.Schedules.{first-image, all-image, same-kept, grown-book, legal-run, run-legal}
 use Rattle.sl_proto.proofs.scenes.machines_stand_for_histories.Goals as goal
 
@@ -18,15 +16,11 @@ returns-clause-kept g c s lost ring rules states losses es f b few =
     same-kept s lost ring g.I.Meaning.stands rules (record { wired = c.nets_are_wired.ensures s.net f.net; sound = f.sound; table = f.table; follow = f.steps }) [] es (first_scene (plan_of s.net) states losses)
     (omega (arith, few)) (first-image s lost ring g.I.Meaning.stands states losses b)
 
-numbered-same : (n : ℕ) (es : List Entry) → numbered_from n es ≡ numbered (n + 1) es
-numbered-same n [] = refl
-numbered-same n (e ∷ es) = let m : suc (n + 1) ≡ (n + 1) + 1 = omega arith in ap (λ r. record { number = n + 1; actor = e.0; choice = e.1 } ∷ r) (numbered-same (n + 1) es ∙ ap (λ k. numbered k es) (sym m))
-
 pub returns-clause-book : goal.returns-clause-book
-returns-clause-book g c s lost ring rules states losses es f b few = let one : 0 + 1 ≡ 1 = omega arith in
+returns-clause-book g c s lost ring rules states losses es f b few =
     numbered_book _ (kept s lost es)
     (grown-book s lost ring g.I.Meaning.stands rules (record { wired = c.nets_are_wired.ensures s.net f.net; sound = f.sound; table = f.table; follow = f.steps }) [] es (first_scene (plan_of s.net) states losses)
-    (omega (arith, few)) (first-image s lost ring g.I.Meaning.stands states losses b) ∙ numbered-same 0 (kept s lost es))
+    (omega (arith, few)) (first-image s lost ring g.I.Meaning.stands states losses b))
 
 pub returns-clause-legal : goal.returns-clause-legal
 returns-clause-legal g c s lost ring rules states losses es f b few legal =

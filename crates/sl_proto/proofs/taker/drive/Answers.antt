@@ -1,19 +1,20 @@
-use Rattle.sl_cut.specs.World.{run, world}
-use Rattle.sl_world.specs.Scene.{after_all}
-use Rattle.std.proofs.Common.{◌≡◌}
-use Rattle.sl_proto.specs.Image.{IsImage}
-use Rattle.sl_proto.proofs.Driven.{driven, at-front, on-ok}
+use Rattle.std.proofs.Common.{sym, subst, arith, take, length-take}
+use Rattle.std.proofs.lemmas.Result.{on_ok_weaker}
+use Rattle.sl_proto.specs.Runs.{Follows}
+use Rattle.sl_proto.specs.Standing.{run_at, StandsFor, HasObserver}
 use Rattle.sl_proto.proofs.taker.drive.Goals as goal
 
-pub returns-clause-image : goal.returns-clause-image
-returns-clause-image g c s lost ring es f few image =
-    let t = g.T.Taker in
-    let schedule = c.args.schedule.now in
-    on-ok c.turns.result (t.scene c.turns.new.taker ≡ after_all t.rules (t.scene c.args.taker.now) schedule) (IsImage s lost ring t.stands (run s lost (world s lost es) schedule) (t.scene c.turns.new.taker))
-    (λ is. driven s lost ring t.stands t.rules (record { wired = c.nets_are_wired.ensures s.net f.net; sound = f.sound; table = f.table; follow = f.steps }) es schedule (t.scene c.args.taker.now) (t.scene c.turns.new.taker) few image is)
-    c.turns.ensures.ok
+pub returns-clause-observer : goal.returns-clause-observer
+returns-clause-observer g c h = let f = c.turns.ensures.front in
+    subst HasObserver (sym f.is) (c.nodes_follow_their_books.ensures.observer (g.T.Taker.scene c.args.taker.now) (take f.entries c.args.schedule.now) h)
 
 pub returns-clause-stands : goal.returns-clause-stands
-returns-clause-stands g c s lost ring es f few image =
-    let t = g.T.Taker in
-    at-front s lost ring t.stands t.rules (record { wired = c.nets_are_wired.ensures s.net f.net; sound = f.sound; table = f.table; follow = f.steps }) es c.args.schedule.now (t.scene c.args.taker.now) (t.scene c.turns.new.taker) few image c.turns.ensures.front
+returns-clause-stands g c x st = let f = c.turns.ensures.front in let es = c.args.schedule.now in let n = length-take f.entries es in
+    subst (StandsFor c.args.net.now x) (sym f.is)
+    (c.nodes_follow_their_books.ensures.stands c.args.net.now x (g.T.Taker.scene c.args.taker.now) (take f.entries es) st (omega (arith, c.requires.book, n, f.within)))
+
+pub returns-clause-follows : goal.returns-clause-follows
+returns-clause-follows g c x st = let v = g.T.Taker.scene c.args.taker.now in let es = c.args.schedule.now in
+    on_ok_weaker c.turns.result
+    (λ is. subst (λ u. Follows x.setup x.lost (run_at x v) es (run_at x u)) (sym is) (c.nodes_follow_their_books.ensures.follows c.args.net.now x v es st c.requires.book))
+    c.turns.ensures.ok

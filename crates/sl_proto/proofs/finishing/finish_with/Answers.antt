@@ -1,0 +1,15 @@
+use Rattle.std.proofs.Common.{rules, subst, ◌≡◌}
+use Rattle.std.specs.Prelude.{true}
+use Rattle.sl_cut.specs.End.{finish}
+use Rattle.sl_proto.specs.Rounds.{EndsAt}
+use Rattle.sl_proto.specs.Standing.{world_of}
+use Rattle.sl_proto.proofs.Endings.{finishes-to}
+use Rattle.sl_proto.proofs.finishing.finish_with.Goals as goal
+
+pub returns-then-branch-clause-finishes : goal.returns-then-branch-clause-finishes
+returns-then-branch-clause-finishes g c x pos h =
+    let v = g.T.Taker.scene c.args.taker.now in
+    let u = g.T.Taker.scene c.finish_within.new.taker in
+    let b : c.in_ok-finish_within.field-0 ≡ true = search rules in
+    finishes-to c.finishing_finishes.ensures c.args.net.now x c.args.fuel v u pos h
+    (subst (EndsAt x v (finish c.args.fuel x.setup x.lost (world_of x v)) u) b (c.in_ok-finish_within.ensures.ends x pos h))

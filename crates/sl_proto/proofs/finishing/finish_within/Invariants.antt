@@ -1,0 +1,17 @@
+use Rattle.std.proofs.Common.{◌≡◌, ◌<◌}
+use Rattle.sl_net.specs.Wiring.{plan_of}
+use Rattle.sl_proto.specs.Standing.{Case, StandsFor, HasObserver}
+use Rattle.sl_proto.proofs.Endings.{IsFinishingAt}
+use Rattle.sl_proto.proofs.finishing.finish_within.Given as goal
+
+abbrev pub invariant-loop-left : goal.invariant-loop-left
+invariant-loop-left g l =
+    record {
+      plan : (g.T.Taker.scene l.taker).plan ≡ plan_of l.net;
+      observer : HasObserver (g.T.Taker.scene l.taker);
+      stands : (x : Case) → StandsFor l.net x (g.T.Taker.scene l.fn.taker) → StandsFor l.net x (g.T.Taker.scene l.taker);
+      finishing : (x : Case) → 0 < x.setup.window → StandsFor l.net x (g.T.Taker.scene l.fn.taker) → IsFinishingAt x l.fuel (g.T.Taker.scene l.fn.taker) l.left (g.T.Taker.scene l.taker);
+    }
+
+abbrev pub decreases-loop-left : goal.decreases-loop-left
+decreases-loop-left g l = l.left

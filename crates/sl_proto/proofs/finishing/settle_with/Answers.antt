@@ -1,0 +1,14 @@
+use Rattle.std.proofs.Common.{rules, subst, ◌≡◌}
+use Rattle.std.specs.Prelude.{true}
+use Rattle.sl_cut.specs.End.{settle}
+use Rattle.sl_proto.specs.Rounds.{EndsAt}
+use Rattle.sl_proto.specs.Standing.{world_of}
+use Rattle.sl_proto.proofs.Endings.{settles-to}
+use Rattle.sl_proto.proofs.finishing.settle_with.Goals as goal
+
+pub returns-then-branch-clause-settles : goal.returns-then-branch-clause-settles
+returns-then-branch-clause-settles g c x h =
+    let v = g.T.Taker.scene c.args.taker.now in
+    let u = g.T.Taker.scene c.settle_within.new.taker in
+    let b : c.in_ok-settle_within.field-0 ≡ true = search rules in
+    settles-to x c.args.fuel v u (subst (EndsAt x v (settle c.args.fuel x.setup x.lost (world_of x v)) u) b (c.in_ok-settle_within.ensures.ends x h)) (c.in_ok-settle_within.ensures.settled x h b)

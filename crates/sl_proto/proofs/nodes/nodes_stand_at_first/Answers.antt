@@ -1,0 +1,36 @@
+use Rattle.std.proofs.Common.{◌<◌, length, refl, ap, ◌∙◌, Some, arith}
+use Rattle.std.proofs.lemmas.Option.{slice_get-get_or}
+use Rattle.sl_net.proofs.Counting.{at_below, length_below}
+use Rattle.sl_observe.specs.Observer.{first_state}
+use Rattle.sl_cut.specs.Setup.{setup_of}
+use Rattle.sl_proto.specs.Built.{first_node, first_at, first_states}
+use Rattle.sl_proto.specs.Meaning.{NodeStands}
+use Rattle.sl_proto.specs.Nodes.{NodeState, ObserverNode}
+use Rattle.sl_proto.proofs.Choices.{has-actors}
+use Rattle.sl_proto.proofs.Schedules.{first-image}
+use Rattle.sl_proto.proofs.nodes.nodes_stand_at_first.Goals as goal
+
+pub returns-clause-stands : goal.returns-clause-stands
+returns-clause-stands c i lost losses r ranged each go = record {
+  net_is = refl;
+  runnable = r;
+  legal = tt;
+  numbers = refl;
+  image = first-image (setup_of i) lost i.snapshot.ring (NodeStands (setup_of i) i.snapshot) (first_states i) losses (record {
+    states_each = c.nodes_start.ensures.each i;
+    states_stand = λ a state here. c.nodes_start.ensures.stand i a state ranged here;
+    losses_each = each;
+    losses_go = go;
+  });
+}
+
+pub returns-clause-observer : goal.returns-clause-observer
+returns-clause-observer c i losses n =
+    let wired = c.nets_are_wired.ensures i.net n in
+    let low : 0 < length i.net.actors = has-actors i.net n.made in
+    let z : NodeState = ObserverNode (first_state i.net i.snapshot) in
+    let m = length_below (first_at i) (length i.net.actors) in
+    record {
+      observer = first_state i.net i.snapshot;
+      first = slice_get-get_or (first_states i) 0 z (omega (arith, m, low)) ∙ ap Some (at_below (first_at i) (length i.net.actors) 0 z low ∙ ap (first_node i 0) wired.observer);
+    }

@@ -1,0 +1,40 @@
+-- Settling and finishing with fuel.
+--     EndsBy s lost old o new ended   from the run old to the run new by the entries of o; o is None where the fuel was too small
+--     Rounds s lost old f new round   the same for a round of finishing, where f go is what it takes when go gives the rounds after it
+--     EndsAt, RoundAt                 these from scene to scene
+--     Tells x w told                  what the observer tells in the world w
+use Rattle.std.specs.Prelude.{◌≡◌, Bool, true, false, List, Option, Some, None}
+use Rattle.sl_wire.specs.declared.message.Msg.{Msg}
+use Rattle.sl_cut.specs.History.{World, Losses}
+use Rattle.sl_cut.specs.Setup.{Setup}
+use Rattle.sl_cut.specs.Knowledge.{floor, issued, observer}
+use Rattle.sl_cut.specs.World.{Entry}
+use Rattle.sl_world.specs.Scene.{Scene}
+use Rattle.sl_proto.specs.declared.finishing.Round.{Round}
+use Rattle.sl_proto.specs.declared.finishing.Round.TheVariants.{Ended, Again, Short}
+use Rattle.sl_proto.specs.declared.finishing.Told.{Told}
+use Rattle.sl_proto.specs.Runs.{Run, Goes}
+use Rattle.sl_proto.specs.Nodes.{NodeState}
+use Rattle.sl_proto.specs.Standing.{Case, world_of, run_at}
+
+abbrev pub EndsBy : Setup → Losses → Run → Option (List Entry) → Run → Bool → Type 0
+EndsBy s lost old None new ended = ended ≡ false
+EndsBy s lost old (Some es) new ended = (ended ≡ true) × Goes s lost old es new
+
+-- a round that ends, or falls short of fuel, does so whatever the rounds after it would be; one that goes on is at the run new
+abbrev pub Rounds : Setup → Losses → Run → ((World → Option (List Entry)) → Option (List Entry)) → Run → Round → Type 0
+Rounds s lost old f new Ended = (go : World → Option (List Entry)) → EndsBy s lost old (f go) new true
+Rounds s lost old f new Short = (go : World → Option (List Entry)) → EndsBy s lost old (f go) new false
+Rounds s lost old f new Again = (go : World → Option (List Entry)) (last : Run) (ended : Bool)
+    → EndsBy s lost new (go new.world) last ended → EndsBy s lost old (f go) last ended
+
+abbrev pub EndsAt : Case → Scene NodeState Msg → Option (List Entry) → Scene NodeState Msg → Bool → Type 0
+EndsAt x v o u ended = EndsBy x.setup x.lost (run_at x v) o (run_at x u) ended
+
+abbrev pub RoundAt : Case → Scene NodeState Msg → ((World → Option (List Entry)) → Option (List Entry)) → Scene NodeState Msg → Round → Type 0
+RoundAt x v f u round = Rounds x.setup x.lost (run_at x v) f (run_at x u) round
+
+-- F and K
+pub record Tells (x : Case) (w : World) (told : Told) : Type 0 where
+  pub floor : told.floor ≡ floor x.setup.net w
+  pub issued : told.issued ≡ issued x.setup.net (observer w)

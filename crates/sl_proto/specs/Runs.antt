@@ -1,0 +1,29 @@
+-- Runs: a world beside the turns that led to it.
+--     Goes, Follows              what a run does by some entries, none of which is idle, or by any entries
+--     IsBookOf b es              the book of a run whose turns are these
+use Rattle.std.specs.Prelude.{◌≡◌, List, ◌++◌, length}
+use Rattle.sl_machine.specs.Book.{Book}
+use Rattle.sl_net.specs.Parts.{numbers_from}
+use Rattle.sl_cut.specs.History.{World, Losses}
+use Rattle.sl_cut.specs.Setup.{Setup}
+use Rattle.sl_cut.specs.World.{Entry, run, kept_from}
+use Rattle.sl_cut.specs.Books.{schedule_of, numbers_of}
+
+pub record Run : Type 0 where
+  pub world : World
+  pub book : List Entry
+
+-- the run after the schedule
+pub record Follows (s : Setup) (lost : Losses) (old : Run) (es : List Entry) (new : Run) : Type 0 where
+  pub reached : new.world ≡ run s lost old.world es
+  pub book : new.book ≡ old.book ++ kept_from s lost old.world es
+
+-- the run after these entries, none of which is idle
+pub record Goes (s : Setup) (lost : Losses) (old : Run) (es : List Entry) (new : Run) : Type 0 where
+  pub reached : new.world ≡ run s lost old.world es
+  pub book : new.book ≡ old.book ++ es
+
+-- numbered from 1
+pub record IsBookOf (b : Book) (es : List Entry) : Type 0 where
+  pub schedule : schedule_of b.entries ≡ es
+  pub numbers : numbers_of b.entries ≡ numbers_from 1 (length b.entries)

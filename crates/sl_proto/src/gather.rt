@@ -1,0 +1,205 @@
+// The findings of a finished world of nodes.
+ghost use Rattle.std.specs.Prelude.{◌≡◌, ◌<◌, ◌^◌, ℕ, [], ◌∷◌, ◌++◌, length, cond, IfOk, OnOk, Some, slice_get};
+ghost use Rattle.sl_net.specs.Net.{same_sort, link_of};
+ghost use Rattle.sl_cut.specs.Words.{listed, numbers, weigh};
+ghost use Rattle.sl_cut.specs.History.{Losses};
+ghost use Rattle.sl_cut.specs.Setup.{setup_of};
+ghost use Rattle.sl_cut.specs.Books.{schedule_of};
+ghost use Rattle.sl_cut.specs.End.{IsFinished};
+ghost use Rattle.sl_cut.specs.Findings.{findings};
+ghost use Rattle.sl_world.specs.World.{scene};
+ghost use Rattle.sl_proto.specs.Nodes.{ObserverNode, node_state};
+ghost use Rattle.sl_proto.specs.Standing.{case_of, world_of, StandsFor, HasObserver};
+ghost use Rattle.sl_proto.specs.Told.{sent_told, delivered_told, drops_told, all_drops, lost_told, all_lost, Tells, told};
+
+use crate::node::Node;
+use crate::verdicts::finding_list;
+use sl_cut::{Counts, Drops, Findings, Lost};
+use sl_image::{observers_give_findings, observers_tell};
+use sl_machine::Memory;
+use sl_net::{Input, Net, Sort, nets_are_wired};
+use sl_observe::Observer;
+use sl_world::World;
+use std::alloc::Global;
+
+/// The observer's node, which is the first one.
+fn observer(world: &World<Node>) -> &Observer
+    requires { HasObserver (scene world.now) }
+    ensures { slice_get (scene world.now).states 0 ≡ Some (ObserverNode result.now.state) }
+{
+    match world.machine(0) {
+        Node::Observer(observer) => observer,
+        _ => unreachable!(),
+    }
+}
+
+/// How many frames a host sent.
+fn sent_by(node: &Node) -> Option<u64>
+    ensures { result ≡ sent_told (node_state node.now) }
+{
+    match node {
+        Node::Host(host) => Some(host.sent()),
+        _ => None,
+    }
+}
+
+/// How many frames a host took.
+fn delivered_to(node: &Node) -> Option<u64>
+    ensures { result ≡ delivered_told (node_state node.now) }
+{
+    match node {
+        Node::Host(host) => Some(host.delivered()),
+        _ => None,
+    }
+}
+
+/// What a unit dropped. An egress unit drops nothing.
+fn drops_at(node: &Node) -> Drops
+    ensures { result ≡ drops_told (node_state node.now) }
+{
+    match node {
+        Node::Unit(unit) => {
+            let counts = unit.counts();
+            Drops {
+                bad: counts.bad,
+                expired: counts.expired,
+                noroute: counts.noroute,
+            }
+        }
+        _ => Drops {
+            bad: 0,
+            expired: 0,
+            noroute: 0,
+        },
+    }
+}
+
+/// Adds a count, where there is one.
+fn add_told(counts: &mut Vec<u64>, told: Option<u64>) -> Result<(), Memory>
+    ensures { OnOk result (counts.new.items ≡ counts.old.items ++ listed told) }
+{
+    match told {
+        Some(count) => counts.push(count).map_err(|_| Memory),
+        None => Ok(()),
+    }
+}
+
+/// What the hosts sent, one count for each in order.
+fn sent(alloc: Global, world: &World<Node>, actors: u32) -> Result<Counts, Memory>
+    requires { actors ≡ length (scene world.now).states }
+    ensures { IfOk result (λ counts. counts ≡ numbers sent_told (scene world.now).states) }
+{
+    let mut items = Vec::new(alloc);
+    for actor in 0..actors {
+        add_told(&mut items, sent_by(world.machine(actor)))?;
+    }
+    Ok(Counts { items })
+}
+
+/// What the hosts took, one count for each in order.
+fn delivered(alloc: Global, world: &World<Node>, actors: u32) -> Result<Counts, Memory>
+    requires { actors ≡ length (scene world.now).states }
+    ensures { IfOk result (λ counts. counts ≡ numbers delivered_told (scene world.now).states) }
+{
+    let mut items = Vec::new(alloc);
+    for actor in 0..actors {
+        add_told(&mut items, delivered_to(world.machine(actor)))?;
+    }
+    Ok(Counts { items })
+}
+
+/// What the units dropped.
+fn drops(world: &World<Node>, actors: u32) -> Drops
+    requires actors { actors ≡ length (scene world.now).states }
+    requires bad { (all_drops (scene world.now).states).bad < 2 ^ 64 }
+    requires expired { (all_drops (scene world.now).states).expired < 2 ^ 64 }
+    requires noroute { (all_drops (scene world.now).states).noroute < 2 ^ 64 }
+    ensures { result ≡ all_drops (scene world.now).states }
+{
+    let mut bad = 0;
+    let mut expired = 0;
+    let mut noroute = 0;
+    for actor in 0..actors {
+        let more = drops_at(world.machine(actor));
+        bad += more.bad;
+        expired += more.expired;
+        noroute += more.noroute;
+    }
+    Drops {
+        bad,
+        expired,
+        noroute,
+    }
+}
+
+/// How many puts a link has lost, 0 where it is of another sort.
+fn lost_if(net: &Net, world: &World<Node>, link: u32, sort: Sort) -> u64
+    requires link { link < length net.now.links }
+    requires links { length (scene world.now).plan.links ≡ length net.now.links }
+    ensures { result ≡ weigh (lost_told (scene world.now)) (cond (same_sort (link_of net.now link).sort sort) (link ∷ []) []) }
+{
+    if net.link(link).sort.is(sort) {
+        world.lost(link)
+    } else {
+        0
+    }
+}
+
+/// How many puts the links of a sort have lost.
+fn lost_of(net: &Net, world: &World<Node>, sort: Sort) -> u64
+    requires links { length (scene world.now).plan.links ≡ length net.now.links }
+    requires small { all_lost net.now (scene world.now) sort < 2 ^ 64 }
+    ensures { result ≡ all_lost net.now (scene world.now) sort }
+{
+    let mut total = 0;
+    for link in 0..net.links().len() as u32 {
+        total += lost_if(net, world, link, sort);
+    }
+    total
+}
+
+/// What a world of nodes tells.
+fn tell(
+    alloc: Global,
+    net: &Net,
+    count: u64,
+    world: &World<Node>,
+    observer: &Observer,
+) -> Result<Findings, Memory>
+    requires { Tells net.now (scene world.now) observer.now.state }
+    ensures { IfOk result (λ f. f ≡ told net.now count (scene world.now) observer.now.state) }
+{
+    let actors = net.actors().len() as u32;
+    Ok(Findings {
+        issued: observer.issued(),
+        floor: observer.floor(),
+        resent: observer.resent(),
+        list: finding_list(alloc, net, observer, count)?,
+        sent: sent(alloc, world, actors)?,
+        delivered: delivered(alloc, world, actors)?,
+        drops: drops(world, actors),
+        lost: Lost {
+            cable: lost_of(net, world, Sort::Cable),
+            crossbar: lost_of(net, world, Sort::Crossbar),
+            init: lost_of(net, world, Sort::Init),
+            notice: lost_of(net, world, Sort::Notice),
+        },
+    })
+}
+
+/// What a finished world of nodes of an input tells: the findings of the world of histories that it
+/// stands for, by what the observer collected, the units counted and the links lost.
+pub fn findings(alloc: Global, input: &Input, world: &World<Node>) -> Result<Findings, Memory>
+    requires stands { (lost : Losses) × StandsFor input.now.net (case_of input.now lost) (scene world.now) }
+    requires book { length (scene world.now).book < 2 ^ 40 }
+    ensures { (lost : Losses) → StandsFor input.now.net (case_of input.now lost) (scene world.now)
+        → IsFinished (setup_of input.now) lost (world_of (case_of input.now lost) (scene world.now))
+        → IfOk result (λ f. f ≡ findings (setup_of input.now) lost (schedule_of (scene world.now).book)) }
+{
+    nets_are_wired();
+    observers_tell();
+    observers_give_findings();
+    let _links = input.net.links();
+    let observer = observer(world);
+    tell(alloc, &input.net, input.snapshot.count, world, observer)
+}

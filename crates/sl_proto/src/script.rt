@@ -1,0 +1,100 @@
+// Scripts, over whoever takes turns.
+ghost use Rattle.std.specs.Prelude.{◌≡◌, All, OnOk};
+ghost use Rattle.sl_machine.specs.Plan.{HasChoice};
+ghost use Rattle.sl_net.specs.Wiring.{plan_of};
+ghost use Rattle.sl_cut.specs.Schedule.{pass, passes_of, expand_one, expand};
+ghost use Rattle.sl_proto.specs.Runs.{Follows};
+ghost use Rattle.sl_proto.specs.Standing.{Case, run_at, StandsFor, HasObserver};
+ghost use Rattle.sl_proto.specs.Script.{IsScriptEntry};
+
+use crate::schedule::{pass_of, passes_are_choices};
+use crate::taker::{Taker, drive_within};
+use sl_machine::Memory;
+use sl_net::{Net, Script1};
+use std::alloc::Global;
+
+/// Takes a pass so many times.
+fn drive_passes<T: Taker>(
+    net: &Net,
+    taker: &mut T,
+    once: &[(u32, u32)],
+    count: u32,
+) -> Result<(), Memory>
+    requires plan { (T.scene taker.old).plan ≡ plan_of net.now }
+    requires choices { All (λ e. HasChoice (plan_of net.now) e.0 e.1) once.now }
+    ensures plan { (T.scene taker.new).plan ≡ plan_of net.now }
+    ensures observer { HasObserver (T.scene taker.old) → HasObserver (T.scene taker.new) }
+    ensures stands { (x : Case) → StandsFor net.now x (T.scene taker.old) → StandsFor net.now x (T.scene taker.new) }
+    ensures follows { (x : Case) → StandsFor net.now x (T.scene taker.old) → OnOk result (Follows x.setup x.lost (run_at x (T.scene taker.old)) (passes_of once.now count) (run_at x (T.scene taker.new))) }
+{
+    for _done in 0..count {
+        drive_within(net, taker, once)?;
+    }
+    Ok(())
+}
+
+/// Takes the turns of an entry of a script.
+fn drive_entry<T: Taker>(
+    net: &Net,
+    taker: &mut T,
+    once: &[(u32, u32)],
+    entry: Script1,
+) -> Result<(), Memory>
+    requires plan { (T.scene taker.old).plan ≡ plan_of net.now }
+    requires pass { once.now ≡ pass net.now }
+    requires choices { All (λ e. HasChoice (plan_of net.now) e.0 e.1) once.now }
+    requires entry { IsScriptEntry net.now entry }
+    ensures plan { (T.scene taker.new).plan ≡ plan_of net.now }
+    ensures observer { HasObserver (T.scene taker.old) → HasObserver (T.scene taker.new) }
+    ensures stands { (x : Case) → StandsFor net.now x (T.scene taker.old) → StandsFor net.now x (T.scene taker.new) }
+    ensures follows { (x : Case) → StandsFor net.now x (T.scene taker.old) → OnOk result (Follows x.setup x.lost (run_at x (T.scene taker.old)) (expand_one net.now entry) (run_at x (T.scene taker.new))) }
+{
+    match entry {
+        Script1::Pass(count) => drive_passes(net, taker, once, count),
+        Script1::Choice { actor, choice } => drive_within(net, taker, &[(actor, choice)]),
+    }
+}
+
+/// Takes the turns of entries of a script.
+fn drive_entries<T: Taker>(
+    net: &Net,
+    taker: &mut T,
+    once: &[(u32, u32)],
+    script: &[Script1],
+) -> Result<(), Memory>
+    requires plan { (T.scene taker.old).plan ≡ plan_of net.now }
+    requires pass { once.now ≡ pass net.now }
+    requires choices { All (λ e. HasChoice (plan_of net.now) e.0 e.1) once.now }
+    requires entries { All (IsScriptEntry net.now) script.now }
+    ensures plan { (T.scene taker.new).plan ≡ plan_of net.now }
+    ensures observer { HasObserver (T.scene taker.old) → HasObserver (T.scene taker.new) }
+    ensures stands { (x : Case) → StandsFor net.now x (T.scene taker.old) → StandsFor net.now x (T.scene taker.new) }
+    ensures follows { (x : Case) → StandsFor net.now x (T.scene taker.old) → OnOk result (Follows x.setup x.lost (run_at x (T.scene taker.old)) (expand net.now script.now) (run_at x (T.scene taker.new))) }
+{
+    for entry in script {
+        drive_entry(net, taker, once, *entry)?;
+    }
+    Ok(())
+}
+
+/// Takes the turns of a script entry by entry, a pass at a time; after want of memory, those of a
+/// front of it. A book of 2^40 entries would fill any memory, so it is answered as want of memory.
+pub fn drive_script<T: Taker>(
+    alloc: Global,
+    net: &Net,
+    taker: &mut T,
+    script: &[Script1],
+) -> Result<(), Memory>
+    requires plan { (T.scene taker.old).plan ≡ plan_of net.now }
+    requires entries { All (IsScriptEntry net.now) script.now }
+    ensures plan { (T.scene taker.new).plan ≡ plan_of net.now }
+    ensures observer { HasObserver (T.scene taker.old) → HasObserver (T.scene taker.new) }
+    ensures stands { (x : Case) → StandsFor net.now x (T.scene taker.old) → StandsFor net.now x (T.scene taker.new) }
+    ensures follows { (x : Case) → StandsFor net.now x (T.scene taker.old) → OnOk result (Follows x.setup x.lost (run_at x (T.scene taker.old)) (expand net.now script.now) (run_at x (T.scene taker.new))) }
+{
+    // A net is that of its parts.
+    let _parts = net.parts();
+    passes_are_choices();
+    let once = pass_of(alloc, net, false)?;
+    drive_entries(net, taker, once.as_slice(), script)
+}

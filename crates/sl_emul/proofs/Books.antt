@@ -1,0 +1,118 @@
+-- The book of a run, by the laws of finishing.
+use Rattle.std.proofs.Common.{◌≡◌, ℕ, ◌≤◌, List, [], ◌++◌, length, take, drop, sym, ap, ◌∙◌, subst, refl}
+use Rattle.std.proofs.lemmas.List.{length-map}
+use Rattle.std.proofs.Math.Seq.{take-append_seam, drop-append_seam}
+use Rattle.std.specs.List.{All}
+use Rattle.sl_machine.specs.declared.wiring.Entry.{Entry as BookEntry}
+use Rattle.sl_machine.specs.Plan.{IsSound, HasChoice}
+use Rattle.sl_net.specs.Spelling as spelling
+use Rattle.sl_net.specs.declared.input.Script1.{Script1}
+use Rattle.sl_net.specs.declared.input.Script1.TheVariants.{Pass, Choice}
+use Rattle.sl_net.specs.Net.{Net}
+use Rattle.sl_net.specs.Input.{Input}
+use Rattle.sl_net.specs.Wired.{IsNet}
+use Rattle.sl_net.specs.Wiring.{plan_of}
+use Rattle.sl_wire.specs.declared.message.Msg.{Msg}
+use Rattle.sl_cut.specs.History.{World, Losses}
+use Rattle.sl_cut.specs.Setup.{Setup, setup_of}
+use Rattle.sl_cut.specs.World.{Entry, IsLossTable, start, world, kept, kept_from}
+use Rattle.sl_cut.specs.Schedule.{expand}
+use Rattle.sl_cut.specs.End.{IsFin}
+use Rattle.sl_cut.specs.Books.{schedule_of}
+use Rattle.sl_cut.specs.Finished.{IsBookOfRun}
+use Rattle.sl_cut.specs.Bound.{input_bound}
+use Rattle.sl_cut.specs.declared.findings.Findings.{Findings}
+use Rattle.sl_cut.specs.Findings.{findings}
+use Rattle.sl_cut.specs.Cut.{cuts}
+use Rattle.sl_cut.specs.Matching.{IsConsistentCut}
+use Rattle.sl_cut.proofs.Trails.{run-kept}
+use Rattle.sl_world.specs.Scene.{Scene}
+use Rattle.sl_proto.specs.Nodes.{NodeState}
+use Rattle.sl_proto.specs.Meaning.{IsRunnable}
+use Rattle.sl_proto.specs.Script.{IsScriptEntry}
+use Rattle.sl_proto.specs.Runs.{Follows}
+use Rattle.sl_proto.specs.Standing.{case_of, world_of, run_at, StandsFor, FinishesTo}
+use Rattle.sl_emul.specs.Run.{IsLine, CanRun, IsRunBook, AreNodesOf, IsRunOf}
+
+-- What the laws of lower crates say.
+
+abbrev pub Bounded : Type 0
+Bounded = (i : Input) (lost : Losses) (fs : List Entry) → IsNet i.net → IsFin (setup_of i) lost (world (setup_of i) lost (expand i.net i.script)) fs
+    → length (kept (setup_of i) lost (expand i.net i.script) ++ fs) ≤ input_bound i
+
+abbrev pub Consistent : Type 0
+Consistent = (s : Setup) (lost : Losses) (es : List Entry) (k : ℕ) → IsNet s.net → IsConsistentCut s.net lost (world s lost es) (cuts (world s lost es) k)
+
+abbrev pub Spelled : Type 0
+Spelled = (net : Net) (a c : ℕ) → spelling.HasChoice net a c → HasChoice (plan_of net) a c
+
+-- an input that can be run has what the laws of nodes ask
+pub runnable : (i : Input) (lost : Losses) → CanRun i → IsSound (plan_of i.net) → IsLossTable i.net lost → IsRunnable (setup_of i) i.snapshot lost
+runnable i lost can sound table = record {
+  net = can.net;
+  sound = sound;
+  losses = table;
+  short = can.short;
+  is_table = record { window = refl; count = refl; retries = refl; room = can.snapshot.some_ring };
+}
+
+line-entry : Spelled → (net : Net) (e : Script1) → IsLine net e → IsScriptEntry net e
+line-entry spelled net (Pass n) h = tt
+line-entry spelled net (Choice a c) h = spelled net a c h
+
+pub script-entries : Spelled → (net : Net) (script : List Script1) → All (IsLine net) script → All (IsScriptEntry net) script
+script-entries spelled net script all = λ k d h. line-entry spelled net _ (all k d h)
+
+-- from the first scene v, whose book is empty, by the script to u and by finishing to t
+module _ (i : Input) (lost : Losses) (v u t : Scene NodeState Msg) (empty : v.book ≡ [])
+    (script : Follows (setup_of i) lost (run_at (case_of i lost) v) (expand i.net i.script) (run_at (case_of i lost) u))
+    (ends : FinishesTo (case_of i lost) u t) where
+  abbrev first : List Entry
+  first = kept (setup_of i) lost (expand i.net i.script)
+
+  script-book : schedule_of u.book ≡ first
+  script-book = subst (λ es. schedule_of u.book ≡ es ++ kept_from (setup_of i) lost (world (setup_of i) lost es) (expand i.net i.script)) (ap schedule_of empty) script.book
+
+  whole : schedule_of t.book ≡ first ++ ends.turns
+  whole = ends.goes.book ∙ ap (λ es. es ++ ends.turns) script-book
+
+  count : length u.book ≡ length first
+  count = sym (length-map u.book (λ (e : BookEntry). (e.actor, e.choice))) ∙ ap length script-book
+
+  front-is : take (length u.book) (schedule_of t.book) ≡ first
+  front-is = ap (λ n. take n (schedule_of t.book)) count ∙ ap (take (length first)) whole ∙ take-append_seam first ends.turns
+
+  rest-is : drop (length u.book) (schedule_of t.book) ≡ ends.turns
+  rest-is = ap (λ n. drop n (schedule_of t.book)) count ∙ ap (drop (length first)) whole ∙ drop-append_seam first ends.turns
+
+  pub is-book : StandsFor i.net (case_of i lost) t → IsBookOfRun i lost t.book (length u.book)
+  is-book stands = record {
+    count = count;
+    script = front-is;
+    finishing = subst (λ es. IsFin (setup_of i) lost (world (setup_of i) lost es) (drop (length u.book) (schedule_of t.book))) (script-book ∙ sym front-is)
+        (subst (IsFin (setup_of i) lost (world_of (case_of i lost) u)) (sym rest-is) ends.finishes);
+    legal = stands.legal;
+    numbers = stands.numbers;
+  }
+
+  reached : world_of (case_of i lost) u ≡ world (setup_of i) lost (expand i.net i.script)
+  reached = ap (world (setup_of i) lost) script-book ∙ run-kept (setup_of i) lost (start i.net) (expand i.net i.script)
+
+  pub is-run : Bounded → Consistent → IsNet i.net → StandsFor i.net (case_of i lost) t → IsRunBook i lost t.book (length u.book)
+  is-run bounded consistent net stands = record {
+    run = is-book stands;
+    finished = ends.finished;
+    within = subst (λ n. n ≤ input_bound i) (sym (ap length whole) ∙ length-map t.book (λ (e : BookEntry). (e.actor, e.choice)))
+        (bounded i lost ends.turns net (subst (λ (w : World). IsFin (setup_of i) lost w ends.turns) reached ends.finishes));
+    cuts_consistent = λ k. consistent (setup_of i) lost (schedule_of t.book) k net;
+  }
+
+  -- what is kept of the last scene
+  pub is-run-of : Bounded → Consistent → IsNet i.net → StandsFor i.net (case_of i lost) t → (book : List BookEntry) (front : ℕ) (found : Findings) (nodes : List NodeState)
+      → book ≡ t.book → front ≡ length u.book → found ≡ findings (setup_of i) lost (schedule_of t.book) → nodes ≡ t.states → IsRunOf i lost book front found nodes
+  is-run-of bounded consistent net stands book front found nodes book-is front-at told states =
+      subst (λ b. IsRunOf i lost b front found nodes) (sym book-is) (subst (λ n. IsRunOf i lost t.book n found nodes) (sym front-at) (record {
+        run = is-run bounded consistent net stands;
+        tells = told;
+        stand = subst (AreNodesOf i (world_of (case_of i lost) t)) (sym states) (record { each = stands.image.states_each; stand = stands.image.states });
+      }))

@@ -1,0 +1,61 @@
+-- The run of an input on its nodes.
+--     CanRun i              what a run asks of its input
+--     IsRunBook ..          the book of a run: legal, finished, bounded, and cut consistently for each number
+--     AreNodesOf i w ns     one node per actor, each of which stands for its history
+--     IsRunOf ..            the book, the findings and the nodes of a run
+use Rattle.std.specs.Prelude.{◌≡◌, ℕ, ◌≤◌, List, length, Some, slice_get}
+use Rattle.std.specs.List.{All}
+use Rattle.sl_machine.specs.declared.wiring.Entry.{Entry}
+use Rattle.sl_net.specs.declared.input.Script1.{Script1}
+use Rattle.sl_net.specs.declared.input.Script1.TheVariants.{Pass, Choice}
+use Rattle.sl_net.specs.Net.{Net}
+use Rattle.sl_net.specs.Wired.{IsNet}
+use Rattle.sl_net.specs.Spelling.{HasChoice}
+use Rattle.sl_net.specs.Input.{Input}
+use Rattle.sl_flow.specs.Flow.{HasAddresses}
+use Rattle.sl_unit.specs.Made.{IsRanged}
+use Rattle.sl_cut.specs.declared.findings.Findings.{Findings}
+use Rattle.sl_cut.specs.History.{World, Losses}
+use Rattle.sl_cut.specs.Setup.{setup_of}
+use Rattle.sl_cut.specs.World.{world}
+use Rattle.sl_cut.specs.End.{IsFinished}
+use Rattle.sl_cut.specs.Books.{schedule_of}
+use Rattle.sl_cut.specs.Finished.{IsBookOfRun}
+use Rattle.sl_cut.specs.Bound.{input_bound}
+use Rattle.sl_cut.specs.Cut.{cuts}
+use Rattle.sl_cut.specs.Matching.{IsConsistentCut}
+use Rattle.sl_cut.specs.Findings.{findings}
+use Rattle.sl_image.specs.Short.{SendsShort}
+use Rattle.sl_proto.specs.Nodes.{NodeState}
+use Rattle.sl_proto.specs.Meaning.{NodeStands}
+
+-- a script's choice is one of the net
+abbrev pub IsLine : Net → Script1 → Type 0
+IsLine net (Pass n) = Unit {0}
+IsLine net (Choice a c) = HasChoice net a c
+
+-- a net, a snapshot table within its ranges, flows whose hosts have addresses, frames of bytes, and a script of the net's choices
+pub record CanRun (i : Input) : Type 0 where
+  pub net : IsNet i.net
+  pub snapshot : IsRanged i.snapshot
+  pub addresses : All HasAddresses i.flows
+  pub short : SendsShort (setup_of i)
+  pub script : All (IsLine i.net) i.script
+
+-- The book is the script's and then what finishing takes, and legal, with so many entries before finishing; its world is finished; it has at most as many
+-- entries as the bound says; and for each number the steps before the units' ids reached it are a consistent cut, whatever the verdict on it.
+pub record IsRunBook (i : Input) (lost : Losses) (book : List Entry) (front : ℕ) : Type 0 where
+  pub run : IsBookOfRun i lost book front
+  pub finished : IsFinished (setup_of i) lost (world (setup_of i) lost (schedule_of book))
+  pub within : length book ≤ input_bound i
+  pub cuts_consistent : (k : ℕ) → IsConsistentCut i.net lost (world (setup_of i) lost (schedule_of book)) (cuts (world (setup_of i) lost (schedule_of book)) k)
+
+pub record AreNodesOf (i : Input) (w : World) (nodes : List NodeState) : Type 0 where
+  pub each : length nodes ≡ length i.net.actors
+  pub stand : (a : ℕ) (node : NodeState) → slice_get nodes a ≡ Some node → NodeStands (setup_of i) i.snapshot w a node
+
+-- the findings are those of the book's schedule, and the nodes those of the world that it leads to
+pub record IsRunOf (i : Input) (lost : Losses) (book : List Entry) (front : ℕ) (found : Findings) (nodes : List NodeState) : Type 0 where
+  pub run : IsRunBook i lost book front
+  pub tells : found ≡ findings (setup_of i) lost (schedule_of book)
+  pub stand : AreNodesOf i (world (setup_of i) lost (schedule_of book)) nodes

@@ -1,0 +1,70 @@
+// The run of an input, one turn after the other.
+ghost use Rattle.std.specs.Prelude.{◌≡◌, ◌<◌, ◌^◌, IfOk, [], length, map};
+ghost use Rattle.sl_net.specs.Wiring.{plan_of};
+ghost use Rattle.sl_cut.specs.Losses.{losses};
+ghost use Rattle.sl_world.specs.World.{scene};
+ghost use Rattle.sl_proto.specs.Nodes.{node_state};
+ghost use Rattle.sl_proto.specs.Standing.{case_of, StandsFor, HasObserver};
+ghost use Rattle.sl_emul.specs.Run.{CanRun, IsRunOf};
+
+use sl_cut::{Findings, cuts_are_consistent, inputs_spare_reliable_links};
+use sl_finish::inputs_are_bounded;
+use sl_machine::{Book, Memory};
+use sl_net::Input;
+use sl_proto::{
+    Node, Taker, build_world, drive_script, findings, finish, make_losses, nodes_stand_at_first,
+    passes_are_choices,
+};
+use sl_world::World;
+use std::alloc::Global;
+
+/// What a run leaves: its book, how many of its entries come before finishing, the findings, and
+/// the nodes, one per actor in order.
+#[derive(Drop)]
+pub struct Run {
+    pub book: Book,
+    pub front: u64,
+    pub findings: Findings,
+    pub nodes: Vec<Node>,
+}
+
+/// The world of an input's nodes before the first turn.
+fn first_world(alloc: Global, input: &Input) -> Result<World<Node>, Memory>
+    requires { CanRun input.now }
+    ensures stands { IfOk result (λ w. StandsFor input.now.net (case_of input.now (losses input.now)) (scene w)) }
+    ensures observer { IfOk result (λ w. HasObserver (scene w)) }
+    ensures plan { IfOk result (λ w. (scene w).plan ≡ plan_of input.now.net) }
+    ensures book { IfOk result (λ w. (scene w).book ≡ []) }
+{
+    nodes_stand_at_first();
+    inputs_spare_reliable_links();
+    let _wiring = input.net.wiring();
+    let losses = make_losses(alloc, input)?;
+    build_world(alloc, input, losses)
+}
+
+/// Runs an input on the nodes of its net: takes the turns of its script, and finishes.
+pub fn run_stepped(alloc: Global, input: &Input) -> Result<Run, Memory>
+    requires { CanRun input.now }
+    ensures { IfOk result (λ r. IsRunOf input.now (losses input.now) r.book.entries r.front r.findings (map node_state r.nodes.items)) }
+{
+    passes_are_choices();
+    inputs_are_bounded();
+    cuts_are_consistent();
+    let mut world = first_world(alloc, input)?;
+    drive_script(alloc, &input.net, &mut world, input.script.as_slice())?;
+    let front = world.entries();
+    finish(alloc, &input.net, &mut world)?;
+    // A book of 2^40 entries would fill any memory.
+    if world.entries() >= 1 << 40 {
+        return Err(Memory);
+    }
+    let findings = findings(alloc, input, &world)?;
+    let (nodes, book) = world.into_book();
+    Ok(Run {
+        book,
+        front,
+        findings,
+        nodes,
+    })
+}

@@ -1,0 +1,10 @@
+// The words of the command line: what they ask for.
+#![tactic(auto)]
+
+mod command;
+mod flags;
+mod sample;
+#[cfg(test)]
+mod tests;
+
+pub use command::{Command, words_of};

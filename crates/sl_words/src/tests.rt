@@ -1,0 +1,162 @@
+// Lists of words, and what they ask for.
+use crate::{Command, words_of};
+use std::alloc::{AllocError, Global};
+use std::test::Fail;
+
+/// A line for each list: the words, of which `''` is the empty one, and after `=>` what they ask
+/// for, nothing where they are no spelling.
+fn table() -> &'static str {
+    r#"step => step
+step --trace => step trace
+step -- => step
+step --trace -- => step trace
+step -- --trace =>
+step -- -- =>
+step --trace -- -- =>
+step --trace --trace =>
+step --trace --trace -- =>
+step --trace -- --trace =>
+step --trace= =>
+step --trace=x =>
+step --trace x =>
+step x --trace =>
+step --tra =>
+step --trac =>
+step --traces =>
+step -trace =>
+step -t =>
+step --Trace =>
+step - =>
+step '' =>
+step --trace '' =>
+step x =>
+step -h =>
+step --help =>
+step --trace -h =>
+step -- -h =>
+step --input =>
+step --version =>
+step -V =>
+step 8 =>
+run => run
+run --trace => run trace
+run -- => run
+run --trace -- => run trace
+run -- --trace =>
+run --input =>
+run -h =>
+run x =>
+routes => routes
+routes -- => routes
+routes --trace =>
+routes -- -- =>
+routes -- --trace =>
+routes --help =>
+routes '' =>
+routes 8 =>
+sample 1 => sample 1
+sample 8 => sample 8
+sample 10 => sample 10
+sample 62 => sample 62
+sample 64 => sample 64
+sample 8 --input => sample 8 input
+sample --input 8 => sample 8 input
+sample 8 -- => sample 8
+sample -- 8 => sample 8
+sample 8 --input -- => sample 8 input
+sample --input 8 -- => sample 8 input
+sample --input -- 8 => sample 8 input
+sample -- 8 --input =>
+sample -- 5 --input =>
+sample -- --input 8 =>
+sample 8 -- --input =>
+sample -- 8 -- =>
+sample 8 -- -- =>
+sample =>
+sample -- =>
+sample --input =>
+sample 0 =>
+sample 00 =>
+sample 08 =>
+sample 65 =>
+sample 100 =>
+sample +8 =>
+sample -8 =>
+sample 8.0 =>
+sample 8x =>
+sample '' =>
+sample 8 '' =>
+sample 8 8 =>
+sample 8 9 =>
+sample 8 --input --input =>
+sample 8 --input=8 =>
+sample 8 --trace =>
+sample -h =>
+sample --help =>
+sample 8 --help =>
+sample x =>
+'' =>
+-- =>
+-- step =>
+--trace =>
+--trace step =>
+-h =>
+--help =>
+walk =>
+Step =>
+steps =>
+ste =>
+8 =>
+"#
+}
+
+/// The words of a line.
+fn split_words(alloc: Global, line: &str) -> Result<Vec<String>, AllocError> {
+    let mut words = Vec::new(alloc);
+    for word in line.split(" ") {
+        let word = if word == "''" { "" } else { word };
+        words.push(String::from_str(alloc, word)?)?;
+    }
+    Ok(words)
+}
+
+fn option_text(is_asked: bool, name: &'static str) -> &'static str {
+    if is_asked { name } else { "" }
+}
+
+/// What was asked for, as a line of the table has it.
+fn told(alloc: Global, command: Option<Command>) -> Result<String, AllocError> {
+    match command {
+        None => Ok(String::new(alloc)),
+        Some(Command::Step(trace)) => { format!(in alloc; " step{}", option_text(trace, " trace")) }
+        Some(Command::Run(trace)) => format!(in alloc; " run{}", option_text(trace, " trace")),
+        Some(Command::Routes) => String::from_str(alloc, " routes"),
+        Some(Command::Sample(number, input)) => {
+            format!(in alloc; " sample {number}{}", option_text(input, " input"))
+        }
+    }
+}
+
+/// The first line of the table that is not so.
+fn wrong_line<'a>(alloc: Global, lines: &'a str) -> Result<Option<&'a str>, Fail> {
+    for line in lines.lines() {
+        let (words, wanted) = line.split_once(" =>").ok_or("no arrow")?;
+        let words = split_words(alloc, words)?;
+        let command = words_of(alloc, words.as_slice()).ok().ok_or("memory")?;
+        let is = told(alloc, command)?;
+        if is.as_str() != wanted {
+            return Ok(Some(line));
+        }
+    }
+    Ok(None)
+}
+
+#[test]
+fn lists_of_words(rt: HostRuntime) -> Result<(), Fail> {
+    let alloc = rt.alloc();
+    assert_eq!(rt; wrong_line(alloc, table())?, None);
+    let none = Vec::new(alloc);
+    let command = words_of(alloc, none.as_slice()).ok().ok_or("memory")?;
+    assert!(rt; command.is_none());
+    Ok(())
+}

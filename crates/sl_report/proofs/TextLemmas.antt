@@ -13,6 +13,8 @@ use Rattle.sl_net.specs.Net.{Net, net_of, units, link_of, link_at, links_into, c
 use Rattle.sl_saves.specs.declared.entry.Total.{Total}
 use Rattle.sl_cut.specs.declared.findings.Row.{Row}
 use Rattle.sl_cut.specs.declared.findings.Finding.{Finding}
+use Rattle.sl_machine.specs.declared.wiring.Entry.{Entry}
+use Rattle.sl_report.specs.TraceText.{entry_line}
 use Rattle.sl_report.specs.Report.{network_line, channel_text, totals_text, row_line, rows_text, finding_text, hosts_text, host_line}
 
 pub totals_more : (net : Net) (ls : List ℕ) (ts : List Total) (i : ℕ) (d : Total) → i < length ls → i < length ts
@@ -57,6 +59,9 @@ rows_more net us rs i d h k = rw (drop_more us i 0 h, drop_more rs i d k) refl
 
 pub findings_more : (net : Net) (fs : List Finding) (i : ℕ) (d : Finding) → i < length fs → flat_map (finding_text net) (drop i fs) ≡ finding_text net (get_or fs i d) ++ flat_map (finding_text net) (drop (i + 1) fs)
 findings_more net fs i d h = rw (drop_more fs i d h) refl
+
+pub entries_more : (net : Net) (es : List Entry) (i : ℕ) (d : Entry) → i < length es → flat_map (entry_line net) (drop i es) ≡ entry_line net (get_or es i d) ++ flat_map (entry_line net) (drop (i + 1) es)
+entries_more net es i d h = rw (drop_more es i d h) refl
 
 -- the sizes of a net as numbers
 abbrev pub sizes_line : ℕ → ℕ → ℕ → List ℕ

@@ -1,3 +1,5 @@
 pub mod Report
 pub mod RoutesText
 pub mod FaultText
+pub mod TraceText
+pub mod SummaryText

@@ -1,14 +1,20 @@
-// The text of a report.
+// The texts of reports, traces, routes, summaries and refused inputs.
 #![tactic(auto)]
 
 mod channels;
 mod fault;
 mod findings;
+mod laws;
 mod lines;
 mod report;
 mod routes;
+mod summary;
+mod trace;
 mod units;
 
 pub use fault::fault_bytes;
+pub use laws::{legal_books_are_choices, traces_are_scripts};
 pub use report::report_bytes;
 pub use routes::routes_bytes;
+pub use summary::summary_bytes;
+pub use trace::{add_trace, trace_bytes};

@@ -7,13 +7,15 @@ use sl_cut::{Drops, Findings, Lost};
 use sl_net::{HostPart, Name, Net, Parts};
 use std::alloc::AllocError;
 
-fn device_count(parts: &Parts) -> usize
+/// How many devices a net has.
+pub fn device_count(parts: &Parts) -> usize
     ensures { result ≡ length parts.now.devices }
 {
     parts.devices.len()
 }
 
-fn host_count(parts: &Parts) -> usize
+/// How many hosts a net has.
+pub fn host_count(parts: &Parts) -> usize
     ensures { result ≡ length parts.now.hosts }
 {
     parts.hosts.len()

@@ -1,0 +1,200 @@
+// The summary of a sample.
+ghost use Rattle.std.specs.Prelude.{◌≡◌, ◌++◌, IfOk, OnOk, length, sum, string_bytes};
+ghost use Rattle.sl_net.specs.Net.{units};
+ghost use Rattle.sl_report.specs.SummaryText.{is_consistent, is_inconsistent, is_pending, is_not_issued, count_verdicts, sample_line, sizes_line, traffic_line, verdicts_line, verdicts_text, lost_in_all, total_lost_line, summary_text};
+
+use crate::lines::{device_count, host_count};
+use sl_cut::{Finding, Findings, Lost, Verdict};
+use sl_machine::Memory;
+use sl_net::{Input, Net};
+use std::alloc::{AllocError, Global};
+
+fn is_consistent(verdict: Verdict) -> bool
+    ensures { result ≡ is_consistent verdict }
+{
+    matches!(verdict, Verdict::Consistent)
+}
+
+fn is_inconsistent(verdict: Verdict) -> bool
+    ensures { result ≡ is_inconsistent verdict }
+{
+    matches!(verdict, Verdict::Inconsistent { .. })
+}
+
+fn is_pending(verdict: Verdict) -> bool
+    ensures { result ≡ is_pending verdict }
+{
+    matches!(verdict, Verdict::Pending { .. })
+}
+
+fn is_not_issued(verdict: Verdict) -> bool
+    ensures { result ≡ is_not_issued verdict }
+{
+    matches!(verdict, Verdict::NotIssued { .. })
+}
+
+fn count_consistent(findings: &[Finding]) -> usize
+    ensures { result ≡ count_verdicts is_consistent findings.now }
+{
+    findings
+        .iter()
+        .filter(|finding| is_consistent(finding.verdict))
+        .count()
+}
+
+fn count_inconsistent(findings: &[Finding]) -> usize
+    ensures { result ≡ count_verdicts is_inconsistent findings.now }
+{
+    findings
+        .iter()
+        .filter(|finding| is_inconsistent(finding.verdict))
+        .count()
+}
+
+fn count_pending(findings: &[Finding]) -> usize
+    ensures { result ≡ count_verdicts is_pending findings.now }
+{
+    findings
+        .iter()
+        .filter(|finding| is_pending(finding.verdict))
+        .count()
+}
+
+fn count_not_issued(findings: &[Finding]) -> usize
+    ensures { result ≡ count_verdicts is_not_issued findings.now }
+{
+    findings
+        .iter()
+        .filter(|finding| is_not_issued(finding.verdict))
+        .count()
+}
+
+/// The sum of the hosts' counts.
+fn sum_of(counts: &[u64]) -> u128
+    ensures { result ≡ sum counts.now }
+{
+    let mut total: u128 = 0;
+    for count in counts {
+        total += *count as u128;
+    }
+    total
+}
+
+fn lost_in_all(lost: &Lost) -> u128
+    ensures { result ≡ lost_in_all lost.now }
+{
+    let Lost {
+        cable,
+        crossbar,
+        init,
+        notice,
+    } = *lost;
+    cable as u128 + crossbar as u128 + init as u128 + notice as u128
+}
+
+#[tactic(auto, unfolding(crate::specs::SummaryText::sample_line))]
+fn push_sample(out: &mut String, n: u64) -> Result<(), AllocError>
+    ensures { OnOk result (string_bytes out.new ≡ string_bytes out.old ++ sample_line n) }
+{
+    write!(out, "sample {n}\n")
+}
+
+#[tactic(auto, unfolding(crate::specs::SummaryText::sizes_line))]
+fn push_sizes(
+    out: &mut String,
+    devices: usize,
+    units: usize,
+    hosts: usize,
+) -> Result<(), AllocError>
+    ensures { OnOk result (string_bytes out.new ≡ string_bytes out.old ++ sizes_line devices units hosts) }
+{
+    write!(out, "devices {devices} units {units} hosts {hosts}\n")
+}
+
+#[tactic(auto, unfolding(crate::specs::SummaryText::traffic_line))]
+fn push_traffic(out: &mut String, sent: u128, delivered: u128) -> Result<(), AllocError>
+    ensures { OnOk result (string_bytes out.new ≡ string_bytes out.old ++ traffic_line sent delivered) }
+{
+    write!(out, "sent {sent} delivered {delivered}\n")
+}
+
+#[tactic(auto, unfolding(crate::specs::SummaryText::verdicts_line))]
+fn push_counts(
+    out: &mut String,
+    consistent: usize,
+    inconsistent: usize,
+    pending: usize,
+    not_issued: usize,
+) -> Result<(), AllocError>
+    ensures { OnOk result (string_bytes out.new ≡ string_bytes out.old ++ verdicts_line consistent inconsistent pending not_issued) }
+{
+    write!(
+        out,
+        "consistent {consistent} inconsistent {inconsistent} pending {pending} \
+         not issued {not_issued}\n"
+    )
+}
+
+/// Writes how many snapshots have each verdict.
+fn push_verdicts(out: &mut String, findings: &[Finding]) -> Result<(), AllocError>
+    ensures { OnOk result (string_bytes out.new ≡ string_bytes out.old ++ verdicts_text findings.now) }
+{
+    push_counts(
+        out,
+        count_consistent(findings),
+        count_inconsistent(findings),
+        count_pending(findings),
+        count_not_issued(findings),
+    )
+}
+
+#[tactic(auto, unfolding(crate::specs::SummaryText::total_lost_line))]
+fn push_total_lost(out: &mut String, lost: u128) -> Result<(), AllocError>
+    ensures { OnOk result (string_bytes out.new ≡ string_bytes out.old ++ total_lost_line lost) }
+{
+    write!(out, "lost {lost}\n")
+}
+
+fn push_net(out: &mut String, net: &Net) -> Result<(), AllocError>
+    ensures { OnOk result (string_bytes out.new ≡ string_bytes out.old ++ sizes_line (length net.now.parts.devices) (length (units net.now)) (length net.now.parts.hosts)) }
+{
+    let parts = net.parts();
+    push_sizes(
+        out,
+        device_count(parts),
+        net.unit_actors().len(),
+        host_count(parts),
+    )
+}
+
+fn summary_of(alloc: Global, n: u64, net: &Net, findings: &Findings) -> Result<Vec<u8>, AllocError>
+    ensures { IfOk result (λ bytes. bytes.items ≡ summary_text n net.now findings.now) }
+{
+    let mut out = String::new(alloc);
+    push_sample(&mut out, n)?;
+    push_net(&mut out, net)?;
+    push_traffic(
+        &mut out,
+        sum_of(findings.sent.items.as_slice()),
+        sum_of(findings.delivered.items.as_slice()),
+    )?;
+    push_verdicts(&mut out, findings.list.items.as_slice())?;
+    push_total_lost(&mut out, lost_in_all(&findings.lost))?;
+    write!(out, "end\n")?;
+    Ok(out.into_bytes())
+}
+
+/// The summary of the findings of a run of the sample input `n`.
+pub fn summary_bytes(
+    alloc: Global,
+    n: u64,
+    input: &Input,
+    findings: &Findings,
+) -> Result<Vec<u8>, Memory>
+    ensures { IfOk result (λ bytes. bytes.items ≡ summary_text n input.now.net findings.now) }
+{
+    match summary_of(alloc, n, &input.net, findings) {
+        Ok(bytes) => Ok(bytes),
+        Err(_) => Err(Memory),
+    }
+}

@@ -8,6 +8,7 @@ use Rattle.sl_io.specs.Pieces.{AppendsPart}
 use Rattle.sl_app.specs.Texts.{write_fault_text, refusal_text}
 use Rattle.sl_app.specs.declared.ended.Refusal.{Refusal}
 use Rattle.sl_app.specs.declared.ended.Ended.{Ended}
+use Rattle.sl_app.specs.Served.{states_of}
 use Rattle.sl_app.specs.Ends.{Writing, TellsWriteFault, Refuses}
 
 -- a count that rose has risen wherever it goes on from there
@@ -26,10 +27,11 @@ told_prefix w (inr h) = (h.0.0, h.0.2)
 
 -- where the line for a refusal failed, and then the line for status 5 was tried
 pub err_fault : (before mid after : Option (List ℕ)) (old now end : ℕ) (refusal : Refusal) (text : List ℕ) (e : Ended) → text ≡ refusal_text refusal → AppendsPart before mid text → old ≤ now → Rose old now
-    → TellsWriteFault (record { before = mid; after = after; faults_before = now; faults_after = end }) → now ≤ end → e ≡ record { status = 5; book = None; front = 0 }
+    → TellsWriteFault (record { before = mid; after = after; faults_before = now; faults_after = end }) → now ≤ end → e ≡ record { status = 5; book = None; front = 0; nodes = None }
     → Refuses (record { before = before; after = after; faults_before = old; faults_after = end }) refusal e
 err_fault before mid after old now end refusal text e is part k rose told l ended = record {
   no_book = ap (λ (x : Ended). x.book) ended;
+  no_nodes = ap (λ (x : Ended). states_of x.nodes) ended;
   no_front = ap (λ (x : Ended). x.front) ended;
   ending = inr (record {
     status = ap (λ (x : Ended). x.status) ended;

@@ -1,67 +1,81 @@
--- The book of a run, by the laws of finishing.
-use Rattle.std.proofs.Common.{◌≡◌, ℕ, ◌<◌, ◌≤◌, List, ◌++◌, length, take, drop, sym, ap, ◌∙◌, subst, arith}
-use Rattle.std.proofs.lemmas.List.{take-append-drop, length-map}
-use Rattle.sl_machine.specs.declared.wiring.Entry.{Entry as BookEntry}
-use Rattle.sl_net.specs.Input.{Input}
+-- An accepted input can be run within the bound, and so can a sample's; what is served for a run.
+use Rattle.std.proofs.Common.{◌≡◌, ℕ, suc, ◌+◌, ◌<◌, ◌≤◌, ◌^◌, Bool, List, [], ◌∷◌, length, map, Option, Some, None, arith}
+use Rattle.std.specs.Prelude.{sum}
+use Rattle.std.specs.List.{All}
+use Rattle.sl_net.specs.declared.input.Flow.{Flow}
+use Rattle.sl_net.specs.declared.input.RawPart.{RawPart}
+use Rattle.sl_net.specs.declared.input.Script1.{Script1}
+use Rattle.sl_net.specs.declared.input.Script1.TheVariants.{Pass, Choice}
+use Rattle.sl_machine.specs.Book.{Book}
 use Rattle.sl_net.specs.Wired.{IsNet}
-use Rattle.sl_cut.specs.History.{World, Losses}
-use Rattle.sl_cut.specs.Setup.{Setup, setup_of}
-use Rattle.sl_cut.specs.World.{Entry, IsLossTable, start, run, world, kept}
-use Rattle.sl_cut.specs.Schedule.{expand}
-use Rattle.sl_cut.specs.End.{IsFin, IsFinished}
-use Rattle.sl_cut.specs.Fuel.{schedule_of}
-use Rattle.sl_cut.specs.Finished.{IsBookOfRun}
-use Rattle.sl_cut.specs.Bound.{input_bound}
-use Rattle.sl_cut.specs.Cut.{cuts}
-use Rattle.sl_cut.specs.Matching.{IsConsistentCut}
-use Rattle.sl_cut.proofs.Turns.{run-append}
-use Rattle.sl_cut.proofs.Trails.{run-kept}
+use Rattle.sl_net.specs.Net.{Net}
+use Rattle.sl_net.specs.Parts.{below}
+use Rattle.sl_net.specs.Input.{Input}
 use Rattle.sl_net.proofs.Checked.{few_hosts}
 use Rattle.sl_net.proofs.NetWired.{no-reason}
-use Rattle.sl_read.specs.Accepted.{IsAccepted}
-use Rattle.sl_app.specs.Served.{IsRunnable, IsRunBook}
+use Rattle.sl_read.specs.Accepted.{IsEntry, IsAccepted}
+use Rattle.sl_flow.specs.Sample.{IsSample, flow, host_count, sample_parts}
+use Rattle.sl_cut.specs.Words.{Each}
+use Rattle.sl_cut.specs.Losses.{losses}
+use Rattle.sl_cut.specs.Bound.{input_bound}
+use Rattle.sl_proto.specs.Nodes.{NodeState}
+use Rattle.sl_emul.specs.Run.{IsLine, CanRun}
+use Rattle.sl_words.specs.declared.command.Command.TheVariants.{Step}
+use Rattle.sl_words.specs.Words.{words_of}
+use Rattle.sl_app.specs.Served.{IsReport}
+use Rattle.sl_app.specs.Ends.{Reading, WasRead, IsServed}
 
--- finishing leads to a finished world
-abbrev pub Finishes : Type 0
-Finishes = (s : Setup) (lost : Losses) (es fs : List Entry) → IsNet s.net → IsLossTable s.net lost → 0 < s.window → IsFin s lost (world s lost es) fs → IsFinished s lost (run s lost (world s lost es) fs)
+each-of : {A : Type 0} (P : A → Type 0) (xs : List A) → All P xs → Each P xs
+each-of P [] all = tt
+each-of P (x ∷ xs) all = (all 0 x (omega arith), each-of P xs (λ k d h. all (suc k) d (omega (arith, h))))
 
--- a run is no longer than the bound says
-abbrev pub Bounded : Type 0
-Bounded = (i : Input) (lost : Losses) (fs : List Entry) → IsNet i.net → IsFin (setup_of i) lost (world (setup_of i) lost (expand i.net i.script)) fs
-    → length (kept (setup_of i) lost (expand i.net i.script) ++ fs) ≤ input_bound i
+each-map : {A B : Type 0} (P : B → Type 0) (f : A → B) (xs : List A) → ((x : A) → P (f x)) → Each P (map f xs)
+each-map P f [] all = tt
+each-map P f (x ∷ xs) all = (all x, each-map P f xs all)
 
--- cuts are consistent
-abbrev pub Consistent : Type 0
-Consistent = (s : Setup) (lost : Losses) (es : List Entry) (k : ℕ) → IsNet s.net → IsConsistentCut s.net lost (world s lost es) (cuts (world s lost es) k)
+each-imp : {A : Type 0} (P Q : A → Type 0) (xs : List A) → ((x : A) → P x → Q x) → Each P xs → Each Q xs
+each-imp P Q [] f all = tt
+each-imp P Q (x ∷ xs) f all = (f x all.0, each-imp P Q xs f all.1)
 
-pub run_book : Finishes → Bounded → Consistent → (i : Input) (lost : Losses) (book : List BookEntry) (front : ℕ) → IsNet i.net → IsLossTable i.net lost → 0 < i.snapshot.window
-    → IsBookOfRun i lost book front → IsRunBook i lost book front
-run_book finishes bounded consistent i lost book front net table window r =
-    let whole : take front (schedule_of book) ++ drop front (schedule_of book) ≡ schedule_of book = take-append-drop front (schedule_of book) in
-    let there : run (setup_of i) lost (world (setup_of i) lost (take front (schedule_of book))) (drop front (schedule_of book)) ≡ world (setup_of i) lost (schedule_of book)
-    = sym (run-append (setup_of i) lost (start i.net) (take front (schedule_of book)) (drop front (schedule_of book))) ∙ ap (world (setup_of i) lost) whole in
-    let reached : world (setup_of i) lost (take front (schedule_of book)) ≡ world (setup_of i) lost (expand i.net i.script)
-    = ap (world (setup_of i) lost) r.script ∙ run-kept (setup_of i) lost (start i.net) (expand i.net i.script) in
-    let short : length (kept (setup_of i) lost (expand i.net i.script) ++ drop front (schedule_of book)) ≤ input_bound i
-    = bounded i lost (drop front (schedule_of book)) net (subst (λ (w : World). IsFin (setup_of i) lost w (drop front (schedule_of book))) reached r.finishing) in
-    let long : length (kept (setup_of i) lost (expand i.net i.script) ++ drop front (schedule_of book)) ≡ length book
-    = ap (λ (xs : List Entry). length (xs ++ drop front (schedule_of book))) (sym r.script) ∙ ap length whole ∙ length-map book (λ (e : BookEntry). (e.actor, e.choice)) in
-    record {
-      run = r;
-      finished = subst (λ (w : World). IsFinished (setup_of i) lost w) there (finishes (setup_of i) lost (take front (schedule_of book)) (drop front (schedule_of book)) net table window r.finishing);
-      within = subst (λ (n : ℕ). n ≤ input_bound i) long short;
-      cuts_consistent = λ k. consistent (setup_of i) lost (schedule_of book) k net;
-    }
+line : (net : Net) (e : Script1) → IsEntry net e → IsLine net e
+line net (Pass n) h = tt
+line net (Choice a c) h = h
 
--- an accepted input can be run
-pub runnable : (i : Input) → IsAccepted i → IsRunnable i
+pub runnable : (i : Input) → IsAccepted i → CanRun i
 runnable i a = record {
-  window = omega (arith, w);
+  net = record { made = a.net; right = a.right };
+  snapshot = record { some_bits = a.snapshot.some_bits; few_bits = a.snapshot.few_bits; some_window = a.snapshot.some_window; some_ring = a.snapshot.some_ring };
   addresses = λ k d h. let f = a.flows k d h in record { from = omega (arith, f.from, few); to = omega (arith, f.to, few) };
+  short = record {
+    flows = each-of (λ (f : Flow). f.bytes < 2 ^ 16) i.flows (λ k d h. (a.flows k d h).bytes);
+    raws = each-of (λ (r : RawPart). Each (λ b. b < 256) r.bytes) i.raws (λ k d h. each-of (λ b. b < 256) _ (a.raws k d h).bytes);
+  };
+  script = λ k d h. line i.net _ (a.script k d h);
 }
   where
-    w : 1 ≤ i.snapshot.window
-    w = a.snapshot.some_window
-
     few : length i.net.parts.hosts ≤ 128
     few = few_hosts i.net.parts (no-reason i.net.parts a.right).1.1.1.1.1.1.0
+
+pub sample_runs : (n : ℕ) → IsSample (sample_parts n) → CanRun (sample_parts n)
+sample_runs n s = record {
+  net = record { made = s.net; right = s.right };
+  snapshot = record { some_bits = omega (arith, s.bits); few_bits = omega (arith, s.bits); some_window = s.some_window; some_ring = omega (arith, s.ring) };
+  addresses = λ k d h. let f = s.flows k d h in record { from = omega (arith, f.from, s.hosts); to = omega (arith, f.to, s.hosts) };
+  short = record { flows = each-map (λ (f : Flow). f.bytes < 2 ^ 16) (flow n) (below (host_count n)) (λ h. omega arith); raws = tt };
+  script = λ k d h. absurd (omega (arith, h));
+}
+
+-- the bound of an input within its limits is small
+abbrev pub Small : Type 0
+Small = (i : Input) → IsNet i.net → i.snapshot.count ≤ 1000 → i.snapshot.retries ≤ 100 → sum (map (λ (f : Flow). f.count) i.flows) + length i.raws ≤ 200000
+    → length i.script ≤ 2 ^ 20 → input_bound i < 2 ^ 27
+
+pub small : Small → (i : Input) → IsAccepted i → input_bound i < 2 ^ 27
+small law i a = law i (record { made = a.net; right = a.right }) a.snapshot.count a.snapshot.retries a.few_packets a.few_entries
+
+-- a report that was made of an input that was read
+pub stepped : (r : Reading) (i : Input) (trace : Bool) → words_of r.words ≡ Some (Step trace) → WasRead r i → input_bound i < 2 ^ 27
+    → (book : Option Book) (front : ℕ) (nodes : Option (List NodeState)) (text : List ℕ) → IsReport i (losses i) book front nodes trace text → IsServed r book front nodes text
+stepped r i trace words read few (Some book) front (Some nodes) text told = record { trace = trace; words = words; input = i; accepted = read; small = few; run = told }
+stepped r i trace words read few (Some book) front None text told = absurd told
+stepped r i trace words read few None front nodes text told = absurd told

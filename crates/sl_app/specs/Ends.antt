@@ -1,23 +1,26 @@
 -- How a call of the program ends, and the cause of each ending.
-use Rattle.std.specs.Prelude.{◌≡◌, ℕ, ◌⊎◌, List, take, Option, Some, None, Ok, Err}
+use Rattle.std.specs.Prelude.{◌≡◌, ℕ, ◌<◌, ◌^◌, Bool, ◌⊎◌, List, take, Option, Some, None, Ok, Err}
 use Rattle.std.specs.Io.KnownBytes.{Appends, Keeps}
 use Rattle.sl_io.specs.Faults.{Rose}
 use Rattle.sl_io.specs.Pieces.{IsReadUpTo, AppendsPart}
 use Rattle.sl_machine.specs.declared.wiring.Entry.{Entry}
 use Rattle.sl_machine.specs.Book.{Book}
-use Rattle.sl_app.specs.declared.words.Command.TheVariants as command
+use Rattle.sl_words.specs.declared.command.Command.{Command}
+use Rattle.sl_words.specs.declared.command.Command.TheVariants as command
+use Rattle.sl_words.specs.Words.{words_of}
 use Rattle.sl_app.specs.declared.ended.Refusal.{Refusal}
 use Rattle.sl_app.specs.declared.ended.Refusal.TheVariants.{Usage, NotBuilt, Input as InputRefused, ReadFault, Memory}
 use Rattle.sl_app.specs.declared.ended.Ended.{Ended}
-use Rattle.sl_app.specs.Words.{asked, reads}
 use Rattle.sl_app.specs.Texts.{status_of, refusal_text, write_fault_text}
 use Rattle.sl_net.specs.Input.{Input}
 use Rattle.sl_read.specs.declared.fault.InputFault.{InputFault}
 use Rattle.sl_read.specs.Inputs.{input_of}
+use Rattle.sl_cut.specs.Bound.{input_bound}
 use Rattle.sl_cut.specs.Losses.{losses}
 use Rattle.sl_report.specs.FaultText.{fault_text}
 use Rattle.sl_report.specs.RoutesText.{routes_text}
-use Rattle.sl_app.specs.Served.{IsRun}
+use Rattle.sl_proto.specs.Nodes.{NodeState}
+use Rattle.sl_app.specs.Served.{IsRun, IsSampleText, states_of}
 
 -- the words, and the source before and after: the bytes left, where it tells them, and its count of faults
 pub record Reading : Type 0 where
@@ -66,32 +69,55 @@ TellsFault fault (InputRefused line) = line.items ≡ fault_text fault
 TellsFault fault Memory = Unit {0}
 TellsFault fault _ = ⊥
 
+-- the words are such that an input is read
+abbrev pub reads : Option Command → Type 0
+reads (Some (command.Step trace)) = Unit {0}
+reads (Some command.Routes) = Unit {0}
+reads _ = ⊥
+
+-- the words ask for a run on threads, which is not built
+abbrev pub is_later : Option Command → Type 0
+is_later (Some (command.Run trace)) = Unit {0}
+is_later _ = ⊥
+
 -- the cause of a refusal; want of memory has none
 abbrev pub HasCause : Reading → Refusal → Type 0
-HasCause r Usage = (asked r.words ≡ command.Usage) × IsUnread r
-HasCause r NotBuilt = (asked r.words ≡ command.NotBuilt) × IsUnread r
-HasCause r (InputRefused line) = reads (asked r.words) × IsRefusedInput r line.items
-HasCause r ReadFault = reads (asked r.words) × Rose r.faults_before r.faults_after
+HasCause r Usage = (words_of r.words ≡ None) × IsUnread r
+HasCause r NotBuilt = is_later (words_of r.words) × IsUnread r
+HasCause r (InputRefused line) = reads (words_of r.words) × IsRefusedInput r line.items
+HasCause r ReadFault = reads (words_of r.words) × Rose r.faults_before r.faults_after
 HasCause r Memory = Unit {0}
 
--- an input was run, with this book and this text of its report
-pub record IsStepped (r : Reading) (book : List Entry) (front : ℕ) (text : List ℕ) : Type 0 where
-  pub words : asked r.words ≡ command.Step
+-- an input was run, with this book, these nodes and this text: its report, and where it was asked for, the trace of the book; no input has a bound on
+-- the turns of its run of 2^27 or more
+pub record IsStepped (r : Reading) (book : List Entry) (front : ℕ) (nodes : List NodeState) (text : List ℕ) : Type 0 where
+  pub trace : Bool
+  pub words : words_of r.words ≡ Some (command.Step trace)
   pub input : Input
   pub accepted : WasRead r input
-  pub run : IsRun input (losses input) book front text
+  pub small : input_bound input < 2 ^ 27
+  pub run : IsRun input (losses input) book front nodes trace text
 
 -- the text of the routes of an input's net
 pub record IsRouted (r : Reading) (text : List ℕ) : Type 0 where
-  pub words : asked r.words ≡ command.Routes
+  pub words : words_of r.words ≡ Some command.Routes
   pub input : Input
   pub accepted : WasRead r input
   pub routes : text ≡ routes_text input.net
 
--- what is served: a run, or routes, for which there is no book
-abbrev pub IsServed : Reading → Option Book → ℕ → List ℕ → Type 0
-IsServed r (Some book) front text = IsStepped r book.entries front text
-IsServed r None front text = IsRouted r text × (front ≡ 0)
+-- the summary of a run of a sample's input, or its text; nothing was read
+pub record IsSampled (r : Reading) (text : List ℕ) : Type 0 where
+  pub number : ℕ
+  pub input : Bool
+  pub words : words_of r.words ≡ Some (command.Sample number input)
+  pub unread : IsUnread r
+  pub sample : IsSampleText number input text
+
+-- what is served: a run, or a text for which there is no book and no node
+abbrev pub IsServed : Reading → Option Book → ℕ → Option (List NodeState) → List ℕ → Type 0
+IsServed r (Some book) front (Some nodes) text = IsStepped r book.entries front nodes text
+IsServed r None front None text = (IsRouted r text ⊎ IsSampled r text) × (front ≡ 0)
+IsServed r _ front _ text = ⊥
 
 -- the whole line for status 5 was appended, or a part of it where the sink's count rose
 abbrev pub TellsWriteFault : Writing → Type 0
@@ -112,10 +138,11 @@ pub record IsOutFault (out err : Writing) (text : List ℕ) (e : Ended) : Type 0
   pub part : AppendsPart out.before out.after text
   pub told : TellsWriteFault err
 
--- what writing a text leaves: the book, where there is one, is returned either way
-pub record Reports (out err : Writing) (book : Option Book) (front : ℕ) (text : List ℕ) (e : Ended) : Type 0 where
+-- what writing a text leaves: the book and the nodes, where there are any, are returned either way
+pub record Reports (out err : Writing) (book : Option Book) (front : ℕ) (nodes : Option (List NodeState)) (text : List ℕ) (e : Ended) : Type 0 where
   pub kept : e.book ≡ book
   pub front_kept : e.front ≡ front
+  pub nodes_kept : states_of e.nodes ≡ nodes
   pub ending : IsWhole out err text e ⊎ IsOutFault out err text e
 
 -- the line for a refusal was written whole
@@ -131,9 +158,10 @@ pub record IsErrFault (err : Writing) (refusal : Refusal) (e : Ended) : Type 0 w
   pub part : AppendsPart err.before between (refusal_text refusal)
   pub told : (n : ℕ) × Appends between err.after (take n write_fault_text)
 
--- what writing a refusal leaves: there is no book
+-- what writing a refusal leaves: there is no book, and no node
 pub record Refuses (err : Writing) (refusal : Refusal) (e : Ended) : Type 0 where
   pub no_book : e.book ≡ None
+  pub no_nodes : states_of e.nodes ≡ None
   pub no_front : e.front ≡ 0
   pub ending : IsTold err refusal e ⊎ IsErrFault err refusal e
 
@@ -143,9 +171,10 @@ pub record Refuses (err : Writing) (refusal : Refusal) (e : Ended) : Type 0 wher
 pub record IsReported (r : Reading) (out err : Writing) (e : Ended) : Type 0 where
   pub book : Option Book
   pub front : ℕ
+  pub nodes : Option (List NodeState)
   pub text : List ℕ
-  pub served : IsServed r book front text
-  pub reports : Reports out err book front text e
+  pub served : IsServed r book front nodes text
+  pub reports : Reports out err book front nodes text e
 
 -- a refusal had its cause, and nothing was appended to `out`
 pub record IsRefused (r : Reading) (out err : Writing) (e : Ended) : Type 0 where

@@ -1,36 +1,51 @@
--- What is served for an input: the book of its run and the text of its report.
-use Rattle.std.specs.Prelude.{◌≡◌, ℕ, ◌<◌, ◌≤◌, List, length}
-use Rattle.std.specs.List.{All}
+-- What is served: for an input the book and the nodes of its run, and the text; for a sample the text.
+use Rattle.std.specs.Prelude.{◌≡◌, ℕ, Bool, true, false, if◌then◌else◌, List, [], ◌++◌, map, Option, Some, None, option_map, Vec}
+use Rattle.std.specs.Global.{Global}
+use Rattle.sl_machine.specs.Book.{Book}
 use Rattle.sl_machine.specs.declared.wiring.Entry.{Entry}
 use Rattle.sl_net.specs.Input.{Input}
-use Rattle.sl_flow.specs.Flow.{HasAddresses}
+use Rattle.sl_flow.specs.Sample.{sample_parts}
+use Rattle.sl_flow.specs.InputText.{sample_text}
 use Rattle.sl_cut.specs.History.{Losses}
+use Rattle.sl_cut.specs.Losses.{losses}
 use Rattle.sl_cut.specs.Setup.{setup_of}
 use Rattle.sl_cut.specs.World.{world}
-use Rattle.sl_cut.specs.End.{IsFinished}
-use Rattle.sl_cut.specs.Fuel.{schedule_of}
-use Rattle.sl_cut.specs.Finished.{IsBookOfRun}
-use Rattle.sl_cut.specs.Bound.{input_bound}
-use Rattle.sl_cut.specs.Cut.{cuts}
-use Rattle.sl_cut.specs.Matching.{IsConsistentCut}
+use Rattle.sl_cut.specs.Books.{schedule_of}
 use Rattle.sl_cut.specs.Findings.{findings}
+use Rattle.sl_proto.specs.declared.node.Node.{Node}
+use Rattle.sl_proto.specs.Nodes.{NodeState, node_state}
+use Rattle.sl_emul.specs.Run.{IsRunBook, AreNodesOf}
 use Rattle.sl_report.specs.Report.{report_text}
+use Rattle.sl_report.specs.TraceText.{trace_text}
+use Rattle.sl_report.specs.SummaryText.{summary_text}
 
--- what a run asks of its input: a window, and packets that have 16 bits for each host
-pub record IsRunnable (i : Input) : Type 0 where
-  pub window : 0 < i.snapshot.window
-  pub addresses : All HasAddresses i.flows
+-- the report of a run, and where it is asked for, the trace of its book
+abbrev pub run_text : Input → Losses → List Entry → Bool → List ℕ
+run_text i lost book trace = report_text i.net i.snapshot.count (findings (setup_of i) lost (schedule_of book)) ++ (if trace then trace_text i.net book else [])
 
--- The book of a run of an input under a loss table, with so many entries before finishing: it is the script's and then what finishing takes, and legal;
--- its world is finished; it has at most as many entries as the bound says; and for each number the steps before the units' ids reached it are a
--- consistent cut, whatever the verdict on it.
-pub record IsRunBook (i : Input) (lost : Losses) (book : List Entry) (front : ℕ) : Type 0 where
-  pub run : IsBookOfRun i lost book front
-  pub finished : IsFinished (setup_of i) lost (world (setup_of i) lost (schedule_of book))
-  pub within : length book ≤ input_bound i
-  pub cuts_consistent : (k : ℕ) → IsConsistentCut i.net lost (world (setup_of i) lost (schedule_of book)) (cuts (world (setup_of i) lost (schedule_of book)) k)
-
--- the book, and the text of the report of its findings
-pub record IsRun (i : Input) (lost : Losses) (book : List Entry) (front : ℕ) (text : List ℕ) : Type 0 where
+-- the book of a run under a loss table, the nodes that it leads to, and the text
+pub record IsRun (i : Input) (lost : Losses) (book : List Entry) (front : ℕ) (nodes : List NodeState) (trace : Bool) (text : List ℕ) : Type 0 where
   pub run : IsRunBook i lost book front
-  pub report : text ≡ report_text i.net i.snapshot.count (findings (setup_of i) lost (schedule_of book))
+  pub stand : AreNodesOf i (world (setup_of i) lost (schedule_of book)) nodes
+  pub text_is : text ≡ run_text i lost book trace
+
+-- what nodes that are kept stand for
+abbrev pub states_of : Option (Vec Node Global) → Option (List NodeState)
+states_of nodes = option_map (λ ns. map node_state ns.items) nodes
+
+-- a run, with its book and its nodes
+abbrev pub IsReport : Input → Losses → Option Book → ℕ → Option (List NodeState) → Bool → List ℕ → Type 0
+IsReport i lost (Some book) front (Some nodes) trace text = IsRun i lost book.entries front nodes trace text
+IsReport i lost _ front _ trace text = ⊥
+
+-- the summary of the findings of a run of a sample's input
+pub record IsSummary (number : ℕ) (i : Input) (text : List ℕ) : Type 0 where
+  pub book : List Entry
+  pub front : ℕ
+  pub run : IsRunBook i (losses i) book front
+  pub text_is : text ≡ summary_text number i.net (findings (setup_of i) (losses i) (schedule_of book))
+
+-- that, or the text of the sample's input
+abbrev pub IsSampleText : ℕ → Bool → List ℕ → Type 0
+IsSampleText number false text = IsSummary number (sample_parts number) text
+IsSampleText number true text = text ≡ sample_text number

@@ -3,6 +3,7 @@ ghost use Rattle.std.specs.Prelude.{◌≡◌};
 ghost use Rattle.sl_app.specs.Texts.{status_of, refusal_text};
 
 use sl_machine::Book;
+use sl_proto::Node;
 
 /// Why nothing is served.
 #[derive(Debug, Drop)]
@@ -50,11 +51,12 @@ impl Refusal {
     }
 }
 
-/// How a call ended: the exit status, the book of the run where there is one, and how many of its
-/// entries come before finishing.
+/// How a call ended: the exit status, the book of the run where there is one, how many of its
+/// entries come before finishing, and the nodes that the run ended with, one per actor in order.
 #[derive(Drop)]
 pub struct Ended {
     pub status: u8,
     pub book: Option<Book>,
     pub front: u64,
+    pub nodes: Option<Vec<Node>>,
 }

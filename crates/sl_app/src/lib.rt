@@ -5,10 +5,10 @@ mod ended;
 #[cfg(test)]
 mod rows;
 mod run;
+mod sample;
 #[cfg(test)]
 mod tests;
 mod top;
-mod words;
 
 pub use ended::{Ended, Refusal};
-pub use top::speedlight;
+pub use top::{refuse, speedlight};

@@ -1,86 +1,76 @@
-// The run of an input.
-ghost use Rattle.std.specs.Prelude.{◌≡◌, ◌<◌, ◌^◌, None, IfOk, IfSome, IsSome, length};
+// What is served for an input: the report of a run with its trace, and routes.
+ghost use Rattle.std.specs.Prelude.{◌≡◌, None, IfOk, OnOk, if◌then◌else◌, [], ◌++◌};
 ghost use Rattle.std.specs.List.{All};
-ghost use Rattle.sl_flow.specs.Flow.{HasAddresses};
 ghost use Rattle.sl_cut.specs.Losses.{losses};
-ghost use Rattle.sl_cut.specs.Setup.{setup_of};
-ghost use Rattle.sl_cut.specs.Fuel.{schedule_of};
-ghost use Rattle.sl_cut.specs.Findings.{findings};
-ghost use Rattle.sl_report.specs.Report.{report_text};
 ghost use Rattle.sl_report.specs.RoutesText.{routes_text};
-ghost use Rattle.sl_app.specs.Served.{IsRunnable, IsRunBook, IsRun};
+ghost use Rattle.sl_report.specs.TraceText.{IsEntryOf, trace_text};
+ghost use Rattle.sl_emul.specs.Run.{CanRun};
+ghost use Rattle.sl_app.specs.Served.{IsReport, states_of};
 
-use sl_cut::{
-    RunBook, cuts_are_consistent, findings_of, inputs_spare_reliable_links, run_histories,
-};
-use sl_finish::{finishing_finishes, inputs_are_bounded};
-use sl_machine::{Book, Entry, Memory};
-use sl_net::Input;
-use sl_report::{report_bytes, routes_bytes};
+use sl_emul::run_stepped;
+use sl_machine::{Book, Memory};
+use sl_net::{Input, Net};
+use sl_proto::Node;
+use sl_report::{add_trace, legal_books_are_choices, report_bytes, routes_bytes};
 use sl_route::Routes;
 use std::alloc::Global;
 
-/// What is served for an input: a text, and where it is the report of a run, the book of the run
-/// and how many of its entries come before finishing.
+/// What is served: a text, and where it is that of a run of an input, the book of the run, how many
+/// of its entries come before finishing, and the nodes that it ended with.
 #[derive(Drop)]
 pub struct Served {
     pub book: Option<Book>,
     pub front: u64,
+    pub nodes: Option<Vec<Node>>,
     pub text: Vec<u8>,
 }
 
-/// The turns of a book without their numbers.
-fn schedule_of(alloc: Global, entries: &[Entry]) -> Result<Vec<(u32, u32)>, Memory>
-    ensures { IfOk result (λ schedule. schedule.items ≡ schedule_of entries.now) }
+/// A text without a run.
+pub fn only_text(text: Vec<u8>) -> Served
+    ensures text { result.text.items ≡ text.items }
+    ensures book { result.book ≡ None }
+    ensures front { result.front ≡ 0 }
+    ensures nodes { states_of result.nodes ≡ None }
 {
-    match entries
-        .iter()
-        .map(|entry| (entry.actor, entry.choice))
-        .collect(alloc)
-    {
-        Ok(schedule) => Ok(schedule),
-        Err(_) => Err(Memory),
+    Served {
+        book: None,
+        front: 0,
+        nodes: None,
+        text,
     }
 }
 
-/// The book of the run of an input.
-fn book_of(alloc: Global, input: &Input) -> Result<RunBook, Memory>
-    requires { IsRunnable input.now }
-    ensures { IfOk result (λ run. IsRunBook input.now (losses input.now) run.book.entries run.front) }
+/// Adds the trace of a book where it is asked for.
+fn add_trace_if(
+    alloc: Global,
+    text: &mut Vec<u8>,
+    net: &Net,
+    book: &Book,
+    trace: bool,
+) -> Result<(), Memory>
+    requires { All (IsEntryOf net.now) book.now.entries }
+    ensures { OnOk result (text.new.items ≡ text.old.items ++ (if trace then trace_text net.now book.now.entries else [])) }
 {
-    finishing_finishes();
-    inputs_are_bounded();
-    cuts_are_consistent();
-    inputs_spare_reliable_links();
-    let _parts = input.net.parts();
-    run_histories(alloc, input)
-}
-
-/// The text of the report of a run with this book. A book of 2^40 entries would fill any memory,
-/// and is answered so.
-fn report_run(alloc: Global, input: &Input, book: &Book) -> Result<Vec<u8>, Memory>
-    requires { All HasAddresses input.now.flows }
-    ensures { IfOk result (λ text. text.items ≡ report_text input.now.net input.now.snapshot.count (findings (setup_of input.now) (losses input.now) (schedule_of book.now.entries))) }
-{
-    let schedule = schedule_of(alloc, book.entries.as_slice())?;
-    if schedule.len() >= 1 << 40 {
-        return Err(Memory);
+    if trace {
+        add_trace(alloc, text, net, book)
+    } else {
+        Ok(())
     }
-    let findings = findings_of(alloc, input, schedule.as_slice())?;
-    report_bytes(alloc, input, &findings)
 }
 
-/// Runs an input.
-pub fn serve_run(alloc: Global, input: &Input) -> Result<Served, Memory>
-    requires { IsRunnable input.now }
-    ensures run { IfOk result (λ s. IfSome s.book (λ book. IsRun input.now (losses input.now) book.entries s.front s.text.items)) }
-    ensures book { IfOk result (λ s. IsSome s.book) }
+/// Runs an input, and reports it, with its trace where that is asked for.
+pub fn serve_run(alloc: Global, input: &Input, trace: bool) -> Result<Served, Memory>
+    requires { CanRun input.now }
+    ensures { IfOk result (λ s. IsReport input.now (losses input.now) s.book s.front (states_of s.nodes) trace s.text.items) }
 {
-    let run = book_of(alloc, input)?;
-    let text = report_run(alloc, input, &run.book)?;
+    legal_books_are_choices();
+    let run = run_stepped(alloc, input)?;
+    let mut text = report_bytes(alloc, input, &run.findings)?;
+    add_trace_if(alloc, &mut text, &input.net, &run.book, trace)?;
     Ok(Served {
         book: Some(run.book),
         front: run.front,
+        nodes: Some(run.nodes),
         text,
     })
 }
@@ -90,12 +80,9 @@ pub fn serve_routes(alloc: Global, input: &Input) -> Result<Served, Memory>
     ensures text { IfOk result (λ s. s.text.items ≡ routes_text input.now.net) }
     ensures book { IfOk result (λ s. s.book ≡ None) }
     ensures front { IfOk result (λ s. s.front ≡ 0) }
+    ensures nodes { IfOk result (λ s. states_of s.nodes ≡ None) }
 {
     let routes = Routes::make(alloc, &input.net)?;
     let text = routes_bytes(alloc, &input.net, &routes)?;
-    Ok(Served {
-        book: None,
-        front: 0,
-        text,
-    })
+    Ok(only_text(text))
 }

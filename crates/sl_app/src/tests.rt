@@ -1,7 +1,12 @@
 // Calls over sources and sinks in memory: the worked rows, the longest input, words, and faults at
 // each call.
 use crate::{rows, speedlight};
+use sl_cut::findings_of;
+use sl_flow::{sample_input, sample_parts};
 use sl_io::{MemorySink, MemorySource};
+use sl_net::{Input, Net, find_choice};
+use sl_read::read_input;
+use sl_report::report_bytes;
 use std::alloc::{AllocError, Global};
 use std::test::Fail;
 
@@ -28,6 +33,14 @@ fn words_of(alloc: Global, words: &[&str]) -> Result<Vec<String>, AllocError> {
     Ok(owned)
 }
 
+fn split_words<'a>(alloc: Global, line: &'a str) -> Result<Vec<&'a str>, AllocError> {
+    let mut words = Vec::new(alloc);
+    for word in line.split(" ") {
+        words.push(word)?;
+    }
+    Ok(words)
+}
+
 /// Calls with these words and this input, where the calls of these numbers fail.
 fn call(alloc: Global, words: &[&str], text: &str, fail: (u64, u64, u64)) -> Result<Left, Fail> {
     let bytes = Vec::from_slice(alloc, text.as_bytes())?;
@@ -50,15 +63,16 @@ fn call(alloc: Global, words: &[&str], text: &str, fail: (u64, u64, u64)) -> Res
 
 /// Whether a row is what its call does: the words of its first line, its input, and what it writes.
 fn is_done(alloc: Global, head: &str, input: &str, told: &str) -> Result<bool, Fail> {
-    let (word, _) = head.split_once(" ").ok_or("no word")?;
-    let left = call(alloc, &[word], input, (0, 0, 0))?;
+    let (words, _) = head.rsplit_once(" ").ok_or("no word")?;
+    let words = split_words(alloc, words)?;
+    let left = call(alloc, words.as_slice(), input, (0, 0, 0))?;
     let refused = told.starts_with("speedlight: ");
     if refused {
         return Ok(
             left.status == 3 && left.out.is_empty() && left.err.as_slice() == told.as_bytes(),
         );
     }
-    let book = left.has_book == (word == "step");
+    let book = left.has_book == is_step(words.as_slice());
     Ok(book && left.status == 0 && left.err.is_empty() && left.out.as_slice() == told.as_bytes())
 }
 
@@ -82,6 +96,7 @@ fn worked_rows(rt: HostRuntime) -> Result<(), Fail> {
     assert_eq!(rt; wrong_row(alloc, rows::verdicts())?, None);
     assert_eq!(rt; wrong_row(alloc, rows::refusals())?, None);
     assert_eq!(rt; wrong_row(alloc, rows::routes())?, None);
+    assert_eq!(rt; wrong_row(alloc, rows::traces_and_samples())?, None);
     Ok(())
 }
 
@@ -156,19 +171,22 @@ fn words_and_faults(rt: HostRuntime) -> Result<(), Fail> {
     let write_fault = "speedlight: write fault\n";
     // The words, the calls that fail, the status, and what is on the error sink. A source of one
     // piece is read twice. A read that fails is told, whatever the words of the input.
-    let rows: [(&[&str], (u64, u64, u64), u8, &str); 15] = [
+    let rows: [(&[&str], (u64, u64, u64), u8, &str); 18] = [
         (&[], (1, 0, 0), 2, USAGE),
         (&["walk"], (1, 0, 0), 2, USAGE),
         (&["-h"], (1, 0, 0), 2, USAGE),
         (&["run"], (1, 0, 0), 3, not_built),
-        (&["sample", "8"], (1, 0, 0), 3, not_built),
-        (&["routes", "x"], (1, 0, 0), 3, not_built),
-        (&["step", "--trace"], (1, 0, 0), 3, not_built),
+        (&["run", "--trace"], (1, 0, 0), 3, not_built),
+        (&["sample", "65"], (1, 0, 0), 2, USAGE),
+        (&["routes", "x"], (1, 0, 0), 2, USAGE),
+        (&["step", "--trace", "--trace"], (1, 0, 0), 2, USAGE),
+        (&["step", "--trace"], (1, 0, 0), 4, read_fault),
         (&["step"], (1, 0, 0), 4, read_fault),
         (&["step"], (2, 0, 0), 4, read_fault),
         (&["routes"], (1, 0, 0), 4, read_fault),
         (&["routes"], (0, 1, 0), 5, write_fault),
         (&["step"], (0, 1, 0), 5, write_fault),
+        (&["sample", "8"], (1, 1, 0), 5, write_fault),
         (&["walk"], (0, 0, 1), 5, write_fault),
         (&["step"], (1, 0, 1), 5, write_fault),
         (&["step"], (0, 1, 1), 5, ""),
@@ -186,5 +204,107 @@ fn words_and_faults(rt: HostRuntime) -> Result<(), Fail> {
         let has_book = fail.1 != 0 && is_step(words);
         assert_eq!(rt; left.has_book, has_book, "{count} words, {fail:?}");
     }
+    Ok(())
+}
+
+/// All that an input says but its net's tables, as a text.
+fn described(alloc: Global, input: &Input) -> Result<String, AllocError> {
+    format!(in alloc;
+        "{:?} {:?} {:?} {:?} {:?} {:?}",
+        input.net.parts(),
+        input.snapshot,
+        input.loss,
+        input.flows.as_slice(),
+        input.raws.as_slice(),
+        input.script.as_slice()
+    )
+}
+
+fn described_text(alloc: Global, text: &[u8]) -> Result<String, Fail> {
+    let input = read_input(alloc, text).ok().ok_or("refused")?;
+    Ok(described(alloc, &input)?)
+}
+
+fn described_sample(alloc: Global, number: u64) -> Result<String, Fail> {
+    let input = sample_parts(alloc, number).ok().ok_or("no sample")?;
+    Ok(described(alloc, &input)?)
+}
+
+/// Whether the text of a sample is read as its input.
+fn reads_back(alloc: Global, number: u64) -> Result<bool, Fail> {
+    let text = sample_input(alloc, number).ok().ok_or("no text")?;
+    let read = described_text(alloc, text.as_slice())?;
+    let made = described_sample(alloc, number)?;
+    Ok(read.as_str() == made.as_str())
+}
+
+/// Whether a summary says that all snapshots are consistent and all packets delivered.
+fn is_whole(alloc: Global, summary: &str, number: u64) -> Result<bool, Fail> {
+    let hosts = 2 * (2 + number % 7);
+    let packets = 5 * number * hosts;
+    let sent = format!(in alloc; "sent {packets} delivered {packets}\n")?;
+    let verdicts = "consistent 5 inconsistent 0 pending 0 not issued 0\nlost 0\nend\n";
+    Ok(summary.contains(sent.as_str()) && summary.ends_with(verdicts))
+}
+
+fn summary_of(alloc: Global, number: u64) -> Result<String, Fail> {
+    let word = format!(in alloc; "{number}")?;
+    let left = call(alloc, &["sample", word.as_str()], "", (0, 0, 0))?;
+    Ok(String::from_utf8(left.out).ok().ok_or("no text")?)
+}
+
+/// The text of each sample is read as its input, and each sample of an even number is whole.
+#[test]
+fn samples(rt: HostRuntime) -> Result<(), Fail> {
+    let alloc = rt.alloc();
+    for number in 1..65 {
+        assert!(rt; reads_back(alloc, number)?, "{number}");
+    }
+    for half in 1..33 {
+        let summary = summary_of(alloc, 2 * half)?;
+        assert!(rt; is_whole(alloc, summary.as_str(), 2 * half)?, "{summary}");
+    }
+    Ok(())
+}
+
+/// The turns of lines that spell them.
+fn turns(alloc: Global, net: &Net, lines: &str) -> Result<Vec<(u32, u32)>, Fail> {
+    let mut turns = Vec::new(alloc);
+    for line in lines.lines() {
+        turns.push(find_choice(net, line).ok_or("no choice")?)?;
+    }
+    Ok(turns)
+}
+
+/// The report of the findings of a schedule, computed from whole histories.
+fn report_of(alloc: Global, text: &str, lines: &str) -> Result<Vec<u8>, Fail> {
+    let input = read_input(alloc, text.as_bytes()).ok().ok_or("refused")?;
+    let schedule = turns(alloc, &input.net, lines)?;
+    if schedule.len() >= 1 << 40 {
+        return Err("too long".into());
+    }
+    let findings = findings_of(alloc, &input, schedule.as_slice())
+        .ok()
+        .ok_or("memory")?;
+    Ok(report_bytes(alloc, &input, &findings).ok().ok_or("memory")?)
+}
+
+/// The name of the first row whose schedule has other findings.
+fn wrong_schedule<'a>(alloc: Global, table: &'a str) -> Result<Option<&'a str>, Fail> {
+    for row in table.split("==\n") {
+        let (name, rest) = row.split_once("\n").ok_or("no input")?;
+        let (input, rest) = rest.split_once("--\n").ok_or("no schedule")?;
+        let (lines, report) = rest.split_once("--\n").ok_or("no report")?;
+        if report_of(alloc, input, lines)?.as_slice() != report.as_bytes() {
+            return Ok(Some(name));
+        }
+    }
+    Ok(None)
+}
+
+/// The findings of schedules that are written down.
+#[test]
+fn written_schedules(rt: HostRuntime) -> Result<(), Fail> {
+    assert_eq!(rt; wrong_schedule(rt.alloc(), rows::schedules())?, None);
     Ok(())
 }

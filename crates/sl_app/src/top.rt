@@ -1,17 +1,21 @@
 // The top call.
-ghost use Rattle.std.specs.Prelude.{◌≡◌, ◌≤◌, ℕ, List, [], map, string_bytes, MatchResult, IfOk};
+ghost use Rattle.std.specs.Prelude.{◌≡◌, ◌≤◌, ℕ, List, [], Some, None, map, string_bytes, MatchResult, IfOk};
+ghost use Rattle.sl_flow.specs.Sample.{IsSampleNumber};
+ghost use Rattle.sl_words.specs.Words.{words_of};
+ghost use Rattle.sl_words.specs.declared.command.Command.TheVariants as command;
 ghost use Rattle.sl_read.specs.Accepted.{IsAccepted};
-ghost use Rattle.sl_app.specs.Words.{asked, reads};
-ghost use Rattle.sl_app.specs.declared.words.Command.TheVariants as command;
-ghost use Rattle.sl_app.specs.Ends.{Ends, Reading, Writing, HasCause, WasRead, IsServed, TellsFault, TellsWriteFault, Refuses, Reports};
+ghost use Rattle.sl_app.specs.Served.{IsSampleText, states_of};
+ghost use Rattle.sl_app.specs.Ends.{Ends, Reading, Writing, HasCause, WasRead, IsServed, reads, TellsFault, TellsWriteFault, Refuses, Reports};
 
 use crate::ended::{Ended, Refusal};
-use crate::run::{Served, serve_routes, serve_run};
-use crate::words::{Command, asked};
+use crate::run::{Served, only_text, serve_routes, serve_run};
+use crate::sample::sample_bytes;
+use sl_finish::input_bounds_are_small;
 use sl_io::{ReadFault, Sink, Source, read_all, write_all};
 use sl_net::Input;
 use sl_read::{InputFault, read_input};
 use sl_report::fault_bytes;
+use sl_words::{Command, words_of};
 use std::alloc::Global;
 
 /// The most bytes of an input, and one more.
@@ -29,7 +33,7 @@ fn refused(alloc: Global, fault: &InputFault) -> Refusal
 
 /// Reads an input, or says why there is none.
 fn accept<I: Source>(alloc: Global, words: &[String], input: &mut I) -> Result<Input, Refusal>
-    requires { reads (asked (map (λ w. string_bytes w) words.now)) }
+    requires { reads (words_of (map (λ w. string_bytes w) words.now)) }
     ensures { let r : Reading = record { words = map (λ w. string_bytes w) words.now; before = I.left input.old; after = I.left input.new; faults_before = I.faults input.old; faults_after = I.faults input.new } in MatchResult result (λ i. WasRead r i × IsAccepted i) (HasCause r) }
 {
     let bytes = match read_all(alloc, input, LIMIT) {
@@ -44,23 +48,29 @@ fn accept<I: Source>(alloc: Global, words: &[String], input: &mut I) -> Result<I
     }
 }
 
-fn step<I: Source>(alloc: Global, words: &[String], input: &mut I) -> Result<Served, Refusal>
-    requires { asked (map (λ w. string_bytes w) words.now) ≡ command.Step }
-    ensures { let r : Reading = record { words = map (λ w. string_bytes w) words.now; before = I.left input.old; after = I.left input.new; faults_before = I.faults input.old; faults_after = I.faults input.new } in MatchResult result (λ s. IsServed r s.book s.front s.text.items) (HasCause r) }
+fn step<I: Source>(
+    alloc: Global,
+    words: &[String],
+    trace: bool,
+    input: &mut I,
+) -> Result<Served, Refusal>
+    requires { words_of (map (λ w. string_bytes w) words.now) ≡ Some (command.Step trace) }
+    ensures { let r : Reading = record { words = map (λ w. string_bytes w) words.now; before = I.left input.old; after = I.left input.new; faults_before = I.faults input.old; faults_after = I.faults input.new } in MatchResult result (λ s. IsServed r s.book s.front (states_of s.nodes) s.text.items) (HasCause r) }
 {
+    input_bounds_are_small();
     let accepted = match accept(alloc, words, input) {
         Ok(accepted) => accepted,
         Err(refusal) => return Err(refusal),
     };
-    match serve_run(alloc, &accepted) {
+    match serve_run(alloc, &accepted, trace) {
         Ok(served) => Ok(served),
         Err(_) => Err(Refusal::Memory),
     }
 }
 
 fn routes<I: Source>(alloc: Global, words: &[String], input: &mut I) -> Result<Served, Refusal>
-    requires { asked (map (λ w. string_bytes w) words.now) ≡ command.Routes }
-    ensures { let r : Reading = record { words = map (λ w. string_bytes w) words.now; before = I.left input.old; after = I.left input.new; faults_before = I.faults input.old; faults_after = I.faults input.new } in MatchResult result (λ s. IsServed r s.book s.front s.text.items) (HasCause r) }
+    requires { words_of (map (λ w. string_bytes w) words.now) ≡ Some command.Routes }
+    ensures { let r : Reading = record { words = map (λ w. string_bytes w) words.now; before = I.left input.old; after = I.left input.new; faults_before = I.faults input.old; faults_after = I.faults input.new } in MatchResult result (λ s. IsServed r s.book s.front (states_of s.nodes) s.text.items) (HasCause r) }
 {
     let accepted = match accept(alloc, words, input) {
         Ok(accepted) => accepted,
@@ -72,14 +82,26 @@ fn routes<I: Source>(alloc: Global, words: &[String], input: &mut I) -> Result<S
     }
 }
 
-fn serve<I: Source>(alloc: Global, words: &[String], input: &mut I) -> Result<Served, Refusal>
-    ensures { let r : Reading = record { words = map (λ w. string_bytes w) words.now; before = I.left input.old; after = I.left input.new; faults_before = I.faults input.old; faults_after = I.faults input.new } in MatchResult result (λ s. IsServed r s.book s.front s.text.items) (HasCause r) }
+fn sample(alloc: Global, number: u8, text: bool) -> Result<Served, Refusal>
+    requires { IsSampleNumber number }
+    ensures { MatchResult result (λ s. IsSampleText number text s.text.items × (s.book ≡ None) × (s.front ≡ 0) × (states_of s.nodes ≡ None)) (λ e. e ≡ Refusal.Memory) }
 {
-    match asked(words) {
-        Command::Usage => Err(Refusal::Usage),
-        Command::NotBuilt => Err(Refusal::NotBuilt),
-        Command::Step => step(alloc, words, input),
-        Command::Routes => routes(alloc, words, input),
+    match sample_bytes(alloc, number, text) {
+        Ok(bytes) => Ok(only_text(bytes)),
+        Err(_) => Err(Refusal::Memory),
+    }
+}
+
+fn serve<I: Source>(alloc: Global, words: &[String], input: &mut I) -> Result<Served, Refusal>
+    ensures { let r : Reading = record { words = map (λ w. string_bytes w) words.now; before = I.left input.old; after = I.left input.new; faults_before = I.faults input.old; faults_after = I.faults input.new } in MatchResult result (λ s. IsServed r s.book s.front (states_of s.nodes) s.text.items) (HasCause r) }
+{
+    match words_of(alloc, words) {
+        Ok(Some(Command::Step(trace))) => step(alloc, words, trace, input),
+        Ok(Some(Command::Routes)) => routes(alloc, words, input),
+        Ok(Some(Command::Sample(number, text))) => sample(alloc, number, text),
+        Ok(Some(Command::Run(_))) => Err(Refusal::NotBuilt),
+        Ok(None) => Err(Refusal::Usage),
+        Err(_) => Err(Refusal::Memory),
     }
 }
 
@@ -94,17 +116,18 @@ fn tell_write_fault<E: Sink>(err: &mut E)
 
 /// An ending without a book.
 fn ended_without(status: u8) -> Ended
-    ensures { result ≡ record { status = status; book = None; front = 0 } }
+    ensures { result ≡ record { status = status; book = None; front = 0; nodes = None } }
 {
     Ended {
         status,
         book: None,
         front: 0,
+        nodes: None,
     }
 }
 
-/// Writes the line for a refusal, or that it could not be written.
-fn refuse<E: Sink>(refusal: &Refusal, err: &mut E) -> Ended
+/// Ends with a refusal: writes its line, or that it could not be written.
+pub fn refuse<E: Sink>(refusal: &Refusal, err: &mut E) -> Ended
     ensures { let w : Writing = record { before = E.written err.old; after = E.written err.new; faults_before = E.faults err.old; faults_after = E.faults err.new } in Refuses w refusal.now result }
 {
     match write_all(err, refusal.text()) {
@@ -118,7 +141,7 @@ fn refuse<E: Sink>(refusal: &Refusal, err: &mut E) -> Ended
 
 /// Writes what is served, or that it could not be written.
 fn report<O: Sink, E: Sink>(served: Served, out: &mut O, err: &mut E) -> Ended
-    ensures { let o : Writing = record { before = O.written out.old; after = O.written out.new; faults_before = O.faults out.old; faults_after = O.faults out.new } in let w : Writing = record { before = E.written err.old; after = E.written err.new; faults_before = E.faults err.old; faults_after = E.faults err.new } in Reports o w served.book served.front served.text.items result }
+    ensures { let o : Writing = record { before = O.written out.old; after = O.written out.new; faults_before = O.faults out.old; faults_after = O.faults out.new } in let w : Writing = record { before = E.written err.old; after = E.written err.new; faults_before = E.faults err.old; faults_after = E.faults err.new } in Reports o w served.book served.front (states_of served.nodes) served.text.items result }
 {
     let status = match write_all(out, &served.text) {
         Ok(()) => 0,
@@ -131,6 +154,7 @@ fn report<O: Sink, E: Sink>(served: Served, out: &mut O, err: &mut E) -> Ended
         status,
         book: served.book,
         front: served.front,
+        nodes: served.nodes,
     }
 }
 

@@ -1,10 +1,11 @@
 // The program: the top call over standard input, output and error.
 #![tactic(auto)]
 
-use sl_app::speedlight;
+use sl_app::{Refusal, refuse, speedlight};
 use sl_io::{StdSink, StdSource};
 use std::alloc::{AllocError, Global};
 use std::env::{self, Args};
+use std::io::{self, ErrorKind};
 use std::process::ExitCode;
 
 /// The words after the program's name.
@@ -16,16 +17,23 @@ fn words_of(alloc: Global, args: Args) -> Result<Vec<String>, AllocError> {
     Ok(words)
 }
 
+/// The words of the command line, or none of them where one is no text: such a word stands in no
+/// command.
+fn read_words(alloc: Global, args: io::Result<Args>) -> Result<Vec<String>, AllocError> {
+    match args {
+        Ok(args) => words_of(alloc, args),
+        Err(error) if error.kind() == ErrorKind::InvalidData => Ok(Vec::new(alloc)),
+        Err(_) => Err(AllocError),
+    }
+}
+
 fn main(rt: HostRuntime) -> ExitCode {
-    let Ok(args) = env::args(&rt) else {
-        return ExitCode::from(6);
-    };
-    let Ok(words) = words_of(rt.alloc(), args) else {
-        return ExitCode::from(6);
-    };
     let mut input = StdSource::new(rt.stdin());
     let mut out = StdSink::new(rt.stdout());
     let mut err = StdSink::new(rt.stderr());
-    let ended = speedlight(rt.alloc(), &words, &mut input, &mut out, &mut err);
+    let ended = match read_words(rt.alloc(), env::args(&rt)) {
+        Ok(words) => speedlight(rt.alloc(), &words, &mut input, &mut out, &mut err),
+        Err(_) => refuse(&Refusal::Memory, &mut err),
+    };
     ExitCode::from(ended.status)
 }

@@ -1,0 +1,24 @@
+use Rattle.std.proofs.Common.{sym, subst, ap, ◌∙◌}
+use Rattle.std.proofs.lemmas.Result.{IfOk-weaker}
+use Rattle.sl_net.specs.Input.{Input}
+use Rattle.sl_flow.specs.Sample.{IsSample}
+use Rattle.sl_report.specs.SummaryText.{summary_text}
+use Rattle.sl_emul.specs.Run.{CanRun}
+use Rattle.sl_app.specs.Served.{IsSummary}
+use Rattle.sl_app.proofs.RunLemmas.{sample_runs}
+use Rattle.sl_app.proofs.sample.summary_of.Goals as goal
+
+pub run_stepped-requires : goal.run_stepped-requires
+run_stepped-requires c =
+    let is = c.in_ok-input.ensures.input in
+    subst CanRun (sym is) (sample_runs c.args.number (subst IsSample is c.in_ok-input.ensures.holds))
+
+pub returns : goal.returns
+returns c =
+    let n = c.args.number in
+    let input = c.in_ok-input.input in
+    let run = c.in_ok-run.run' in
+    let told = c.in_ok-run.ensures in
+    IfOk-weaker c.summary_bytes.result _ _
+    (λ text is. subst (λ (i : Input). IsSummary n i text.items) c.in_ok-input.ensures.input (record { book = run.book.entries; front = run.front; run = told.run; text_is = is ∙ (ap (λ m. summary_text m input.net run.findings) c.from.ensures ∙ ap (summary_text n input.net) told.tells) }))
+    c.summary_bytes.ensures

@@ -2,12 +2,8 @@
 use Rattle.std.proofs.Common.{◌≡◌, ℕ, ◌≤◌, List, [], ◌++◌, length, take, drop, sym, ap, ◌∙◌, subst, refl}
 use Rattle.std.proofs.lemmas.List.{length-map}
 use Rattle.std.proofs.Math.Seq.{take-append_seam, drop-append_seam}
-use Rattle.std.specs.List.{All}
 use Rattle.sl_machine.specs.declared.wiring.Entry.{Entry as BookEntry}
-use Rattle.sl_machine.specs.Plan.{IsSound, HasChoice}
-use Rattle.sl_net.specs.Spelling as spelling
-use Rattle.sl_net.specs.declared.input.Script1.{Script1}
-use Rattle.sl_net.specs.declared.input.Script1.TheVariants.{Pass, Choice}
+use Rattle.sl_machine.specs.Plan.{IsSound}
 use Rattle.sl_net.specs.Net.{Net}
 use Rattle.sl_net.specs.Input.{Input}
 use Rattle.sl_net.specs.Wired.{IsNet}
@@ -29,10 +25,9 @@ use Rattle.sl_cut.proofs.Trails.{run-kept}
 use Rattle.sl_world.specs.Scene.{Scene}
 use Rattle.sl_proto.specs.Nodes.{NodeState}
 use Rattle.sl_proto.specs.Meaning.{IsRunnable}
-use Rattle.sl_proto.specs.Script.{IsScriptEntry}
 use Rattle.sl_proto.specs.Runs.{Follows}
 use Rattle.sl_proto.specs.Standing.{case_of, world_of, run_at, StandsFor, FinishesTo}
-use Rattle.sl_emul.specs.Run.{IsLine, CanRun, IsRunBook, AreNodesOf, IsRunOf}
+use Rattle.sl_emul.specs.Run.{CanRun, IsRunBook, AreNodesOf, IsRunOf}
 
 -- What the laws of lower crates say.
 
@@ -43,9 +38,6 @@ Bounded = (i : Input) (lost : Losses) (fs : List Entry) → IsNet i.net → IsFi
 abbrev pub Consistent : Type 0
 Consistent = (s : Setup) (lost : Losses) (es : List Entry) (k : ℕ) → IsNet s.net → IsConsistentCut s.net lost (world s lost es) (cuts (world s lost es) k)
 
-abbrev pub Spelled : Type 0
-Spelled = (net : Net) (a c : ℕ) → spelling.HasChoice net a c → HasChoice (plan_of net) a c
-
 -- an input that can be run has what the laws of nodes ask
 pub runnable : (i : Input) (lost : Losses) → CanRun i → IsSound (plan_of i.net) → IsLossTable i.net lost → IsRunnable (setup_of i) i.snapshot lost
 runnable i lost can sound table = record {
@@ -55,13 +47,6 @@ runnable i lost can sound table = record {
   short = can.short;
   is_table = record { window = refl; count = refl; retries = refl; room = can.snapshot.some_ring };
 }
-
-line-entry : Spelled → (net : Net) (e : Script1) → IsLine net e → IsScriptEntry net e
-line-entry spelled net (Pass n) h = tt
-line-entry spelled net (Choice a c) h = spelled net a c h
-
-pub script-entries : Spelled → (net : Net) (script : List Script1) → All (IsLine net) script → All (IsScriptEntry net) script
-script-entries spelled net script all = λ k d h. line-entry spelled net _ (all k d h)
 
 -- from the first scene v, whose book is empty, by the script to u and by finishing to t
 module _ (i : Input) (lost : Losses) (v u t : Scene NodeState Msg) (empty : v.book ≡ [])

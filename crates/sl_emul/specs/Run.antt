@@ -6,11 +6,7 @@
 use Rattle.std.specs.Prelude.{◌≡◌, ℕ, ◌≤◌, List, length, Some, slice_get}
 use Rattle.std.specs.List.{All}
 use Rattle.sl_machine.specs.declared.wiring.Entry.{Entry}
-use Rattle.sl_net.specs.declared.input.Script1.{Script1}
-use Rattle.sl_net.specs.declared.input.Script1.TheVariants.{Pass, Choice}
-use Rattle.sl_net.specs.Net.{Net}
 use Rattle.sl_net.specs.Wired.{IsNet}
-use Rattle.sl_net.specs.Spelling.{HasChoice}
 use Rattle.sl_net.specs.Input.{Input}
 use Rattle.sl_flow.specs.Flow.{HasAddresses}
 use Rattle.sl_unit.specs.Made.{IsRanged}
@@ -28,11 +24,7 @@ use Rattle.sl_cut.specs.Findings.{findings}
 use Rattle.sl_image.specs.Short.{SendsShort}
 use Rattle.sl_proto.specs.Nodes.{NodeState}
 use Rattle.sl_proto.specs.Meaning.{NodeStands}
-
--- a script's choice is one of the net
-abbrev pub IsLine : Net → Script1 → Type 0
-IsLine net (Pass n) = Unit {0}
-IsLine net (Choice a c) = HasChoice net a c
+use Rattle.sl_proto.specs.Script.{IsScriptEntry}
 
 -- a net, a snapshot table within its ranges, flows whose hosts have addresses, frames of bytes, and a script of the net's choices
 pub record CanRun (i : Input) : Type 0 where
@@ -40,7 +32,7 @@ pub record CanRun (i : Input) : Type 0 where
   pub snapshot : IsRanged i.snapshot
   pub addresses : All HasAddresses i.flows
   pub short : SendsShort (setup_of i)
-  pub script : All (IsLine i.net) i.script
+  pub script : All (IsScriptEntry i.net) i.script
 
 -- The book is the script's and then what finishing takes, and legal, with so many entries before finishing; its world is finished; it has at most as many
 -- entries as the bound says; and for each number the steps before the units' ids reached it are a consistent cut, whatever the verdict on it.

@@ -3,4 +3,4 @@
 
 mod stepped;
 
-pub use stepped::{Run, run_stepped};
+pub use stepped::{Run, first_world, run_stepped};

@@ -1,5 +1,5 @@
 // The run of an input, one turn after the other.
-ghost use Rattle.std.specs.Prelude.{◌≡◌, ◌<◌, ◌^◌, IfOk, [], length, map};
+ghost use Rattle.std.specs.Prelude.{◌≡◌, ◌<◌, ◌^◌, IfOk, [], map};
 ghost use Rattle.sl_net.specs.Wiring.{plan_of};
 ghost use Rattle.sl_cut.specs.Losses.{losses};
 ghost use Rattle.sl_world.specs.World.{scene};
@@ -13,7 +13,6 @@ use sl_machine::{Book, Memory};
 use sl_net::Input;
 use sl_proto::{
     Node, Taker, build_world, drive_script, findings, finish, make_losses, nodes_stand_at_first,
-    passes_are_choices,
 };
 use sl_world::World;
 use std::alloc::Global;
@@ -28,8 +27,8 @@ pub struct Run {
     pub nodes: Vec<Node>,
 }
 
-/// The world of an input's nodes before the first turn.
-fn first_world(alloc: Global, input: &Input) -> Result<World<Node>, Memory>
+/// The world of an input's nodes before the first turn. It stands for that of the empty book.
+pub fn first_world(alloc: Global, input: &Input) -> Result<World<Node>, Memory>
     requires { CanRun input.now }
     ensures stands { IfOk result (λ w. StandsFor input.now.net (case_of input.now (losses input.now)) (scene w)) }
     ensures observer { IfOk result (λ w. HasObserver (scene w)) }
@@ -48,7 +47,6 @@ pub fn run_stepped(alloc: Global, input: &Input) -> Result<Run, Memory>
     requires { CanRun input.now }
     ensures { IfOk result (λ r. IsRunOf input.now (losses input.now) r.book.entries r.front r.findings (map node_state r.nodes.items)) }
 {
-    passes_are_choices();
     inputs_are_bounded();
     cuts_are_consistent();
     let mut world = first_world(alloc, input)?;

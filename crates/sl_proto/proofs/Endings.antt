@@ -25,12 +25,12 @@ use Rattle.sl_finish.proofs.NetWiring.{wiring}
 use Rattle.sl_world.specs.Scene.{Scene}
 use Rattle.sl_proto.specs.declared.finishing.Round.{Round}
 use Rattle.sl_proto.specs.declared.finishing.Round.TheVariants.{Ended, Again, Short}
-use Rattle.sl_proto.specs.declared.finishing.Told.{Told}
+use Rattle.sl_proto.specs.declared.finishing.Reached.{Reached}
 use Rattle.sl_proto.specs.Nodes.{NodeState, ObserverNode}
 use Rattle.sl_proto.specs.Meaning.{StandsAs}
 use Rattle.sl_proto.specs.Runs.{Follows, Goes}
 use Rattle.sl_proto.specs.Standing.{Case, world_of, run_at, StandsFor, SettlesTo, FinishesTo}
-use Rattle.sl_proto.specs.Rounds.{EndsAt, RoundAt, Tells}
+use Rattle.sl_proto.specs.Rounds.{EndsAt, RoundAt, HasReached}
 use Rattle.sl_proto.proofs.Trails.{IsSettlingOn, settles-end, settles-on, IsFinishingOn, finishes-ended, finishes-short_of, finishes-on, follows-goes, goes-nothing, ends-nothing, ends-then-short, resend-again, round-short, round-rose, round-resent}
 
 -- Books.
@@ -113,8 +113,8 @@ floor-decides k count f window pos most h = by_cases (eqb_tells f k)
     by_cases (inl q) = ap (λ b. b && (k == count)) q.0 ∙ eq-eqb k count (all-issued k count f window pos most q.1 h) ∙ sym q.0
     by_cases (inr q) = ap (λ b. b && (k == count)) q.0 ∙ sym q.0
 
-pub collected-is : (x : Case) (es : List Entry) (told : Told) → IsNet x.setup.net → 0 < x.setup.window → Settled x.setup x.lost (world x.setup x.lost es)
-    → Tells x (world x.setup x.lost es) told → (told.floor == told.issued) ≡ is_collected x.setup (world x.setup x.lost es)
+pub collected-is : (x : Case) (es : List Entry) (told : Reached) → IsNet x.setup.net → 0 < x.setup.window → Settled x.setup x.lost (world x.setup x.lost es)
+    → HasReached x (world x.setup x.lost es) told → (told.floor == told.issued) ≡ is_collected x.setup (world x.setup x.lost es)
 collected-is x es told n pos settled tells = let s = x.setup in let w = world s x.lost es in
     ap (λ f. f == told.issued) tells.floor ∙ ap (λ k. floor s.net w == k) tells.issued
     ∙ sym (floor-decides (issued s.net (observer w)) s.count (floor s.net w) s.window pos (issued-within s x.lost (wiring s.net n) w (es, refl)) settled.none_to_issue)

@@ -21,7 +21,7 @@ use Rattle.sl_cut.specs.Verdict.{lag_at, judged, place_or_zero}
 use Rattle.sl_image.specs.Accounts.{Account, row_of, behind, lag_by, cause_in, cause_by, floor_by, holds, verdict_by}
 use Rattle.sl_image.specs.ObserverImage.{account_of}
 use Rattle.sl_image.proofs.ObserverLists.{least-same}
-use Rattle.sl_proto.specs.Told.{IsCollected, HasCollected, accounts_of, IsValue}
+use Rattle.sl_proto.specs.Told.{HasRows, HasAllRows, accounts_of, IsValue}
 
 -- Walks over the units.
 
@@ -119,7 +119,7 @@ is-value (Some (Value p b f)) s e h = tt
 is-value (Some (Skipped to)) s e h = absurd cc
 is-value (Some (Miscredited by reach)) s e h = absurd cc
 
-value-at : (net : Net) (u k : ℕ) (x : UnitState) → IsCollected net u x → 1 ≤ k → lag_by k (account_of x) ≡ None → cause_by k (account_of x) ≡ None → IsValue (saved_of x k)
+value-at : (net : Net) (u k : ℕ) (x : UnitState) → HasRows net u x → 1 ≤ k → lag_by k (account_of x) ≡ None → cause_by k (account_of x) ≡ None → IsValue (saved_of x k)
 value-at net u k x c one lag cause =
     let r = reached k (account_of x) lag in
     let n = c.rows in
@@ -130,7 +130,7 @@ each-account P [] i h e = absurd (omega (arith, h))
 each-account P (u ∷ us) zero h e = e.0
 each-account P (u ∷ us) (suc i) h e = each-account P us i (omega (arith, h)) e.1
 
-pub values_are : (net : Net) (o : ObserverState) (k : ℕ) → HasCollected net o → 1 ≤ k → verdict_by o.issued (accounts_of o) k ≡ Consistent
+pub values_are : (net : Net) (o : ObserverState) (k : ℕ) → HasAllRows net o → 1 ≤ k → verdict_by o.issued (accounts_of o) k ≡ Consistent
     → (place : ℕ) → place < length (units net) → IsValue (saved_of (unit_at o.units place) k)
 values_are net o k c one h place below_all = by_tells (leb_tells k o.issued)
   where

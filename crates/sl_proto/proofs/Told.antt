@@ -47,7 +47,7 @@ use Rattle.sl_proto.specs.Image.{IsImage}
 use Rattle.sl_proto.specs.Meaning.{StandsAs, NodeStands}
 use Rattle.sl_proto.specs.Nodes.{NodeState, ObserverNode, ControlNode, UnitNode, HostNode}
 use Rattle.sl_proto.specs.Standing.{case_of, StandsFor, HasObserver}
-use Rattle.sl_proto.specs.Told.{IsCollected, HasCollected, accounts_of, sent_told, delivered_told, drops_told, all_drops, lost_told, all_lost, Tells, told}
+use Rattle.sl_proto.specs.Told.{HasRows, HasAllRows, accounts_of, sent_told, delivered_told, drops_told, all_drops, lost_told, all_lost, CanTell, told}
 use Rattle.sl_proto.proofs.Images.{put-small, world-length, wires-each}
 
 -- Lists.
@@ -191,18 +191,18 @@ watched-as s table w (HostNode o) h = absurd h
 first-actor : (net : Net) → IsNet net → (actor_of net 0 ≡ Observer) × (0 < length net.actors)
 first-actor net n = subst (λ m. (actor_of m 0 ≡ Observer) × (0 < length m.actors)) (sym n.made) (refl, omega arith)
 
-unit-collected : (net : Net) (u : ℕ) (g : History) → length (data_channels net u) ≤ 8 → IsCollected net u (unit_of net u g)
+unit-collected : (net : Net) (u : ℕ) (g : History) → length (data_channels net u) ≤ 8 → HasRows net u (unit_of net u g)
 unit-collected net u g few = record {
   channels = refl;
   rows = length_map-is (λ k. held_saved (row (data_channels net u) k g)) (numbers_from 1 (upto_of net u g)) ∙ length_numbers 1 (upto_of net u g)
       ∙ sym (ap (least_of_there (unit_of net u g).id) (channels-are net u g few) ∙ least-of-same (unit_of net u g).id (lasts net u g));
 }
 
-has-collected : (net : Net) (table : Snapshot) (w : World) → IsNet net → HasCollected net (observer_of net table w)
+has-collected : (net : Net) (table : Snapshot) (w : World) → IsNet net → HasAllRows net (observer_of net table w)
 has-collected net table w n = let f = λ (u : ℕ). unit_of net u (collected net w u) in record {
   count = length_map-is f (units net);
   each = λ place p. let t = unit-at net place p in let u = get_or (units net) place 0 in
-      subst (IsCollected net u) (sym (get_or-map f (units net) place 0 (new_unit 0 0) p)) (unit-collected net u (collected net w u) (few-channels net u t.0 n t.1));
+      subst (HasRows net u) (sym (get_or-map f (units net) place 0 (new_unit 0 0) p)) (unit-collected net u (collected net w u) (few-channels net u t.0 n t.1));
 }
 
 -- A scene that stands for the world of a schedule.
@@ -267,11 +267,11 @@ module _ (s : Setup) (table : Snapshot) (lost : Losses) (es : List Entry) (v : S
   pub first_node : (x : NodeState) × (slice_get v.states 0 ≡ Some x)
   first_node = first-of v.states (let n = image.states_each in let m = (first-actor s.net net).1 in omega (arith, n, m))
 
-  pub tells : (o : ObserverState) → slice_get v.states 0 ≡ Some (ObserverNode o) → IsWired s.net → length s.net.links ≤ 77888 → length es < 2 ^ 40 → Tells s.net v o
+  pub tells : (o : ObserverState) → slice_get v.states 0 ≡ Some (ObserverNode o) → IsWired s.net → length s.net.links ≤ 77888 → length es < 2 ^ 40 → CanTell s.net v o
   tells o e wired links few = record {
     nodes = image.states_each;
     links = ap (λ p. length p.links) image.plan ∙ wires-each s.net;
-    collected = subst (HasCollected s.net) (sym (observed o e)) (has-collected s.net table (world s lost es) net);
+    collected = subst (HasAllRows s.net) (sym (observed o e)) (has-collected s.net table (world s lost es) net);
     bad = subst (λ n. n < 2 ^ 64) (sym bad-is) (few-drops (λ u h. bad h) (λ u h. tally-most _ h) few);
     expired = subst (λ n. n < 2 ^ 64) (sym expired-is) (few-drops (λ u h. expired h) (λ u h. tally-most _ h) few);
     noroute = subst (λ n. n < 2 ^ 64) (sym noroute-is) (few-drops (λ u h. noroute s.net.parts (device_of (actor_of s.net u)) h) (λ u h. tally-most _ h) few);
@@ -302,7 +302,7 @@ module _ (i : Input) (lost : Losses) (v : Scene NodeState Msg) (h : StandsFor i.
       let o = watched (setup_of i) i.snapshot lost (schedule_of v.book) v h.runnable.net h.image x.0 x.1 in
       record { observer = o.observer; first = x.1 ∙ ap Some o.is }
 
-  pub tells_it : (o : ObserverState) → slice_get v.states 0 ≡ Some (ObserverNode o) → IsWired i.net → length i.net.links ≤ 77888 → length v.book < 2 ^ 40 → Tells i.net v o
+  pub tells_it : (o : ObserverState) → slice_get v.states 0 ≡ Some (ObserverNode o) → IsWired i.net → length i.net.links ≤ 77888 → length v.book < 2 ^ 40 → CanTell i.net v o
   tells_it o e wired links few = tells (setup_of i) i.snapshot lost (schedule_of v.book) v h.runnable.net h.image o e wired links (few_entries few)
 
   pub observed_as : (o : ObserverState) → slice_get v.states 0 ≡ Some (ObserverNode o) → IsObserverOf i.net i.snapshot (world (setup_of i) lost (schedule_of v.book)) o

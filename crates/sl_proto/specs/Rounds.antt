@@ -2,7 +2,7 @@
 --     EndsBy s lost old o new ended   from the run old to the run new by the entries of o; o is None where the fuel was too small
 --     Rounds s lost old f new round   the same for a round of finishing, where f go is what it takes when go gives the rounds after it
 --     EndsAt, RoundAt                 these from scene to scene
---     Tells x w told                  what the observer tells in the world w
+--     HasReached x w told             what the observer tells in the world w
 use Rattle.std.specs.Prelude.{◌≡◌, Bool, true, false, List, Option, Some, None}
 use Rattle.sl_wire.specs.declared.message.Msg.{Msg}
 use Rattle.sl_cut.specs.History.{World, Losses}
@@ -12,10 +12,10 @@ use Rattle.sl_cut.specs.World.{Entry}
 use Rattle.sl_world.specs.Scene.{Scene}
 use Rattle.sl_proto.specs.declared.finishing.Round.{Round}
 use Rattle.sl_proto.specs.declared.finishing.Round.TheVariants.{Ended, Again, Short}
-use Rattle.sl_proto.specs.declared.finishing.Told.{Told}
+use Rattle.sl_proto.specs.declared.finishing.Reached.{Reached}
 use Rattle.sl_proto.specs.Runs.{Run, Goes}
 use Rattle.sl_proto.specs.Nodes.{NodeState}
-use Rattle.sl_proto.specs.Standing.{Case, world_of, run_at}
+use Rattle.sl_proto.specs.Standing.{Case, run_at}
 
 abbrev pub EndsBy : Setup → Losses → Run → Option (List Entry) → Run → Bool → Type 0
 EndsBy s lost old None new ended = ended ≡ false
@@ -35,6 +35,6 @@ abbrev pub RoundAt : Case → Scene NodeState Msg → ((World → Option (List E
 RoundAt x v f u round = Rounds x.setup x.lost (run_at x v) f (run_at x u) round
 
 -- F and K
-pub record Tells (x : Case) (w : World) (told : Told) : Type 0 where
+pub record HasReached (x : Case) (w : World) (told : Reached) : Type 0 where
   pub floor : told.floor ≡ floor x.setup.net w
   pub issued : told.issued ≡ issued x.setup.net (observer w)

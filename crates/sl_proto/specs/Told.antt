@@ -1,7 +1,7 @@
 -- Findings as a scene of nodes tells them, with no history in sight: by what the observer collected, what hosts sent and took, what units
 -- counted, and what links lost.
---     HasCollected net o    what the observer has of each unit fits, with no row missing
---     Tells net v o         what is asked of a scene v of the net whose observer has the state o
+--     HasAllRows net o      what the observer has of each unit fits, with no row missing
+--     CanTell net v o       what is asked of a scene v of the net whose observer has the state o
 --     told net count v o    its findings of so many snapshots
 use Rattle.std.specs.Prelude.{◌≡◌, ℕ, ◌<◌, ◌^◌, List, map, filter, length, take, Option, Some, None, slice_index}
 use Rattle.sl_net.specs.declared.actor.Sort.{Sort}
@@ -24,13 +24,13 @@ use Rattle.sl_proto.specs.Nodes.{NodeState, UnitNode, HostNode}
 -- The observer.
 
 -- the unit u has these data channels, and a row came for each number that its id and their last-seen numbers have reached
-pub record IsCollected (net : Net) (u : ℕ) (x : UnitState) : Type 0 where
+pub record HasRows (net : Net) (u : ℕ) (x : UnitState) : Type 0 where
   pub channels : x.channels ≡ length (data_channels net u)
   pub rows : length x.rows ≡ least_of x.id (take x.channels x.last)
 
-pub record HasCollected (net : Net) (o : ObserverState) : Type 0 where
+pub record HasAllRows (net : Net) (o : ObserverState) : Type 0 where
   pub count : length o.units ≡ length (units net)
-  pub each : (place : ℕ) → place < length (units net) → IsCollected net (slice_index (units net) place) (unit_at o.units place)
+  pub each : (place : ℕ) → place < length (units net) → HasRows net (slice_index (units net) place) (unit_at o.units place)
 
 abbrev pub accounts_of : ObserverState → List Account
 accounts_of o = map account_of o.units
@@ -74,10 +74,10 @@ all_lost net v sort = weigh (lost_told v) (filter (λ l. same_sort (link_of net 
 -- Findings.
 
 -- it has a node for each actor and the links of the net, and its sums fit 64 bits
-pub record Tells (net : Net) (v : Scene NodeState Msg) (o : ObserverState) : Type 0 where
+pub record CanTell (net : Net) (v : Scene NodeState Msg) (o : ObserverState) : Type 0 where
   pub nodes : length v.states ≡ length net.actors
   pub links : length v.plan.links ≡ length net.links
-  pub collected : HasCollected net o
+  pub collected : HasAllRows net o
   pub bad : (all_drops v.states).bad < 2 ^ 64
   pub expired : (all_drops v.states).expired < 2 ^ 64
   pub noroute : (all_drops v.states).noroute < 2 ^ 64

@@ -9,7 +9,7 @@ ghost use Rattle.sl_cut.specs.World.{Entry, world, kept_from};
 ghost use Rattle.sl_cut.specs.Schedule.{settling_pass, sweeps, resend_entry};
 ghost use Rattle.sl_cut.specs.End.{settle, finish, is_collected, rose, sweep_round, again_from, Settled};
 ghost use Rattle.sl_proto.specs.Standing.{Case, world_of, StandsFor, HasObserver, SettlesTo, FinishesTo};
-ghost use Rattle.sl_proto.specs.Rounds.{EndsAt, RoundAt, Tells};
+ghost use Rattle.sl_proto.specs.Rounds.{EndsAt, RoundAt, HasReached};
 
 use crate::schedule::{all_sweeps, pass_of, passes_are_choices};
 use crate::taker::{Taker, drive_within};
@@ -30,37 +30,37 @@ pub enum Round {
 /// What the observer tells: up to which number all units are collected, and how many snapshots it
 /// issued.
 #[derive(Clone, Copy, Debug, PartialEq, Eq)]
-pub struct Told {
+pub struct Reached {
     pub floor: u64,
     pub issued: u64,
 }
 
-impl Told {
+impl Reached {
     /// Whether all snapshots are issued and collected, where the world is settled: then there is
     /// nothing to issue, so where F is K, K is the count.
     fn is_collected(self) -> bool
-        ensures { (x : Case) (es : List Entry) → IsNet x.setup.net → 0 < x.setup.window → Settled x.setup x.lost (world x.setup x.lost es) → Tells x (world x.setup x.lost es) self
+        ensures { (x : Case) (es : List Entry) → IsNet x.setup.net → 0 < x.setup.window → Settled x.setup x.lost (world x.setup x.lost es) → HasReached x (world x.setup x.lost es) self
             → result ≡ is_collected x.setup (world x.setup x.lost es) }
     {
         self.floor == self.issued
     }
 
     /// Whether the floor or the number of snapshots issued is above what it was.
-    fn rose_since(self, before: Told) -> bool
-        ensures { (x : Case) (w v : World) → Tells x w before → Tells x v self → result ≡ rose x.setup.net w v }
+    fn rose_since(self, before: Reached) -> bool
+        ensures { (x : Case) (w v : World) → HasReached x w before → HasReached x v self → result ≡ rose x.setup.net w v }
     {
         before.floor < self.floor || before.issued < self.issued
     }
 }
 
-fn tell<T: Taker>(taker: &T) -> Told
+fn tell<T: Taker>(taker: &T) -> Reached
     requires { HasObserver (T.scene taker.now) }
-    ensures { (net : Net) (x : Case) → StandsFor net x (T.scene taker.now) → Tells x (world_of x (T.scene taker.now)) result }
+    ensures { (net : Net) (x : Case) → StandsFor net x (T.scene taker.now) → HasReached x (world_of x (T.scene taker.now)) result }
 {
     nets_are_wired();
     observers_tell();
     let observer = taker.observer();
-    Told {
+    Reached {
         floor: observer.floor(),
         issued: observer.issued(),
     }

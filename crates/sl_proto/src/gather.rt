@@ -10,9 +10,10 @@ ghost use Rattle.sl_cut.specs.Findings.{findings};
 ghost use Rattle.sl_world.specs.World.{scene};
 ghost use Rattle.sl_proto.specs.Nodes.{ObserverNode, node_state};
 ghost use Rattle.sl_proto.specs.Standing.{case_of, world_of, StandsFor, HasObserver};
-ghost use Rattle.sl_proto.specs.Told.{sent_told, delivered_told, drops_told, all_drops, lost_told, all_lost, Tells, told};
+ghost use Rattle.sl_proto.specs.Told.{sent_told, delivered_told, drops_told, all_drops, lost_told, all_lost, CanTell, told};
 
 use crate::node::Node;
+use crate::taker::Taker;
 use crate::verdicts::finding_list;
 use sl_cut::{Counts, Drops, Findings, Lost};
 use sl_image::{observers_give_findings, observers_tell};
@@ -21,17 +22,6 @@ use sl_net::{Input, Net, Sort, nets_are_wired};
 use sl_observe::Observer;
 use sl_world::World;
 use std::alloc::Global;
-
-/// The observer's node, which is the first one.
-fn observer(world: &World<Node>) -> &Observer
-    requires { HasObserver (scene world.now) }
-    ensures { slice_get (scene world.now).states 0 ≡ Some (ObserverNode result.now.state) }
-{
-    match world.machine(0) {
-        Node::Observer(observer) => observer,
-        _ => unreachable!(),
-    }
-}
 
 /// How many frames a host sent.
 fn sent_by(node: &Node) -> Option<u64>
@@ -166,7 +156,7 @@ fn tell(
     world: &World<Node>,
     observer: &Observer,
 ) -> Result<Findings, Memory>
-    requires { Tells net.now (scene world.now) observer.now.state }
+    requires { CanTell net.now (scene world.now) observer.now.state }
     ensures { IfOk result (λ f. f ≡ told net.now count (scene world.now) observer.now.state) }
 {
     let actors = net.actors().len() as u32;
@@ -200,6 +190,6 @@ pub fn findings(alloc: Global, input: &Input, world: &World<Node>) -> Result<Fin
     observers_tell();
     observers_give_findings();
     let _links = input.net.links();
-    let observer = observer(world);
+    let observer = world.observer();
     tell(alloc, &input.net, input.snapshot.count, world, observer)
 }

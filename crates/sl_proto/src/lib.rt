@@ -1,5 +1,6 @@
 // The nodes of a net, the machines of its actors, and the histories that they stand for: laws over
-// all schedules, for any machines that follow the steps of histories.
+// all schedules, for any machines that follow the steps of histories; scripts, settling and finishing
+// over whoever takes turns of nodes, and the findings of a finished world of them.
 #![tactic(auto)]
 
 mod build;

@@ -77,8 +77,9 @@ fn drive_entries<T: Taker>(
     Ok(())
 }
 
-/// Takes the turns of a script entry by entry, a pass at a time; after want of memory, those of a
-/// front of it. A book of 2^40 entries would fill any memory, so it is answered as want of memory.
+/// Takes the turns of a script entry by entry, a pass at a time. Where the nodes stand for the world
+/// of their book they do so afterwards, also after want of memory. A book of 2^40 entries would fill
+/// any memory, so it is answered as want of memory.
 pub fn drive_script<T: Taker>(
     alloc: Global,
     net: &Net,

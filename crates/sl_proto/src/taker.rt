@@ -96,8 +96,9 @@ fn turns<T: Taker>(taker: &mut T, schedule: &[(u32, u32)]) -> Result<(), Memory>
     Ok(())
 }
 
-/// Takes the turns of a whole schedule, as `drive` does, where the book stays below 2^40 entries
-/// with them. A longer book would fill any memory, so it is answered as want of memory.
+/// Takes the turns of a whole schedule where the book stays below 2^40 entries with them. A longer
+/// book would fill any memory, so it is answered as want of memory. Where the nodes stand for the
+/// world of their book they do so afterwards, also after want of memory.
 pub fn drive_within<T: Taker>(
     net: &Net,
     taker: &mut T,

@@ -7,7 +7,7 @@ ghost use Rattle.sl_cut.specs.Words.{first_told};
 ghost use Rattle.sl_cut.specs.Verdict.{place_or_zero};
 ghost use Rattle.sl_image.specs.Accounts.{behind, lag_by, cause_by, row_of, value_row, floor_by, holds, verdict_by, rows_by, finding_by};
 ghost use Rattle.sl_image.specs.ObserverImage.{account_of};
-ghost use Rattle.sl_proto.specs.Told.{HasCollected, accounts_of, IsValue};
+ghost use Rattle.sl_proto.specs.Told.{HasAllRows, accounts_of, IsValue};
 
 use sl_cut::{Cause, Finding, FindingList, Lag, Row, Rows1, Verdict};
 use sl_machine::Memory;
@@ -51,7 +51,7 @@ fn first_behind(numbers: &[u64], k: u64) -> Option<(u32, u64)>
 
 /// What of a unit lags behind `k`, if something does.
 fn lag_at(net: &Net, observer: &Observer, unit: u32, k: u64) -> Option<Lag>
-    requires collected { HasCollected net.now observer.now.state }
+    requires collected { HasAllRows net.now observer.now.state }
     requires unit { unit < length (units net.now) }
     ensures { result ≡ lag_by k (account_of (unit_at observer.now.state.units unit)) }
 {
@@ -68,7 +68,7 @@ fn lag_at(net: &Net, observer: &Observer, unit: u32, k: u64) -> Option<Lag>
 
 /// The first unit that lags behind `k`, by its place.
 fn first_lag(net: &Net, observer: &Observer, k: u64) -> Option<(u32, Lag)>
-    requires { HasCollected net.now observer.now.state }
+    requires { HasAllRows net.now observer.now.state }
     ensures { result ≡ first_told (lag_by k) (accounts_of observer.now.state) }
 {
     for unit in 0..unit_count(net) {
@@ -94,7 +94,7 @@ fn cause_at(observer: &Observer, unit: u32, k: u64) -> Option<Cause>
 
 /// The first unit at which `k` is inconsistent, by its place.
 fn first_cause(net: &Net, observer: &Observer, k: u64) -> Option<(u32, Cause)>
-    requires collected { HasCollected net.now observer.now.state }
+    requires collected { HasAllRows net.now observer.now.state }
     requires first { 1 ≤ k }
     ensures { result ≡ first_told (cause_by k) (accounts_of observer.now.state) }
 {
@@ -108,7 +108,7 @@ fn first_cause(net: &Net, observer: &Observer, k: u64) -> Option<(u32, Cause)>
 
 /// The first unit that holds the floor, by its place, 0 where there is no unit.
 fn holder(net: &Net, observer: &Observer) -> u32
-    requires { HasCollected net.now observer.now.state }
+    requires { HasAllRows net.now observer.now.state }
     ensures { let o = observer.now.state in result ≡ place_or_zero (first_told (holds (floor_by o.issued (accounts_of o))) (accounts_of o)) }
 {
     let floor = observer.floor();
@@ -121,7 +121,7 @@ fn holder(net: &Net, observer: &Observer) -> u32
 }
 
 fn issued_verdict(net: &Net, observer: &Observer, k: u64) -> Verdict
-    requires collected { HasCollected net.now observer.now.state }
+    requires collected { HasAllRows net.now observer.now.state }
     requires first { 1 ≤ k }
     requires issued { k ≤ observer.now.state.issued }
     ensures { result ≡ verdict_by observer.now.state.issued (accounts_of observer.now.state) k }
@@ -136,7 +136,7 @@ fn issued_verdict(net: &Net, observer: &Observer, k: u64) -> Verdict
 }
 
 fn verdict(net: &Net, observer: &Observer, k: u64) -> Verdict
-    requires collected { HasCollected net.now observer.now.state }
+    requires collected { HasAllRows net.now observer.now.state }
     requires first { 1 ≤ k }
     ensures { result ≡ verdict_by observer.now.state.issued (accounts_of observer.now.state) k }
 {
@@ -202,7 +202,7 @@ fn rows_for(
     k: u64,
     verdict: Verdict,
 ) -> Result<Rows1, Memory>
-    requires collected { HasCollected net.now observer.now.state }
+    requires collected { HasAllRows net.now observer.now.state }
     requires first { 1 ≤ k }
     requires verdict { verdict ≡ verdict_by observer.now.state.issued (accounts_of observer.now.state) k }
     ensures { IfOk result (λ rows. rows ≡ rows_by (accounts_of observer.now.state) k verdict) }
@@ -217,7 +217,7 @@ fn rows_for(
 
 /// The finding of a number by what the observer collected of the units.
 fn finding_at(alloc: Global, net: &Net, observer: &Observer, k: u64) -> Result<Finding, Memory>
-    requires collected { HasCollected net.now observer.now.state }
+    requires collected { HasAllRows net.now observer.now.state }
     requires first { 1 ≤ k }
     ensures { IfOk result (λ one. one ≡ finding_by observer.now.state.issued (accounts_of observer.now.state) k) }
 {
@@ -233,7 +233,7 @@ pub fn finding_list(
     observer: &Observer,
     count: u64,
 ) -> Result<FindingList, Memory>
-    requires { HasCollected net.now observer.now.state }
+    requires { HasAllRows net.now observer.now.state }
     ensures { IfOk result (λ list. list ≡ map (finding_by observer.now.state.issued (accounts_of observer.now.state)) (numbers_from 1 count)) }
 {
     let mut items = Vec::new(alloc);

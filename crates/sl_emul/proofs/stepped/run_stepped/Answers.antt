@@ -10,7 +10,7 @@ use Rattle.sl_world.specs.World.{scene}
 use Rattle.sl_proto.specs.Script.{IsScriptEntry}
 use Rattle.sl_proto.specs.Runs.{Follows}
 use Rattle.sl_proto.specs.Standing.{case_of, run_at, StandsFor}
-use Rattle.sl_emul.proofs.Books.{script-entries, is-run-of}
+use Rattle.sl_emul.proofs.Books.{is-run-of}
 use Rattle.sl_emul.proofs.stepped.run_stepped.Goals as goal
 
 pub drive_script-requires-clause-entries : goal.drive_script-requires-clause-entries
@@ -19,7 +19,7 @@ drive_script-requires-clause-entries c =
     let net : c.input.inside.net ≡ i.net = ap (λ (i : Input). i.net) c.input.view_is in
     let script : c.as_slice.result.now ≡ i.script = c.as_slice.ensures.value ∙ ap (λ (i : Input). i.script) c.input.view_is in
     subst (All (IsScriptEntry c.input.inside.net)) (sym script)
-    (subst (λ (net : Net). All (IsScriptEntry net) i.script) (sym net) (script-entries c.passes_are_choices.ensures.spelled i.net i.script c.requires.script))
+    (subst (λ (net : Net). All (IsScriptEntry net) i.script) (sym net) c.requires.script)
 
 pub findings-requires-clause-stands : goal.findings-requires-clause-stands
 findings-requires-clause-stands c =

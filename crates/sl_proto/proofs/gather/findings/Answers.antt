@@ -5,7 +5,7 @@ use Rattle.sl_cut.specs.Books.{schedule_of}
 use Rattle.sl_cut.specs.Setup.{setup_of}
 use Rattle.sl_cut.specs.Findings.{findings}
 use Rattle.sl_world.specs.World.{scene}
-use Rattle.sl_proto.specs.Told.{Tells, told}
+use Rattle.sl_proto.specs.Told.{CanTell, told}
 use Rattle.sl_proto.proofs.Told.{few_entries, has_observer, tells_it, observed_as, told_is}
 use Rattle.sl_proto.proofs.gather.findings.Goals as goal
 
@@ -18,7 +18,7 @@ tell-requires c = let i = c.args.input.now in
     let o = c.observer-observer.result.now.state in
     let h = c.requires.stands.1 in
     let links : length i.net.links ≤ 77888 = subst (λ (j : Input). length j.net.links ≤ 77888) c.input.view_is (subst (λ ls. length ls ≤ 77888) c.links-links.ensures.now c.links-links.ensures.few) in
-    subst (λ (j : Input). Tells j.net v o) (sym c.input.view_is) (tells_it i c.requires.stands.0 v h o c.observer-observer.ensures (c.nets_are_wired.ensures i.net h.runnable.net) links c.requires.book)
+    subst (λ (j : Input). CanTell j.net v o) (sym c.input.view_is) (tells_it i c.requires.stands.0 v h o c.observer-observer.ensures (c.nets_are_wired.ensures i.net h.runnable.net) links c.requires.book)
 
 pub returns : goal.returns
 returns c lost h finished = let i = c.args.input.now in

@@ -1,5 +1,5 @@
 use Rattle.sl_proto.proofs.Endings.{collected-is}
-use Rattle.sl_proto.proofs.finishing.Told.is_collected.Goals as goal
+use Rattle.sl_proto.proofs.finishing.Reached.is_collected.Goals as goal
 
 pub returns : goal.returns
 returns c x es n pos settled tells = collected-is x es c.args.self n pos settled tells

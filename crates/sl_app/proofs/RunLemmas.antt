@@ -8,6 +8,9 @@ use Rattle.sl_net.specs.declared.input.Script1.{Script1}
 use Rattle.sl_net.specs.declared.input.Script1.TheVariants.{Pass, Choice}
 use Rattle.sl_machine.specs.Book.{Book}
 use Rattle.sl_net.specs.Wired.{IsNet}
+use Rattle.sl_machine.specs.Plan.{HasChoice}
+use Rattle.sl_net.specs.Spelling as spelling
+use Rattle.sl_net.specs.Wiring.{plan_of}
 use Rattle.sl_net.specs.Net.{Net}
 use Rattle.sl_net.specs.Parts.{below}
 use Rattle.sl_net.specs.Input.{Input}
@@ -19,7 +22,8 @@ use Rattle.sl_cut.specs.Words.{Each}
 use Rattle.sl_cut.specs.Losses.{losses}
 use Rattle.sl_cut.specs.Bound.{input_bound}
 use Rattle.sl_proto.specs.Nodes.{NodeState}
-use Rattle.sl_emul.specs.Run.{IsLine, CanRun}
+use Rattle.sl_proto.specs.Script.{IsScriptEntry}
+use Rattle.sl_emul.specs.Run.{CanRun}
 use Rattle.sl_words.specs.declared.command.Command.TheVariants.{Step}
 use Rattle.sl_words.specs.Words.{words_of}
 use Rattle.sl_app.specs.Served.{IsReport}
@@ -37,12 +41,16 @@ each-imp : {A : Type 0} (P Q : A → Type 0) (xs : List A) → ((x : A) → P x 
 each-imp P Q [] f all = tt
 each-imp P Q (x ∷ xs) f all = (f x all.0, each-imp P Q xs f all.1)
 
-line : (net : Net) (e : Script1) → IsEntry net e → IsLine net e
-line net (Pass n) h = tt
-line net (Choice a c) h = h
+-- a choice that is spelled is one of the net's wiring
+abbrev pub Spelled : Type 0
+Spelled = (net : Net) (a c : ℕ) → spelling.HasChoice net a c → HasChoice (plan_of net) a c
 
-pub runnable : (i : Input) → IsAccepted i → CanRun i
-runnable i a = record {
+entry : Spelled → (net : Net) (e : Script1) → IsEntry net e → IsScriptEntry net e
+entry spelled net (Pass n) h = tt
+entry spelled net (Choice a c) h = spelled net a c h
+
+pub runnable : Spelled → (i : Input) → IsAccepted i → CanRun i
+runnable spelled i a = record {
   net = record { made = a.net; right = a.right };
   snapshot = record { some_bits = a.snapshot.some_bits; few_bits = a.snapshot.few_bits; some_window = a.snapshot.some_window; some_ring = a.snapshot.some_ring };
   addresses = λ k d h. let f = a.flows k d h in record { from = omega (arith, f.from, few); to = omega (arith, f.to, few) };
@@ -50,7 +58,7 @@ runnable i a = record {
     flows = each-of (λ (f : Flow). f.bytes < 2 ^ 16) i.flows (λ k d h. (a.flows k d h).bytes);
     raws = each-of (λ (r : RawPart). Each (λ b. b < 256) r.bytes) i.raws (λ k d h. each-of (λ b. b < 256) _ (a.raws k d h).bytes);
   };
-  script = λ k d h. line i.net _ (a.script k d h);
+  script = λ k d h. entry spelled i.net _ (a.script k d h);
 }
   where
     few : length i.net.parts.hosts ≤ 128

@@ -76,14 +76,14 @@ reads (Some command.Routes) = Unit {0}
 reads _ = ⊥
 
 -- the words ask for a run on threads, which is not built
-abbrev pub is_later : Option Command → Type 0
-is_later (Some (command.Run trace)) = Unit {0}
-is_later _ = ⊥
+abbrev pub asks_for_run : Option Command → Type 0
+asks_for_run (Some (command.Run trace)) = Unit {0}
+asks_for_run _ = ⊥
 
 -- the cause of a refusal; want of memory has none
 abbrev pub HasCause : Reading → Refusal → Type 0
 HasCause r Usage = (words_of r.words ≡ None) × IsUnread r
-HasCause r NotBuilt = is_later (words_of r.words) × IsUnread r
+HasCause r NotBuilt = asks_for_run (words_of r.words) × IsUnread r
 HasCause r (InputRefused line) = reads (words_of r.words) × IsRefusedInput r line.items
 HasCause r ReadFault = reads (words_of r.words) × Rose r.faults_before r.faults_after
 HasCause r Memory = Unit {0}
@@ -167,7 +167,7 @@ pub record Refuses (err : Writing) (refusal : Refusal) (e : Ended) : Type 0 wher
 
 -- The ending of a call.
 
--- an accepted input was served, and the text written, or a part of it
+-- what was asked for was served, and the text written, or a part of it
 pub record IsReported (r : Reading) (out err : Writing) (e : Ended) : Type 0 where
   pub book : Option Book
   pub front : ℕ

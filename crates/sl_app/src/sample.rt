@@ -1,5 +1,5 @@
 // Samples: the text of one, and the summary of its run.
-ghost use Rattle.std.specs.Prelude.{◌≡◌, None, IfOk};
+ghost use Rattle.std.specs.Prelude.{◌≡◌, IfOk};
 ghost use Rattle.sl_flow.specs.Sample.{IsSampleNumber, IsSample, sample_parts};
 ghost use Rattle.sl_flow.specs.InputText.{sample_text};
 ghost use Rattle.sl_app.specs.Served.{IsSummary, IsSampleText};

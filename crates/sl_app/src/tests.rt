@@ -13,6 +13,9 @@ use std::test::Fail;
 const THREE_PACKETS: &str =
     "device = [{name = \"a\", ports = 2}]\nhost = [{name = \"h0\", at = \"a.0\"}, {name = \"h1\", at = \"a.1\"}]\nflow = [{from = \"h0\", to = \"h1\", count = 3, bytes = 100, hops = 8}]\nsnapshot = {bits = 2, window = 3, ring = 3, count = 1, retries = 0}\n";
 
+const DEAD_CABLE: &str =
+    "device = [{name = \"a\", ports = 2}, {name = \"b\", ports = 2}]\ncable = [{a = \"a.1\", b = \"b.0\"}]\nhost = [{name = \"h0\", at = \"a.0\"}, {name = \"h1\", at = \"b.1\"}]\nsnapshot = {bits = 2, window = 1, ring = 1, count = 2, retries = 0}\nloss = {cable = 1000}\n";
+
 const USAGE: &str =
     "speedlight: usage: speedlight step [--trace] | run [--trace] | routes | sample N [--input]\n";
 
@@ -306,5 +309,49 @@ fn wrong_schedule<'a>(alloc: Global, table: &'a str) -> Result<Option<&'a str>, 
 #[test]
 fn written_schedules(rt: HostRuntime) -> Result<(), Fail> {
     assert_eq!(rt; wrong_schedule(rt.alloc(), rows::schedules())?, None);
+    Ok(())
+}
+
+/// The output of `step --trace`.
+fn traced(alloc: Global, text: &str) -> Result<String, Fail> {
+    let left = call(alloc, &["step", "--trace"], text, (0, 0, 0))?;
+    Ok(String::from_utf8(left.out).ok().ok_or("no text")?)
+}
+
+/// An input with the lines of a trace as its script.
+fn with_script(alloc: Global, text: &str, trace: &str) -> Result<String, Fail> {
+    let mut whole = String::from_str(alloc, text)?;
+    whole.push_str("script = {entries = [")?;
+    for line in trace.lines().skip(1) {
+        let entry = format!(in alloc; "\"{line}\", ")?;
+        whole.push_str(entry.as_str())?;
+    }
+    whole.push_str("]}\n")?;
+    Ok(whole)
+}
+
+/// The output for an input, and that for it with its trace as the script.
+fn retaken(alloc: Global, text: &str) -> Result<(String, String), Fail> {
+    let first = traced(alloc, text)?;
+    let (_, trace) = first.split_once("end\n").ok_or("no trace")?;
+    let again = with_script(alloc, text, trace)?;
+    let second = traced(alloc, again.as_str())?;
+    Ok((first, second))
+}
+
+/// A trace that is taken as a script is taken again. Where all was collected nothing follows; else
+/// there are further sweeps.
+#[test]
+fn traces_are_retaken(rt: HostRuntime) -> Result<(), Fail> {
+    let alloc = rt.alloc();
+    let (first, second) = retaken(alloc, THREE_PACKETS)?;
+    assert_eq!(rt; second.as_str(), first.as_str());
+    let (first, second) = retaken(alloc, DEAD_CABLE)?;
+    let (report, lines) = first.split_once("trace 89\n").ok_or("another trace")?;
+    assert!(rt; second.starts_with(report));
+    let (_, more) = second.split_once("trace ").ok_or("no trace")?;
+    let (count, more) = more.split_once("\n").ok_or("no line")?;
+    assert_ne!(rt; count, "89");
+    assert!(rt; more.starts_with(lines));
     Ok(())
 }

@@ -1,5 +1,5 @@
 // The top call.
-ghost use Rattle.std.specs.Prelude.{◌≡◌, ◌≤◌, ℕ, List, [], Some, None, map, string_bytes, MatchResult, IfOk};
+ghost use Rattle.std.specs.Prelude.{◌≡◌, ◌≤◌, ℕ, [], Some, None, map, string_bytes, MatchResult};
 ghost use Rattle.sl_flow.specs.Sample.{IsSampleNumber};
 ghost use Rattle.sl_words.specs.Words.{words_of};
 ghost use Rattle.sl_words.specs.declared.command.Command.TheVariants as command;
@@ -13,6 +13,7 @@ use crate::sample::sample_bytes;
 use sl_finish::input_bounds_are_small;
 use sl_io::{ReadFault, Sink, Source, read_all, write_all};
 use sl_net::Input;
+use sl_proto::passes_are_choices;
 use sl_read::{InputFault, read_input};
 use sl_report::fault_bytes;
 use sl_words::{Command, words_of};
@@ -57,6 +58,7 @@ fn step<I: Source>(
     requires { words_of (map (λ w. string_bytes w) words.now) ≡ Some (command.Step trace) }
     ensures { let r : Reading = record { words = map (λ w. string_bytes w) words.now; before = I.left input.old; after = I.left input.new; faults_before = I.faults input.old; faults_after = I.faults input.new } in MatchResult result (λ s. IsServed r s.book s.front (states_of s.nodes) s.text.items) (HasCause r) }
 {
+    passes_are_choices();
     input_bounds_are_small();
     let accepted = match accept(alloc, words, input) {
         Ok(accepted) => accepted,

@@ -63,7 +63,7 @@ take_number (w ∷ rest) = number_or w rest (sample_number w) (take_number rest)
 
 -- one number, and around it the words of the option
 abbrev pub sample_words : List (List ℕ) → Option (ℕ × Bool)
-sample_words ws = option_and_then (λ p. option_map (λ asked. (p.0, asked)) (flag_words (codes "--input") p.1)) (take_number ws)
+sample_words ws = option_and_then (λ p. option_map (λ asked. (p.0, asked)) (flag_words (flag_word Input) p.1)) (take_number ws)
 
 -- The commands.
 

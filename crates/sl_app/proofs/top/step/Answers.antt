@@ -2,7 +2,7 @@ use Rattle.sl_app.proofs.RunLemmas.{runnable, small, stepped}
 use Rattle.sl_app.proofs.top.step.Goals as goal
 
 pub serve_run-requires : goal.serve_run-requires
-serve_run-requires g c = runnable c.in-Ok.accepted c.in-Ok.ensures.1
+serve_run-requires g c = runnable c.passes_are_choices.ensures.spelled c.in-Ok.accepted c.in-Ok.ensures.1
 
 pub returns-in-Ok-serve_run : goal.returns-in-Ok-serve_run
 returns-in-Ok-serve_run g c =

@@ -1,12 +1,7 @@
 // Calls over sources and sinks in memory: the worked rows, the longest input, words, and faults at
 // each call.
 use crate::{rows, speedlight};
-use sl_cut::findings_of;
-use sl_flow::{sample_input, sample_parts};
 use sl_io::{MemorySink, MemorySource};
-use sl_net::{Input, Net, find_choice};
-use sl_read::read_input;
-use sl_report::report_bytes;
 use std::alloc::{AllocError, Global};
 use std::test::Fail;
 
@@ -210,37 +205,6 @@ fn words_and_faults(rt: HostRuntime) -> Result<(), Fail> {
     Ok(())
 }
 
-/// All that an input says but its net's tables, as a text.
-fn described(alloc: Global, input: &Input) -> Result<String, AllocError> {
-    format!(in alloc;
-        "{:?} {:?} {:?} {:?} {:?} {:?}",
-        input.net.parts(),
-        input.snapshot,
-        input.loss,
-        input.flows.as_slice(),
-        input.raws.as_slice(),
-        input.script.as_slice()
-    )
-}
-
-fn described_text(alloc: Global, text: &[u8]) -> Result<String, Fail> {
-    let input = read_input(alloc, text).ok().ok_or("refused")?;
-    Ok(described(alloc, &input)?)
-}
-
-fn described_sample(alloc: Global, number: u64) -> Result<String, Fail> {
-    let input = sample_parts(alloc, number).ok().ok_or("no sample")?;
-    Ok(described(alloc, &input)?)
-}
-
-/// Whether the text of a sample is read as its input.
-fn reads_back(alloc: Global, number: u64) -> Result<bool, Fail> {
-    let text = sample_input(alloc, number).ok().ok_or("no text")?;
-    let read = described_text(alloc, text.as_slice())?;
-    let made = described_sample(alloc, number)?;
-    Ok(read.as_str() == made.as_str())
-}
-
 /// Whether a summary says that all snapshots are consistent and all packets delivered.
 fn is_whole(alloc: Global, summary: &str, number: u64) -> Result<bool, Fail> {
     let hosts = 2 * (2 + number % 7);
@@ -256,59 +220,14 @@ fn summary_of(alloc: Global, number: u64) -> Result<String, Fail> {
     Ok(String::from_utf8(left.out).ok().ok_or("no text")?)
 }
 
-/// The text of each sample is read as its input, and each sample of an even number is whole.
+/// Each sample of an even number is whole.
 #[test]
-fn samples(rt: HostRuntime) -> Result<(), Fail> {
+fn even_samples(rt: HostRuntime) -> Result<(), Fail> {
     let alloc = rt.alloc();
-    for number in 1..65 {
-        assert!(rt; reads_back(alloc, number)?, "{number}");
-    }
     for half in 1..33 {
         let summary = summary_of(alloc, 2 * half)?;
         assert!(rt; is_whole(alloc, summary.as_str(), 2 * half)?, "{summary}");
     }
-    Ok(())
-}
-
-/// The turns of lines that spell them.
-fn turns(alloc: Global, net: &Net, lines: &str) -> Result<Vec<(u32, u32)>, Fail> {
-    let mut turns = Vec::new(alloc);
-    for line in lines.lines() {
-        turns.push(find_choice(net, line).ok_or("no choice")?)?;
-    }
-    Ok(turns)
-}
-
-/// The report of the findings of a schedule, computed from whole histories.
-fn report_of(alloc: Global, text: &str, lines: &str) -> Result<Vec<u8>, Fail> {
-    let input = read_input(alloc, text.as_bytes()).ok().ok_or("refused")?;
-    let schedule = turns(alloc, &input.net, lines)?;
-    if schedule.len() >= 1 << 40 {
-        return Err("too long".into());
-    }
-    let findings = findings_of(alloc, &input, schedule.as_slice())
-        .ok()
-        .ok_or("memory")?;
-    Ok(report_bytes(alloc, &input, &findings).ok().ok_or("memory")?)
-}
-
-/// The name of the first row whose schedule has other findings.
-fn wrong_schedule<'a>(alloc: Global, table: &'a str) -> Result<Option<&'a str>, Fail> {
-    for row in table.split("==\n") {
-        let (name, rest) = row.split_once("\n").ok_or("no input")?;
-        let (input, rest) = rest.split_once("--\n").ok_or("no schedule")?;
-        let (lines, report) = rest.split_once("--\n").ok_or("no report")?;
-        if report_of(alloc, input, lines)?.as_slice() != report.as_bytes() {
-            return Ok(Some(name));
-        }
-    }
-    Ok(None)
-}
-
-/// The findings of schedules that are written down.
-#[test]
-fn written_schedules(rt: HostRuntime) -> Result<(), Fail> {
-    assert_eq!(rt; wrong_schedule(rt.alloc(), rows::schedules())?, None);
     Ok(())
 }
 

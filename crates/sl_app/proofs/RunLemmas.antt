@@ -17,6 +17,7 @@ use Rattle.sl_net.specs.Input.{Input}
 use Rattle.sl_net.proofs.Checked.{few_hosts}
 use Rattle.sl_net.proofs.NetWired.{no-reason}
 use Rattle.sl_read.specs.Accepted.{IsEntry, IsAccepted}
+use Rattle.sl_flow.specs.Flow.{HasAddresses}
 use Rattle.sl_flow.specs.Sample.{IsSample, flow, host_count, sample_parts}
 use Rattle.sl_cut.specs.Words.{Each}
 use Rattle.sl_cut.specs.Losses.{losses}
@@ -49,20 +50,24 @@ entry : Spelled → (net : Net) (e : Script1) → IsEntry net e → IsScriptEntr
 entry spelled net (Pass n) h = tt
 entry spelled net (Choice a c) h = spelled net a c h
 
+-- the hosts of its flows have 16 bits
+pub addressed : (i : Input) → IsAccepted i → All HasAddresses i.flows
+addressed i a = λ k d h. let f = a.flows k d h in record { from = omega (arith, f.from, few); to = omega (arith, f.to, few) }
+  where
+    few : length i.net.parts.hosts ≤ 128
+    few = few_hosts i.net.parts (no-reason i.net.parts a.right).1.1.1.1.1.1.0
+
 pub runnable : Spelled → (i : Input) → IsAccepted i → CanRun i
 runnable spelled i a = record {
   net = record { made = a.net; right = a.right };
   snapshot = record { some_bits = a.snapshot.some_bits; few_bits = a.snapshot.few_bits; some_window = a.snapshot.some_window; some_ring = a.snapshot.some_ring };
-  addresses = λ k d h. let f = a.flows k d h in record { from = omega (arith, f.from, few); to = omega (arith, f.to, few) };
+  addresses = addressed i a;
   short = record {
     flows = each-of (λ (f : Flow). f.bytes < 2 ^ 16) i.flows (λ k d h. (a.flows k d h).bytes);
     raws = each-of (λ (r : RawPart). Each (λ b. b < 256) r.bytes) i.raws (λ k d h. each-of (λ b. b < 256) _ (a.raws k d h).bytes);
   };
   script = λ k d h. entry spelled i.net _ (a.script k d h);
 }
-  where
-    few : length i.net.parts.hosts ≤ 128
-    few = few_hosts i.net.parts (no-reason i.net.parts a.right).1.1.1.1.1.1.0
 
 pub sample_runs : (n : ℕ) → IsSample (sample_parts n) → CanRun (sample_parts n)
 sample_runs n s = record {

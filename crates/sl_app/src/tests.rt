@@ -1,7 +1,14 @@
 // Calls over sources and sinks in memory: the worked rows, the longest input, words, and faults at
 // each call.
+ghost use Rattle.std.specs.List.{All};
+ghost use Rattle.sl_flow.specs.Flow.{HasAddresses};
+
 use crate::{rows, speedlight};
+use sl_cut::findings_of;
 use sl_io::{MemorySink, MemorySource};
+use sl_net::{Input, Net, find_choice};
+use sl_read::read_input;
+use sl_report::report_bytes;
 use std::alloc::{AllocError, Global};
 use std::test::Fail;
 
@@ -208,7 +215,7 @@ fn words_and_faults(rt: HostRuntime) -> Result<(), Fail> {
 /// Whether a summary says that all snapshots are consistent and all packets delivered.
 fn is_whole(alloc: Global, summary: &str, number: u64) -> Result<bool, Fail> {
     let hosts = 2 * (2 + number % 7);
-    let packets = 5 * number * hosts;
+    let packets = hosts.saturating_mul(5).saturating_mul(number);
     let sent = format!(in alloc; "sent {packets} delivered {packets}\n")?;
     let verdicts = "consistent 5 inconsistent 0 pending 0 not issued 0\nlost 0\nend\n";
     Ok(summary.contains(sent.as_str()) && summary.ends_with(verdicts))
@@ -228,6 +235,58 @@ fn even_samples(rt: HostRuntime) -> Result<(), Fail> {
         let summary = summary_of(alloc, 2 * half)?;
         assert!(rt; is_whole(alloc, summary.as_str(), 2 * half)?, "{summary}");
     }
+    Ok(())
+}
+
+/// The turns of lines that spell them.
+fn turns(alloc: Global, net: &Net, lines: &str) -> Result<Vec<(u32, u32)>, Fail> {
+    let mut turns = Vec::new(alloc);
+    for line in lines.lines() {
+        turns.push(find_choice(net, line).ok_or("no choice")?)?;
+    }
+    Ok(turns)
+}
+
+/// The report of the findings of a schedule, computed from whole histories.
+fn told_of(alloc: Global, input: &Input, lines: &str) -> Result<Vec<u8>, Fail>
+    requires { All HasAddresses input.now.flows }
+{
+    let schedule = turns(alloc, &input.net, lines)?;
+    if schedule.len() >= 1 << 40 {
+        return Err("too long".into());
+    }
+    let findings = findings_of(alloc, input, schedule.as_slice())
+        .ok()
+        .ok_or("memory")?;
+    Ok(report_bytes(alloc, input, &findings).ok().ok_or("memory")?)
+}
+
+/// The same for the text of an input.
+#[tactic(auto, using(crate::proofs::RunLemmas::addressed))]
+fn report_of(alloc: Global, text: &str, lines: &str) -> Result<Vec<u8>, Fail> {
+    match read_input(alloc, text.as_bytes()) {
+        Ok(input) => told_of(alloc, &input, lines),
+        Err(_) => Err("refused".into()),
+    }
+}
+
+/// The name of the first row whose schedule has other findings.
+fn wrong_schedule<'a>(alloc: Global, table: &'a str) -> Result<Option<&'a str>, Fail> {
+    for row in table.split("==\n") {
+        let (name, rest) = row.split_once("\n").ok_or("no input")?;
+        let (input, rest) = rest.split_once("--\n").ok_or("no schedule")?;
+        let (lines, report) = rest.split_once("--\n").ok_or("no report")?;
+        if report_of(alloc, input, lines)?.as_slice() != report.as_bytes() {
+            return Ok(Some(name));
+        }
+    }
+    Ok(None)
+}
+
+/// The findings of schedules that are written down.
+#[test]
+fn written_schedules(rt: HostRuntime) -> Result<(), Fail> {
+    assert_eq!(rt; wrong_schedule(rt.alloc(), rows::schedules())?, None);
     Ok(())
 }
 

@@ -1,5 +1,5 @@
 // The list of the messages that a turn puts.
-ghost use Rattle.std.specs.Prelude.{◌≡◌, ◌+◌, ◌<◌, ◌≤◌, ℕ, List, [], ◌∷◌, ◌++◌, length, IfOk, MatchOption};
+ghost use Rattle.std.specs.Prelude.{◌≡◌, ◌+◌, ◌<◌, ◌≤◌, ℕ, List, [], ◌∷◌, ◌++◌, length, reverse, IfOk, MatchOption};
 ghost use Rattle.std.specs.Vec.{vec_capacity};
 
 use crate::Memory;
@@ -43,7 +43,7 @@ impl<M: Drop> Outputs<M> {
         ensures items { self.new.items ≡ self.old.items ++ (out, m) ∷ [] }
         ensures room { self.new.room ≡ self.old.room }
     {
-        let _ = self.list.push((out, m));
+        self.list.push_reserved((out, m));
     }
 
     /// The messages put so far, in order.
@@ -64,6 +64,23 @@ impl<M: Drop> Outputs<M> {
             Some(self.list.remove(0))
         }
     }
+
+    /// Turns the order round: after this the messages can be taken from the end in the order in
+    /// which they were put, and none is moved for another.
+    pub fn reverse(&mut self)
+        ensures items { self.new.items ≡ reverse self.old.items }
+        ensures room { self.new.room ≡ self.old.room }
+    {
+        self.list.reverse();
+    }
+
+    /// Removes the last message.
+    pub fn take_last(&mut self) -> Option<(u32, M)>
+        ensures items { MatchOption result ((self.old.items ≡ []) × (self.new.items ≡ [])) (λ p. self.old.items ≡ self.new.items ++ p ∷ []) }
+        ensures room { self.new.room ≡ self.old.room }
+    {
+        self.list.pop()
+    }
 }
 
 #[cfg(test)]
@@ -80,6 +97,18 @@ mod tests {
         assert_eq!(rt; out.take_first(), Some((1, 10)));
         assert_eq!(rt; out.take_first(), Some((0, 20)));
         assert_eq!(rt; out.take_first(), None);
+        Ok(())
+    }
+
+    #[test]
+    fn reversed_and_taken_from_the_end(rt: HostRuntime) -> Result<(), Fail> {
+        let mut out = Outputs::with_room(rt.alloc(), 2)?;
+        out.put(1, 10u64);
+        out.put(0, 20);
+        out.reverse();
+        assert_eq!(rt; out.take_last(), Some((1, 10)));
+        assert_eq!(rt; out.take_last(), Some((0, 20)));
+        assert_eq!(rt; out.take_last(), None);
         Ok(())
     }
 }

@@ -6,12 +6,12 @@ use Rattle.sl_machine.specs.Machine.{is_fitting}
 use Rattle.sl_machine.specs.Plan.{Plan, IsSound, link_in, link_out, link_at}
 use Rattle.sl_world.specs.Scene.{Line, line_at, put_each, put_all, without_first}
 use Rattle.sl_world.specs.LineView.{LineView}
-use Rattle.sl_world.specs.Mesh.{lines_of, room_at, KeepsRoom, HasRoomFor, IsElsewhere, IsMesh}
+use Rattle.sl_world.specs.Mesh.{lines_of, room_at, KeepsRoom, KeepsSomeRoom, HasRoomFor, IsElsewhere, IsMesh}
 use Rattle.sl_world.specs.Places.{place_of}
 use Rattle.sl_world.specs.declared.places.Places.{Places}
 use Rattle.sl_world.proofs.LinkLemmas.{link_out_is, no_link_in}
 use Rattle.sl_world.proofs.PlaceLemmas.{position_within}
-use Rattle.sl_world.proofs.RoomLemmas.{line_is, HasRoom-kept, length_same, length_put, room_from, room_for, all_elsewhere, put_each_same, roomy_more, roomy_less}
+use Rattle.sl_world.proofs.RoomLemmas.{line_is, HasRoom-kept, length_same, length_put, room_from, room_for, all_elsewhere, put_each_same, roomy_more, roomy_after}
 
 -- a number that was read is the actor's
 pub count_is : (counts wanted : List ℕ) (a n : ℕ) → counts ≡ wanted → a < length wanted → n ≡ get_or counts a n → n ≡ slice_index wanted a
@@ -87,8 +87,8 @@ pub lines_delivered : {M : Type 0} (plan : Plan) (ins outs : Places) (old : List
 lines_delivered plan ins outs old roomy actor ps new mesh low fits put =
     put ∙ put_each_same (place_of outs actor) (link_out plan.links actor) (slice_index plan.outs actor) ps (lines_of old) fits (λ o h. out_place_is plan ins outs old roomy actor o mesh low h)
 
-pub mesh_delivered : {M : Type 0} (plan : Plan) (ins outs : Places) (old new : List (LineView M)) (roomy : List Bool) (actor : ℕ) (ps : List (ℕ × M)) → IsMesh plan ins outs old roomy → actor < length plan.ins → is_fitting (slice_index plan.outs actor) ps ≡ true → lines_of new ≡ put_each (place_of outs actor) ps (lines_of old) → ((k : ℕ) → IsElsewhere (place_of outs actor) ps k → room_at new k ≡ room_at old k) → IsMesh plan ins outs new (set roomy actor false)
-mesh_delivered plan ins outs old new roomy actor ps mesh low fits put others =
+pub mesh_delivered : {M : Type 0} (plan : Plan) (ins outs : Places) (old new : List (LineView M)) (roomy : List Bool) (actor : ℕ) (ps : List (ℕ × M)) (b : Bool) → IsMesh plan ins outs old roomy → actor < length plan.ins → get_or roomy actor false ≡ true → is_fitting (slice_index plan.outs actor) ps ≡ true → lines_of new ≡ put_each (place_of outs actor) ps (lines_of old) → ((k : ℕ) → IsElsewhere (place_of outs actor) ps k → room_at new k ≡ room_at old k) → (b ≡ true → KeepsSomeRoom old new) → IsMesh plan ins outs new (set roomy actor b)
+mesh_delivered plan ins outs old new roomy actor ps b mesh low known fits put others some =
     let is = λ (o : ℕ) (h : o < slice_index plan.outs actor). link_out_is plan.links actor o (mesh.sound.each_out actor o low h) in
     let from_is = λ (o : ℕ) (h : o < slice_index plan.outs actor). ap (λ (k : ℕ). (link_at plan.links k).from) (out_place_is plan ins outs old roomy actor o mesh low h) ∙ (is o h).0 in
     record {
@@ -96,8 +96,9 @@ mesh_delivered plan ins outs old new roomy actor ps mesh low fits put others =
       in_places = mesh.in_places;
       out_places = mesh.out_places;
       lines_each = length_put (place_of outs actor) ps old new put ∙ mesh.lines_each;
-      roomy_each = length-set roomy actor false ∙ mesh.roomy_each;
-      room = roomy_less plan.links old new roomy actor (omega (arith, mesh.roomy_each))
+      roomy_each = length-set roomy actor b ∙ mesh.roomy_each;
+      room = roomy_after plan.links old new roomy actor b (omega (arith, mesh.roomy_each))
+          (λ e k below from. some e k (mesh.room actor known k below from))
           (λ k below other. others k (all_elsewhere (place_of outs actor) (slice_index plan.outs actor) k ps fits (λ o h e. other (ap (λ (i : ℕ). (link_at plan.links i).from) (sym e) ∙ from_is o h))))
           mesh.room;
     }

@@ -68,9 +68,6 @@ position_is t counts a n laid low = ap (λ (s : ℕ). s + n) (laid.starts a low)
 pub position_within : (t : Places) (counts : List ℕ) (a n : ℕ) → IsLaidOut t counts → a < length counts → n < slice_index counts a → slice_index t.starts.items a + n < length t.places.items
 position_within t counts a n laid low here = omega (arith, position_is t counts a n laid low, start_of_within counts a n low here, laid.long)
 
-pub starts_within : (t : Places) (counts : List ℕ) (a : ℕ) → IsLaidOut t counts → a < length counts → a < length t.starts.items
-starts_within t counts a laid low = omega (arith, laid.starts_each)
-
 -- one more pair is entered
 pub entered : (t new : Places) (counts : List ℕ) (pairs : List (ℕ × ℕ)) (l a n : ℕ) → IsLaidOut t counts → IsNumbering counts pairs → l < length pairs → (a, n) ≡ pair_at pairs l → new.starts.items ≡ t.starts.items → new.places.items ≡ set t.places.items (slice_index t.starts.items a + n) l → Finds t pairs l → record { laid_out : IsLaidOut new counts; finds : Finds new pairs (l + 1) }
 entered t new counts pairs l a n laid numbering low pair starts places finds =

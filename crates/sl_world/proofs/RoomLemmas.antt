@@ -1,5 +1,5 @@
 -- Room on links.
-use Rattle.std.proofs.Common.{◌≡◌, ◌≢◌, ℕ, zero, suc, ◌+◌, ◌<◌, ◌≤◌, List, [], ◌∷◌, length, get_or, set, replicate, refl, ap, sym, ◌∙◌, subst, arith, Bool, true, false, inl, inr}
+use Rattle.std.proofs.Common.{◌≡◌, ◌≢◌, ℕ, zero, suc, ◌+◌, ◌<◌, ◌≤◌, List, [], ◌∷◌, length, get_or, set, refl, ap, sym, ◌∙◌, subst, arith, Bool, true, false, inl, inr}
 use Rattle.std.specs.Prelude.{slice_index, All}
 use Rattle.std.proofs.lemmas.Bool.Decides.{nat_tests}
 use Rattle.std.proofs.lemmas.Bool.{cases_eq}
@@ -11,7 +11,7 @@ use Rattle.sl_machine.specs.Plan.{Plan, IsSound, link_out, link_at}
 use Rattle.sl_world.specs.Scene.{Line, empty_line, line_at, line_put, put_at, put_each}
 use Rattle.sl_world.specs.Keeping.{length-put_each}
 use Rattle.sl_world.specs.LineView.{LineView}
-use Rattle.sl_world.specs.Mesh.{lines_of, no_view, room_at, HasRoom, KeepsRoom, HasRoomFor, IsElsewhere}
+use Rattle.sl_world.specs.Mesh.{lines_of, no_view, room_at, HasRoom, KeepsRoom, KeepsSomeRoom, HasRoomFor, IsElsewhere}
 use Rattle.sl_world.specs.Places.{place_of, Leads}
 use Rattle.sl_world.specs.declared.places.Places.{Places}
 
@@ -39,6 +39,18 @@ KeepsRoom-set views k e new low read more j =
           omega arith
       | inr other ↦
           let same : room_at (set views k new) j ≡ room_at views j = ap (λ v. v.room) (get_or-set_other views k j new no_view other) in
+          omega arith
+    ]
+
+-- a write that leaves some room
+pub KeepsSomeRoom-set : {M : Type 0} (views : List (LineView M)) (k : ℕ) (new : LineView M) → k < length views → 0 < new.room → KeepsSomeRoom views (set views k new)
+KeepsSomeRoom-set views k new low some j room =
+    elim (cases_eq j k) [
+      | inl same ↦
+          let here : room_at (set views k new) j ≡ new.room = ap (room_at (set views k new)) same ∙ ap (λ v. v.room) (get_or-set_same views k new no_view low) in
+          omega arith
+      | inr other ↦
+          let there : room_at (set views k new) j ≡ room_at views j = ap (λ v. v.room) (get_or-set_other views k j new no_view other) in
           omega arith
     ]
 
@@ -125,7 +137,7 @@ HasRoomFor-set place k views new (p ∷ ps) apart room =
     (omega (arith, room.0), omega (arith, room.1), room.2, HasRoomFor-set place k views new ps apart.1 room.3)
 
 -- the first put is done, and the others are left
-pub deliver_step : {M : Type 0} (place : ℕ → ℕ) (views : List (LineView M)) (n k : ℕ) (m : M) (e new : LineView M) (items ps : List (ℕ × M)) → items ≡ (n, m) ∷ ps → k ≡ place n → new.line ≡ line_put (get_or views k e).line m → HasRoomFor place views items → record { rest : put_each place ps (lines_of (set views k new)) ≡ put_each place items (lines_of views); room : HasRoomFor place (set views k new) ps; others : (j : ℕ) → IsElsewhere place items j → (room_at (set views k new) j ≡ room_at views j) × IsElsewhere place ps j }
+pub deliver_step : {M : Type 0} (place : ℕ → ℕ) (views : List (LineView M)) (n k : ℕ) (m : M) (e new : LineView M) (items ps : List (ℕ × M)) → items ≡ (n, m) ∷ ps → k ≡ place n → new.line ≡ line_put (get_or views k e).line m → HasRoomFor place views items → record { rest : put_each place ps (lines_of (set views k new)) ≡ put_each place items (lines_of views); room : HasRoomFor place (set views k new) ps; others : (j : ℕ) → IsElsewhere place items j → (room_at (set views k new) j ≡ room_at views j) × IsElsewhere place ps j; some : 0 < new.room → KeepsSomeRoom views (set views k new) }
 deliver_step place views n k m e new items ps first at put room =
     let here = subst (HasRoomFor place views) first room in
     let low : k < length views = omega (arith, here.0) in
@@ -136,13 +148,8 @@ deliver_step place views n k m e new items ps first at put room =
       others = λ j h.
           let apart = subst (λ qs. IsElsewhere place qs j) first h in
           (room_at-set_other views k j new (λ f. apart.0 (sym at ∙ sym f)), apart.1);
+      some = KeepsSomeRoom-set views k new low;
     }
-
--- no actor is known to have room at first
-pub none_roomy : (n a : ℕ) → get_or (replicate n false) a false ≡ false
-none_roomy zero a = refl
-none_roomy (suc n) zero = refl
-none_roomy (suc n) (suc a) = none_roomy n a
 
 -- an actor more is known to have room
 pub roomy_more : {M : Type 0} (links : List Link) (views : List (LineView M)) (roomy : List Bool) (actor : ℕ) → actor < length roomy → HasRoom links views actor → ((a : ℕ) → get_or roomy a false ≡ true → HasRoom links views a) → (a : ℕ) → get_or (set roomy actor true) a false ≡ true → HasRoom links views a
@@ -152,14 +159,14 @@ roomy_more links views roomy actor low room known a h =
       | inr other ↦ known a (sym (get_or-set_other roomy actor a true false other) ∙ h)
     ]
 
--- an actor's puts leave the room of the others
-pub roomy_less : {M : Type 0} (links : List Link) (old new : List (LineView M)) (roomy : List Bool) (actor : ℕ) → actor < length roomy → ((k : ℕ) → k < length links → (link_at links k).from ≢ actor → room_at new k ≡ room_at old k) → ((a : ℕ) → get_or roomy a false ≡ true → HasRoom links old a) → (a : ℕ) → get_or (set roomy actor false) a false ≡ true → HasRoom links new a
-roomy_less links old new roomy actor low same known a h k below from =
+-- an actor's puts leave the room of the others, and its own where this is known
+pub roomy_after : {M : Type 0} (links : List Link) (old new : List (LineView M)) (roomy : List Bool) (actor : ℕ) (b : Bool) → actor < length roomy → (b ≡ true → HasRoom links new actor) → ((k : ℕ) → k < length links → (link_at links k).from ≢ actor → room_at new k ≡ room_at old k) → ((a : ℕ) → get_or roomy a false ≡ true → HasRoom links old a) → (a : ℕ) → get_or (set roomy actor b) a false ≡ true → HasRoom links new a
+roomy_after links old new roomy actor b low own same known a h k below from =
     elim (cases_eq a actor) [
       | inl e ↦
-          let is : false ≡ true = sym (get_or-set_same roomy actor false false low) ∙ (ap (λ (i : ℕ). get_or (set roomy actor false) i false) (sym e) ∙ h) in
-          absurd (cc)
+          let is : b ≡ true = sym (get_or-set_same roomy actor b false low) ∙ (ap (λ (i : ℕ). get_or (set roomy actor b) i false) (sym e) ∙ h) in
+          own is k below (from ∙ e)
       | inr other ↦
           let there : room_at new k ≡ room_at old k = same k below (λ f. other (sym from ∙ f)) in
-          omega (arith, known a (sym (get_or-set_other roomy actor a false false other) ∙ h) k below from)
+          omega (arith, known a (sym (get_or-set_other roomy actor a b false other) ∙ h) k below from)
     ]

@@ -31,6 +31,10 @@ HasRoom links views actor = (k : ℕ) → k < length links → (link_at links k)
 abbrev pub KeepsRoom : {M : Type 0} → List (LineView M) → List (LineView M) → Type 0
 KeepsRoom old new = (k : ℕ) → room_at old k ≤ room_at new k
 
+-- each link that had room has room
+abbrev pub KeepsSomeRoom : {M : Type 0} → List (LineView M) → List (LineView M) → Type 0
+KeepsSomeRoom old new = (k : ℕ) → 0 < room_at old k → 0 < room_at new k
+
 -- none of the puts goes to this place
 abbrev pub IsElsewhere : {M : Type 0} → (ℕ → ℕ) → List (ℕ × M) → ℕ → Type 0
 IsElsewhere place [] k = ⊤

@@ -1,9 +1,9 @@
 // The book of a world.
-ghost use Rattle.std.specs.Prelude.{◌≡◌, ◌+◌, ◌<◌, ◌^◌, ◌++◌, ◌∷◌, [], List, OnOk, OnErr};
-ghost use Rattle.sl_machine.specs.declared.wiring.Entry.{Entry};
+ghost use Rattle.std.specs.Prelude.{◌≡◌, ◌+◌, ◌<◌, ◌^◌, ◌++◌, ◌∷◌, [], OnOk};
+ghost use Rattle.std.specs.Vec.{vec_len, vec_capacity};
 ghost use Rattle.sl_world.specs.Scene.{last_number, entry_after};
 
-use sl_machine::{Book, Entry, Memory};
+use sl_machine::{Entry, Memory};
 
 /// The last number, or 0 in an empty book.
 fn last_number(entries: &[Entry]) -> u64
@@ -15,27 +15,27 @@ fn last_number(entries: &[Entry]) -> u64
     }
 }
 
-/// Adds a turn, with the next number.
-pub fn note(book: &mut Book, actor: u32, choice: u32) -> Result<(), Memory>
-    requires { last_number book.old.entries < 2 ^ 63 }
-    ensures ok { OnOk result (book.new.entries ≡ book.old.entries ++ entry_after book.old.entries actor choice ∷ []) }
-    ensures err { OnErr result (book.new.entries ≡ book.old.entries) }
+/// Makes room for one more entry.
+pub fn make_room(entries: &mut Vec<Entry>) -> Result<(), Memory>
+    ensures entries { entries.new.items ≡ entries.old.items }
+    ensures room { OnOk result (vec_len entries.new < vec_capacity entries.new) }
 {
-    let number = last_number(book.entries.as_slice()) + 1;
-    let entry = Entry {
-        number,
-        actor,
-        choice,
-    };
-    match book.entries.push(entry) {
+    match entries.reserve(1) {
         Ok(()) => Ok(()),
         Err(_) => Err(Memory),
     }
 }
 
-/// Strikes out the last entry.
-pub fn strike_out(book: &mut Book)
-    ensures { (rest : List Entry) (last : Entry) → book.old.entries ≡ rest ++ last ∷ [] → book.new.entries ≡ rest }
+/// Adds a turn, with the next number.
+pub fn note(entries: &mut Vec<Entry>, actor: u32, choice: u32)
+    requires room { vec_len entries.old < vec_capacity entries.old }
+    requires number { last_number entries.old.items < 2 ^ 63 }
+    ensures { entries.new.items ≡ entries.old.items ++ entry_after entries.old.items actor choice ∷ [] }
 {
-    let _ = book.entries.pop();
+    let number = last_number(entries.as_slice()) + 1;
+    entries.push_reserved(Entry {
+        number,
+        actor,
+        choice,
+    });
 }

@@ -27,6 +27,7 @@ impl<M> Model for Line<M> {
 }
 
 impl<M: Drop> Line<M> {
+    /// A link on which nothing was put.
     pub fn new(alloc: Global, loss: Option<Loss>) -> Line<M>
         ensures { result.line ≡ new_line loss }
     {
@@ -48,12 +49,14 @@ impl<M: Drop> Line<M> {
         }
     }
 
+    /// How many puts the link has lost.
     pub fn lost(&self) -> u64
         ensures { result ≡ self.now.line.lost }
     {
         self.lost
     }
 
+    /// Whether nothing is on the link.
     pub fn is_empty(&self) -> bool
         ensures { IsTrue result ↔ (self.now.line.queue ≡ []) }
     {
@@ -72,9 +75,12 @@ impl<M: Drop> Line<M> {
         }
     }
 
-    pub fn put(&mut self, m: M)
+    /// Puts a message at the end, unless the loss takes it. Then it makes room for one more where
+    /// memory allows it, and answers whether there is.
+    pub fn put(&mut self, m: M) -> bool
         requires { 0 < self.old.room }
-        ensures { self.new.line ≡ line_put self.old.line m }
+        ensures line { self.new.line ≡ line_put self.old.line m }
+        ensures room { IsTrue result → 0 < self.new.room }
     {
         let is_lost = match &mut self.loss {
             None => false,
@@ -83,8 +89,9 @@ impl<M: Drop> Line<M> {
         if is_lost {
             self.lost = self.lost.saturating_add(1);
         } else {
-            let _ = self.queue.push_back(m);
+            self.queue.push_back_reserved(m);
         }
+        self.queue.reserve(1).is_ok()
     }
 
     /// Takes the first message.

@@ -3,7 +3,7 @@ ghost use Rattle.std.specs.Prelude.{◌≡◌, ◌≢◌, ◌+◌, ◌<◌, ◌�
 ghost use Rattle.sl_machine.specs.Machine.{is_fitting};
 ghost use Rattle.sl_machine.specs.Plan.{IsSound, link_in};
 ghost use Rattle.sl_world.specs.Scene.{line_at, without_first, put_all, put_each};
-ghost use Rattle.sl_world.specs.Mesh.{lines_of, room_at, KeepsRoom, HasRoomFor, IsElsewhere};
+ghost use Rattle.sl_world.specs.Mesh.{lines_of, room_at, KeepsRoom, KeepsSomeRoom, HasRoomFor, IsElsewhere};
 ghost use Rattle.sl_world.specs.Places.{place_of};
 
 use crate::line::Line;
@@ -74,6 +74,7 @@ impl<M: Drop> Links<M> {
         }
     }
 
+    /// Whether nothing is on a link.
     pub fn is_empty(&self, link: usize) -> bool
         requires { link < length self.now.plan.links }
         ensures { IsTrue result ↔ ((line_at self.now.lines link).queue ≡ []) }
@@ -130,12 +131,14 @@ impl<M: Drop> Links<M> {
         ensures room { out.new.room ≡ out.old.room }
     {
         let actor = actor as usize;
-        put_at_places(&mut self.lines, &self.outs, actor, out);
-        self.roomy[actor] = false;
+        let roomy = put_at_places(&mut self.lines, &self.outs, actor, out);
+        self.roomy[actor] = roomy;
     }
 }
 
 /// Makes room for a message on each of the first links of an actor.
+#[cold]
+#[inline(never)]
 fn make_room_at<M: Drop>(
     lines: &mut Vec<Line<M>>,
     outs: &Places,
@@ -156,23 +159,29 @@ fn make_room_at<M: Drop>(
     Ok(())
 }
 
-/// Puts each message on the link that the table has for its number.
+/// Puts each message on the link that the table has for its number, and answers whether each of
+/// these links has room for one more.
 fn put_at_places<M: Drop>(
     lines: &mut Vec<Line<M>>,
     outs: &Places,
     actor: usize,
     out: &mut Outputs<M>,
-)
+) -> bool
     requires actor { actor < length outs.now.starts.items }
     requires within { All (λ p. slice_index outs.now.starts.items actor + p.0 < length outs.now.places.items) out.old.items }
     requires room { HasRoomFor (place_of outs.now actor) lines.old.items out.old.items }
     ensures lines { lines_of lines.new.items ≡ put_each (place_of outs.now actor) out.old.items (lines_of lines.old.items) }
     ensures others { (k : ℕ) → IsElsewhere (place_of outs.now actor) out.old.items k → room_at lines.new.items k ≡ room_at lines.old.items k }
+    ensures roomy { IsTrue result → KeepsSomeRoom lines.old.items lines.new.items }
     ensures items { out.new.items ≡ [] }
     ensures room { out.new.room ≡ out.old.room }
 {
-    while let Some((number, m)) = out.take_first() {
+    out.reverse();
+    let mut roomy = true;
+    while let Some((number, m)) = out.take_last() {
         let place = outs.place(actor, number);
-        lines[place].put(m);
+        let some = lines[place].put(m);
+        roomy &= some;
     }
+    roomy
 }

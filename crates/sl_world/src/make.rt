@@ -96,6 +96,7 @@ fn outgoing_pairs(alloc: Global, links: &[Link]) -> Result<Vec<(u32, u32)>, Memo
     }
 }
 
+/// A copy of a wiring.
 pub fn copy_wiring(alloc: Global, wiring: &Wiring) -> Result<Wiring, Memory>
     ensures { IfOk result (λ w. w ≡ wiring.now) }
 {

@@ -1,5 +1,5 @@
 // The world: machines, the links between them, and the book of the turns that did something.
-ghost use Rattle.std.specs.Prelude.{◌≡◌, ◌+◌, ◌<◌, ◌≤◌, ◌^◌, ℕ, [], Some, None, Ok, length, map, slice_get, slice_index, slice_index_or, IfOk, OnOk, OnErr, All, true, false};
+ghost use Rattle.std.specs.Prelude.{◌≡◌, ◌≢◌, ◌+◌, ◌<◌, ◌≤◌, ◌^◌, ℕ, [], Some, None, Ok, length, map, slice_get, slice_index, slice_index_or, IfOk, OnOk, OnErr, All, true, false};
 ghost use Rattle.sl_machine.specs.Plan.{HasChoice, IsSound, link_in};
 ghost use Rattle.sl_machine.specs.Fit.{ins_of, actions_of, HasCounts, Fits};
 ghost use Rattle.sl_loss.specs.Loss.{IsFresh};
@@ -7,7 +7,7 @@ ghost use Rattle.sl_world.specs.Counts.{SameCounts};
 ghost use Rattle.sl_world.specs.Scene.{last_number, line_at, lines_with};
 ghost use Rattle.sl_world.specs.Mesh.{lines_of};
 
-use crate::book::{note, strike_out};
+use crate::book::{make_room, note};
 use crate::line::Line;
 use crate::links::Links;
 use crate::machines::{act_at, ready_at, take_at};
@@ -19,7 +19,9 @@ use std::alloc::Global;
 /// Whether a turn did something.
 #[derive(Clone, Copy, Debug, PartialEq, Eq)]
 pub enum Turn {
+    /// It took a message, or it acted.
     Did,
+    /// The chosen link was empty, or the guard of the chosen action was false.
     Idle,
 }
 
@@ -188,14 +190,32 @@ impl<A: Machine> World<A> {
         if self.links.is_empty(link) {
             return Ok(Turn::Idle);
         }
-        prepare(&mut self.machines, &mut self.links, actor, choice)?;
-        note(&mut self.book, actor, choice)?;
-        let m = self.links.take(link);
-        take_at(&mut self.machines, actor as usize, choice, m, &mut self.out);
-        self.links.deliver(actor, &mut self.out);
+        self.take_from(actor, choice, link)?;
         Ok(Turn::Did)
     }
 
+    /// Takes the first message of a link. It stands apart, so that an idle turn costs little.
+    #[inline(never)]
+    fn take_from(&mut self, actor: u32, choice: u32, link: usize) -> Result<(), Memory>
+        requires actor { actor < length (scene self.old).plan.ins }
+        requires choice { choice < slice_index (scene self.old).plan.ins actor }
+        requires book { length (scene self.old).book < 2 ^ 40 }
+        requires link { link ≡ link_in (scene self.old).plan.links actor choice }
+        requires below { link < length (scene self.old).plan.links }
+        requires some { (line_at (scene self.old).lines link).queue ≢ [] }
+        ensures did { OnOk result (turn_of A.rules (scene self.old) actor choice ≡ Some (scene self.new)) }
+        ensures err { OnErr result (scene self.new ≡ scene self.old) }
+    {
+        prepare(&mut self.machines, &mut self.links, actor, choice)?;
+        make_room(&mut self.book.entries)?;
+        note(&mut self.book.entries, actor, choice);
+        let m = self.links.take(link);
+        take_at(&mut self.machines, actor as usize, choice, m, &mut self.out);
+        self.links.deliver(actor, &mut self.out);
+        Ok(())
+    }
+
+    #[inline(never)]
     fn act_turn(&mut self, actor: u32, choice: u32) -> Result<Turn, Memory>
         requires choice { HasChoice (scene self.old).plan actor choice }
         requires action { slice_index (scene self.old).plan.ins actor ≤ choice }
@@ -208,11 +228,11 @@ impl<A: Machine> World<A> {
         ensures err { OnErr result (scene self.new ≡ scene self.old) }
     {
         prepare(&mut self.machines, &mut self.links, actor, choice)?;
-        note(&mut self.book, actor, choice)?;
+        make_room(&mut self.book.entries)?;
         if !act_at(&mut self.machines, actor as usize, choice, &mut self.out) {
-            strike_out(&mut self.book);
             return Ok(Turn::Idle);
         }
+        note(&mut self.book.entries, actor, choice);
         self.links.deliver(actor, &mut self.out);
         Ok(Turn::Did)
     }

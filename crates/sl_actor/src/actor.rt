@@ -34,13 +34,16 @@ pub struct Actor<A: Machine> {
     ghost space: { (A.counts machine).outs ≤ out.room },
 }
 
-/// What an actor holds: its machine, its log of (number, choice), the ends of its incoming links
-/// in order of choice, and its outgoing links in order.
+/// What an actor holds.
 #[derive(Drop)]
 pub struct ActorParts<A: Machine> {
+    /// Its machine.
     pub machine: A,
+    /// The number and the choice of each turn in which the machine made a step, in order.
     pub log: Vec<(u64, u32)>,
+    /// The ends of its incoming links, in order of choice.
     pub takes: Vec<TakeEnd<A::Msg>>,
+    /// Its outgoing links in order.
     pub outs: Vec<OutPart<A::Msg>>,
 }
 
@@ -51,7 +54,7 @@ impl<A: Machine> Actor<A> {
     ghost use Rattle.sl_actor.specs.declared.moved.Moved.{Moved};
     ghost use Rattle.sl_actor.specs.Made.{IsNew, IsNewPart};
 
-    // An actor of a machine whose links have these ends.
+    /// An actor of a machine whose links have these ends.
     pub(crate) fn new(
         alloc: Global,
         place: u32,
@@ -142,12 +145,12 @@ impl<A: Machine> Actor<A> {
         Ok(moved(did, before, after))
     }
 
-    // The actor's place among the actors.
+    /// The actor's place among the actors.
     pub(crate) fn place(&self) -> u32 {
         self.place
     }
 
-    // Takes the memory that a turn can need.
+    /// Takes the memory that a turn can need.
     fn prepare(&mut self, choice: u32) -> Result<(), Memory>
         requires { IsChoice (held self.old).counts choice }
         ensures same { held self.new ≡ held self.old }
@@ -162,7 +165,7 @@ impl<A: Machine> Actor<A> {
         self.machine.ready(choice)
     }
 
-    // The step of the machine by a choice. Whether it made one.
+    /// The step of the machine by a choice. Whether it made one.
     fn step<R: Wait>(&mut self, rt: &R, choice: u32) -> bool
         requires choice { IsChoice (held self.old).counts choice }
         requires log { vec_len self.old.log < vec_capacity self.old.log }

@@ -1,4 +1,5 @@
-// Actors: machines with a log, which take from links and put on links. Each may run in a thread of its own.
+// Actors: machines with a log, which take from links and put on links. Each may run in a thread of
+// its own.
 #![tactic(auto)]
 
 mod actor;

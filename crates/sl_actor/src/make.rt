@@ -44,7 +44,7 @@ pub fn make_actors<A: Machine>(
     assemble(alloc, machines, takes, outs)
 }
 
-// The actors of these machines, whose links have these ends.
+/// The actors of these machines, whose links have these ends.
 fn assemble<A: Machine>(
     alloc: Global,
     machines: Vec<A>,
@@ -85,7 +85,7 @@ fn first<T: Drop>(list: &mut VecDeque<T>) -> T
     }
 }
 
-// Makes the links, and puts the ends of each at its places.
+/// Makes the links, and puts the ends of each at its places.
 fn join_all<M: Drop>(
     alloc: Global,
     links: &[Link],
@@ -116,7 +116,7 @@ fn join_all<M: Drop>(
     Ok(())
 }
 
-// Makes a link, and puts its ends at their places.
+/// Makes a link, and puts its ends at their places.
 fn join_one<M: Drop>(
     alloc: Global,
     link: Link,

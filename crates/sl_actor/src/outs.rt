@@ -14,16 +14,18 @@ use std::alloc::Global;
 use std::collections::VecDeque;
 use std::sync::Wait;
 
-// The links, and the numbers of those whose outbox holds something.
+/// The outgoing links of an actor, with the outboxes before them.
 #[derive(Drop)]
 pub struct Outs<M: Drop> {
+    /// The links in order.
     pub parts: Vec<OutPart<M>>,
+    /// The places of those whose outbox holds something, in the order of the next offers.
     pub waiting: VecDeque<u32>,
     ghost listed: { IsWaiting parts.items waiting.items (deque_capacity waiting) },
 }
 
 impl<M: Drop> Outs<M> {
-    // Links whose outboxes are empty.
+    /// Links whose outboxes are empty.
     pub fn new(alloc: Global, mut parts: Vec<OutPart<M>>) -> Result<Outs<M>, Memory>
         requires { All (λ p. deque_len p.outbox ≡ 0) parts.items }
         ensures { IfOk result (λ o. views o.parts.items ≡ views parts.items) }
@@ -35,7 +37,7 @@ impl<M: Drop> Outs<M> {
         Ok(Outs { parts, waiting })
     }
 
-    // Makes room for one more message in each outbox.
+    /// Makes room for one more message in each outbox.
     pub fn make_room(&mut self) -> Result<(), Memory>
         ensures same { views self.new.parts.items ≡ views self.old.parts.items }
         ensures spare { OnOk result (AreSpare self.new.parts.items) }
@@ -43,7 +45,7 @@ impl<M: Drop> Outs<M> {
         make_room(&mut self.parts, &self.waiting)
     }
 
-    // Offers from each outbox. Whether a message was put.
+    /// Offers from each outbox. Whether a message was put.
     pub fn offer<R: Wait>(&mut self, rt: &R) -> bool
         ensures sent { map sent (views self.new.parts.items) ≡ map sent (views self.old.parts.items) }
         ensures offered { AreOffered (views self.new.parts.items) }
@@ -55,7 +57,7 @@ impl<M: Drop> Outs<M> {
         offer_waiting(rt, &mut self.parts, &mut self.waiting)
     }
 
-    // Gives each put, with the number of its turn, to its link.
+    /// Gives each put, with the number of its turn, to its link.
     pub fn give(&mut self, number: u64, puts: &mut Outputs<M>)
         requires fitting { is_fitting (length self.old.parts.items) puts.old.items ≡ true }
         requires spare { AreSpare self.old.parts.items }
@@ -68,7 +70,7 @@ impl<M: Drop> Outs<M> {
     }
 }
 
-// Makes room for a message in each outbox.
+/// Makes room for a message in each outbox.
 fn make_first_room<M: Drop>(parts: &mut Vec<OutPart<M>>) -> Result<(), Memory>
     requires { All (λ p. deque_len p.outbox ≡ 0) parts.old.items }
     ensures same { views parts.new.items ≡ views parts.old.items }
@@ -85,7 +87,7 @@ fn make_first_room<M: Drop>(parts: &mut Vec<OutPart<M>>) -> Result<(), Memory>
     Ok(())
 }
 
-// Makes room for one more message in each outbox that holds something.
+/// Makes room for one more message in each outbox that holds something.
 fn make_room<M: Drop>(parts: &mut Vec<OutPart<M>>, waiting: &VecDeque<u32>) -> Result<(), Memory>
     requires { IsWaiting parts.old.items waiting.now.items (deque_capacity waiting.now) }
     ensures waiting { IsWaiting parts.new.items waiting.now.items (deque_capacity waiting.now) }
@@ -102,7 +104,7 @@ fn make_room<M: Drop>(parts: &mut Vec<OutPart<M>>, waiting: &VecDeque<u32>) -> R
     Ok(())
 }
 
-// Offers from each outbox that holds something. Whether a message was put.
+/// Offers from each outbox that holds something. Whether a message was put.
 fn offer_waiting<M: Drop, R: Wait>(
     rt: &R,
     parts: &mut Vec<OutPart<M>>,
@@ -126,7 +128,7 @@ fn offer_waiting<M: Drop, R: Wait>(
     any
 }
 
-// Offers from the outbox that is listed first, and lists it last if it still holds something.
+/// Offers from the outbox that is listed first, and lists it last if it still holds something.
 fn offer_first<M: Drop, R: Wait>(
     rt: &R,
     parts: &mut Vec<OutPart<M>>,
@@ -167,7 +169,7 @@ fn offer_at<M: Drop, R: Wait>(rt: &R, parts: &mut Vec<OutPart<M>>, out: usize) -
     offer_from(rt, part)
 }
 
-// Gives each put to its link.
+/// Gives each put to its link.
 fn give_out<M: Drop>(
     parts: &mut Vec<OutPart<M>>,
     waiting: &mut VecDeque<u32>,
@@ -188,7 +190,7 @@ fn give_out<M: Drop>(
     }
 }
 
-// Gives a message to one link, and lists the link if it is the first that waits there.
+/// Gives a message to one link, and lists the link if it is the first that waits there.
 fn give_one<M: Drop>(
     parts: &mut Vec<OutPart<M>>,
     waiting: &mut VecDeque<u32>,

@@ -8,7 +8,7 @@ use std::alloc::Global;
 use std::collections::VecDeque;
 use std::marker::Model;
 
-// Places, each empty or filled.
+/// Places, each empty or filled.
 #[derive(Drop)]
 pub struct Row<T> {
     places: Vec<Option<T>>,
@@ -25,7 +25,7 @@ impl<T> Model for Row<T> {
 }
 
 impl<T: Drop> Row<T> {
-    // Empty places.
+    /// So many empty places.
     pub fn new(alloc: Global, count: u32) -> Result<Row<T>, Memory>
         ensures { IfOk result (λ r. r ≡ replicate count None) }
     {
@@ -38,13 +38,14 @@ impl<T: Drop> Row<T> {
         Ok(Row { places })
     }
 
-    // How many places there are.
+    /// How many places there are.
     pub fn len(&self) -> u32
         ensures { result ≡ length self.now }
     {
         self.places.len() as u32
     }
 
+    /// Fills a place.
     pub fn fill(&mut self, place: usize, x: T)
         requires { place < length self.old }
         ensures { self.new ≡ slice_set self.old place (Some x) }
@@ -52,7 +53,7 @@ impl<T: Drop> Row<T> {
         self.places[place] = Some(x);
     }
 
-    // What all places are filled with.
+    /// What all places are filled with.
     pub fn into_list(self, alloc: Global) -> Result<Vec<T>, Memory>
         requires { All IsFilled self }
         ensures { IfOk result (λ v. map Some v.items ≡ self) }
@@ -73,7 +74,7 @@ impl<T: Drop> Row<T> {
     }
 }
 
-// A row of so many empty places for each count.
+/// A row of so many empty places for each count.
 pub fn empty_rows<T: Drop>(alloc: Global, counts: &[u32]) -> Result<Vec<Row<T>>, Memory>
     ensures { IfOk result (λ v. v.items ≡ map (λ n. replicate n None) counts.now) }
 {
@@ -87,6 +88,7 @@ pub fn empty_rows<T: Drop>(alloc: Global, counts: &[u32]) -> Result<Vec<Row<T>>,
     Ok(rows)
 }
 
+/// Fills a place of a row.
 pub fn fill_at<T: Drop>(rows: &mut Vec<Row<T>>, row: u32, place: u32, x: T)
     requires row { row < length rows.old.items }
     requires place { place < length (slice_index_or rows.old.items row []) }

@@ -10,8 +10,9 @@ use crossbeam_utils::Backoff;
 use sl_machine::{Machine, Memory};
 use std::sync::Wait;
 
-/// What an actor passes at the start of each round of a run; `round` counts from 0.
+/// What an actor passes at the start of each round of a run.
 pub trait Gate {
+    /// The actor of this number begins a round of its run. `round` counts from 0.
     fn pass(&self, actor: u32, round: u64);
 }
 
@@ -23,14 +24,16 @@ impl Gate for FreeGate {
     fn pass(&self, _actor: u32, _round: u64) {}
 }
 
-/// How a run ends: nothing moved any more, or all its steps were made.
+/// How a run ends.
 #[derive(Clone, Copy, Debug, PartialEq, Eq)]
 pub enum Rest {
+    /// Nothing moved any more.
     Rested,
+    /// All its steps were made.
     Spent,
 }
 
-// How a round ends: all steps were made; or not all, but something moved; or nothing.
+/// How a round ends: all steps were made; or not all, but something moved; or nothing.
 #[derive(Clone, Copy)]
 enum Round {
     Full,
@@ -42,7 +45,7 @@ impl<A: Machine> Actor<A> {
     ghost use Rattle.sl_actor.specs.Held.{held};
     ghost use Rattle.sl_actor.specs.Follows.{Follows};
     ghost use Rattle.sl_actor.specs.Turns.{KeepsEnds, NothingDone};
-    ghost use Rattle.sl_actor.specs.Runs.{Advances, GoesOn, IsQuiet, Settled, MatchMoved, MatchRound};
+    ghost use Rattle.sl_actor.specs.Runs.{Advances, LogGoesOn, IsQuiet, Settled, MatchMoved, MatchRound};
 
     /// Rounds of one turn by each choice of the plan, until the log has grown by `steps` entries
     /// (`Spent`), or for `quiet` rounds in a row no turn did or moved anything (`Rested`). A run
@@ -58,7 +61,7 @@ impl<A: Machine> Actor<A> {
         requires plan { All (λ choice. IsChoice (held self.old).counts choice) plan.now }
         requires quiet { 1 ≤ quiet }
         ensures follows { (first : A.State) → Follows A.rules first (held self.old) → Follows A.rules first (held self.new) }
-        ensures log { GoesOn plan.now (held self.old).log (held self.new).log }
+        ensures log { LogGoesOn plan.now (held self.old).log (held self.new).log }
         ensures spent { result ≡ Ok Rest.Spent → length (held self.new).log ≡ length (held self.old).log + steps }
         ensures rested { result ≡ Ok Rest.Rested → length (held self.new).log < length (held self.old).log + steps }
         ensures settled { result ≡ Ok Rest.Rested → All (λ choice. Settled A.rules choice (held self.new)) plan.now }
@@ -94,7 +97,7 @@ impl<A: Machine> Actor<A> {
         unreachable!()
     }
 
-    // One turn by each choice of the plan, until all steps are made.
+    /// One turn by each choice of the plan, until all steps are made.
     fn round<R: Wait>(
         &mut self,
         rt: &R,

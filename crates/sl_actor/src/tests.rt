@@ -104,7 +104,7 @@ fn line(alloc: Global) -> Result<Wiring, AllocError>
     })
 }
 
-// The first host has three packets, and the relays' link loses these puts.
+/// The first host has three packets, and the relays' link loses these puts.
 fn actors_in_line(alloc: Global, drops: &[u64]) -> Result<Vec<Actor<Stop>>, Memory> {
     let loss = Loss::new(alloc, 1, 1, 0, drops)?;
     let Ok(wiring) = line(alloc) else {
@@ -124,7 +124,7 @@ fn actors_in_line(alloc: Global, drops: &[u64]) -> Result<Vec<Actor<Stop>>, Memo
     make_actors(alloc, machines, &wiring, losses, 1)
 }
 
-// One turn by each choice of an actor. Whether anything moved.
+/// One turn by each choice of an actor. Whether anything moved.
 fn turns_of<R: Wait>(rt: &R, actor: &mut Actor<Stop>) -> Result<bool, Memory> {
     let mut moved = false;
     let choices = choices_of(actor);
@@ -143,7 +143,7 @@ fn choices_of(actor: &Actor<Stop>) -> u32
     machine.ins.saturating_add(machine.actions)
 }
 
-// One turn by each choice of each actor. Whether anything moved.
+/// One turn by each choice of each actor. Whether anything moved.
 fn pass<R: Wait>(rt: &R, actors: &mut Vec<Actor<Stop>>) -> Result<bool, Memory> {
     let mut moved = false;
     for i in 0..actors.len() {
@@ -155,7 +155,7 @@ fn pass<R: Wait>(rt: &R, actors: &mut Vec<Actor<Stop>>) -> Result<bool, Memory> 
     Ok(moved)
 }
 
-// Runs an actor over all its choices.
+/// Runs an actor over all its choices.
 fn run_all<R: Wait>(
     rt: &R,
     alloc: Global,
@@ -190,7 +190,7 @@ fn run_one<R: Wait>(rt: &R, alloc: Global, mut actor: Actor<Stop>) -> Actor<Stop
     actor
 }
 
-// Each actor runs in a thread of its own; what is then still on its way is delivered by turns.
+/// Each actor runs in a thread of its own; what is then still on its way is delivered by turns.
 #[test]
 fn a_thread_for_each(rt: HostRuntime) -> Result<(), Fail> {
     let alloc = rt.alloc();

@@ -4,12 +4,12 @@ use Rattle.std.specs.Prelude.{Bool, true, false, not, ◌&&◌, ◌||◌, ◌==�
 use Rattle.std.specs.List.{AllByRecursion}
 use Rattle.std.proofs.lemmas.Bool.{lt-ltb}
 use Rattle.std.proofs.lemmas.Bool.Decides.{eqb_tells}
-use Rattle.sl_machine.specs.Machine.{puts_on, is_fitting}
+use Rattle.sl_machine.specs.Machine.{puts_on, is_fitting, send_all}
 use Rattle.sl_wire.specs.declared.message.Msg.{Msg}
 use Rattle.sl_wire.specs.declared.message.Msg.TheVariants.{Poll as PollMsg, Done as DoneMsg}
 use Rattle.sl_wire.specs.declared.message.PlainDump.{PlainDump}
 use Rattle.sl_control.specs.declared.known.Known.{Known}
-use Rattle.sl_control.specs.Control.{Sent, send_all, asked, is_asked, ask_by, ask_puts, answered, done_of, answer_by, is_read, takes_dump, dump_by, dump_puts}
+use Rattle.sl_control.specs.Control.{asked, is_asked, ask_by, ask_puts, answered, done_of, answer_by, is_read, takes_dump, dump_by, dump_puts}
 use Rattle.sl_control.specs.Joined.{AreApart, AreOuts, IsJoined, polls_of, dumps_of}
 use Rattle.sl_control.proofs.EachUnit.{not-equal, none-put}
 
@@ -39,11 +39,11 @@ answered-joined outs inits done ring c d rs h = kept outs inits done (dump_by ri
 
 -- Puts.
 
-off : (x : ℕ) (ps : List Sent) → AllByRecursion (λ y. y ≡ x → ⊥) (map (λ p. p.0) ps) → puts_on x ps ≡ false
+off : (x : ℕ) (ps : List (ℕ × Msg)) → AllByRecursion (λ y. y ≡ x → ⊥) (map (λ p. p.0) ps) → puts_on x ps ≡ false
 off x [] h = refl
 off x (p ∷ ps) h = ap (λ b. b || puts_on x ps) (not-equal p.0 x (λ e. h.0 (sym e))) ∙ off x ps h.1
 
-pub fitting : (outs : ℕ) (ps : List Sent) → AllByRecursion (λ x. x < outs) (map (λ p. p.0) ps) → AreApart (map (λ p. p.0) ps) → is_fitting outs ps ≡ true
+pub fitting : (outs : ℕ) (ps : List (ℕ × Msg)) → AllByRecursion (λ x. x < outs) (map (λ p. p.0) ps) → AreApart (map (λ p. p.0) ps) → is_fitting outs ps ≡ true
 fitting outs [] b a = refl
 fitting outs (p ∷ ps) b a =
     ap (λ t. t && (not (puts_on p.0 ps) && is_fitting outs ps)) (lt-ltb p.0 outs b.0) ∙ ap (λ t. not t && is_fitting outs ps) (off p.0 ps a.0) ∙ fitting outs ps b.1 a.1
@@ -104,5 +104,5 @@ room-for-two outs done [] h p = absurd (omega arith)
 room-for-two outs done (r ∷ rs) h p = h.0.few
 
 -- puts that are added to none
-pub added-to-none : (n outs : ℕ) (old ps qs : List Sent) → outs ≡ n → old ≡ [] → ps ≡ old ++ qs → is_fitting outs qs ≡ true → is_fitting n ps ≡ true
+pub added-to-none : (n outs : ℕ) (old ps qs : List (ℕ × Msg)) → outs ≡ n → old ≡ [] → ps ≡ old ++ qs → is_fitting outs qs ≡ true → is_fitting n ps ≡ true
 added-to-none n outs old ps qs o e p h = ap (λ m. is_fitting m ps) (sym o) ∙ ap (is_fitting outs) (p ∙ ap (λ xs. xs ++ qs) e) ∙ h

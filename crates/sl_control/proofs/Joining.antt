@@ -3,9 +3,9 @@ use Rattle.std.proofs.Common.{◌≡◌, ℕ, ◌<◌, ◌≤◌, List, [], ◌�
 use Rattle.std.specs.Prelude.{slice_index_or, slice_get, ◌==◌}
 use Rattle.std.specs.List.{AllByRecursion}
 use Rattle.std.proofs.lemmas.Bool.{cases_lt}
-use Rattle.sl_net.specs.declared.actor.Sort.{Sort}
-use Rattle.sl_net.specs.declared.actor.Sort.TheVariants.{Init, Poll, Dump, Done}
-use Rattle.sl_net.specs.declared.actor.ActorId.TheVariants.{Control}
+use Rattle.sl_layout.specs.declared.actor.Sort.{Sort}
+use Rattle.sl_layout.specs.declared.actor.Sort.TheVariants.{Init, Poll, Dump, Done}
+use Rattle.sl_layout.specs.declared.actor.ActorId.TheVariants.{Control}
 use Rattle.sl_net.specs.Net.{Net, net_of, actors_of, place_of, place_in, actor_of, link_of, links_into, links_from, links_out, choice_of, same_sort, link_numbers}
 use Rattle.sl_net.specs.Serving.{choice_from, serving, served}
 use Rattle.sl_net.specs.Wired.{IsWired, Reports}

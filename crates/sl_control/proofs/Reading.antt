@@ -3,16 +3,14 @@ use Rattle.std.proofs.Common.{◌≡◌, ℕ, suc, ◌+◌, ◌-◌, ◌<◌, �
 use Rattle.std.specs.Prelude.{Bool, true, false, ◌&&◌, nat_lt, nat_le, ◌↔◌}
 use Rattle.std.specs.List.{list_all, AllByRecursion}
 use Rattle.std.proofs.lemmas.Bool.{leb-true, le-leb, lt-ltb, ltb-true, cases_lt}
+use Rattle.sl_net.specs.Parts.{numbers_from}
 use Rattle.sl_saves.specs.declared.entry.View.{View}
 use Rattle.sl_saves.specs.Views.{Place, walk, IsLive}
-use Rattle.sl_control.specs.Rows.{above, span, is_live, is_readable}
+use Rattle.sl_control.specs.Rows.{span, is_live, is_readable}
 
 pub span-more : (a b : ℕ) → a < b → span a b ≡ (a + 1) ∷ span (a + 1) b
 span-more a b h = let e : b - a ≡ suc (b - (a + 1)) = omega arith in let s : suc a ≡ a + 1 = omega arith in
-    ap (above a) e ∙ ap (λ n. n ∷ above n (b - (a + 1))) s
-
-pub span-none : (a b : ℕ) → b ≤ a → span a b ≡ []
-span-none a b h = let e : b - a ≡ 0 = omega arith in ap (above a) e
+    ap (numbers_from (suc a)) e ∙ ap (λ n. n ∷ numbers_from (suc n) (b - (a + 1))) s
 
 all-live : (ps : List Place) → AllByRecursion (λ p. 1 ≤ p.slot.back) ps → list_all (λ p. nat_le 1 p.slot.back) ps ≡ true
 all-live [] h = refl

@@ -5,14 +5,15 @@
 -- and whether a notice or a sweep came since that poll (`again`).
 use Rattle.std.specs.Prelude.{ℕ, min, Bool, true, false, not, ◌&&◌, List, [], ◌∷◌, map, flat_map, ◌==◌, cond, if◌then◌else◌, Option, Some, None}
 use Rattle.std.specs.List.{list_all}
-use Rattle.sl_machine.specs.Machine.{After, Rules, Counts}
+use Rattle.sl_machine.specs.Machine.{After, Rules, Counts, send_all}
 use Rattle.sl_saves.specs.declared.entry.Saved.{Saved}
 use Rattle.sl_wire.specs.declared.message.PlainDump.{PlainDump}
 use Rattle.sl_wire.specs.declared.message.Done.{Done}
 use Rattle.sl_wire.specs.declared.message.Msg.{Msg}
 use Rattle.sl_wire.specs.declared.message.Msg.TheVariants.{Init as InitMsg, Poll as PollMsg, Notice as NoticeMsg, Dump as DumpMsg, Begin as BeginMsg, Done as DoneMsg}
+use Rattle.sl_wire.specs.Reach.{reached}
 use Rattle.sl_control.specs.declared.known.Known.{Known}
-use Rattle.sl_control.specs.Rows.{span, reached, seen_on, is_sized, is_readable, row}
+use Rattle.sl_control.specs.Rows.{span, seen_on, is_sized, is_readable, row}
 
 -- how a control plane is joined: the choices by which it takes Begins and sweeps; the places among its outgoing links of those for
 -- initiations, ports ascending, and for Dones; and how many slots the rings of its units have
@@ -33,19 +34,13 @@ pub record ControlView : Type 0 where
   pub counts : Counts
   pub ready : Option ℕ
 
-abbrev pub Sent : Type 0
-Sent = ℕ × Msg
-
-abbrev pub send_all : Msg → List ℕ → List Sent
-send_all m outs = map (λ o. (o, m)) outs
-
 -- Polls.
 
 -- a notice or a sweep: a poll is outstanding afterwards, and where one was before, it is again
 abbrev pub asked : Known → Known
 asked r = record r { waits = true; again = r.waits }
 
-abbrev pub poll_by : Known → List Sent
+abbrev pub poll_by : Known → List (ℕ × Msg)
 poll_by r = if r.waits then [] else (r.wires.poll, PollMsg) ∷ []
 
 -- Dumps.
@@ -84,7 +79,7 @@ answered d r = record {
 }
 
 -- a Done, then a poll where one was asked for again
-abbrev pub answer_by : ℕ → PlainDump → Known → List Sent
+abbrev pub answer_by : ℕ → PlainDump → Known → List (ℕ × Msg)
 answer_by done d r = (done, DoneMsg (done_of d r)) ∷ (if r.again then (r.wires.poll, PollMsg) ∷ [] else [])
 
 -- The step, for one unit: what the choice c makes of it, and what is put.
@@ -97,7 +92,7 @@ is_asked (Some c) r = c == r.wires.notice
 abbrev pub ask_by : Option ℕ → Known → Known
 ask_by o r = cond (is_asked o r) (asked r) r
 
-abbrev pub ask_puts : Option ℕ → Known → List Sent
+abbrev pub ask_puts : Option ℕ → Known → List (ℕ × Msg)
 ask_puts o r = cond (is_asked o r) (poll_by r) []
 
 abbrev pub takes_dump : ℕ → ℕ → PlainDump → Known → Bool
@@ -106,7 +101,7 @@ takes_dump ring c d r = (c == r.wires.dump) && is_read ring d r
 abbrev pub dump_by : ℕ → ℕ → PlainDump → Known → Known
 dump_by ring c d r = cond (takes_dump ring c d r) (answered d r) r
 
-abbrev pub dump_puts : ℕ → ℕ → ℕ → PlainDump → Known → List Sent
+abbrev pub dump_puts : ℕ → ℕ → ℕ → PlainDump → Known → List (ℕ × Msg)
 dump_puts ring done c d r = cond (takes_dump ring c d r) (answer_by done d r) []
 
 -- The step.

@@ -16,7 +16,7 @@ abbrev pub dumps_of : List Known → List ℕ
 dumps_of rs = map (λ r. r.wires.dump) rs
 
 -- the unit at a place is one whose dumps are taken by this choice
-pub record IsDumpOf (choice i : ℕ) (units : List Known) : Type 0 where
+pub record HasDumpChoice (choice i : ℕ) (units : List Known) : Type 0 where
   pub known : Known
   pub at : slice_get units i ≡ Some known
   pub dump : known.wires.dump ≡ choice

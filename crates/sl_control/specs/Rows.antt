@@ -1,28 +1,15 @@
--- What a dump tells of a unit: the number that all its data channels have reached, and the rows up to it.
-use Rattle.std.specs.Prelude.{ℕ, suc, zero, ◌+◌, ◌-◌, min, Bool, ◌&&◌, List, [], ◌∷◌, map, length, take, nat_lt, nat_le, ◌==◌, if◌then◌else◌, slice_index_or}
+-- What a dump tells of a unit: the last-seen ids of its data channels, and its rows.
+use Rattle.std.specs.Prelude.{ℕ, suc, ◌+◌, ◌-◌, Bool, ◌&&◌, List, map, length, nat_lt, nat_le, ◌==◌, if◌then◌else◌, slice_index_or}
 use Rattle.std.specs.List.{list_all}
+use Rattle.sl_net.specs.Parts.{numbers_from}
 use Rattle.sl_saves.specs.declared.entry.View.{View}
 use Rattle.sl_saves.specs.declared.entry.Saved.{Saved}
 use Rattle.sl_saves.specs.Calls.{channels}
 use Rattle.sl_saves.specs.Views.{walk, read}
 
--- the least of a number and others
-abbrev pub least_of : ℕ → List ℕ → ℕ
-least_of n [] = n
-least_of n (x ∷ xs) = least_of (min n x) xs
-
--- d numbers, the first of which is one above n
-abbrev pub above : ℕ → ℕ → List ℕ
-above n zero = []
-above n (suc d) = suc n ∷ above (suc n) d
-
 -- the numbers above a, up to b
 abbrev pub span : ℕ → ℕ → List ℕ
-span a b = above a (b - a)
-
--- the least of the id and the last-seen ids of so many data channels
-abbrev pub reached : ℕ → ℕ → List ℕ → ℕ
-reached count id last = least_of id (take count last)
+span a b = numbers_from (suc a) (b - a)
 
 -- the last-seen ids of so many data channels, 0 past them
 abbrev pub seen_on : ℕ → List ℕ → List ℕ

@@ -1,9 +1,9 @@
 -- How the control plane of a device is joined in a net, and what it knows at first.
 use Rattle.std.specs.Prelude.{ℕ, false, List, map, length, replicate, nat_lt, slice_index_or}
 use Rattle.sl_machine.specs.Machine.{Counts}
-use Rattle.sl_net.specs.declared.actor.Sort.{Sort}
-use Rattle.sl_net.specs.declared.actor.Sort.TheVariants.{Init, Done}
-use Rattle.sl_net.specs.declared.actor.ActorId.TheVariants.{Control}
+use Rattle.sl_layout.specs.declared.actor.Sort.{Sort}
+use Rattle.sl_layout.specs.declared.actor.Sort.TheVariants.{Init, Done}
+use Rattle.sl_layout.specs.declared.actor.ActorId.TheVariants.{Control}
 use Rattle.sl_net.specs.Net.{Net, place_of, links_into, links_from, links_out, choices_of, data_channels, action_choice, unit_place}
 use Rattle.sl_net.specs.Serving.{Served, served}
 use Rattle.sl_net.specs.Wires.{out_of}

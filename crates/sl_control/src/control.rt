@@ -1,5 +1,5 @@
 // The machine of a control plane.
-ghost use Rattle.std.specs.Prelude.{◌≡◌, ◌<◌, ℕ, None, IfOk, length};
+ghost use Rattle.std.specs.Prelude.{◌≡◌, ◌<◌, None, IfOk, length};
 ghost use Rattle.sl_control.specs.Wires.{control_of, first_control, control_counts};
 
 use crate::known::Known;

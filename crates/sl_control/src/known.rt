@@ -4,36 +4,44 @@ ghost use Rattle.std.specs.Bool.{OnTrue};
 ghost use Rattle.std.specs.Vec.{vec_capacity};
 ghost use Rattle.sl_control.specs.Control.{asked, poll_by, is_asked, ask_by, ask_puts, answered, reached_by, floor_of, is_read, rows_of, done_of, answer_by};
 
-use crate::rows::{is_sized, reached, read_rows, seen_on};
+use crate::rows::{is_sized, read_rows, seen_on};
 use sl_machine::Outputs;
 use sl_saves::Saved;
-use sl_wire::{Done, Msg, PlainDump, Rows};
+use sl_wire::{Done, Msg, PlainDump, Rows, reached};
 
-/// How a unit is joined to its control plane: its place among the net's units, the choices by
-/// which its notices and its dumps are taken, the place of the link for polls to it among the
-/// control plane's outgoing links, whether it is an ingress unit, and how many data channels it
-/// has.
+/// How a unit is joined to its control plane.
 #[derive(Clone, Copy)]
 pub struct UnitWires {
+    /// The unit's place among the units of the net.
     pub place: u32,
+    /// The choice by which its notices are taken.
     pub notice: u32,
+    /// The choice by which its dumps are taken.
     pub dump: u32,
+    /// The place of the link for polls to it among the control plane's outgoing links.
     pub poll: u32,
+    /// Whether it is an ingress unit.
     pub ingress: bool,
+    /// How many data channels it has.
     pub channels: u32,
 }
 
-/// What a control plane knows of a unit: its id and last-seen ids by the latest dump, the number
-/// up to which its rows are collected, whether a poll to it is outstanding, and whether it was
-/// asked for again since.
+/// What a control plane knows of a unit. Ids are those of the latest dump, 0 before the first.
 #[derive(Clone, Copy)]
 pub struct Known {
+    /// How the unit is joined.
     pub wires: UnitWires,
+    /// Its id.
     pub id: u64,
+    /// The last-seen ids of its data channels in order, 0 past them.
     pub last: [u64; 8],
+    /// The last-seen id of its control plane, 0 of an egress unit.
     pub cpu: u64,
+    /// The number up to which its rows are collected.
     pub upto: u64,
+    /// Whether a poll to it is outstanding.
     pub waits: bool,
+    /// Whether a notice or a sweep came since that poll.
     pub again: bool,
 }
 
@@ -79,7 +87,7 @@ impl Known {
         ensures reached { result ≡ reached_by dump.now self.now }
         ensures most { result ≤ dump.now.id }
     {
-        reached(self.wires.channels, dump.id, &dump.last)
+        reached(self.wires.channels as usize, dump.id, &dump.last)
     }
 
     fn floor_of(&self, dump: &PlainDump) -> u64

@@ -1,33 +1,12 @@
 // Reading a dump.
-ghost use Rattle.std.specs.Prelude.{◌≡◌, ℕ, ◌≤◌, ◌<◌, ◌+◌, length, map, [], is_some, IfSome, nat_lt, if◌then◌else◌, slice_index_or};
+ghost use Rattle.std.specs.Prelude.{◌≡◌, ◌≤◌, ◌<◌, ◌+◌, length, map, [], is_some, IfSome, nat_lt, if◌then◌else◌, slice_index_or};
 ghost use Rattle.std.specs.List.{list_all};
 ghost use Rattle.std.specs.Bool.{OnTrue};
 ghost use Rattle.std.specs.Vec.{vec_capacity};
 ghost use Rattle.sl_saves.specs.Views.{read};
-ghost use Rattle.sl_control.specs.Rows.{least_of, span, reached, seen_on, is_sized, is_readable, row};
+ghost use Rattle.sl_control.specs.Rows.{span, seen_on, is_sized, is_readable, row};
 
 use sl_saves::{Saved, Slots, View, try_read_saved};
-
-/// The least of a number and others.
-fn least_of(number: u64, others: &[u64]) -> u64
-    ensures least { result ≡ least_of number others.now }
-    ensures most { result ≤ number }
-{
-    let mut least = number;
-    for other in others {
-        least = least.min(*other);
-    }
-    least
-}
-
-/// The least of the id and the last-seen ids of so many data channels.
-pub fn reached(count: u32, id: u64, last: &[u64; 8]) -> u64
-    ensures reached { result ≡ reached count id last.now }
-    ensures most { result ≤ id }
-{
-    let count = (count as usize).min(8);
-    least_of(id, &last[..count])
-}
 
 /// The last-seen id of a channel among so many, 0 past them.
 fn seen_at(count: u32, last: &[u64; 8], channel: u32) -> u64

@@ -1,10 +1,11 @@
 // What a control plane knows of its units, one after the other.
-ghost use Rattle.std.specs.Prelude.{◌≡◌, ◌≤◌, ◌<◌, ◌++◌, ◌+◌, ℕ, [], Option, MatchOption, length, map, flat_map, slice_index_or, cond};
+ghost use Rattle.std.specs.Prelude.{◌≡◌, ◌≤◌, ◌<◌, ◌++◌, ◌+◌, [], Option, MatchOption, length, map, flat_map, cond};
 ghost use Rattle.std.specs.Vec.{vec_capacity};
 ghost use Rattle.std.specs.List.{AllByRecursion};
 ghost use Rattle.sl_control.specs.declared.known.Known.{Known};
-ghost use Rattle.sl_control.specs.Control.{ask_by, ask_puts, dump_by, dump_puts, answered, answer_by, is_read, send_all, is_swept};
-ghost use Rattle.sl_control.specs.Joined.{AreApart, dumps_of, IsDumpOf};
+ghost use Rattle.sl_machine.specs.Machine.{send_all};
+ghost use Rattle.sl_control.specs.Control.{ask_by, ask_puts, dump_by, dump_puts, answered, answer_by, is_read, is_swept};
+ghost use Rattle.sl_control.specs.Joined.{AreApart, dumps_of, HasDumpChoice};
 
 use crate::known::Known;
 use sl_machine::Outputs;
@@ -45,7 +46,7 @@ pub fn put_inits(outs: &[u32], passes: bool, number: u64, out: &mut Outputs<Msg>
 
 /// The place of the unit whose dumps are taken by a choice.
 fn find_dump(units: &[Known], choice: u32) -> Option<usize>
-    ensures { MatchOption result (AllByRecursion (λ r. r.wires.dump ≡ choice → ⊥) units.now) (λ i. IsDumpOf choice i units.now) }
+    ensures { MatchOption result (AllByRecursion (λ r. r.wires.dump ≡ choice → ⊥) units.now) (λ i. HasDumpChoice choice i units.now) }
 {
     for place in 0..units.len() {
         if units[place].wires.dump == choice {

@@ -1,14 +1,14 @@
 // How the control plane of a device is joined in a net.
-ghost use Rattle.std.specs.Prelude.{◌≡◌, ◌<◌, ◌≤◌, ◌++◌, ◌∷◌, [], ℕ, IfOk, OnOk, cond, length, map, slice_index_or};
+ghost use Rattle.std.specs.Prelude.{◌≡◌, ◌<◌, ◌≤◌, ◌++◌, ◌∷◌, [], IfOk, OnOk, cond, length, map, slice_index_or};
 ghost use Rattle.std.specs.List.{All};
-ghost use Rattle.sl_net.specs.declared.actor.ActorId.{ActorId};
+ghost use Rattle.sl_layout.specs.declared.actor.ActorId.{ActorId};
 ghost use Rattle.sl_net.specs.Net.{same_actor, place_of, actor_of, links_into, choices_of};
 ghost use Rattle.sl_net.specs.Serving.{choice_from, serving, served};
 ghost use Rattle.sl_net.specs.Wires.{out_of};
 ghost use Rattle.sl_control.specs.Wires.{control_of, outs_of, unit_wires, unheard};
 
 use crate::known::{Known, UnitWires};
-use sl_net::{ActorId, Net, Sort};
+use sl_net::{ActorId, Net, Sort, push_if};
 use std::alloc::{AllocError, Global};
 
 fn is_control(actor: ActorId, device: u32) -> bool
@@ -93,16 +93,6 @@ pub fn done_of(alloc: Global, net: &Net, actor: u32) -> Result<u32, AllocError>
     ensures { IfOk result (λ out. out ≡ slice_index_or (outs_of net.now actor Sort.Done) 0 0) }
 {
     Ok(first_of(&outs_of(alloc, net, actor, Sort::Done)?))
-}
-
-/// Adds a number where it passes.
-fn push_if(numbers: &mut Vec<u32>, passes: bool, number: u32) -> Result<(), AllocError>
-    ensures { OnOk result (numbers.new.items ≡ numbers.old.items ++ cond passes (number ∷ []) []) }
-{
-    if passes {
-        numbers.push(number)?;
-    }
-    Ok(())
 }
 
 /// The choices of an actor that take from links of a sort.

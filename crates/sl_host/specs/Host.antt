@@ -7,14 +7,9 @@ use Rattle.sl_net.specs.declared.input.Packet.{Packet}
 use Rattle.sl_net.specs.declared.input.RawPart.{RawPart}
 use Rattle.sl_net.specs.Input.{Input}
 use Rattle.sl_flow.specs.Flow.{packets_of}
-use Rattle.sl_wire.specs.declared.frame.Kind.TheVariants.{Plain}
 use Rattle.sl_wire.specs.declared.message.Msg.{Msg}
 use Rattle.sl_wire.specs.declared.message.Msg.TheVariants.{Host as HostMsg}
-use Rattle.sl_wire.specs.Frames.{frame}
-
--- the plain frame of a packet
-abbrev pub plain_frame : Packet → List ℕ
-plain_frame p = frame (record { kind = Plain; id = record { raw = 0 }; channel = 0 }) p
+use Rattle.sl_wire.specs.Frames.{plain_frame}
 
 -- packets as plain frames, then raw frames
 abbrev pub messages : List Packet → List (List ℕ) → List (List ℕ)

@@ -1,24 +1,17 @@
 // The frames that a host sends.
 ghost use Rattle.std.specs.Prelude.{◌≡◌, ◌++◌, ◌∷◌, [], ◌==◌, IfOk, OnOk, cond, slice_get};
-ghost use Rattle.sl_host.specs.Host.{plain_frame, messages, raws_of};
+ghost use Rattle.sl_wire.specs.Frames.{plain_frame};
+ghost use Rattle.sl_host.specs.Host.{messages, raws_of};
 
-use sl_ids::{Wid, Width};
 use sl_net::{Bytes, Packet, RawPart};
-use sl_wire::{Header, Kind, encode};
+use sl_wire::plain_frame;
 use std::alloc::{AllocError, Global};
 
 /// The bytes of a packet's plain frame.
-fn plain_frame(alloc: Global, packet: &Packet) -> Result<Bytes, AllocError>
+fn plain_bytes(alloc: Global, packet: &Packet) -> Result<Bytes, AllocError>
     ensures { IfOk result (λ bytes. bytes ≡ plain_frame packet.now) }
 {
-    let width = Width { bits: 8 };
-    let header = Header {
-        kind: Kind::Plain,
-        id: Wid { raw: 0 },
-        channel: 0,
-    };
-    let frame = encode(width, &header, packet);
-    let items = Vec::from_slice(alloc, &frame.bytes)?;
+    let items = Vec::from_slice(alloc, &plain_frame(packet).bytes)?;
     Ok(Bytes { items })
 }
 
@@ -64,7 +57,7 @@ pub fn frame_at(
 {
     let place = place as usize;
     if place < packets.len() {
-        return Ok(Some(plain_frame(alloc, &packets[place])?));
+        return Ok(Some(plain_bytes(alloc, &packets[place])?));
     }
     let place = place - packets.len();
     if place < raws.len() {

@@ -1,5 +1,5 @@
 // Worked hosts.
-ghost use Rattle.std.specs.Prelude.{◌≡◌, ◌<◌, ◌^◌, IfOk, Some, None};
+ghost use Rattle.std.specs.Prelude.{◌<◌, IfOk, Some};
 ghost use Rattle.std.specs.List.{All};
 ghost use Rattle.sl_flow.specs.Flow.{HasAddresses};
 

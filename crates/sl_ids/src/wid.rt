@@ -6,6 +6,7 @@ use crate::width::Width;
 /// A wrapped id: a snapshot number modulo 2 to the power of the width.
 #[derive(Clone, Copy, Debug, PartialEq, Eq)]
 pub struct Wid {
+    /// The id itself, below 2 to the power of the width.
     pub raw: u16,
 }
 

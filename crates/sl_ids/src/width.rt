@@ -4,6 +4,7 @@ ghost use Rattle.sl_ids.specs.Ids.{modulus};
 /// The width of wrapped ids, in bits: 1 to 8.
 #[derive(Clone, Copy, Debug, PartialEq, Eq)]
 pub struct Width {
+    /// How many bits.
     pub bits: u8,
     pub ghost least: { 1 ≤ bits },
     pub ghost most: { bits ≤ 8 },

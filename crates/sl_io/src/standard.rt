@@ -12,7 +12,9 @@ use std::io::{Read, Stdin, Stdout, Write};
 /// of the reader, and each error of the reader is one fault.
 #[derive(Drop)]
 pub struct StdSource<R: Drop = Stdin> {
+    /// The reader.
     pub input: R,
+    /// How many faults there were.
     pub faults: u64,
 }
 
@@ -56,7 +58,9 @@ impl<R: Read + Drop> Source for StdSource<R> {
 /// byte of a piece that isn't empty.
 #[derive(Drop)]
 pub struct StdSink<W: Drop = Stdout> {
+    /// The writer.
     pub output: W,
+    /// How many faults there were.
     pub faults: u64,
 }
 

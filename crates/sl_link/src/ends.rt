@@ -11,17 +11,21 @@ use std::marker::Model;
 use std::sync::Wait;
 use std::thread;
 
-/// A message with the number of the turn that put it.
+/// A message as it goes on a link.
 #[derive(Clone, Copy, Debug, PartialEq, Eq, Drop)]
 pub struct Stamped<M> {
+    /// The number of the turn that put it.
     pub number: u64,
+    /// The message itself.
     pub m: M,
 }
 
-/// Whether a message was put. `Full` gives it back.
+/// Whether a message was put.
 #[derive(Drop)]
 pub enum Offer<M> {
+    /// It was put.
     Put,
+    /// The link was full. Gives the message back.
     Full(Stamped<M>),
 }
 

@@ -45,7 +45,7 @@ fn put_all<R: Wait>(rt: &R, mut put: PutEnd<u32>, count: u64) -> PutEnd<u32>
     put
 }
 
-// How many of the messages taken were the next in order.
+/// How many of the messages taken were the next in order.
 fn take_some<R: Wait>(rt: &R, mut take: TakeEnd<u32>, count: u64) -> (TakeEnd<u32>, u64)
     ensures { result.0.channel ≡ take.channel }
 {

@@ -13,6 +13,7 @@ pub struct Memory;
 /// is one event in the sense of Chandy and Lamport 1985. Choices are numbered from 0, first the
 /// incoming links and then the actions.
 pub trait Machine: Drop {
+    /// The messages that it takes and puts.
     type Msg: Drop;
 
     /// What the machine stands for.

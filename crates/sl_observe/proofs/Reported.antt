@@ -3,11 +3,13 @@ use Rattle.std.proofs.Common.{◌≡◌, ◌≢◌, ℕ, zero, suc, ◌+◌, ◌
 use Rattle.std.specs.Prelude.{Bool, true, false, cond, ◌&&◌, ◌==◌, Some, None, slice_get, nat_le}
 use Rattle.std.proofs.lemmas.Bool.{cases_eq, cases_lt, and_parts, eqb-true, eqb-false}
 use Rattle.std.proofs.lemmas.List.{set_past}
+use Rattle.sl_machine.specs.Turns.{Turn, Took, Acted, after_turn, after}
 use Rattle.sl_saves.specs.declared.entry.Saved.{Saved}
 use Rattle.sl_wire.specs.declared.message.Done.{Done as Report}
+use Rattle.sl_wire.specs.declared.message.Msg.{Msg}
 use Rattle.sl_wire.specs.declared.message.Msg.TheVariants.{Host, Data, Probe, Init, Poll, Notice, Dump, Begin, Done}
-use Rattle.sl_observe.specs.Observer.{UnitState, ObserverState, new_unit, unit_at, saved_of, reached, is_after, is_next, told, heard, units_after, observer_act}
-use Rattle.sl_observe.specs.Turns.{Turn, Took, Acted, after_turn, after, Reports, IsReported}
+use Rattle.sl_observe.specs.Observer.{UnitState, ObserverState, new_unit, unit_at, saved_of, reached, is_after, is_next, told, heard, units_after, observer_act, observer_rules}
+use Rattle.sl_observe.specs.Turns.{Reports, IsReported}
 use Rattle.sl_observe.proofs.Runs.{units_stay}
 
 -- the report has this row for this number
@@ -74,7 +76,7 @@ units_from ring link d us u k r e =
       | inr other ↦ inl (ap (λ v. saved_of v k) (sym (get_or-set_other us d.unit u w none other)) ∙ e)
     ]
 
-turn_from : (s : ObserverState) (t : Turn) (u k : ℕ) (r : Saved) → saved_of (unit_at (after_turn s t).units u) k ≡ Some r → (saved_of (unit_at s.units u) k ≡ Some r) ⊎ Reports t u k r
+turn_from : (s : ObserverState) (t : Turn Msg) (u k : ℕ) (r : Saved) → saved_of (unit_at (after_turn observer_rules s t).state.units u) k ≡ Some r → (saved_of (unit_at s.units u) k ≡ Some r) ⊎ Reports t u k r
 turn_from s (Took link (Host b)) u k r e = inl e
 turn_from s (Took link (Data n p)) u k r e = inl e
 turn_from s (Took link (Probe n)) u k r e = inl e
@@ -86,10 +88,10 @@ turn_from s (Took link (Begin n)) u k r e = inl e
 turn_from s (Took link (Done d)) u k r e = units_from s.snapshot.ring link d s.units u k r e
 turn_from s (Acted action) u k r e = inl (ap (λ us. saved_of (unit_at us u) k) (sym (units_stay s action (observer_act s action) refl)) ∙ e)
 
-pub rows_are_reported : (s : ObserverState) (ts : List Turn) (u k : ℕ) (r : Saved) → saved_of (unit_at (after s ts).units u) k ≡ Some r → (saved_of (unit_at s.units u) k ≡ Some r) ⊎ IsReported ts u k r
+pub rows_are_reported : (s : ObserverState) (ts : List (Turn Msg)) (u k : ℕ) (r : Saved) → saved_of (unit_at (after observer_rules s ts).state.units u) k ≡ Some r → (saved_of (unit_at s.units u) k ≡ Some r) ⊎ IsReported ts u k r
 rows_are_reported s [] u k r e = inl e
 rows_are_reported s (t ∷ ts) u k r e =
-    elim (rows_are_reported (after_turn s t) ts u k r e) [
+    elim (rows_are_reported (after_turn observer_rules s t).state ts u k r e) [
       | inl f ↦ elim (turn_from s t u k r f) [ inl g ↦ inl g | inr g ↦ inr (inl g) ]
       | inr f ↦ inr (inr f)
     ]

@@ -6,13 +6,13 @@ use Rattle.std.proofs.lemmas.Bool.{cases_eq, cases_lt, and_parts, ltb-true, leb-
 use Rattle.std.proofs.lemmas.List.{set_past}
 use Rattle.std.proofs.lemmas.List.Elements.{All-nil, All-cons}
 use Rattle.sl_machine.specs.Machine.{After}
+use Rattle.sl_machine.specs.Turns.{Turn, Took, Acted, acted, after_turn, after}
 use Rattle.sl_net.specs.Parts.{numbers_from}
 use Rattle.sl_saves.specs.declared.entry.Saved.{Saved}
 use Rattle.sl_wire.specs.declared.message.Done.{Done as Report}
 use Rattle.sl_wire.specs.declared.message.Msg.{Msg}
 use Rattle.sl_wire.specs.declared.message.Msg.TheVariants.{Host, Data, Probe, Init, Poll, Notice, Dump, Begin, Done}
-use Rattle.sl_observe.specs.Observer.{UnitState, ObserverState, new_unit, unit_at, saved_of, floor_of, told, heard, is_next, units_after, can_issue, can_resend, begin_all, observer_act}
-use Rattle.sl_observe.specs.Turns.{Turn, Took, Acted, acted, after_turn, after}
+use Rattle.sl_observe.specs.Observer.{UnitState, ObserverState, new_unit, unit_at, saved_of, floor_of, told, heard, is_next, units_after, can_issue, can_resend, begin_all, observer_act, observer_rules}
 
 -- Rows.
 
@@ -72,11 +72,11 @@ can_issue_is s e =
     let parts = and_parts (nat_lt s.issued s.snapshot.count) (nat_le (suc s.issued) most) e in
     (ltb-true s.issued s.snapshot.count parts.0, leb-true (suc s.issued) most parts.1)
 
-pub units_stay : (s : ObserverState) (action : ℕ) (o : Option (After ObserverState Msg)) → observer_act s action ≡ o → (acted s o).units ≡ s.units
+pub units_stay : (s : ObserverState) (action : ℕ) (o : Option (After ObserverState Msg)) → observer_act s action ≡ o → (acted s o).state.units ≡ s.units
 units_stay s action None e = refl
 units_stay s action (Some next) e = elim (did s action next e) [ Issued g f ↦ ap (λ a. a.state.units) f | Resent f ↦ ap (λ a. a.state.units) f ]
 
-turn_keeps : (s : ObserverState) (t : Turn) (u k : ℕ) (r : Saved) → saved_of (unit_at s.units u) k ≡ Some r → saved_of (unit_at (after_turn s t).units u) k ≡ Some r
+turn_keeps : (s : ObserverState) (t : Turn Msg) (u k : ℕ) (r : Saved) → saved_of (unit_at s.units u) k ≡ Some r → saved_of (unit_at (after_turn observer_rules s t).state.units u) k ≡ Some r
 turn_keeps s (Took link (Host b)) u k r e = e
 turn_keeps s (Took link (Data n p)) u k r e = e
 turn_keeps s (Took link (Probe n)) u k r e = e
@@ -88,9 +88,9 @@ turn_keeps s (Took link (Begin n)) u k r e = e
 turn_keeps s (Took link (Done d)) u k r e = units_keep s.snapshot.ring link d s.units u k r e
 turn_keeps s (Acted action) u k r e = ap (λ us. saved_of (unit_at us u) k) (units_stay s action (observer_act s action) refl) ∙ e
 
-pub rows_are_kept : (s : ObserverState) (ts : List Turn) (u k : ℕ) (r : Saved) → saved_of (unit_at s.units u) k ≡ Some r → saved_of (unit_at (after s ts).units u) k ≡ Some r
+pub rows_are_kept : (s : ObserverState) (ts : List (Turn Msg)) (u k : ℕ) (r : Saved) → saved_of (unit_at s.units u) k ≡ Some r → saved_of (unit_at (after observer_rules s ts).state.units u) k ≡ Some r
 rows_are_kept s [] u k r e = e
-rows_are_kept s (t ∷ ts) u k r e = rows_are_kept (after_turn s t) ts u k r (turn_keeps s t u k r e)
+rows_are_kept s (t ∷ ts) u k r e = rows_are_kept (after_turn observer_rules s t).state ts u k r (turn_keeps s t u k r e)
 
 -- Numbers.
 
@@ -117,7 +117,7 @@ record Counts (s t : ObserverState) : Type 0 where
   same : t.snapshot ≡ s.snapshot
   few : s.issued ≤ s.snapshot.count → t.issued ≤ s.snapshot.count
 
-act_counts : (s : ObserverState) (action : ℕ) (o : Option (After ObserverState Msg)) → observer_act s action ≡ o → Counts s (acted s o)
+act_counts : (s : ObserverState) (action : ℕ) (o : Option (After ObserverState Msg)) → observer_act s action ≡ o → Counts s (acted s o).state
 act_counts s action None e = record { same = refl; few = λ h. h }
 act_counts s action (Some next) e =
     elim (did s action next e) [
@@ -125,7 +125,7 @@ act_counts s action (Some next) e =
       | Resent f ↦ record { same = ap (λ a. a.state.snapshot) f; few = λ h. let n : next.state.issued ≡ s.issued = ap (λ a. a.state.issued) f in omega (arith, h, n) }
     ]
 
-turn_counts : (s : ObserverState) (t : Turn) → Counts s (after_turn s t)
+turn_counts : (s : ObserverState) (t : Turn Msg) → Counts s (after_turn observer_rules s t).state
 turn_counts s (Took link (Host b)) = record { same = refl; few = λ h. h }
 turn_counts s (Took link (Data n p)) = record { same = refl; few = λ h. h }
 turn_counts s (Took link (Probe n)) = record { same = refl; few = λ h. h }
@@ -137,11 +137,11 @@ turn_counts s (Took link (Begin n)) = record { same = refl; few = λ h. h }
 turn_counts s (Took link (Done d)) = record { same = refl; few = λ h. h }
 turn_counts s (Acted action) = act_counts s action (observer_act s action) refl
 
-pub issued_few : (s : ObserverState) (ts : List Turn) → s.issued ≤ s.snapshot.count → (after s ts).issued ≤ s.snapshot.count
+pub issued_few : (s : ObserverState) (ts : List (Turn Msg)) → s.issued ≤ s.snapshot.count → (after observer_rules s ts).state.issued ≤ s.snapshot.count
 issued_few s [] h = h
 issued_few s (t ∷ ts) h =
     let one = turn_counts s t in
-    let same : (after_turn s t).snapshot.count ≡ s.snapshot.count = ap (λ n. n.count) one.same in
+    let same : (after_turn observer_rules s t).state.snapshot.count ≡ s.snapshot.count = ap (λ n. n.count) one.same in
     let few = one.few h in
-    let later : (after (after_turn s t) ts).issued ≤ (after_turn s t).snapshot.count = issued_few (after_turn s t) ts (omega (arith, few, same)) in
+    let later : (after observer_rules (after_turn observer_rules s t).state ts).state.issued ≤ (after_turn observer_rules s t).state.snapshot.count = issued_few (after_turn observer_rules s t).state ts (omega (arith, few, same)) in
     omega (arith, later, same)

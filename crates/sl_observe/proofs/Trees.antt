@@ -3,7 +3,8 @@ use Rattle.std.proofs.Common.{◌≡◌, ◌≢◌, ℕ, zero, suc, ◌+◌, ◌
 use Rattle.std.specs.Prelude.{min, Some, None}
 use Rattle.std.proofs.lemmas.List.{get_or-drop, length-drop, drop-replicate, length-replicate, nil_from_length, get_or-set_other, get_or-set_same}
 use Rattle.std.proofs.lemmas.Bool.{cases_lt, cases_eq}
-use Rattle.sl_observe.specs.Least.{least, least_of}
+use Rattle.sl_wire.specs.Reach.{least_of}
+use Rattle.sl_observe.specs.Least.{least}
 use Rattle.sl_observe.specs.Floors.{IsTree, IsLesserOfChildren}
 
 -- Zeros.

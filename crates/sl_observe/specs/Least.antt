@@ -1,10 +1,6 @@
 -- The least of some numbers.
-use Rattle.std.specs.Prelude.{ℕ, min, List, [], ◌∷◌, Option, Some, None}
-
--- the least of a number and others
-abbrev pub least_of : ℕ → List ℕ → ℕ
-least_of n [] = n
-least_of n (x ∷ xs) = least_of (min n x) xs
+use Rattle.std.specs.Prelude.{ℕ, List, [], ◌∷◌, Option, Some, None}
+use Rattle.sl_wire.specs.Reach.{least_of}
 
 -- the least of some numbers, where there are any
 abbrev pub least : List ℕ → Option ℕ

@@ -4,10 +4,10 @@
 --     observer_act       it issues the next snapshot, or begins the last one again
 --     floor_of           the number up to which it has collected all units
 --     first_state        before its first turn
-use Rattle.std.specs.Prelude.{ℕ, suc, ◌+◌, ◌-◌, Bool, true, ◌&&◌, ◌==◌, nat_lt, nat_le, if◌then◌else◌, List, [], ◌∷◌, ◌++◌, map, length, take, replicate, slice_get, slice_set, slice_index_or, Option, Some, None, unwrap_or}
-use Rattle.sl_machine.specs.Machine.{After, Rules, Counts}
-use Rattle.sl_net.specs.declared.actor.ActorId.{ActorId}
-use Rattle.sl_net.specs.declared.actor.ActorId.TheVariants.{Unit as OfUnit}
+use Rattle.std.specs.Prelude.{ℕ, suc, ◌+◌, ◌-◌, Bool, true, ◌&&◌, ◌==◌, nat_lt, nat_le, if◌then◌else◌, List, [], ◌∷◌, ◌++◌, map, length, replicate, slice_get, slice_set, slice_index_or, Option, Some, None, unwrap_or}
+use Rattle.sl_machine.specs.Machine.{After, Rules, Counts, send_all}
+use Rattle.sl_layout.specs.declared.actor.ActorId.{ActorId}
+use Rattle.sl_layout.specs.declared.actor.ActorId.TheVariants.{Unit as OfUnit}
 use Rattle.sl_net.specs.declared.input.Snapshot.{Snapshot}
 use Rattle.sl_net.specs.Parts.{below}
 use Rattle.sl_net.specs.Net.{Net, actor_of, links_into, links_from, units, data_channels}
@@ -15,7 +15,8 @@ use Rattle.sl_saves.specs.declared.entry.Saved.{Saved}
 use Rattle.sl_wire.specs.declared.message.Done.{Done}
 use Rattle.sl_wire.specs.declared.message.Msg.{Msg}
 use Rattle.sl_wire.specs.declared.message.Msg.TheVariants.{Begin, Done as DoneMsg}
-use Rattle.sl_observe.specs.Least.{least, least_of}
+use Rattle.sl_wire.specs.Reach.{reached as reached_by}
+use Rattle.sl_observe.specs.Least.{least}
 use Rattle.sl_observe.specs.declared.unit.Seen.{Seen}
 
 -- A unit: its device, which is also the choice by which reports on it come; how many data channels it has; the id, last-seen numbers and floor
@@ -65,7 +66,7 @@ floor_of s = unwrap_or (least (floors_of s.units)) s.issued
 
 -- the number that the unit and its data channels have reached
 abbrev pub reached : UnitState → Done → ℕ
-reached u d = least_of d.id (take u.channels d.last)
+reached u d = reached_by u.channels d.id d.last
 
 -- rows of the numbers after n, ascending without a gap
 abbrev pub is_after : ℕ → List (ℕ × Saved) → Bool
@@ -95,7 +96,7 @@ observer_take s link _ = record { state = s; puts = [] }
 
 -- the begin of a snapshot to each control plane
 abbrev pub begin_all : ℕ → ℕ → List (ℕ × Msg)
-begin_all outs k = map (λ out. (out, Begin k)) (below outs)
+begin_all outs k = send_all (Begin k) (below outs)
 
 -- a snapshot is left, and the window has room for it
 abbrev pub can_issue : ObserverState → Bool

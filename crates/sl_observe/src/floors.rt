@@ -1,5 +1,5 @@
 // Numbers of which the least is known.
-ghost use Rattle.std.specs.Prelude.{◌≡◌, ◌+◌, ◌<◌, ◌≤◌, ◌^◌, IfOk, length, drop, replicate, slice_set};
+ghost use Rattle.std.specs.Prelude.{◌≡◌, ◌+◌, ◌<◌, ◌^◌, IfOk, length, drop, replicate, slice_set};
 ghost use Rattle.sl_observe.specs.Least.{least};
 ghost use Rattle.sl_observe.specs.Floors.{IsTree};
 

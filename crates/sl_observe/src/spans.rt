@@ -1,13 +1,15 @@
 // Where the units of each device stand among the units.
-ghost use Rattle.std.specs.Prelude.{◌≡◌, ◌<◌, ◌≤◌, ◌+◌, ◌^◌, ℕ, length, IfOk, IsTrue};
+ghost use Rattle.std.specs.Prelude.{◌<◌, ◌≤◌, ◌+◌, ◌^◌, ℕ, IfOk, IsTrue};
 
 use crate::unit::Collected;
 use std::alloc::{AllocError, Global};
 
-/// The places from `first` on, before `end`.
+/// Some places in a row.
 #[derive(Clone, Copy)]
 pub struct Span {
+    /// The first of them.
     pub first: usize,
+    /// The place after the last.
     pub end: usize,
 }
 

@@ -1,21 +1,22 @@
 // What the observer knows of a unit.
-ghost use Rattle.std.specs.Prelude.{◌≡◌, ◌+◌, ◌≤◌, ◌++◌, OnOk, length, map, replicate, take, vec_len, vec_capacity};
+ghost use Rattle.std.specs.Prelude.{◌≡◌, ◌+◌, ◌≤◌, ◌++◌, OnOk, length, map, replicate, vec_len, vec_capacity};
 ghost use Rattle.std.specs.Option.{option_copied};
-ghost use Rattle.sl_observe.specs.Least.{least_of};
 ghost use Rattle.sl_observe.specs.Observer.{is_after};
 
 use sl_saves::Saved;
-use sl_wire::Done;
+use sl_wire::{Done, reached};
 use std::alloc::{AllocError, Global};
 use std::marker::Model;
 
-/// What the last report on a unit said: its id, its last-seen numbers on its data channels in
-/// order (0 past them), and the number that all of these and the last-seen number of an ingress
-/// unit's control plane have reached.
+/// What the last report on a unit said; zeros before the first.
 #[derive(Clone, Copy, Debug, PartialEq, Eq)]
 pub struct Seen {
+    /// The unit's id.
     pub id: u64,
+    /// Its last-seen numbers on its data channels in order, 0 past them.
     pub last: [u64; 8],
+    /// The number that its id and all its last-seen numbers have reached, that of its control
+    /// plane too where it is an ingress unit.
     pub floor: u64,
 }
 
@@ -54,24 +55,6 @@ impl Seen {
             floor: 0,
         }
     }
-}
-
-/// The least of a number and others.
-fn least_of(number: u64, others: &[u64]) -> u64
-    ensures { result ≡ least_of number others.now }
-{
-    let mut least = number;
-    for other in others {
-        least = least.min(*other);
-    }
-    least
-}
-
-/// The first numbers, as many of these as there are.
-fn front(numbers: &[u64], count: usize) -> &[u64]
-    ensures { result.now ≡ take count numbers.now }
-{
-    &numbers[..count.min(numbers.len())]
 }
 
 /// Whether rows are those of the numbers after one, ascending without a gap.
@@ -150,7 +133,7 @@ impl Collected {
     fn reached(&self, done: &Done) -> u64
         ensures { result ≡ reached self.now.state done.now }
     {
-        least_of(done.id, front(&done.last, self.channels))
+        reached(self.channels, done.id, &done.last)
     }
 
     /// Whether the rows of a report are the unit's next ones.

@@ -1,9 +1,8 @@
 -- A loop that walks back over a view.
-use Rattle.std.proofs.Common.{◌≡◌, ℕ, zero, suc, ◌+◌, ◌-◌, ◌<◌, ◌≤◌, ◌↔◌, List, [], ◌∷◌, length, refl, sym, ap, subst, ◌∙◌, Option, Some, None, arith, inl, inr}
-use Rattle.std.specs.Prelude.{cond, true, false, Bool, nat_lt, filter, unwrap_or, slice_index_or, ◌⊎◌}
+use Rattle.std.proofs.Common.{◌≡◌, ℕ, zero, suc, ◌+◌, ◌-◌, ◌<◌, ◌≤◌, ◌↔◌, List, [], ◌∷◌, length, refl, sym, ap, subst, ◌∙◌, Option, Some, None, arith}
+use Rattle.std.specs.Prelude.{cond, true, false, Bool, nat_lt, filter, unwrap_or, slice_index_or}
 use Rattle.std.specs.List.{AllByRecursion}
 use Rattle.std.proofs.lemmas.Bool.{lt-ltb, le-ltb, eq-eqb, ne_eqb}
-use Rattle.std.proofs.Math.Nat.{eq-or-lt_of_le}
 use Rattle.sl_saves.specs.declared.entry.Slot.{Slot}
 use Rattle.sl_saves.specs.declared.entry.View.{View}
 use Rattle.sl_saves.specs.declared.entry.Saved.{Saved}
@@ -93,9 +92,6 @@ rest-on k to number bad s ps q = let p : Place = record { number = number; slot 
     rw (ne_eqb number k (λ e. omega (arith, e, q)), lt-ltb k number q)
     (λ i. told (find_place k ps) (mark-more (nat_lt (number - k) s.reach) bad p (filter (is_bad k) ps) i) (number-more to p (last_place ps) i))
 
-rest-at : (k to number : ℕ) (bad : Option (ℕ × ℕ)) (s : Slot) → number ≡ k → rest_of k to bad (record { number = number; slot = s } ∷ []) ≡ stopped s bad
-rest-at k to number bad s q = rw (eq-eqb number k q, le-ltb k number (omega (arith, q))) refl
-
 module _ (view : View) (id k number place : ℕ) (bad : Option (ℕ × ℕ)) (s : Slot) (w : IsWalking view id k number place bad) (g : s ≡ slice_index_or view.slots place no_slot) where
   -- the slot read is the one of the number
   slot-is : slot_in view id number ≡ s
@@ -109,24 +105,6 @@ module _ (view : View) (id k number place : ℕ) (bad : Option (ℕ × ℕ)) (s 
 
   passed : k < number → number - k < s.back → 1 ≤ k → path (suc w.fuel) (slot_in view id) number k ≡ record { number = number; slot = s } ∷ []
   passed q b one = on q ∙ ap (λ ps. record { number = number; slot = s } ∷ ps) (path-below w.fuel (slot_in view id) k (number - s.back) (omega (arith, b, q, one)))
-
-  -- at a slot that isn't live
-  pub walking-dead : s.back ≡ 0 → IsLive view id k → ⊥
-  walking-dead e h = by_order (eq-or-lt_of_le w.above) (w.live.1 h)
-    where
-      dead : (ps : List Place) → AllLive (record { number = number; slot = s } ∷ ps) → ⊥
-      dead ps x = let o : 1 ≤ s.back = x.0 in omega (arith, o, e)
-
-      by_order : ((k ≡ number) ⊎ (k < number)) → AllLive (path (suc w.fuel) (slot_in view id) number k) → ⊥
-      by_order (inl q) x = dead [] (subst AllLive (at (sym q)) x)
-      by_order (inr q) x = dead (path w.fuel (slot_in view id) (number - s.back) k) (subst AllLive (on q) x)
-
-  -- at the number that is read
-  pub walking-stopped : number ≡ k → stopped s bad ≡ read view id k
-  walking-stopped q = sym (rest-at k w.to number bad s q) ∙ sym (ap (rest_of k w.to bad) (at q)) ∙ w.rest
-
-  pub stopped-live : number ≡ k → 1 ≤ s.back → IsLive view id k
-  stopped-live q h = w.live.0 (subst AllLive (sym (at q)) (h, tt))
 
   -- where it passes below that number
   pub walking-passed : k < number → number - k < s.back → 1 ≤ k → Skipped number ≡ read view id k

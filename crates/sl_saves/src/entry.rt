@@ -9,36 +9,44 @@ use std::marker::Model;
 /// Packets and bytes of a channel that were in flight.
 #[derive(Clone, Copy, Debug, PartialEq, Eq)]
 pub struct Total {
+    /// How many packets.
     pub packets: u64,
+    /// How many bytes these have together.
     pub bytes: u64,
 }
 
-/// A saved entry: the counters before its number was adopted, what was in flight by channel, how
-/// far the number lies above the one saved before, and the greatest age that was credited.
-/// Nothing is saved in it where `back` is 0.
+/// What is saved when a number is adopted.
 #[derive(Clone, Copy, Debug, PartialEq, Eq)]
 pub struct Slot {
+    /// The packets counted before.
     pub packets: u64,
+    /// The bytes counted before.
     pub bytes: u64,
+    /// What was credited to the number, by channel.
     pub inflight: [Total; 8],
+    /// How far the number lies above the one saved before. 0 where nothing is saved here.
     pub back: u16,
+    /// The greatest age that was credited, 0 where none was.
     pub reach: u16,
 }
 
 const _: () = prove!(size_of::<Slot>() <= 160);
 
-/// What was saved for a number: its value, or the least number above it that was saved, or the
-/// least number at which a packet older than it was credited, with the greatest age there.
+/// What was saved for a number.
 #[derive(Clone, Copy, Debug, PartialEq, Eq)]
 pub enum Saved {
+    /// Its value: the packets and bytes counted before it, and what was in flight by channel.
     Value {
         packets: u64,
         bytes: u64,
         inflight: [Total; 8],
     },
+    /// It was not saved. `to` is the least number above it that was.
     Skipped {
         to: u64,
     },
+    /// An older packet was credited to a number above it: `by` is the least such number, `reach`
+    /// the greatest age that was credited there.
     Miscredited {
         by: u64,
         reach: u16,
@@ -48,6 +56,7 @@ pub enum Saved {
 /// A list of slots.
 #[derive(Debug, Drop)]
 pub struct Slots {
+    /// The slots in order.
     pub items: Vec<Slot>,
 }
 
@@ -60,10 +69,12 @@ impl Model for Slots {
     ghost view = { λ s. s.items.items };
 }
 
-/// A ring of slots, and the place in it of the id's slot.
+/// The slots of a ring, as they are read.
 #[derive(Debug, Drop)]
 pub struct View {
+    /// The place of the slot of the unit's id.
     pub at: u16,
+    /// The slots of the ring.
     pub slots: Slots,
 }
 

@@ -63,6 +63,13 @@ frame h p =
     ∷ p.seq / 65536 / 256 ∷ p.seq / 65536 % 256 ∷ p.seq % 65536 / 256 ∷ p.seq % 65536 % 256 ∷ p.len / 256 ∷ p.len % 256 ∷ p.hops ∷ 1
     ∷ 0 ∷ 0 ∷ 0 ∷ 0 ∷ 0 ∷ 0 ∷ 0 ∷ 0 ∷ []
 
+-- the header of a plain frame, and the plain frame of a packet
+abbrev pub plain_header : Header
+plain_header = record { kind = Plain; id = record { raw = 0 }; channel = 0 }
+
+abbrev pub plain_frame : Packet → List ℕ
+plain_frame p = frame plain_header p
+
 -- bytes are the frame of a header and packet
 pub record IsFrame (bits : ℕ) (bytes : List ℕ) (h : Header) (p : Packet) : Type 0 where
   pub canonical : IsCanonical bits h p

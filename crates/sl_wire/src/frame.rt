@@ -1,42 +1,51 @@
 // Frames as bytes, and bytes as frames.
 ghost use Rattle.std.specs.Prelude.{◌≡◌, ℕ, ◌/◌, ◌%◌, ◌^◌, length, IfOk, Ok, IsTrue};
-ghost use Rattle.sl_wire.specs.Frames.{kind_of, kind_byte, channel_fits, id_fits, number, wide_number, all_zero, packet_of, packet_fits, frame, decoded, IsCanonical, IsFrame};
+ghost use Rattle.sl_wire.specs.Frames.{kind_of, kind_byte, channel_fits, id_fits, number, wide_number, all_zero, packet_of, packet_fits, frame, plain_header, plain_frame, decoded, IsCanonical, IsFrame};
 
 use sl_ids::{Wid, Width};
 use sl_net::Packet;
 
-/// What a frame is: a host's frame, a data packet between units, a probe, or an initiation.
+/// What a frame is.
 #[derive(Clone, Copy, Debug, PartialEq, Eq)]
 pub enum Kind {
+    /// A frame from a host or to it.
     Plain,
+    /// A data packet between units.
     Carried,
+    /// A probe between units.
     Probe,
+    /// An initiation from a control plane.
     Init,
 }
 
-/// The snapshot header of a frame: its kind, the wrapped id of its sender, and the sender's port
-/// as a channel. A plain frame has id and channel 0, an initiation has channel 255.
+/// The snapshot header of a frame.
 #[derive(Clone, Copy, Debug, PartialEq, Eq)]
 pub struct Header {
+    /// What the frame is.
     pub kind: Kind,
+    /// The wrapped id of its sender, 0 in a plain frame.
     pub id: Wid,
+    /// The sender's port, 0 in a plain frame and 255 in an initiation.
     pub channel: u8,
 }
 
-/// The bytes of a frame.
+/// A frame.
 #[derive(Clone, Copy, Debug, PartialEq, Eq)]
 pub struct Frame {
+    /// The bytes in order.
     pub bytes: [u8; 24],
 }
 
-/// Why bytes are no frame: E1 where there are not 24; E2 where byte 0 is no kind or byte 15 is no
-/// version; E3 where the id has more bits than ids have, or is not 0 in a plain frame; E4 where
-/// another byte has a value that the kind doesn't allow.
+/// Why bytes are no frame.
 #[derive(Clone, Copy, Debug, PartialEq, Eq)]
 pub enum WireFault {
+    /// There are not 24 bytes.
     E1,
+    /// Byte 0 is no kind, or byte 15 is no version.
     E2,
+    /// The id has more bits than ids have, or is not 0 in a plain frame.
     E3,
+    /// Another byte has a value that the kind doesn't allow.
     E4,
 }
 
@@ -48,6 +57,19 @@ pub fn encode(width: Width, header: &Header, packet: &Packet) -> Frame
     ensures back { decoded width.bits result.bytes ≡ Ok (header.now, packet.now) }
 {
     frame_of(header, packet)
+}
+
+/// The plain frame of a packet. It is the same at each width of ids.
+pub fn plain_frame(packet: &Packet) -> Frame
+    ensures bytes { result.bytes ≡ plain_frame packet.now }
+    ensures frame { (bits : ℕ) → IsFrame bits result.bytes plain_header packet.now }
+{
+    let header = Header {
+        kind: Kind::Plain,
+        id: Wid { raw: 0 },
+        channel: 0,
+    };
+    frame_of(&header, packet)
 }
 
 /// The header and packet of which the bytes are the frame, or the first fault of E1 to E4.

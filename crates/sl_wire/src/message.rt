@@ -4,9 +4,10 @@ use sl_net::{Bytes, Packet};
 use sl_saves::{Saved, View};
 use std::marker::Model;
 
-/// What one unit saved, as pairs of a number and what was saved for it.
+/// What one unit saved.
 #[derive(Debug, Drop)]
 pub struct Rows {
+    /// Pairs of a number and what was saved for it.
     pub items: Vec<(u64, Saved)>,
 }
 
@@ -19,49 +20,67 @@ impl Model for Rows {
     ghost view = { λ r. r.items.items };
 }
 
-/// What a control plane tells the observer of a unit: the unit's place, its id and its last-seen
-/// ids on its data channels in order (0 past them), the number that all of these and the last-seen
-/// id of an ingress unit's control plane have reached, and the rows that came.
+/// What a control plane tells the observer of a unit.
 #[derive(Debug, Drop)]
 pub struct Done {
+    /// The unit's place among the units of the net.
     pub unit: u32,
+    /// Its id.
     pub id: u64,
+    /// Its last-seen ids on its data channels in order, 0 past them.
     pub last: [u64; 8],
+    /// The number that its id and all its last-seen ids have reached, that of its control plane
+    /// too where it is an ingress unit.
     pub floor: u64,
+    /// The rows that came.
     pub rows: Rows,
 }
 
-/// The registers of a unit, with wrapped ids: its id, the last-seen id of its control plane (0 of
-/// an egress unit), those of its data channels in order (0 past them), and its ring.
+/// The registers of a unit, with wrapped ids.
 #[derive(Debug, Drop)]
 pub struct Dump {
+    /// Its id.
     pub id: Wid,
+    /// The last-seen id of its control plane, 0 of an egress unit.
     pub cpu: Wid,
+    /// The last-seen ids of its data channels in order, 0 past them.
     pub last: [Wid; 8],
+    /// What it saved, in its ring.
     pub view: View,
 }
 
 /// The registers of a unit, with whole numbers.
 #[derive(Debug, Drop)]
 pub struct PlainDump {
+    /// Its id.
     pub id: u64,
+    /// The last-seen id of its control plane, 0 of an egress unit.
     pub cpu: u64,
+    /// The last-seen ids of its data channels in order, 0 past them.
     pub last: [u64; 8],
+    /// What it saved, in its ring.
     pub view: View,
 }
 
-/// A message, with whole numbers as stamps: the bytes of a frame from a host or to it; a data packet, a probe and an
-/// initiation with their stamps; a poll of a unit, a notice and a dump from it; the begin of a
-/// snapshot; and a report on a unit.
+/// A message between actors. Stamps and the numbers of snapshots are whole numbers.
 #[derive(Debug, Drop)]
 pub enum Msg {
+    /// The bytes of a frame from a host to its ingress unit, or from an egress unit to its host.
     Host(Bytes),
+    /// A data packet with its stamp, between units.
     Data(u64, Packet),
+    /// A probe with its stamp, between units.
     Probe(u64),
+    /// An initiation of a snapshot, from a control plane to an ingress unit.
     Init(u64),
+    /// A poll, from a control plane to a unit.
     Poll,
+    /// A notice that a last-seen number of a unit has changed, to its control plane.
     Notice,
+    /// A unit's registers, to its control plane.
     Dump(PlainDump),
+    /// The begin of a snapshot, from the observer to a control plane.
     Begin(u64),
+    /// A report on a unit, from its control plane to the observer.
     Done(Done),
 }

@@ -1,6 +1,8 @@
 ghost use Rattle.std.specs.Prelude.{◌<◌};
 
-use crate::{Done, Header, Kind, Msg, PlainDump, Rows, WireFault, decode, encode};
+use crate::{
+    Done, Header, Kind, Msg, PlainDump, Rows, WireFault, decode, encode, plain_frame, reached,
+};
 use sl_ids::{Wid, Width};
 use sl_net::Packet;
 use sl_saves::{Slots, View};
@@ -77,6 +79,7 @@ fn frames_and_back(rt: HostRuntime) -> Result<(), Fail> {
         channel: 0,
     };
     assert_eq!(rt; encode(width, &header, &second).bytes, PLAIN);
+    assert_eq!(rt; plain_frame(&second).bytes, PLAIN);
     let header = Header {
         kind: Kind::Probe,
         id: Wid { raw: 1 },
@@ -89,6 +92,15 @@ fn frames_and_back(rt: HostRuntime) -> Result<(), Fail> {
         channel: 255,
     };
     assert_eq!(rt; encode(width, &header, &EMPTY).bytes, INITIATION);
+    Ok(())
+}
+
+#[test]
+fn the_least_is_reached(rt: HostRuntime) -> Result<(), Fail> {
+    let last = [7, 8, 6, 0, 0, 0, 0, 0];
+    assert_eq!(rt; reached(2, 9, &last), 7);
+    assert_eq!(rt; reached(3, 5, &last), 5);
+    assert_eq!(rt; reached(0, 9, &last), 9);
     Ok(())
 }
 

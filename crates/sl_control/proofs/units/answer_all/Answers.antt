@@ -3,14 +3,14 @@ use Rattle.std.specs.List.{AllByRecursion}
 use Rattle.std.proofs.lemmas.Option.{slice_get_within, get_or_from_slice_get}
 use Rattle.sl_control.specs.declared.known.Known.{Known}
 use Rattle.sl_control.specs.Control.{is_read, answered, answer_by}
-use Rattle.sl_control.specs.Joined.{IsDumpOf}
+use Rattle.sl_control.specs.Joined.{HasDumpChoice}
 use Rattle.sl_control.proofs.EachUnit.{none-changed, none-put, one-changed, one-put, all-keys}
 use Rattle.sl_control.proofs.units.answer_all.Goals as goal
 
 pub returns-in-Some-clause-units : goal.returns-in-Some-clause-units
 returns-in-Some-clause-units c =
     let units = c.args.units.now.items in
-    let found : IsDumpOf c.args.choice c.in-Some.i units = subst (λ (rs : List Known). IsDumpOf c.args.choice c.in-Some.i rs) c.deref.ensures.value c.in-Some.ensures in
+    let found : HasDumpChoice c.args.choice c.in-Some.i units = subst (λ (rs : List Known). HasDumpChoice c.args.choice c.in-Some.i rs) c.deref.ensures.value c.in-Some.ensures in
     let x = c.index_mut.result.now in
     let same : x ≡ found.known = c.index_mut.ensures.value ∙ get_or_from_slice_get units c.in-Some.i found.known x found.at in
     one-changed (λ r. r.wires.dump) c.args.choice (is_read c.args.ring c.args.dump.now) (answered c.args.dump.now) units c.in-Some.i x c.answer_one.new.known c.requires.apart
@@ -19,7 +19,7 @@ returns-in-Some-clause-units c =
 pub returns-in-Some-clause-puts : goal.returns-in-Some-clause-puts
 returns-in-Some-clause-puts c =
     let units = c.args.units.now.items in
-    let found : IsDumpOf c.args.choice c.in-Some.i units = subst (λ (rs : List Known). IsDumpOf c.args.choice c.in-Some.i rs) c.deref.ensures.value c.in-Some.ensures in
+    let found : HasDumpChoice c.args.choice c.in-Some.i units = subst (λ (rs : List Known). HasDumpChoice c.args.choice c.in-Some.i rs) c.deref.ensures.value c.in-Some.ensures in
     let x = c.index_mut.result.now in
     let same : x ≡ found.known = c.index_mut.ensures.value ∙ get_or_from_slice_get units c.in-Some.i found.known x found.at in
     c.answer_one.ensures.puts ∙ ap (λ ps. c.args.out.now.items ++ ps)

@@ -1,6 +1,6 @@
 use Rattle.std.proofs.Common.{◌≡◌, ◌++◌, take}
 use Rattle.sl_wire.specs.declared.message.Msg.TheVariants.{Init}
-use Rattle.sl_control.specs.Control.{send_all}
+use Rattle.sl_machine.specs.Machine.{send_all}
 use Rattle.sl_control.proofs.units.put_inits.Given as goal
 
 abbrev pub invariant-loop-link : goal.invariant-loop-link

@@ -1,7 +1,7 @@
 use Rattle.std.proofs.Common.{◌≡◌, ℕ, List, sym, ap, ◌∙◌, map, arith}
 use Rattle.std.specs.Prelude.{filter}
 use Rattle.std.proofs.lemmas.List.{take_all}
-use Rattle.sl_net.specs.declared.actor.Sort.TheVariants.{Poll}
+use Rattle.sl_layout.specs.declared.actor.Sort.TheVariants.{Poll}
 use Rattle.sl_net.specs.Net.{link_of, links_out, same_sort}
 use Rattle.sl_net.specs.Serving.{serving}
 use Rattle.sl_net.proofs.NetWired.{map-map}

@@ -2,7 +2,8 @@ use Rattle.std.proofs.Common.{◌++◌, [], ℕ, List, Some, ap, subst, sym, ◌
 use Rattle.std.specs.Prelude.{flat_map, cond, ◌==◌}
 use Rattle.sl_wire.specs.declared.message.Msg.TheVariants.{Init}
 use Rattle.sl_control.specs.declared.known.Known.{Known}
-use Rattle.sl_control.specs.Control.{ControlView, send_all, ask_puts, dump_puts}
+use Rattle.sl_machine.specs.Machine.{send_all}
+use Rattle.sl_control.specs.Control.{ControlView, ask_puts, dump_puts}
 use Rattle.sl_control.specs.Joined.{IsJoined}
 use Rattle.sl_control.proofs.Fitting.{asked-joined, answered-joined, inits-fit, asks-fit, answers-fit, added-to-none, room-for-two}
 use Rattle.sl_control.proofs.control.ControlMachine.take.Goals as goal

@@ -2,19 +2,19 @@
 --     TakesFit s a h      each message that h took fits the link that it came from
 use Rattle.std.proofs.Common.{◌≡◌, ℕ, zero, suc, ◌-◌, ◌<◌, ◌≤◌, List, [], ◌∷◌, length, refl, sym, ap, subst, ◌∙◌, Option, Some, None, arith, inl, inr, eq-eqb}
 use Rattle.std.specs.Prelude.{◌⊎◌, true, if◌then◌else◌, ◌==◌, unwrap_or, option_and_then, slice_get, IsTrue}
-use Rattle.sl_cut.specs.declared.message.Step.{Step}
-use Rattle.sl_cut.specs.declared.message.Message.{Message}
-use Rattle.sl_cut.specs.declared.message.Message.TheVariants.{Begin as BeginMsg}
-use Rattle.sl_net.specs.declared.actor.Sort.{Sort}
-use Rattle.sl_net.specs.declared.actor.Sort.TheVariants.{Cable, Crossbar, Init, Begin}
-use Rattle.sl_net.specs.declared.actor.ActorId.TheVariants.{Observer, Control, Unit as OfUnit}
-use Rattle.sl_net.specs.declared.actor.UnitId.{UnitId}
+use Rattle.sl_history.specs.declared.message.Step.{Step}
+use Rattle.sl_history.specs.declared.message.Message.{Message}
+use Rattle.sl_history.specs.declared.message.Message.TheVariants.{Begin as BeginMsg}
+use Rattle.sl_layout.specs.declared.actor.Sort.{Sort}
+use Rattle.sl_layout.specs.declared.actor.Sort.TheVariants.{Cable, Crossbar, Init, Begin}
+use Rattle.sl_layout.specs.declared.actor.ActorId.TheVariants.{Observer, Control, Unit as OfUnit}
+use Rattle.sl_layout.specs.declared.actor.UnitId.{UnitId}
 use Rattle.sl_net.specs.Net.{link_of, links_into, actor_of, action_choice}
 use Rattle.sl_net.specs.Wired.{IsWired}
-use Rattle.sl_cut.specs.Words.{Each, Rises, listed, numbers}
-use Rattle.sl_cut.specs.History.{History, World, Losses, history, stamp_of, begin_of, dump_of, heard, last, NeverFalls, takes, put}
-use Rattle.sl_cut.specs.Setup.{Setup}
-use Rattle.sl_cut.specs.Knowledge.{observer, issued, can_issue, can_resend}
+use Rattle.sl_history.specs.Words.{Each, Rises, listed, numbers}
+use Rattle.sl_history.specs.History.{History, World, Losses, history, stamp_of, begin_of, dump_of, heard, last, NeverFalls, takes, put}
+use Rattle.sl_history.specs.Setup.{Setup}
+use Rattle.sl_history.specs.Knowledge.{observer, issued, can_issue, can_resend}
 use Rattle.sl_cut.specs.Made.{Took, Acted, IsMade, Ran}
 use Rattle.sl_cut.specs.Fit.{fits, fits_link, is_stamped}
 use Rattle.sl_cut.specs.Window.{begun}
@@ -22,7 +22,7 @@ use Rattle.sl_net.proofs.Lists.{each-imp}
 use Rattle.sl_net.proofs.Filters.{each-front, each-back}
 use Rattle.sl_net.proofs.Sorts.{is-into}
 use Rattle.sl_net.proofs.EndKinds.{data-from, init-from, begins-from}
-use Rattle.sl_cut.proofs.Turns.{taken-this, taken-falls, taken-other}
+use Rattle.sl_step.proofs.Turns.{taken-this, taken-falls, taken-other}
 use Rattle.sl_cut.proofs.Numbers.{Says, Grows, Ordered, ordered, put-rises}
 use Rattle.sl_cut.proofs.Said.{PutBy, Begins, control-said, observer-acts, begin-said, action-said}
 use Rattle.sl_cut.proofs.Stamps.{taken-fits, unit-link, says-itself, acted-by, took-by}

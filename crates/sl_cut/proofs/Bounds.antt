@@ -3,25 +3,25 @@
 use Rattle.std.proofs.Common.{◌≡◌, ℕ, zero, suc, ◌-◌, ◌≤◌, List, [], ◌∷◌, length, refl, sym, ap, subst, ◌∙◌, Option, Some, arith, inl, inr}
 use Rattle.std.specs.Prelude.{◌⊎◌, true, false, if◌then◌else◌, ◌==◌, nat_eq, unwrap_or, option_and_then, slice_get}
 use Rattle.std.proofs.lemmas.Bool.Decides.{eqb_tells}
-use Rattle.sl_cut.specs.declared.message.Step.{Step}
-use Rattle.sl_cut.specs.declared.message.Message.{Message}
-use Rattle.sl_cut.specs.declared.message.Put.{Put}
-use Rattle.sl_net.specs.declared.actor.ActorId.{ActorId}
-use Rattle.sl_net.specs.declared.actor.ActorId.TheVariants.{Observer, Control, Unit as OfUnit, Host as OfHost}
+use Rattle.sl_history.specs.declared.message.Step.{Step}
+use Rattle.sl_history.specs.declared.message.Message.{Message}
+use Rattle.sl_history.specs.declared.message.Put.{Put}
+use Rattle.sl_layout.specs.declared.actor.ActorId.{ActorId}
+use Rattle.sl_layout.specs.declared.actor.ActorId.TheVariants.{Observer, Control, Unit as OfUnit, Host as OfHost}
 use Rattle.sl_net.specs.Net.{Net, link_of, links_into, actor_of, action_choice}
 use Rattle.sl_net.specs.Wired.{IsWired}
-use Rattle.sl_cut.specs.Words.{Each, listed}
-use Rattle.sl_cut.specs.History.{History, World, Losses, history, stamp_of, stamp_taken, begin_of, dump_of, id, heard, taken, takes, put, on_link}
-use Rattle.sl_cut.specs.Setup.{Setup}
-use Rattle.sl_cut.specs.Knowledge.{observer, issued}
-use Rattle.sl_cut.specs.Puts.{puts_of}
-use Rattle.sl_cut.specs.World.{Entry, carried, turn, run, start}
+use Rattle.sl_history.specs.Words.{Each, listed}
+use Rattle.sl_history.specs.History.{History, World, Losses, history, stamp_of, stamp_taken, begin_of, dump_of, id, heard, taken, takes, put, on_link}
+use Rattle.sl_history.specs.Setup.{Setup}
+use Rattle.sl_history.specs.Knowledge.{observer, issued}
+use Rattle.sl_step.specs.Puts.{puts_of}
+use Rattle.sl_step.specs.World.{Entry, carried, turn, run, start}
 use Rattle.sl_cut.specs.Made.{Took, Acted, IsMade, Ran}
 use Rattle.sl_cut.specs.Window.{IsBelow, begun}
 use Rattle.sl_net.proofs.Lists.{each-append, each-imp}
 use Rattle.sl_net.proofs.Filters.{each-front}
 use Rattle.sl_net.proofs.EndKinds.{begins-from}
-use Rattle.sl_cut.proofs.Turns.{Steps, turn-cases, kept_by_run, start-empty}
+use Rattle.sl_step.proofs.Turns.{Steps, turn-cases, kept_by_run, start-empty}
 use Rattle.sl_cut.proofs.Ran.{Takes, Acts, next-view, ran, ran-turn, made-of}
 use Rattle.sl_cut.proofs.Numbers.{Says, grown-le, rises-le}
 use Rattle.sl_cut.proofs.Said.{PutBy, control-said, action-said}
@@ -137,7 +137,3 @@ below-turn s lost w e n h = record { ran = ran-turn s lost w e h.ran; below = by
 pub all-below : (s : Setup) (lost : Losses) (es : List Entry) → IsWired s.net → RanBelow s lost (run s lost (start s.net) es)
 all-below s lost es n = kept_by_run s lost (RanBelow s lost) (λ w e. below-turn s lost w e n) (start s.net) es
     (record { ran = ran s lost []; below = λ l. subst (λ h. Each (IsBelow (issued s.net (observer (start s.net)))) (put l h)) (sym (start-empty s.net (link_of s.net l).from)) tt })
-
--- The last Begin number of a control plane is at most K.
-pub begun-below : (s : Setup) (lost : Losses) (w : World) (a d : ℕ) → IsWired s.net → (r : Ran s lost w) → actor_of s.net a ≡ Control d → begun (history w a) ≤ issued s.net (observer w)
-begun-below s lost w a d n r q = let b = begins-from s.net a d n q in rises-le (heard begin_of 0 (history w a)) _ (issued s.net (observer w)) (begin-link s lost w a 0 b.0 n r b.1 b.2).rises

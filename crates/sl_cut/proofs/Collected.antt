@@ -3,31 +3,31 @@ use Rattle.std.proofs.Common.{◌≡◌, ℕ, suc, ◌<◌, ◌≤◌, List, [],
 use Rattle.std.specs.Prelude.{◌⊎◌, cond, true, false, Bool, ◌==◌, if◌then◌else◌, nat_eq, nat_lt, filter, unwrap_or, slice_get, IsTrue}
 use Rattle.std.proofs.lemmas.Bool.{lt-ltb, le-ltb, cases_lt, and_left}
 use Rattle.std.proofs.lemmas.Bool.Decides.{eqb_tells}
-use Rattle.sl_cut.specs.declared.message.Message.{Message}
-use Rattle.sl_cut.specs.declared.message.Message.TheVariants.{Data}
-use Rattle.sl_cut.specs.declared.message.Step.{Step}
+use Rattle.sl_history.specs.declared.message.Message.{Message}
+use Rattle.sl_history.specs.declared.message.Message.TheVariants.{Data}
+use Rattle.sl_history.specs.declared.message.Step.{Step}
 use Rattle.sl_cut.specs.declared.verdict.Lag.TheVariants.{Id}
-use Rattle.sl_net.specs.declared.actor.Sort.{Sort}
-use Rattle.sl_net.specs.declared.actor.Sort.TheVariants.{Cable, Crossbar}
+use Rattle.sl_layout.specs.declared.actor.Sort.{Sort}
+use Rattle.sl_layout.specs.declared.actor.Sort.TheVariants.{Cable, Crossbar}
 use Rattle.sl_net.specs.declared.input.Packet.{Packet}
 use Rattle.sl_net.specs.Net.{Net, link_of, link_at, links_into, choices_of, data_channels}
 use Rattle.sl_net.specs.Wired.{IsWired}
-use Rattle.sl_cut.specs.Words.{Each, listed, least, first_from, first_told, or_later}
-use Rattle.sl_cut.specs.History.{History, World, Losses, history, id, last, first, takes, stamp_of, NeverFalls}
-use Rattle.sl_cut.specs.Setup.{Setup}
-use Rattle.sl_cut.specs.World.{Entry, run}
+use Rattle.sl_history.specs.Words.{Each, listed, least, first_from, first_told, or_later}
+use Rattle.sl_history.specs.History.{History, World, Losses, history, id, last, first, takes, stamp_of, NeverFalls}
+use Rattle.sl_history.specs.Setup.{Setup}
+use Rattle.sl_step.specs.World.{Entry, run}
 use Rattle.sl_cut.specs.Made.{Took, Acted, IsMade, Ran}
 use Rattle.sl_cut.specs.Cut.{outside}
 use Rattle.sl_cut.specs.Verdict.{skipped_to, is_old_data, miscredits, first_cause, channel_lag, lag_at, lag}
 use Rattle.sl_saves.specs.declared.entry.Total.{Total}
-use Rattle.sl_cut.specs.Counting.{packets, bytes}
+use Rattle.sl_history.specs.Counting.{packets, bytes}
 use Rattle.sl_cut.specs.Fit.{fits, fits_link, is_stamped, stamp}
 use Rattle.sl_cut.specs.Late.{is_old, late}
 use Rattle.sl_cut.specs.Collected.{IsKept}
 use Rattle.sl_net.proofs.Lists.{each-append, each-imp, each-of}
 use Rattle.sl_net.proofs.Filters.{each-front, each-back, each-both-of}
 use Rattle.sl_net.proofs.Sorts.{IsChoice, each-choice, of-choice}
-use Rattle.sl_cut.proofs.Turns.{kept_by_run}
+use Rattle.sl_step.proofs.Turns.{kept_by_run}
 use Rattle.sl_cut.proofs.Ran.{ran-turn}
 use Rattle.sl_cut.proofs.Stamps.{is-stamped}
 use Rattle.sl_cut.proofs.Begins.{TakesFit, fit-taken, fit-before, fit-last, last-never-falls, heard-this}

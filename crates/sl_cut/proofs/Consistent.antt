@@ -2,15 +2,15 @@
 use Rattle.std.proofs.Common.{◌≡◌, ℕ, suc, ◌<◌, ◌≤◌, List, [], ◌∷◌, ◌++◌, length, refl, sym, ap, subst, ◌∙◌, arith, take, drop, append_assoc, inl, inr}
 use Rattle.std.specs.Prelude.{◌⊎◌, cond, filter, IsTrue}
 use Rattle.std.proofs.lemmas.Bool.{lt-ltb, le-ltb}
-use Rattle.sl_net.specs.declared.actor.Sort.{Sort}
-use Rattle.sl_net.specs.declared.actor.Sort.TheVariants.{Cable, Crossbar}
+use Rattle.sl_layout.specs.declared.actor.Sort.{Sort}
+use Rattle.sl_layout.specs.declared.actor.Sort.TheVariants.{Cable, Crossbar}
 use Rattle.sl_net.specs.Net.{link_of, choice_of}
 use Rattle.sl_net.specs.Wired.{IsWired}
-use Rattle.sl_cut.specs.declared.message.Message.{Message}
-use Rattle.sl_cut.specs.Words.{weigh}
-use Rattle.sl_cut.specs.History.{History, World, Losses, history, first, put, taken, takes, carried_by}
-use Rattle.sl_cut.specs.Setup.{Setup}
-use Rattle.sl_cut.specs.World.{Entry, carried, world, sender, receiver, taken_by}
+use Rattle.sl_history.specs.declared.message.Message.{Message}
+use Rattle.sl_history.specs.Words.{weigh}
+use Rattle.sl_history.specs.History.{History, World, Losses, history, first, put, taken, takes, carried_by}
+use Rattle.sl_history.specs.Setup.{Setup}
+use Rattle.sl_step.specs.World.{Entry, carried, world, sender, receiver, taken_by}
 use Rattle.sl_cut.specs.Made.{Ran, Fifo}
 use Rattle.sl_cut.specs.Cut.{cut, cuts, before, outside, crossing, data_count, data_bytes}
 use Rattle.sl_cut.specs.Matching.{is_data, IsDataChannel, IsConsistentCut}

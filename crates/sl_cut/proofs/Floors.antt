@@ -4,26 +4,26 @@ use Rattle.std.specs.Prelude.{◌⊎◌, true, false, nat_eq, nat_lt, nat_le, mi
 use Rattle.std.proofs.lemmas.Bool.{and_parts, leb-true}
 use Rattle.std.proofs.lemmas.Bool.Decides.{eqb_tells}
 use Rattle.std.proofs.lemmas.Option.{slice_get_within}
-use Rattle.sl_cut.specs.declared.message.Step.{Step}
-use Rattle.sl_net.specs.declared.actor.Sort.{Sort}
-use Rattle.sl_net.specs.declared.actor.Sort.TheVariants.{Cable, Crossbar, Init}
-use Rattle.sl_net.specs.declared.actor.ActorId.{ActorId}
-use Rattle.sl_net.specs.declared.actor.ActorId.TheVariants.{Observer, Unit as OfUnit}
-use Rattle.sl_net.specs.declared.actor.UnitId.{UnitId}
+use Rattle.sl_history.specs.declared.message.Step.{Step}
+use Rattle.sl_layout.specs.declared.actor.Sort.{Sort}
+use Rattle.sl_layout.specs.declared.actor.Sort.TheVariants.{Cable, Crossbar, Init}
+use Rattle.sl_layout.specs.declared.actor.ActorId.{ActorId}
+use Rattle.sl_layout.specs.declared.actor.ActorId.TheVariants.{Observer, Unit as OfUnit}
+use Rattle.sl_layout.specs.declared.actor.UnitId.{UnitId}
 use Rattle.sl_net.specs.Parts.{below}
 use Rattle.sl_net.specs.Net.{Net, links_into, link_at, actor_of, choices_of, choice_of, action_choice, data_channels, is_unit, units, unit_place}
 use Rattle.sl_net.specs.Wired.{IsWired}
-use Rattle.sl_cut.specs.Words.{Each, least_of, least_in}
-use Rattle.sl_cut.specs.History.{History, World, Losses, history, done_of, id, last, heard, first, taken, NeverFalls}
-use Rattle.sl_cut.specs.Setup.{Setup}
-use Rattle.sl_cut.specs.Knowledge.{observer, known, issued, upto_of, floor_of, unit_floor, floor, can_issue, can_resend}
-use Rattle.sl_cut.specs.World.{Entry, start, turn, run, floor_for}
+use Rattle.sl_history.specs.Words.{Each, least_of, least_in}
+use Rattle.sl_history.specs.History.{History, World, Losses, history, done_of, id, last, heard, first, taken, NeverFalls}
+use Rattle.sl_history.specs.Setup.{Setup}
+use Rattle.sl_history.specs.Knowledge.{observer, known, issued, upto_of, floor_of, unit_floor, floor, can_issue, can_resend}
+use Rattle.sl_step.specs.World.{Entry, start, turn, run, floor_for}
 use Rattle.sl_cut.specs.Made.{Ran}
 use Rattle.sl_cut.specs.Fit.{is_stamped}
 use Rattle.sl_net.proofs.Lists.{each-append, each-imp}
 use Rattle.sl_net.proofs.Filters.{each-passes}
 use Rattle.sl_net.proofs.Sorts.{IsChoice, each-choice}
-use Rattle.sl_cut.proofs.Turns.{kept_by_run, GrowsAt, Steps, turn-cases, taken-step, taken-falls, taken-other, start-empty}
+use Rattle.sl_step.proofs.Turns.{kept_by_run, GrowsAt, Steps, turn-cases, taken-step, taken-falls, taken-other, start-empty}
 use Rattle.sl_cut.proofs.Ran.{Takes, Acts, next-view, ran, ran-turn}
 use Rattle.sl_cut.proofs.Numbers.{never-falls, first-grown, grown-le}
 use Rattle.sl_cut.proofs.Said.{Begins, observer-acts}

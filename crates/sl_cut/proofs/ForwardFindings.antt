@@ -3,10 +3,10 @@ use Rattle.std.proofs.Common.{◌≡◌, ℕ, zero, suc, ◌+◌, ◌<◌, ◌�
 use Rattle.std.specs.Prelude.{Bool, min, unwrap_or, slice_index_or, filter, cond}
 use Rattle.std.proofs.lemmas.List.{take_more}
 use Rattle.sl_saves.specs.declared.entry.Total.{Total}
-use Rattle.sl_cut.specs.Words.{weigh, least, least_in}
+use Rattle.sl_history.specs.Words.{weigh, least, least_in}
 use Rattle.sl_cut.specs.Findings.{no_total, eight_totals}
 use Rattle.sl_net.specs.Parts.{below}
-use Rattle.sl_cut.proofs.ForwardLists.{filter_below_more}
+use Rattle.sl_history.proofs.ForwardLists.{filter_below_more}
 
 -- Sums.
 

@@ -3,16 +3,16 @@ use Rattle.std.proofs.Common.{◌≡◌, ℕ, ◌≤◌, List, [], ◌∷◌, le
 use Rattle.std.specs.Prelude.{◌⊎◌, true, ◌==◌, if◌then◌else◌, map, unwrap_or}
 use Rattle.std.proofs.lemmas.Bool.{le-leb, eqb-true, and_parts}
 use Rattle.sl_cut.specs.declared.verdict.Verdict.TheVariants.{NotIssued}
-use Rattle.sl_net.specs.declared.actor.ActorId.TheVariants.{Unit as OfUnit}
-use Rattle.sl_net.specs.declared.actor.UnitId.{UnitId}
-use Rattle.sl_net.specs.declared.actor.Sort.TheVariants.{Init}
+use Rattle.sl_layout.specs.declared.actor.ActorId.TheVariants.{Unit as OfUnit}
+use Rattle.sl_layout.specs.declared.actor.UnitId.{UnitId}
+use Rattle.sl_layout.specs.declared.actor.Sort.TheVariants.{Init}
 use Rattle.sl_net.specs.Net.{Net, actor_of, choices_of, data_channels, units, unit_place}
 use Rattle.sl_net.specs.Wired.{IsWired}
-use Rattle.sl_cut.specs.Words.{Each, least_in, first_told}
-use Rattle.sl_cut.specs.History.{History, World, Losses, history, id, last}
-use Rattle.sl_cut.specs.Setup.{Setup}
-use Rattle.sl_cut.specs.Knowledge.{observer, known, issued, collected, upto_of, floor_of, unit_floor, floor}
-use Rattle.sl_cut.specs.World.{Entry, run}
+use Rattle.sl_history.specs.Words.{Each, least_in, first_told}
+use Rattle.sl_history.specs.History.{History, World, Losses, history, id, last}
+use Rattle.sl_history.specs.Setup.{Setup}
+use Rattle.sl_history.specs.Knowledge.{observer, known, issued, collected, upto_of, floor_of, unit_floor, floor}
+use Rattle.sl_step.specs.World.{Entry, run}
 use Rattle.sl_cut.specs.Made.{Ran}
 use Rattle.sl_cut.specs.Verdict.{cause, lag, judged, issued_verdict, floor_holder, verdict}
 use Rattle.sl_cut.specs.End.{IsFinished, IsSpent, is_collected, KnowsAll}

@@ -1,8 +1,8 @@
 -- What settling and finishing do is legal: no entry of it is idle.
 use Rattle.std.proofs.Common.{◌≡◌, ℕ, zero, suc, Bool, true, false, List, [], ◌∷◌, ◌++◌, Option, Some, None, is_some, refl, subst, cond}
-use Rattle.sl_cut.specs.History.{World, Losses}
-use Rattle.sl_cut.specs.Setup.{Setup}
-use Rattle.sl_cut.specs.World.{Entry, next_step, turn, run, IsLegalFrom, kept_from}
+use Rattle.sl_history.specs.History.{World, Losses}
+use Rattle.sl_history.specs.Setup.{Setup}
+use Rattle.sl_step.specs.World.{Entry, next_step, turn, run, IsLegalFrom, kept_from}
 use Rattle.sl_cut.specs.Schedule.{settling_pass, sweeps, resend_entry}
 use Rattle.sl_cut.specs.End.{append_to, then_from, again_from, settle, is_collected, rose, after_sweeps, sweep_round, finish}
 

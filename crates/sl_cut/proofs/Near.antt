@@ -1,19 +1,19 @@
 -- The window law: what is known, what is on its way, and the bounds of all numbers.
 use Rattle.std.proofs.Common.{◌≡◌, ℕ, ◌+◌, ◌<◌, ◌≤◌, List, [], ◌∷◌, ◌++◌, length, refl, sym, ap, subst, ◌∙◌, Option, Some, None, arith, drop}
 use Rattle.std.specs.Prelude.{min, map, unwrap_or, slice_get, IsTrue}
-use Rattle.sl_cut.specs.declared.message.Message.{Message}
-use Rattle.sl_net.specs.declared.actor.Sort.{Sort}
-use Rattle.sl_net.specs.declared.actor.Sort.TheVariants.{Cable, Crossbar, Init, Poll, Dump, Begin}
-use Rattle.sl_net.specs.declared.actor.ActorId.TheVariants.{Unit as OfUnit}
-use Rattle.sl_net.specs.declared.actor.UnitId.{UnitId}
+use Rattle.sl_history.specs.declared.message.Message.{Message}
+use Rattle.sl_layout.specs.declared.actor.Sort.{Sort}
+use Rattle.sl_layout.specs.declared.actor.Sort.TheVariants.{Cable, Crossbar, Init, Poll, Dump, Begin}
+use Rattle.sl_layout.specs.declared.actor.ActorId.TheVariants.{Unit as OfUnit}
+use Rattle.sl_layout.specs.declared.actor.UnitId.{UnitId}
 use Rattle.sl_net.specs.Serving.{choice_from, serving, served}
 use Rattle.sl_net.specs.Net.{Net, link_of, links_into, links_out, actor_of, choices_of, choice_of, data_channels, units, unit_place}
 use Rattle.sl_net.specs.Wired.{Reports, IsWired}
-use Rattle.sl_cut.specs.Words.{Each, Rises, numbers, least_of, least_in}
-use Rattle.sl_cut.specs.History.{History, World, Losses, history, stamp_of, begin_of, dump_of, done_of, id, heard, last, first, taken, takes, put, NeverFalls}
-use Rattle.sl_cut.specs.Setup.{Setup}
-use Rattle.sl_cut.specs.Knowledge.{observer, told_of, dumped, known, issued, upto_of, floor_of, unit_floor, floor}
-use Rattle.sl_cut.specs.World.{Entry, world, sender, receiver, carried}
+use Rattle.sl_history.specs.Words.{Each, Rises, numbers, least_of, least_in}
+use Rattle.sl_history.specs.History.{History, World, Losses, history, stamp_of, begin_of, dump_of, done_of, id, heard, last, first, taken, takes, put, NeverFalls}
+use Rattle.sl_history.specs.Setup.{Setup}
+use Rattle.sl_history.specs.Knowledge.{observer, told_of, dumped, known, issued, upto_of, floor_of, unit_floor, floor}
+use Rattle.sl_step.specs.World.{Entry, world, sender, receiver, carried}
 use Rattle.sl_cut.specs.Made.{Fifo, Ran}
 use Rattle.sl_cut.specs.Matching.{IsDataChannel}
 use Rattle.sl_cut.specs.Fit.{is_stamped, stamp}

@@ -2,15 +2,15 @@
 --     net_a    one device with two hosts          net_b    one device with one host
 --     net_c    two devices joined by a cable      net_d    three devices in a line
 use Rattle.std.specs.Prelude.{ℕ, ◌&&◌, List, [], ◌∷◌, ◌++◌, codes, ◌==◌, unwrap_or}
-use Rattle.sl_net.specs.declared.parts.PortRef.{PortRef}
-use Rattle.sl_net.specs.declared.parts.DevicePart.{DevicePart}
-use Rattle.sl_net.specs.declared.parts.CablePart.{CablePart}
-use Rattle.sl_net.specs.declared.parts.HostPart.{HostPart}
+use Rattle.sl_parts.specs.declared.parts.PortRef.{PortRef}
+use Rattle.sl_parts.specs.declared.parts.DevicePart.{DevicePart}
+use Rattle.sl_parts.specs.declared.parts.CablePart.{CablePart}
+use Rattle.sl_parts.specs.declared.parts.HostPart.{HostPart}
 use Rattle.sl_net.specs.declared.input.Flow.{Flow}
 use Rattle.sl_net.specs.Net.{Net, net_of}
-use Rattle.sl_cut.specs.History.{Losses}
-use Rattle.sl_cut.specs.Setup.{Setup}
-use Rattle.sl_cut.specs.World.{Entry, start, run, kept}
+use Rattle.sl_history.specs.History.{Losses}
+use Rattle.sl_history.specs.Setup.{Setup}
+use Rattle.sl_step.specs.World.{Entry, start, run, kept}
 use Rattle.sl_cut.specs.End.{finish}
 
 abbrev pub port : ℕ → ℕ → PortRef

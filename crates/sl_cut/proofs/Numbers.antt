@@ -5,14 +5,14 @@
 use Rattle.std.proofs.Common.{◌≡◌, ℕ, suc, ◌≤◌, List, [], ◌∷◌, ◌++◌, length, refl, sym, ap, subst, ◌∙◌, Option, Some, None, arith, append-nil, append_assoc, inl, inr, ◌<◌, lt-ltb, le-ltb}
 use Rattle.std.specs.Prelude.{◌⊎◌, cond, true, false, Bool, if◌then◌else◌, ◌==◌, unwrap_or, option_and_then, nat_lt, nat_eq}
 use Rattle.std.proofs.lemmas.Bool.{cases_lt}
-use Rattle.sl_cut.specs.declared.message.Step.{Step}
-use Rattle.sl_cut.specs.declared.message.Message.{Message}
-use Rattle.sl_cut.specs.declared.message.Put.{Put}
+use Rattle.sl_history.specs.declared.message.Step.{Step}
+use Rattle.sl_history.specs.declared.message.Message.{Message}
+use Rattle.sl_history.specs.declared.message.Put.{Put}
 use Rattle.std.proofs.lemmas.Bool.Decides.{eqb_tells}
-use Rattle.sl_cut.specs.Words.{Each, Rises, listed, numbers}
-use Rattle.sl_cut.specs.History.{History, World, history, heard, NeverFalls, takes, put, on_link, without_lost, first}
+use Rattle.sl_history.specs.Words.{Each, Rises, listed, numbers}
+use Rattle.sl_history.specs.History.{History, World, history, heard, NeverFalls, takes, put, on_link, without_lost, first}
 use Rattle.sl_cut.specs.Made.{Fifo}
-use Rattle.sl_cut.proofs.Turns.{GrowsAt}
+use Rattle.sl_step.proofs.Turns.{GrowsAt}
 
 -- the number, if there is one, is k
 abbrev pub Says : ℕ → Option ℕ → Type 0

@@ -3,14 +3,14 @@
 use Rattle.std.proofs.Common.{◌≡◌, ℕ, suc, ◌<◌, ◌≤◌, List, [], ◌∷◌, ◌++◌, length, refl, sym, ap, subst, ◌∙◌, Option, Some, None, arith, length-append, append-nil, append_assoc, inl, inr}
 use Rattle.std.specs.Prelude.{◌⊎◌, true, false, Bool, if◌then◌else◌, ◌==◌, nat_lt, max, unwrap_or, option_and_then, IsTrue}
 use Rattle.std.proofs.lemmas.Bool.{lt-ltb, le-ltb, cases_lt}
-use Rattle.sl_cut.specs.declared.message.Step.{Step}
-use Rattle.sl_cut.specs.declared.message.Message.{Message}
-use Rattle.sl_net.specs.declared.actor.ActorId.TheVariants.{Unit as OfUnit}
-use Rattle.sl_net.specs.declared.actor.UnitId.{UnitId}
+use Rattle.sl_history.specs.declared.message.Step.{Step}
+use Rattle.sl_history.specs.declared.message.Message.{Message}
+use Rattle.sl_layout.specs.declared.actor.ActorId.TheVariants.{Unit as OfUnit}
+use Rattle.sl_layout.specs.declared.actor.UnitId.{UnitId}
 use Rattle.sl_net.specs.Net.{link_of, actor_of}
-use Rattle.sl_cut.specs.Words.{Each, listed}
-use Rattle.sl_cut.specs.History.{History, stamp_of, id, first, taken, takes, put, on_link, without_lost}
-use Rattle.sl_cut.specs.Setup.{Setup}
+use Rattle.sl_history.specs.Words.{Each, listed}
+use Rattle.sl_history.specs.History.{History, stamp_of, id, first, taken, takes, put, on_link, without_lost}
+use Rattle.sl_history.specs.Setup.{Setup}
 use Rattle.sl_cut.specs.Made.{IsMade}
 use Rattle.sl_cut.specs.Cut.{cut, before, outside}
 use Rattle.sl_cut.specs.Fit.{is_stamped, stamp}

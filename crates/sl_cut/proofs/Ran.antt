@@ -6,16 +6,16 @@ use Rattle.std.specs.Prelude.{◌⊎◌, true, false, Bool, slice_get, option_ma
 use Rattle.std.proofs.lemmas.Bool.Decides.{eqb_tells}
 use Rattle.std.proofs.lemmas.Option.{get_or_from_slice_get}
 use Rattle.sl_net.specs.Net.{Net, links_into, link_of, actor_of, action_choice, nobody}
-use Rattle.sl_cut.specs.declared.message.Step.{Step}
-use Rattle.sl_cut.specs.declared.message.Message.{Message}
-use Rattle.sl_cut.specs.declared.message.Put.{Put}
-use Rattle.sl_cut.specs.Words.{listed}
-use Rattle.sl_cut.specs.History.{History, World, Losses, history, taken, takes, put, on_link, without_lost}
-use Rattle.sl_cut.specs.Setup.{Setup}
-use Rattle.sl_cut.specs.Puts.{puts_of, action}
-use Rattle.sl_cut.specs.World.{Entry, run, start, next_step, step_by, turn, carried, front, taking, acting, floor_for}
+use Rattle.sl_history.specs.declared.message.Step.{Step}
+use Rattle.sl_history.specs.declared.message.Message.{Message}
+use Rattle.sl_history.specs.declared.message.Put.{Put}
+use Rattle.sl_history.specs.Words.{listed}
+use Rattle.sl_history.specs.History.{History, World, Losses, history, taken, takes, put, on_link, without_lost}
+use Rattle.sl_history.specs.Setup.{Setup}
+use Rattle.sl_step.specs.Puts.{puts_of, action}
+use Rattle.sl_step.specs.World.{Entry, run, start, next_step, step_by, turn, carried, front, taking, acting, floor_for}
 use Rattle.sl_cut.specs.Made.{Took, Acted, IsMade, AllMade, Fifo, AllFifo, Ran}
-use Rattle.sl_cut.proofs.Turns.{kept_by_run, GrowsAt, Steps, stepped, turn-cases, taken-other, start-empty}
+use Rattle.sl_step.proofs.Turns.{kept_by_run, GrowsAt, Steps, stepped, turn-cases, taken-other, start-empty}
 
 -- a step that takes what the link has next
 pub record Takes (s : Setup) (lost : Losses) (w : World) (a : ℕ) (step : Step) : Type 0 where

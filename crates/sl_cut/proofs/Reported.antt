@@ -3,22 +3,22 @@
 use Rattle.std.proofs.Common.{◌≡◌, ℕ, ◌-◌, ◌≤◌, List, [], ◌∷◌, length, refl, sym, ap, subst, ◌∙◌, Option, Some, None, arith, inl, inr}
 use Rattle.std.specs.Prelude.{◌⊎◌, true, false, Bool, if◌then◌else◌, ◌==◌, nat_eq, unwrap_or, option_and_then, slice_get}
 use Rattle.std.proofs.lemmas.Bool.Decides.{eqb_tells}
-use Rattle.sl_cut.specs.declared.message.Step.{Step}
-use Rattle.sl_cut.specs.declared.message.Message.{Message}
-use Rattle.sl_cut.specs.declared.message.Message.TheVariants.{Init as InitMsg, Poll as PollMsg, Notice as NoticeMsg, Dump as DumpMsg, Begin as BeginMsg, Done as DoneMsg}
-use Rattle.sl_cut.specs.declared.message.Put.{Put}
-use Rattle.sl_net.specs.declared.actor.Sort.{Sort}
-use Rattle.sl_net.specs.declared.actor.Sort.TheVariants.{Init, Dump, Done}
-use Rattle.sl_net.specs.declared.actor.ActorId.TheVariants.{Control, Unit as OfUnit}
-use Rattle.sl_net.specs.declared.actor.UnitId.{UnitId}
+use Rattle.sl_history.specs.declared.message.Step.{Step}
+use Rattle.sl_history.specs.declared.message.Message.{Message}
+use Rattle.sl_history.specs.declared.message.Message.TheVariants.{Init as InitMsg, Poll as PollMsg, Notice as NoticeMsg, Dump as DumpMsg, Begin as BeginMsg, Done as DoneMsg}
+use Rattle.sl_history.specs.declared.message.Put.{Put}
+use Rattle.sl_layout.specs.declared.actor.Sort.{Sort}
+use Rattle.sl_layout.specs.declared.actor.Sort.TheVariants.{Init, Dump, Done}
+use Rattle.sl_layout.specs.declared.actor.ActorId.TheVariants.{Control, Unit as OfUnit}
+use Rattle.sl_layout.specs.declared.actor.UnitId.{UnitId}
 use Rattle.sl_net.specs.Net.{Net, link_of, links_into, links_out, actor_of, choice_of, action_choice, unit_place}
 use Rattle.sl_net.specs.Serving.{Served, served}
 use Rattle.sl_net.specs.Wired.{Reports, IsWired}
-use Rattle.sl_cut.specs.Words.{Each, Rises, listed, numbers}
-use Rattle.sl_cut.specs.History.{History, World, Losses, history, dump_of, done_of, heard, NeverFalls, takes, put, on_link}
-use Rattle.sl_cut.specs.Setup.{Setup}
-use Rattle.sl_cut.specs.Knowledge.{observer, dumped, known, is_outstanding, is_again}
-use Rattle.sl_cut.specs.Puts.{control_puts, send, send_all, poll_puts, dump_answer}
+use Rattle.sl_history.specs.Words.{Each, Rises, listed, numbers}
+use Rattle.sl_history.specs.History.{History, World, Losses, history, dump_of, done_of, heard, NeverFalls, takes, put, on_link}
+use Rattle.sl_history.specs.Setup.{Setup}
+use Rattle.sl_history.specs.Knowledge.{observer, dumped, known, is_outstanding, is_again}
+use Rattle.sl_step.specs.Puts.{control_puts, send, send_all, poll_puts, dump_answer}
 use Rattle.sl_cut.specs.Made.{Took, Acted, IsMade, Ran}
 use Rattle.sl_cut.specs.Fit.{fits, fits_link}
 use Rattle.sl_net.proofs.Lists.{each-append, each-imp, each-flat, each-of}

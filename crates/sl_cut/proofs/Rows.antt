@@ -3,11 +3,11 @@ use Rattle.std.specs.Prelude.{◌≡◌, ℕ, List, [], ◌∷◌, map, length, 
 use Rattle.sl_net.specs.declared.input.Packet.{Packet}
 use Rattle.sl_net.specs.Parts.{Parts}
 use Rattle.sl_net.specs.Net.{units, hosts}
-use Rattle.sl_cut.specs.Frame.{plain_frame, packet_of}
+use Rattle.sl_history.specs.Frame.{plain_frame, packet_of}
 use Rattle.sl_route.specs.Route.{hops, next_port}
-use Rattle.sl_cut.specs.World.{Entry}
+use Rattle.sl_step.specs.World.{Entry}
 use Rattle.sl_cut.specs.Schedule.{pass, settling_pass}
-use Rattle.sl_cut.specs.Losses.{no_loss}
+use Rattle.sl_step.specs.Losses.{no_loss}
 use Rattle.sl_cut.proofs.Nets.{net_a, net_b, net_c, setup, book_of}
 
 -- The links, actors and passes of the first net.

@@ -5,25 +5,25 @@
 use Rattle.std.proofs.Common.{◌≡◌, ℕ, zero, suc, ◌-◌, List, [], ◌∷◌, ◌++◌, length, refl, sym, ap, subst, ◌∙◌, Option, Some, None, inl, inr}
 use Rattle.std.specs.Prelude.{◌⊎◌, true, false, Bool, if◌then◌else◌, ◌==◌, flat_map, option_map, slice_get, not}
 use Rattle.sl_net.specs.declared.input.Packet.{Packet}
-use Rattle.sl_cut.specs.declared.message.Message.{Message}
-use Rattle.sl_cut.specs.declared.message.Message.TheVariants.{Host as HostMsg, Data, Probe as ProbeMsg, Init as InitMsg, Poll as PollMsg, Notice as NoticeMsg, Dump as DumpMsg, Begin as BeginMsg, Done as DoneMsg}
-use Rattle.sl_cut.specs.declared.message.Put.{Put}
-use Rattle.sl_net.specs.declared.actor.Sort.{Sort}
-use Rattle.sl_net.specs.declared.actor.Sort.TheVariants.{FromHost, ToHost, Cable, Crossbar, Init, Poll, Notice, Dump, Begin, Done}
-use Rattle.sl_net.specs.declared.actor.ActorId.{ActorId}
-use Rattle.sl_net.specs.declared.actor.ActorId.TheVariants.{Observer, Control, Unit as OfUnit, Host as OfHost}
-use Rattle.sl_net.specs.declared.actor.UnitId.{UnitId}
-use Rattle.sl_net.specs.declared.actor.Side.{Side}
-use Rattle.sl_net.specs.declared.actor.Side.TheVariants.{Ingress, Egress}
+use Rattle.sl_history.specs.declared.message.Message.{Message}
+use Rattle.sl_history.specs.declared.message.Message.TheVariants.{Host as HostMsg, Data, Probe as ProbeMsg, Init as InitMsg, Poll as PollMsg, Notice as NoticeMsg, Dump as DumpMsg, Begin as BeginMsg, Done as DoneMsg}
+use Rattle.sl_history.specs.declared.message.Put.{Put}
+use Rattle.sl_layout.specs.declared.actor.Sort.{Sort}
+use Rattle.sl_layout.specs.declared.actor.Sort.TheVariants.{FromHost, ToHost, Cable, Crossbar, Init, Poll, Notice, Dump, Begin, Done}
+use Rattle.sl_layout.specs.declared.actor.ActorId.{ActorId}
+use Rattle.sl_layout.specs.declared.actor.ActorId.TheVariants.{Observer, Control, Unit as OfUnit, Host as OfHost}
+use Rattle.sl_layout.specs.declared.actor.UnitId.{UnitId}
+use Rattle.sl_layout.specs.declared.actor.Side.{Side}
+use Rattle.sl_layout.specs.declared.actor.Side.TheVariants.{Ingress, Egress}
 use Rattle.sl_net.specs.Net.{Net, link_of, links_out, actor_of, egress, same_actor, action_choice, unit_place}
 use Rattle.sl_net.specs.Serving.{Served, served, serving}
-use Rattle.sl_cut.specs.Words.{Each}
-use Rattle.sl_cut.specs.History.{History, stamp_of, begin_of, dump_of, done_of, last, taken}
-use Rattle.sl_cut.specs.Frame.{plain_frame, packet_of}
+use Rattle.sl_history.specs.Words.{Each}
+use Rattle.sl_history.specs.History.{History, stamp_of, begin_of, dump_of, done_of, last, taken}
+use Rattle.sl_history.specs.Frame.{plain_frame, packet_of}
 use Rattle.sl_route.specs.Route.{next_port}
-use Rattle.sl_cut.specs.Setup.{Setup, frames_of}
-use Rattle.sl_cut.specs.Knowledge.{is_outstanding, is_again, is_swept, issued, can_issue, can_resend}
-use Rattle.sl_cut.specs.Puts.{send, send_all, crossbar_to, onward, route, route_frame, ingress_puts, egress_puts, is_own_port, side_puts, notice_puts, dump_puts, id_after, unit_puts, poll_puts, dump_answer, control_puts, guarded, begin_all, action}
+use Rattle.sl_history.specs.Setup.{Setup, frames_of}
+use Rattle.sl_history.specs.Knowledge.{is_outstanding, is_again, is_swept, issued, can_issue, can_resend}
+use Rattle.sl_step.specs.Puts.{send, send_all, crossbar_to, onward, route, route_frame, ingress_puts, egress_puts, is_own_port, side_puts, notice_puts, dump_puts, id_after, unit_puts, poll_puts, dump_answer, control_puts, guarded, begin_all, action}
 use Rattle.sl_cut.specs.Fit.{fits, fits_link}
 use Rattle.sl_cut.proofs.Numbers.{Says}
 use Rattle.sl_net.proofs.Lists.{each-append, each-map, each-imp, each-flat}

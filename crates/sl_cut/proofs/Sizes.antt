@@ -4,22 +4,14 @@ use Rattle.std.specs.Prelude.{reverse, slice_set, filter, map, Bool, true, false
 use Rattle.std.proofs.lemmas.List.{length-reverse}
 use Rattle.sl_net.specs.Parts.{numbers_from, below}
 use Rattle.sl_net.specs.Net.{Net, units, is_unit, actor_of}
-use Rattle.sl_net.specs.declared.actor.ActorId.{ActorId}
-use Rattle.sl_cut.specs.declared.message.Step.{Step}
-use Rattle.sl_cut.specs.Words.{weigh}
-use Rattle.sl_cut.specs.History.{History, World, Losses, history}
-use Rattle.sl_cut.specs.Setup.{Setup}
-use Rattle.sl_cut.specs.World.{Entry, start, next_step, after, turn, run}
+use Rattle.sl_layout.specs.declared.actor.ActorId.{ActorId}
+use Rattle.sl_history.specs.declared.message.Step.{Step}
+use Rattle.sl_history.specs.Words.{weigh}
+use Rattle.sl_history.specs.History.{History, World, Losses, history}
+use Rattle.sl_history.specs.Setup.{Setup}
+use Rattle.sl_step.specs.World.{Entry, start, next_step, after, turn, run}
 use Rattle.sl_cut.specs.Findings.{ingress_units, is_ingress}
-use Rattle.sl_cut.specs.History.{steps_in}
-
-pub history_size : (w : World) (a : ℕ) → length (history w a) ≤ steps_in w
-history_size [] a = omega arith
-history_size (h ∷ w) zero = omega arith
-history_size (h ∷ w) (suc a) = let k = history_size w a in omega (arith, k)
-
-pub length_steps : (xs : List Step) (h : History) → reverse xs ≡ h → length xs ≡ length h
-length_steps xs h e = sym (length-reverse xs) ∙ ap length e
+use Rattle.sl_history.specs.History.{steps_in}
 
 weigh-set : (w : World) (a : ℕ) (h : History) → weigh length (slice_set w a h) + length (history w a) ≤ weigh length w + length h
 weigh-set [] a h = omega arith

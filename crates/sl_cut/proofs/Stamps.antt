@@ -2,20 +2,20 @@
 use Rattle.std.proofs.Common.{◌≡◌, ℕ, suc, ◌-◌, List, [], ◌∷◌, length, refl, sym, ap, subst, ◌∙◌, Option, Some, None, arith, inl, inr}
 use Rattle.std.specs.Prelude.{◌⊎◌, cond, true, false, Bool, if◌then◌else◌, nat_eq, max, unwrap_or, option_and_then, slice_get, IsTrue}
 use Rattle.std.proofs.lemmas.Bool.Decides.{eqb_tells}
-use Rattle.sl_cut.specs.declared.message.Step.{Step}
-use Rattle.sl_cut.specs.declared.message.Message.{Message}
-use Rattle.sl_cut.specs.declared.message.Message.TheVariants.{Data, Probe as ProbeMsg, Init as InitMsg}
-use Rattle.sl_cut.specs.declared.message.Put.{Put}
-use Rattle.sl_net.specs.declared.actor.Sort.{Sort}
-use Rattle.sl_net.specs.declared.actor.Sort.TheVariants.{FromHost, ToHost, Cable, Crossbar, Init}
-use Rattle.sl_net.specs.declared.actor.ActorId.{ActorId}
-use Rattle.sl_net.specs.declared.actor.ActorId.TheVariants.{Observer, Control, Unit as OfUnit, Host as OfHost}
-use Rattle.sl_net.specs.declared.actor.UnitId.{UnitId}
+use Rattle.sl_history.specs.declared.message.Step.{Step}
+use Rattle.sl_history.specs.declared.message.Message.{Message}
+use Rattle.sl_history.specs.declared.message.Message.TheVariants.{Data, Probe as ProbeMsg, Init as InitMsg}
+use Rattle.sl_history.specs.declared.message.Put.{Put}
+use Rattle.sl_layout.specs.declared.actor.Sort.{Sort}
+use Rattle.sl_layout.specs.declared.actor.Sort.TheVariants.{FromHost, ToHost, Cable, Crossbar, Init}
+use Rattle.sl_layout.specs.declared.actor.ActorId.{ActorId}
+use Rattle.sl_layout.specs.declared.actor.ActorId.TheVariants.{Observer, Control, Unit as OfUnit, Host as OfHost}
+use Rattle.sl_layout.specs.declared.actor.UnitId.{UnitId}
 use Rattle.sl_net.specs.Net.{link_of, links_into, actor_of, action_choice}
-use Rattle.sl_cut.specs.Words.{Each}
-use Rattle.sl_cut.specs.History.{History, World, Losses, history, stamp_of, begin_of, dump_of, id, takes, put, on_link, without_lost, NeverFalls}
-use Rattle.sl_cut.specs.Setup.{Setup}
-use Rattle.sl_cut.specs.Puts.{action, puts_of, id_after, unit_puts}
+use Rattle.sl_history.specs.Words.{Each}
+use Rattle.sl_history.specs.History.{History, World, Losses, history, stamp_of, begin_of, dump_of, id, takes, put, on_link, without_lost, NeverFalls}
+use Rattle.sl_history.specs.Setup.{Setup}
+use Rattle.sl_step.specs.Puts.{action, puts_of, id_after, unit_puts}
 use Rattle.sl_cut.specs.Made.{Took, Acted, IsMade, Fifo, Ran}
 use Rattle.sl_cut.specs.Fit.{fits, fits_link, is_stamped}
 use Rattle.sl_cut.proofs.Numbers.{Says, Grows, Ordered, ordered, put-rises}

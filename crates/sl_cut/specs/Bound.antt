@@ -1,15 +1,15 @@
 -- The bound on the turns of a whole run that do something.
 use Rattle.std.specs.Prelude.{ℕ, ◌+◌, ◌*◌, Bool, true, false, ◌&&◌, length, ◌==◌}
-use Rattle.sl_net.specs.declared.actor.ActorId.{ActorId}
-use Rattle.sl_net.specs.declared.actor.ActorId.TheVariants.{Control}
-use Rattle.sl_net.specs.declared.actor.Sort.{Sort}
-use Rattle.sl_net.specs.declared.actor.Sort.TheVariants.{Cable, Crossbar, Init}
+use Rattle.sl_layout.specs.declared.actor.ActorId.{ActorId}
+use Rattle.sl_layout.specs.declared.actor.ActorId.TheVariants.{Control}
+use Rattle.sl_layout.specs.declared.actor.Sort.{Sort}
+use Rattle.sl_layout.specs.declared.actor.Sort.TheVariants.{Cable, Crossbar, Init}
 use Rattle.sl_net.specs.declared.input.Script1.{Script1}
 use Rattle.sl_net.specs.declared.input.Script1.TheVariants.{Pass, Choice}
 use Rattle.sl_net.specs.Net.{Net, actor_of, link_of, link_numbers, same_sort, action_choice, units}
 use Rattle.sl_net.specs.Input.{Input}
-use Rattle.sl_cut.specs.Words.{tally, weigh}
-use Rattle.sl_cut.specs.Setup.{Setup, setup_of}
+use Rattle.sl_history.specs.Words.{tally, weigh}
+use Rattle.sl_history.specs.Setup.{Setup, setup_of}
 
 -- D devices, U units, I ingress units, X crossbar links, Y cable links, C the count, T the retries, P the packets and raw frames, S the sweeps of the script
 abbrev pub bound : ℕ → ℕ → ℕ → ℕ → ℕ → ℕ → ℕ → ℕ → ℕ → ℕ

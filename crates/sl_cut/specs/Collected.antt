@@ -4,11 +4,11 @@
 use Rattle.std.specs.Prelude.{◌≡◌, ℕ, None}
 use Rattle.sl_net.specs.Net.{Net, units, data_channels}
 use Rattle.sl_cut.specs.declared.verdict.Verdict.{Verdict}
-use Rattle.sl_cut.specs.Words.{Each, first_told}
-use Rattle.sl_cut.specs.History.{History, World}
+use Rattle.sl_history.specs.Words.{Each, first_told}
+use Rattle.sl_history.specs.History.{History, World}
 use Rattle.sl_cut.specs.Cut.{value}
 use Rattle.sl_cut.specs.Verdict.{cause, lag, judged}
-use Rattle.sl_cut.specs.Knowledge.{collected}
+use Rattle.sl_history.specs.Knowledge.{collected}
 use Rattle.sl_cut.specs.Late.{late}
 
 -- the unit has not fallen back behind k; its value, its cause against k and the late data of each of its data channels are the same

@@ -5,13 +5,13 @@
 use Rattle.std.specs.Prelude.{ℕ, List, [], ◌∷◌, length, nat_lt, if◌then◌else◌, take, drop}
 use Rattle.sl_net.specs.Net.{Net}
 use Rattle.sl_saves.specs.declared.entry.Total.{Total}
-use Rattle.sl_cut.specs.declared.message.Message.{Message}
-use Rattle.sl_cut.specs.declared.message.Message.TheVariants.{Data}
-use Rattle.sl_cut.specs.declared.message.Step.{Step}
-use Rattle.sl_cut.specs.Words.{weigh}
-use Rattle.sl_cut.specs.History.{History, World, Losses, history, id, carried_by}
-use Rattle.sl_cut.specs.Counting.{packets, bytes}
-use Rattle.sl_cut.specs.World.{sender, receiver, taken_by}
+use Rattle.sl_history.specs.declared.message.Message.{Message}
+use Rattle.sl_history.specs.declared.message.Message.TheVariants.{Data}
+use Rattle.sl_history.specs.declared.message.Step.{Step}
+use Rattle.sl_history.specs.Words.{weigh}
+use Rattle.sl_history.specs.History.{History, World, Losses, history, id, carried_by}
+use Rattle.sl_history.specs.Counting.{packets, bytes}
+use Rattle.sl_step.specs.World.{sender, receiver, taken_by}
 
 -- the steps after which the id is below k; an id never falls, so these are the first steps
 abbrev pub before : ℕ → History → History

@@ -4,13 +4,13 @@
 --     IsFin s lost w es       es is the schedule that finishing takes from w, without idle entries
 --     IsFinished s lost w     how a world ends
 use Rattle.std.specs.Prelude.{◌≡◌, ℕ, suc, zero, ◌<◌, Bool, true, false, ◌&&◌, ◌||◌, List, [], ◌∷◌, ◌++◌, length, nat_lt, ◌==◌, Option, Some, None, slice_get, ◌⊎◌}
-use Rattle.sl_net.specs.declared.actor.ActorId.TheVariants.{Host as OfHost}
+use Rattle.sl_layout.specs.declared.actor.ActorId.TheVariants.{Host as OfHost}
 use Rattle.sl_net.specs.Net.{Net, action_choice, units, unit_place}
-use Rattle.sl_cut.specs.Words.{Each}
-use Rattle.sl_cut.specs.History.{World, Losses, history, taken}
-use Rattle.sl_cut.specs.Setup.{Setup, frames_of}
-use Rattle.sl_cut.specs.Knowledge.{observer, known, issued, resent, floor, can_issue}
-use Rattle.sl_cut.specs.World.{Entry, receiver, carried, taken_by, run, kept_from}
+use Rattle.sl_history.specs.Words.{Each}
+use Rattle.sl_history.specs.History.{World, Losses, history, taken}
+use Rattle.sl_history.specs.Setup.{Setup, frames_of}
+use Rattle.sl_history.specs.Knowledge.{observer, known, issued, resent, floor, can_issue}
+use Rattle.sl_step.specs.World.{Entry, receiver, carried, taken_by, run, kept_from}
 use Rattle.sl_cut.specs.Schedule.{settling_pass, sweeps, resend_entry}
 
 -- What was done, followed by what go does from where it leads.

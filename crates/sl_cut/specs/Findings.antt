@@ -1,10 +1,10 @@
 -- The findings of a run, as data.
 use Rattle.std.specs.Prelude.{ℕ, Bool, false, List, [], ◌++◌, map, filter, length, take, replicate}
-use Rattle.sl_net.specs.declared.actor.Side.TheVariants.{Ingress}
-use Rattle.sl_net.specs.declared.actor.ActorId.{ActorId}
-use Rattle.sl_net.specs.declared.actor.ActorId.TheVariants.{Unit as OfUnit}
-use Rattle.sl_net.specs.declared.actor.Sort.{Sort}
-use Rattle.sl_net.specs.declared.actor.Sort.TheVariants.{Cable, Crossbar, Init, Notice}
+use Rattle.sl_layout.specs.declared.actor.Side.TheVariants.{Ingress}
+use Rattle.sl_layout.specs.declared.actor.ActorId.{ActorId}
+use Rattle.sl_layout.specs.declared.actor.ActorId.TheVariants.{Unit as OfUnit}
+use Rattle.sl_layout.specs.declared.actor.Sort.{Sort}
+use Rattle.sl_layout.specs.declared.actor.Sort.TheVariants.{Cable, Crossbar, Init, Notice}
 use Rattle.sl_net.specs.Parts.{numbers_from}
 use Rattle.sl_net.specs.Net.{Net, same_side, same_sort, actor_of, link_of, link_at, link_numbers, action_choice, units, hosts, data_channels}
 use Rattle.sl_saves.specs.declared.entry.Total.{Total}
@@ -15,12 +15,12 @@ use Rattle.sl_cut.specs.declared.findings.Finding.{Finding}
 use Rattle.sl_cut.specs.declared.findings.Drops.{Drops}
 use Rattle.sl_cut.specs.declared.findings.Lost.{Lost}
 use Rattle.sl_cut.specs.declared.findings.Findings.{Findings}
-use Rattle.sl_cut.specs.Words.{weigh, tally}
-use Rattle.sl_cut.specs.History.{History, World, Losses, history, taken, put}
-use Rattle.sl_cut.specs.Counting.{packets, bytes, bad, expired, noroute}
-use Rattle.sl_cut.specs.Setup.{Setup}
-use Rattle.sl_cut.specs.Knowledge.{observer, issued, resent, floor}
-use Rattle.sl_cut.specs.World.{Entry, sender, world}
+use Rattle.sl_history.specs.Words.{weigh, tally}
+use Rattle.sl_history.specs.History.{History, World, Losses, history, taken, put}
+use Rattle.sl_history.specs.Counting.{packets, bytes, bad, expired, noroute}
+use Rattle.sl_history.specs.Setup.{Setup}
+use Rattle.sl_history.specs.Knowledge.{observer, issued, resent, floor}
+use Rattle.sl_step.specs.World.{Entry, sender, world}
 use Rattle.sl_cut.specs.Cut.{before, channel_value}
 use Rattle.sl_cut.specs.Verdict.{verdict}
 

@@ -3,9 +3,9 @@ use Rattle.std.specs.Prelude.{◌≡◌, ℕ, List, length, take, drop}
 use Rattle.sl_machine.specs.declared.wiring.Entry.{Entry as BookEntry}
 use Rattle.sl_net.specs.Parts.{numbers_from}
 use Rattle.sl_net.specs.Input.{Input}
-use Rattle.sl_cut.specs.History.{Losses}
-use Rattle.sl_cut.specs.Setup.{setup_of}
-use Rattle.sl_cut.specs.World.{world, kept, IsLegal}
+use Rattle.sl_history.specs.History.{Losses}
+use Rattle.sl_history.specs.Setup.{setup_of}
+use Rattle.sl_step.specs.World.{world, kept, IsLegal}
 use Rattle.sl_cut.specs.Schedule.{expand}
 use Rattle.sl_cut.specs.End.{IsFin}
 use Rattle.sl_cut.specs.Books.{schedule_of, numbers_of}

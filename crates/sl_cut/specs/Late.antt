@@ -1,10 +1,10 @@
 -- Late data of a snapshot: the data packets with stamps below k that a unit took in the steps outside its cut.
 use Rattle.std.specs.Prelude.{◌≡◌, ℕ, Bool, List, filter, nat_lt}
 use Rattle.sl_net.specs.Net.{Net, choice_of}
-use Rattle.sl_cut.specs.declared.message.Message.{Message}
-use Rattle.sl_cut.specs.Words.{weigh}
-use Rattle.sl_cut.specs.History.{History, World, Losses, takes}
-use Rattle.sl_cut.specs.World.{receiver}
+use Rattle.sl_history.specs.declared.message.Message.{Message}
+use Rattle.sl_history.specs.Words.{weigh}
+use Rattle.sl_history.specs.History.{History, World, Losses, takes}
+use Rattle.sl_step.specs.World.{receiver}
 use Rattle.sl_cut.specs.Cut.{outside, channel_value, data_count, data_bytes}
 use Rattle.sl_cut.specs.Fit.{stamp}
 

@@ -4,12 +4,12 @@
 --     Ran s lost w     what holds in every world that a schedule reaches
 use Rattle.std.specs.Prelude.{◌≡◌, ℕ, ◌-◌, ◌⊎◌, List, [], ◌∷◌, ◌++◌, length, Some, None, slice_get}
 use Rattle.sl_net.specs.Net.{Net, links_into, actor_of, action_choice}
-use Rattle.sl_cut.specs.declared.message.Message.{Message}
-use Rattle.sl_cut.specs.declared.message.Step.{Step}
-use Rattle.sl_cut.specs.History.{History, World, Losses, history, taken, takes}
-use Rattle.sl_cut.specs.Setup.{Setup}
-use Rattle.sl_cut.specs.Puts.{puts_of, action}
-use Rattle.sl_cut.specs.World.{carried}
+use Rattle.sl_history.specs.declared.message.Message.{Message}
+use Rattle.sl_history.specs.declared.message.Step.{Step}
+use Rattle.sl_history.specs.History.{History, World, Losses, history, taken, takes}
+use Rattle.sl_history.specs.Setup.{Setup}
+use Rattle.sl_step.specs.Puts.{puts_of, action}
+use Rattle.sl_step.specs.World.{carried}
 
 -- a step that takes a message, after the history h of the actor a
 pub record Took (s : Setup) (a : ℕ) (h : History) (step : Step) : Type 0 where

@@ -3,11 +3,11 @@
 -- of the receiver's history exactly where that prefix took more than n messages of the link, and the put of the n-th message carried
 -- lies in a prefix of the sender's history exactly where that prefix put more than n messages that are not lost.
 use Rattle.std.specs.Prelude.{ℕ, ◌<◌, Bool, true, false, length, IsTrue}
-use Rattle.sl_net.specs.declared.actor.Sort.{Sort}
-use Rattle.sl_net.specs.declared.actor.Sort.TheVariants.{Cable, Crossbar}
+use Rattle.sl_layout.specs.declared.actor.Sort.{Sort}
+use Rattle.sl_layout.specs.declared.actor.Sort.TheVariants.{Cable, Crossbar}
 use Rattle.sl_net.specs.Net.{Net, link_of}
-use Rattle.sl_cut.specs.History.{History, World, Losses, history, first, carried_by}
-use Rattle.sl_cut.specs.World.{taken_by}
+use Rattle.sl_history.specs.History.{History, World, Losses, history, first, carried_by}
+use Rattle.sl_step.specs.World.{taken_by}
 
 abbrev pub is_data : Sort → Bool
 is_data Cable = true

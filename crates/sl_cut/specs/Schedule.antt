@@ -1,12 +1,12 @@
 -- Schedules that the program takes: passes, sweeps, and the expansion of a script.
 use Rattle.std.specs.Prelude.{ℕ, suc, Bool, true, false, List, [], ◌∷◌, ◌++◌, map, flat_map, length, if◌then◌else◌}
-use Rattle.sl_net.specs.declared.actor.ActorId.{ActorId}
-use Rattle.sl_net.specs.declared.actor.ActorId.TheVariants.{Observer, Control, Host as OfHost}
+use Rattle.sl_layout.specs.declared.actor.ActorId.{ActorId}
+use Rattle.sl_layout.specs.declared.actor.ActorId.TheVariants.{Observer, Control, Host as OfHost}
 use Rattle.sl_net.specs.declared.input.Script1.{Script1}
 use Rattle.sl_net.specs.declared.input.Script1.TheVariants.{Pass, Choice}
 use Rattle.sl_net.specs.Parts.{below}
 use Rattle.sl_net.specs.Net.{Net, actor_of, links_into, action_choice}
-use Rattle.sl_cut.specs.World.{Entry}
+use Rattle.sl_step.specs.World.{Entry}
 
 -- the entries of all actors in order, where f gives those of one
 abbrev pub of_actors : Net → (ℕ → ActorId → List Entry) → List Entry

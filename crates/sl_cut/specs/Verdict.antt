@@ -4,17 +4,17 @@
 --     verdict net w k   the verdict on the snapshot k in a world
 use Rattle.std.specs.Prelude.{ℕ, Bool, false, ◌&&◌, List, [], ◌∷◌, nat_lt, nat_le, ◌==◌, cond, if◌then◌else◌, Option, Some, None}
 use Rattle.sl_net.specs.Net.{Net, units, data_channels}
-use Rattle.sl_cut.specs.declared.message.Message.{Message}
-use Rattle.sl_cut.specs.declared.message.Message.TheVariants.{Data}
+use Rattle.sl_history.specs.declared.message.Message.{Message}
+use Rattle.sl_history.specs.declared.message.Message.TheVariants.{Data}
 use Rattle.sl_cut.specs.declared.verdict.Cause.{Cause}
 use Rattle.sl_cut.specs.declared.verdict.Cause.TheVariants.{Skipped, Miscredited}
 use Rattle.sl_cut.specs.declared.verdict.Lag.{Lag}
 use Rattle.sl_cut.specs.declared.verdict.Lag.TheVariants.{Id, Channel}
 use Rattle.sl_cut.specs.declared.verdict.Verdict.{Verdict}
 use Rattle.sl_cut.specs.declared.verdict.Verdict.TheVariants.{Consistent, Inconsistent, Pending, NotIssued}
-use Rattle.sl_cut.specs.Words.{least, first_told}
-use Rattle.sl_cut.specs.History.{History, World, history, id, last}
-use Rattle.sl_cut.specs.Knowledge.{observer, issued, floor, unit_floor}
+use Rattle.sl_history.specs.Words.{least, first_told}
+use Rattle.sl_history.specs.History.{History, World, history, id, last}
+use Rattle.sl_history.specs.Knowledge.{observer, issued, floor, unit_floor}
 
 -- one step goes from an id below k to this id above k
 abbrev pub skipped_to : ℕ → History → Option ℕ

@@ -2,17 +2,17 @@
 --     on_way net lost w l      the messages of a link that are on their way
 --     IsInWindow s lost w      what holds in every world that a schedule reaches
 use Rattle.std.specs.Prelude.{◌≡◌, ℕ, ◌+◌, ◌<◌, ◌≤◌, List, ◌∷◌, ◌++◌, length, map, drop, unwrap_or, IsTrue}
-use Rattle.sl_net.specs.declared.actor.UnitId.{UnitId}
-use Rattle.sl_net.specs.declared.actor.ActorId.TheVariants.{Unit as OfUnit}
-use Rattle.sl_net.specs.declared.actor.Sort.TheVariants.{Init, Begin}
+use Rattle.sl_layout.specs.declared.actor.UnitId.{UnitId}
+use Rattle.sl_layout.specs.declared.actor.ActorId.TheVariants.{Unit as OfUnit}
+use Rattle.sl_layout.specs.declared.actor.Sort.TheVariants.{Init, Begin}
 use Rattle.sl_net.specs.Net.{Net, actor_of, link_of, choice_of, unit_place}
 use Rattle.sl_net.specs.Wired.{Reports}
-use Rattle.sl_cut.specs.declared.message.Message.{Message}
-use Rattle.sl_cut.specs.Words.{Each, Rises, numbers}
-use Rattle.sl_cut.specs.History.{History, World, Losses, history, stamp_of, begin_of, dump_of, done_of, id, heard, last, first, put}
-use Rattle.sl_cut.specs.Setup.{Setup}
-use Rattle.sl_cut.specs.Knowledge.{observer, dumped, known, issued, floor}
-use Rattle.sl_cut.specs.World.{sender, receiver, carried, taken_by}
+use Rattle.sl_history.specs.declared.message.Message.{Message}
+use Rattle.sl_history.specs.Words.{Each, Rises, numbers}
+use Rattle.sl_history.specs.History.{History, World, Losses, history, stamp_of, begin_of, dump_of, done_of, id, heard, last, first, put}
+use Rattle.sl_history.specs.Setup.{Setup}
+use Rattle.sl_history.specs.Knowledge.{observer, dumped, known, issued, floor}
+use Rattle.sl_step.specs.World.{sender, receiver, carried, taken_by}
 use Rattle.sl_cut.specs.Matching.{IsDataChannel}
 use Rattle.sl_cut.specs.Fit.{is_stamped, stamp}
 

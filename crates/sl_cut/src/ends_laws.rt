@@ -1,8 +1,8 @@
 // Laws of the end of a run. The functions do nothing: their contracts are the laws.
 ghost use Rattle.std.specs.Prelude.{List};
-ghost use Rattle.sl_cut.specs.History.{World, Losses};
-ghost use Rattle.sl_cut.specs.Setup.{Setup};
-ghost use Rattle.sl_cut.specs.World.{Entry, IsLegalFrom};
+ghost use Rattle.sl_history.specs.History.{World, Losses};
+ghost use Rattle.sl_history.specs.Setup.{Setup};
+ghost use Rattle.sl_step.specs.World.{Entry, IsLegalFrom};
 ghost use Rattle.sl_cut.specs.End.{IsFin};
 
 /// No entry of the schedule that finishing takes from a world is idle.

@@ -2,29 +2,27 @@
 ghost use Rattle.std.specs.Prelude.{◌≡◌, ℕ, ◌+◌, ◌≤◌, ◌<◌, ◌^◌, length, map, filter, IfOk, IfSome, is_some};
 ghost use Rattle.sl_net.specs.Parts.{numbers_from};
 ghost use Rattle.sl_net.specs.Net.{actor_of, units, hosts};
-ghost use Rattle.sl_cut.specs.Words.{weigh};
-ghost use Rattle.sl_cut.specs.History.{history};
-ghost use Rattle.sl_cut.specs.Counting.{bad, expired, noroute};
-ghost use Rattle.sl_cut.specs.Setup.{setup_of};
+ghost use Rattle.sl_history.specs.Words.{weigh};
+ghost use Rattle.sl_history.specs.History.{history};
+ghost use Rattle.sl_history.specs.Counting.{bad, expired, noroute};
+ghost use Rattle.sl_history.specs.Setup.{setup_of};
 ghost use Rattle.sl_cut.specs.Findings.{row, rows_for, finding, is_ingress, device_of, ingress_units, over_ingress, drops_of, sent_by, delivered_to, findings_in, findings};
 ghost use Rattle.std.specs.List.{All};
-ghost use Rattle.sl_cut.specs.Losses.{losses};
-ghost use Rattle.sl_cut.specs.History.{steps_in};
+ghost use Rattle.sl_step.specs.Losses.{losses};
+ghost use Rattle.sl_history.specs.History.{steps_in};
 ghost use Rattle.sl_flow.specs.Flow.{HasAddresses};
 
-use crate::counting::{bad, expired, noroute};
 use crate::findings::{Counts, Drops, Finding, FindingList, Findings, Rows1};
-use crate::follow::follow;
-use crate::history::World;
 use crate::judge::verdict;
-use crate::knowledge::{floor, issued, resent};
-use crate::losses::losses_of;
-use crate::tell::taken;
+use crate::lost::losses_of;
 use crate::values::row;
 use crate::verdict::Verdict;
-use crate::wires::{action_choice, hosts, push_if};
+use sl_history::{
+    World, action_choice, bad, expired, floor, hosts, issued, noroute, resent, taken,
+};
 use sl_machine::Memory;
-use sl_net::{ActorId, Input, Net, Parts, Side};
+use sl_net::{ActorId, Input, Net, Parts, Side, push_if};
+use sl_step::follow;
 use std::alloc::{AllocError, Global};
 
 fn rows(

@@ -1,21 +1,20 @@
 // Verdicts on snapshots, from whole histories.
 ghost use Rattle.std.specs.Prelude.{◌≡◌, ℕ, ◌+◌, ◌≤◌, reverse, IfOk, Some, option_map};
-ghost use Rattle.sl_cut.specs.Words.{least, first_told};
-ghost use Rattle.sl_cut.specs.History.{history};
-ghost use Rattle.sl_cut.specs.Knowledge.{floor, unit_floor};
+ghost use Rattle.sl_history.specs.Words.{least, first_told};
+ghost use Rattle.sl_history.specs.History.{history};
+ghost use Rattle.sl_history.specs.Knowledge.{floor, unit_floor};
 ghost use Rattle.sl_cut.specs.Verdict.{skipped_to, is_old_data, miscredits, first_cause, cause, channel_lag, lag, lag_at, judged, issued_verdict, holds_floor, floor_holder, place_or_zero, verdict};
 
-use crate::history::World;
-use crate::knowledge::{floor, issued, unit_floor};
-use crate::message::{Message, Step};
-use crate::tell::{id, last, stamp_taken};
 use crate::verdict::{Cause, Lag, Verdict};
-use crate::wires::{data_channels, number_of};
+use sl_history::{
+    Message, Step, World, data_channels, floor, id, issued, last, number_of, stamp_taken,
+    unit_floor,
+};
 use sl_net::Net;
 use std::alloc::{AllocError, Global};
 
 /// The number to which a unit skipped a snapshot, if it did.
-#[tactic(auto, using(crate::proofs::ForwardSteps::reverse_more))]
+#[tactic(auto, using(sl_history::proofs::ForwardSteps::reverse_more))]
 fn skipped_to(snapshot: u64, steps: &[Step]) -> Option<u64>
     ensures { result ≡ skipped_to snapshot (reverse steps.now) }
 {
@@ -41,7 +40,7 @@ fn is_old_data(snapshot: u64, step: &Step) -> bool
 }
 
 /// The least number by which a unit miscredited a snapshot, if it did.
-#[tactic(auto, using(crate::proofs::ForwardSteps::reverse_more, crate::proofs::ForwardFindings::least_cons))]
+#[tactic(auto, using(sl_history::proofs::ForwardSteps::reverse_more, crate::proofs::ForwardFindings::least_cons))]
 fn miscredited_by(snapshot: u64, steps: &[Step]) -> Option<u64>
     ensures { result ≡ least (miscredits snapshot (reverse steps.now)) }
 {

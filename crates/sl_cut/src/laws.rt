@@ -1,17 +1,17 @@
 // Laws of histories, over all schedules and losses. The functions do nothing: their contracts are
 // the laws, and the proofs are in proofs/. Most call the law that nets are wired.
 ghost use Rattle.std.specs.Prelude.{◌≡◌, ℕ, ◌+◌, ◌<◌, ◌≤◌, List, ◌++◌, length, true, None, IsTrue};
-ghost use Rattle.sl_net.specs.declared.actor.UnitId.{UnitId};
-ghost use Rattle.sl_net.specs.declared.actor.ActorId.TheVariants.{Unit as OfUnit};
+ghost use Rattle.sl_layout.specs.declared.actor.UnitId.{UnitId};
+ghost use Rattle.sl_layout.specs.declared.actor.ActorId.TheVariants.{Unit as OfUnit};
 ghost use Rattle.sl_net.specs.Net.{actor_of, link_of};
 ghost use Rattle.sl_net.specs.Serving.{served};
 ghost use Rattle.sl_net.specs.Wired.{IsNet};
-ghost use Rattle.sl_cut.specs.Words.{Each};
-ghost use Rattle.sl_cut.specs.History.{Losses, history, id, first, put};
-ghost use Rattle.sl_cut.specs.Setup.{Setup};
-ghost use Rattle.sl_cut.specs.Knowledge.{observer, told_of, issued, upto_of, floor};
-ghost use Rattle.sl_cut.specs.World.{Entry, IsLossTable, world, sender};
-ghost use Rattle.sl_cut.specs.Losses.{losses};
+ghost use Rattle.sl_history.specs.Words.{Each};
+ghost use Rattle.sl_history.specs.History.{Losses, history, id, first, put};
+ghost use Rattle.sl_history.specs.Setup.{Setup};
+ghost use Rattle.sl_history.specs.Knowledge.{observer, told_of, issued, upto_of, floor};
+ghost use Rattle.sl_step.specs.World.{Entry, IsLossTable, world, sender};
+ghost use Rattle.sl_step.specs.Losses.{losses};
 ghost use Rattle.sl_net.specs.Input.{Input};
 ghost use Rattle.sl_cut.specs.Made.{Ran};
 ghost use Rattle.sl_cut.specs.Cut.{cuts};

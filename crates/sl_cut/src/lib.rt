@@ -2,33 +2,18 @@
 // the report prints.
 #![tactic(auto)]
 
-mod control;
-mod counting;
 mod ends_laws;
 mod findings;
-mod flow;
-mod follow;
-mod frames;
 mod gather;
-mod history;
 mod judge;
-mod knowledge;
 mod laws;
-mod losses;
-mod message;
-mod route;
-mod sends;
-mod step;
-mod tell;
-mod units;
+mod lost;
 mod values;
 mod verdict;
-mod wires;
 
 pub use ends_laws::finishing_is_legal;
 pub use findings::{Counts, Drops, Finding, FindingList, Findings, Lost, Row, Rows1};
 pub use gather::findings_of;
-pub use history::{History, World};
 pub use laws::{
     channel_values_are_late_data, collected_rows_stay, collected_verdicts_are_known,
     collected_verdicts_stay, cuts_are_consistent, finished_verdicts_are_known, floor_never_falls,
@@ -36,6 +21,6 @@ pub use laws::{
     numbers_past_floor_are_near, uncollected_numbers_are_near, worlds_are_in_window,
     worlds_are_runs,
 };
-pub use message::{Message, Put, Puts, Step};
+pub use sl_history::{History, Message, Put, Puts, Step, World};
 pub use sl_saves::Total;
 pub use verdict::{Cause, Lag, Verdict};

@@ -1,25 +1,24 @@
 // The values of a snapshot: what units counted before their cuts, and what was in flight.
 ghost use Rattle.std.specs.Prelude.{◌≡◌, ℕ, ◌≤◌, ◌<◌, ◌^◌, length, map, reverse, take, drop, IfOk, slice_index_or};
 ghost use Rattle.sl_net.specs.Net.{choice_of, link_at};
-ghost use Rattle.sl_cut.specs.Words.{weigh};
+ghost use Rattle.sl_history.specs.Words.{weigh};
 ghost use Rattle.sl_cut.specs.Cut.{before, crossing, data_count, data_bytes, channel_value};
 ghost use Rattle.sl_cut.specs.Findings.{channel_links, no_total, eight_totals, row};
-ghost use Rattle.sl_cut.specs.Losses.{losses};
-ghost use Rattle.sl_cut.specs.History.{steps_in};
+ghost use Rattle.sl_step.specs.Losses.{losses};
+ghost use Rattle.sl_history.specs.History.{steps_in};
 
-use crate::counting::{bytes, packets};
 use crate::findings::Row;
-use crate::history::World;
-use crate::losses::carried;
-use crate::message::{Message, Step};
-use crate::tell::{stamp_taken, taken};
-use crate::wires::{data_channels, link_of, links_into, number_at, place_in};
+use sl_history::{
+    Message, Step, World, bytes, data_channels, link_of, links_into, number_at, packets, place_in,
+    stamp_taken, taken,
+};
 use sl_net::{Input, Net};
 use sl_saves::Total;
+use sl_step::carried;
 use std::alloc::{AllocError, Global};
 
 /// The steps after which the id of a unit is below a snapshot.
-#[tactic(auto, using(crate::proofs::ForwardSteps::reverse_more))]
+#[tactic(auto, using(sl_history::proofs::ForwardSteps::reverse_more))]
 fn before(snapshot: u64, steps: &[Step]) -> &[Step]
     ensures value { reverse result.now ≡ before snapshot (reverse steps.now) }
     ensures bound { length result.now ≤ length steps.now }

@@ -4,19 +4,19 @@ use Rattle.std.specs.Prelude.{Bool, false, nat_eq, true, ◌⊎◌, if◌then◌
 use Rattle.std.proofs.lemmas.Bool.Decides.{eqb_tells}
 use Rattle.sl_net.specs.Net.{Net, actor_of, egress, link_of, links_out, same_actor}
 use Rattle.sl_net.specs.Wired.{IsWired, receives, unit_receives}
-use Rattle.sl_net.specs.declared.actor.ActorId.{ActorId}
-use Rattle.sl_net.specs.declared.actor.ActorId.TheVariants.{Control, Observer, Host as OfHost, Unit as OfUnit}
-use Rattle.sl_net.specs.declared.actor.Side.{Side}
-use Rattle.sl_net.specs.declared.actor.Side.TheVariants.{Egress, Ingress}
-use Rattle.sl_net.specs.declared.actor.Sort.TheVariants.{Cable, Crossbar, ToHost}
-use Rattle.sl_net.specs.declared.actor.UnitId.{UnitId}
+use Rattle.sl_layout.specs.declared.actor.ActorId.{ActorId}
+use Rattle.sl_layout.specs.declared.actor.ActorId.TheVariants.{Control, Observer, Host as OfHost, Unit as OfUnit}
+use Rattle.sl_layout.specs.declared.actor.Side.{Side}
+use Rattle.sl_layout.specs.declared.actor.Side.TheVariants.{Egress, Ingress}
+use Rattle.sl_layout.specs.declared.actor.Sort.TheVariants.{Cable, Crossbar, ToHost}
+use Rattle.sl_layout.specs.declared.actor.UnitId.{UnitId}
 use Rattle.sl_net.specs.declared.input.Packet.{Packet}
 use Rattle.sl_cut.specs.Frame.{packet_of, plain_frame}
 use Rattle.sl_cut.specs.Puts.{crossbar_to, onward, route, route_frame, send_all, side_puts}
 use Rattle.sl_route.specs.Route.{next_port}
 use Rattle.sl_cut.specs.Words.{Each, weigh}
-use Rattle.sl_cut.specs.declared.message.Message.{Message}
-use Rattle.sl_cut.specs.declared.message.Message.TheVariants.{Begin as BeginMsg, Data, Done as DoneMsg, Dump as DumpMsg, Host as HostMsg, Init as InitMsg, Notice as NoticeMsg, Poll as PollMsg, Probe as ProbeMsg}
+use Rattle.sl_history.specs.declared.message.Message.{Message}
+use Rattle.sl_history.specs.declared.message.Message.TheVariants.{Begin as BeginMsg, Data, Done as DoneMsg, Dump as DumpMsg, Host as HostMsg, Init as InitMsg, Notice as NoticeMsg, Poll as PollMsg, Probe as ProbeMsg}
 use Rattle.sl_finish.specs.Fare.{device_of, enter_fare, frame_to, frame_fare, frame_in, frame_side, leave_fare, onward_fare, packet_to, packet_fare, packet_side}
 use Rattle.sl_finish.specs.Flight.{puts_weight}
 use Rattle.sl_finish.specs.Potential.{price}

@@ -5,18 +5,18 @@ use Rattle.std.proofs.lemmas.Bool.Decides.{eqb_tells}
 use Rattle.std.proofs.lemmas.Option.{slice_get_within}
 use Rattle.sl_net.specs.Net.{Net, action_choice, actor_of, link_of, links_into, links_out, unit_place}
 use Rattle.sl_net.specs.Serving.{Served, served}
-use Rattle.sl_net.specs.declared.actor.ActorId.TheVariants.{Control}
-use Rattle.sl_net.specs.declared.actor.Sort.TheVariants.{Cable, Done, Init}
+use Rattle.sl_layout.specs.declared.actor.ActorId.TheVariants.{Control}
+use Rattle.sl_layout.specs.declared.actor.Sort.TheVariants.{Cable, Done, Init}
 use Rattle.sl_cut.specs.History.{History, Losses, World, history}
 use Rattle.sl_cut.specs.Knowledge.{asks, is_again, is_outstanding, is_swept, puts_on}
 use Rattle.sl_cut.specs.Puts.{action, control_puts, dump_answer, poll_puts, puts_of, send, send_all}
 use Rattle.sl_cut.specs.Setup.{Setup}
 use Rattle.sl_cut.specs.Words.{Each, weigh}
 use Rattle.sl_cut.specs.World.{acting, floor_for, taking}
-use Rattle.sl_cut.specs.declared.message.Message.{Message}
-use Rattle.sl_cut.specs.declared.message.Message.TheVariants.{Begin as BeginMsg, Data, Done as DoneMsg, Dump as DumpMsg, Host as HostMsg, Init as InitMsg, Notice as NoticeMsg, Poll as PollMsg, Probe as ProbeMsg}
-use Rattle.sl_cut.specs.declared.message.Put.{Put}
-use Rattle.sl_cut.specs.declared.message.Step.{Step}
+use Rattle.sl_history.specs.declared.message.Message.{Message}
+use Rattle.sl_history.specs.declared.message.Message.TheVariants.{Begin as BeginMsg, Data, Done as DoneMsg, Dump as DumpMsg, Host as HostMsg, Init as InitMsg, Notice as NoticeMsg, Poll as PollMsg, Probe as ProbeMsg}
+use Rattle.sl_history.specs.declared.message.Put.{Put}
+use Rattle.sl_history.specs.declared.message.Step.{Step}
 use Rattle.sl_finish.specs.Flight.{puts_weight}
 use Rattle.sl_finish.specs.Potential.{again_credit, allowance, credit, goes_on, init_price, is_cable, price}
 use Rattle.sl_net.proofs.Lists.{Member, each-of}

@@ -7,13 +7,13 @@ use Rattle.sl_net.specs.Roster.{IsActor, side_number}
 use Rattle.sl_net.specs.Serving.{served, serving}
 use Rattle.sl_net.specs.Valid.{IsValid}
 use Rattle.sl_net.specs.Wired.{IsNet, receives, sends, unit_sends}
-use Rattle.sl_net.specs.declared.actor.ActorId.{ActorId}
-use Rattle.sl_net.specs.declared.actor.ActorId.TheVariants.{Control, Observer, Host as OfHost, Unit as OfUnit}
-use Rattle.sl_net.specs.declared.actor.Side.{Side}
-use Rattle.sl_net.specs.declared.actor.Side.TheVariants.{Egress, Ingress}
-use Rattle.sl_net.specs.declared.actor.Sort.{Sort}
-use Rattle.sl_net.specs.declared.actor.Sort.TheVariants.{Begin, Cable, Crossbar, Init, Poll}
-use Rattle.sl_net.specs.declared.actor.UnitId.{UnitId}
+use Rattle.sl_layout.specs.declared.actor.ActorId.{ActorId}
+use Rattle.sl_layout.specs.declared.actor.ActorId.TheVariants.{Control, Observer, Host as OfHost, Unit as OfUnit}
+use Rattle.sl_layout.specs.declared.actor.Side.{Side}
+use Rattle.sl_layout.specs.declared.actor.Side.TheVariants.{Egress, Ingress}
+use Rattle.sl_layout.specs.declared.actor.Sort.{Sort}
+use Rattle.sl_layout.specs.declared.actor.Sort.TheVariants.{Begin, Cable, Crossbar, Init, Poll}
+use Rattle.sl_layout.specs.declared.actor.UnitId.{UnitId}
 use Rattle.sl_cut.specs.Bound.{is_control, links_of_sort}
 use Rattle.sl_cut.specs.Schedule.{sweep_of}
 use Rattle.sl_cut.specs.Words.{weigh}

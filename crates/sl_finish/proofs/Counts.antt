@@ -5,10 +5,10 @@ use Rattle.sl_net.specs.Net.{Net, actor_of, actors_of, choices_of, data_channels
 use Rattle.sl_net.specs.Parts.{Parts, below}
 use Rattle.sl_net.specs.Roster.{IsActor}
 use Rattle.sl_net.specs.Wired.{IsNet, IsWired}
-use Rattle.sl_net.specs.declared.actor.ActorId.{ActorId}
-use Rattle.sl_net.specs.declared.actor.ActorId.TheVariants.{Control, Observer, Host as OfHost, Unit as OfUnit}
-use Rattle.sl_net.specs.declared.actor.Sort.{Sort}
-use Rattle.sl_net.specs.declared.actor.Sort.TheVariants.{Cable, Crossbar, Init}
+use Rattle.sl_layout.specs.declared.actor.ActorId.{ActorId}
+use Rattle.sl_layout.specs.declared.actor.ActorId.TheVariants.{Control, Observer, Host as OfHost, Unit as OfUnit}
+use Rattle.sl_layout.specs.declared.actor.Sort.{Sort}
+use Rattle.sl_layout.specs.declared.actor.Sort.TheVariants.{Cable, Crossbar, Init}
 use Rattle.sl_net.specs.declared.input.Flow.{Flow}
 use Rattle.sl_cut.specs.Bound.{frame_count, links_of_sort}
 use Rattle.sl_flow.specs.Flow.{flow_packets, packet_in, packets_of}

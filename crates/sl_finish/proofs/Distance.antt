@@ -2,11 +2,11 @@
 use Rattle.std.proofs.Common.{◌*◌, ◌+◌, ◌<◌, List, None, Option, Some, length, refl, suc, zero, ℕ, ◌∷◌, ◌≡◌, ◌≤◌, arith, []}
 use Rattle.sl_net.specs.Net.{Net, actor_of, link_of, links_out}
 use Rattle.sl_net.specs.Parts.{below}
-use Rattle.sl_net.specs.declared.actor.ActorId.{ActorId}
-use Rattle.sl_net.specs.declared.actor.ActorId.TheVariants.{Control, Observer, Host as OfHost, Unit as OfUnit}
-use Rattle.sl_net.specs.declared.actor.Side.{Side}
-use Rattle.sl_net.specs.declared.actor.Side.TheVariants.{Egress, Ingress}
-use Rattle.sl_net.specs.declared.actor.Sort.TheVariants.{Cable, FromHost, ToHost}
+use Rattle.sl_layout.specs.declared.actor.ActorId.{ActorId}
+use Rattle.sl_layout.specs.declared.actor.ActorId.TheVariants.{Control, Observer, Host as OfHost, Unit as OfUnit}
+use Rattle.sl_layout.specs.declared.actor.Side.{Side}
+use Rattle.sl_layout.specs.declared.actor.Side.TheVariants.{Egress, Ingress}
+use Rattle.sl_layout.specs.declared.actor.Sort.TheVariants.{Cable, FromHost, ToHost}
 use Rattle.sl_net.specs.declared.input.Packet.{Packet}
 use Rattle.sl_cut.specs.Frame.{packet_of}
 use Rattle.sl_cut.specs.Puts.{crossbar_to}

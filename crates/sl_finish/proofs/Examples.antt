@@ -5,7 +5,7 @@ use Rattle.std.proofs.lemmas.Bool.Decides.{eqb_tells}
 use Rattle.sl_net.specs.Net.{Net, link_of}
 use Rattle.sl_net.specs.Wired.{IsNet}
 use Rattle.sl_net.specs.Wiring.{kind_of}
-use Rattle.sl_net.specs.declared.actor.LinkKind.TheVariants.{Reliable}
+use Rattle.sl_layout.specs.declared.actor.LinkKind.TheVariants.{Reliable}
 use Rattle.sl_net.specs.declared.input.Flow.{Flow}
 use Rattle.sl_net.specs.declared.input.RawPart.{RawPart}
 use Rattle.sl_cut.specs.Bound.{bound_of}

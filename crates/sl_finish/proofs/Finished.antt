@@ -4,9 +4,9 @@ use Rattle.std.specs.Prelude.{◌&&◌, Bool, cond, false, is_some, nat_lt, slic
 use Rattle.std.proofs.lemmas.Bool.{cases_lt, le-leb, ltb-false, or_parts}
 use Rattle.sl_net.specs.Net.{Net, action_choice, actor_of, links_into, unit_place, units}
 use Rattle.sl_net.specs.Parts.{below}
-use Rattle.sl_net.specs.declared.actor.ActorId.{ActorId}
-use Rattle.sl_net.specs.declared.actor.ActorId.TheVariants.{Control, Observer, Host as OfHost, Unit as OfUnit}
-use Rattle.sl_net.specs.declared.actor.UnitId.{UnitId}
+use Rattle.sl_layout.specs.declared.actor.ActorId.{ActorId}
+use Rattle.sl_layout.specs.declared.actor.ActorId.TheVariants.{Control, Observer, Host as OfHost, Unit as OfUnit}
+use Rattle.sl_layout.specs.declared.actor.UnitId.{UnitId}
 use Rattle.sl_cut.specs.End.{AllSent, AllTaken, IsFin, IsFinished, KnowsAll, Settled, after_sweeps, again_from, append_to, finish, is_collected, rose, settle, sweep_round, then_from}
 use Rattle.sl_cut.specs.History.{Losses, World, history}
 use Rattle.sl_cut.specs.Knowledge.{can_issue, can_resend, floor, issued, known, observer, resent}

@@ -8,9 +8,9 @@ use Rattle.sl_cut.specs.History.{Losses, World, history, on_link, put, taken, wi
 use Rattle.sl_cut.specs.Window.{on_way}
 use Rattle.sl_cut.specs.Words.{weigh}
 use Rattle.sl_cut.specs.World.{Entry, carried}
-use Rattle.sl_cut.specs.declared.message.Message.{Message}
-use Rattle.sl_cut.specs.declared.message.Put.{Put}
-use Rattle.sl_cut.specs.declared.message.Step.{Step}
+use Rattle.sl_history.specs.declared.message.Message.{Message}
+use Rattle.sl_history.specs.declared.message.Put.{Put}
+use Rattle.sl_history.specs.declared.message.Step.{Step}
 use Rattle.sl_finish.specs.Flight.{Weight, flight, puts_weight}
 use Rattle.sl_cut.proofs.Turns.{GrowsAt, taken-other}
 use Rattle.sl_finish.proofs.Sums.{weigh-at-most, weigh-once, weigh-plus}

@@ -5,9 +5,9 @@ use Rattle.std.proofs.lemmas.Bool.{and_parts, ltb-true}
 use Rattle.std.proofs.lemmas.Option.{get_or_from_slice_get, slice_get-get_or, slice_get_within}
 use Rattle.sl_net.specs.Net.{Net, action_choice, actor_of, choice_of, link_of, links_into, links_out, nobody}
 use Rattle.sl_net.specs.Parts.{below}
-use Rattle.sl_net.specs.declared.actor.ActorId.{ActorId}
-use Rattle.sl_net.specs.declared.actor.ActorId.TheVariants.{Observer, Host as OfHost}
-use Rattle.sl_net.specs.declared.actor.Sort.TheVariants.{FromHost}
+use Rattle.sl_layout.specs.declared.actor.ActorId.{ActorId}
+use Rattle.sl_layout.specs.declared.actor.ActorId.TheVariants.{Observer, Host as OfHost}
+use Rattle.sl_layout.specs.declared.actor.Sort.TheVariants.{FromHost}
 use Rattle.sl_cut.specs.End.{AllSent, AllTaken, Settled}
 use Rattle.sl_cut.specs.History.{Losses, World, history, taken, takes}
 use Rattle.sl_cut.specs.Knowledge.{can_issue, can_resend, floor, issued, observer, resent}
@@ -16,9 +16,9 @@ use Rattle.sl_cut.specs.Schedule.{link_entries, pass_actions, settling_pass}
 use Rattle.sl_cut.specs.Setup.{Setup, frames_of}
 use Rattle.sl_cut.specs.Words.{Each}
 use Rattle.sl_cut.specs.World.{Entry, acting, carried, floor_for, front, kept_from, next_step, step_by, taking, turn}
-use Rattle.sl_cut.specs.declared.message.Message.TheVariants.{Host as HostMsg}
-use Rattle.sl_cut.specs.declared.message.Put.{Put}
-use Rattle.sl_cut.specs.declared.message.Step.{Step}
+use Rattle.sl_history.specs.declared.message.Message.TheVariants.{Host as HostMsg}
+use Rattle.sl_history.specs.declared.message.Put.{Put}
+use Rattle.sl_history.specs.declared.message.Step.{Step}
 use Rattle.sl_net.proofs.Lists.{Member, each-at, member-flat, member-from, member-left, member-map, member-right}
 use Rattle.sl_net.proofs.Sorts.{choice-takes}
 use Rattle.sl_finish.proofs.NetWiring.{Wiring}

@@ -7,8 +7,8 @@ use Rattle.sl_net.specs.Net.{Net, actor_of, actors_of, link_of, net_of, nobody, 
 use Rattle.sl_net.specs.Parts.{Parts}
 use Rattle.sl_net.specs.Valid.{IsValid}
 use Rattle.sl_net.specs.Wired.{IsNet, IsWired}
-use Rattle.sl_net.specs.declared.actor.ActorId.{ActorId}
-use Rattle.sl_net.specs.declared.actor.ActorId.TheVariants.{Observer}
+use Rattle.sl_layout.specs.declared.actor.ActorId.{ActorId}
+use Rattle.sl_layout.specs.declared.actor.ActorId.TheVariants.{Observer}
 use Rattle.sl_net.proofs.Actors.{actor-member, each-place}
 use Rattle.sl_net.proofs.Filters.{place-of-member}
 use Rattle.sl_net.proofs.Linked.{ends}

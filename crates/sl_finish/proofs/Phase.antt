@@ -6,13 +6,13 @@ use Rattle.sl_net.specs.Net.{Net, action_choice, actor_of, choice_of, link_numbe
 use Rattle.sl_net.specs.Parts.{numbers_from}
 use Rattle.sl_net.specs.Serving.{Served, served}
 use Rattle.sl_net.specs.Wired.{receives, unit_receives}
-use Rattle.sl_net.specs.declared.actor.ActorId.{ActorId}
-use Rattle.sl_net.specs.declared.actor.ActorId.TheVariants.{Control, Observer, Host as OfHost, Unit as OfUnit}
-use Rattle.sl_net.specs.declared.actor.Side.{Side}
-use Rattle.sl_net.specs.declared.actor.Side.TheVariants.{Egress, Ingress}
-use Rattle.sl_net.specs.declared.actor.Sort.{Sort}
-use Rattle.sl_net.specs.declared.actor.Sort.TheVariants.{Done, Dump, FromHost, Notice}
-use Rattle.sl_net.specs.declared.actor.UnitId.{UnitId}
+use Rattle.sl_layout.specs.declared.actor.ActorId.{ActorId}
+use Rattle.sl_layout.specs.declared.actor.ActorId.TheVariants.{Control, Observer, Host as OfHost, Unit as OfUnit}
+use Rattle.sl_layout.specs.declared.actor.Side.{Side}
+use Rattle.sl_layout.specs.declared.actor.Side.TheVariants.{Egress, Ingress}
+use Rattle.sl_layout.specs.declared.actor.Sort.{Sort}
+use Rattle.sl_layout.specs.declared.actor.Sort.TheVariants.{Done, Dump, FromHost, Notice}
+use Rattle.sl_layout.specs.declared.actor.UnitId.{UnitId}
 use Rattle.sl_cut.specs.End.{AllSent, AllTaken}
 use Rattle.sl_cut.specs.Fit.{fits, fits_link}
 use Rattle.sl_cut.specs.History.{History, Losses, World, history, last, put, stamp_of, taken}
@@ -23,10 +23,10 @@ use Rattle.sl_cut.specs.Setup.{Setup, frames_of}
 use Rattle.sl_cut.specs.Window.{on_way}
 use Rattle.sl_cut.specs.Words.{Each, weigh}
 use Rattle.sl_cut.specs.World.{Entry, carried, floor_for, receiver, run, taken_by, turn}
-use Rattle.sl_cut.specs.declared.message.Message.{Message}
-use Rattle.sl_cut.specs.declared.message.Message.TheVariants.{Begin as BeginMsg, Data, Done as DoneMsg, Dump as DumpMsg, Host as HostMsg, Init as InitMsg, Notice as NoticeMsg, Poll as PollMsg, Probe as ProbeMsg}
-use Rattle.sl_cut.specs.declared.message.Put.{Put}
-use Rattle.sl_cut.specs.declared.message.Step.{Step}
+use Rattle.sl_history.specs.declared.message.Message.{Message}
+use Rattle.sl_history.specs.declared.message.Message.TheVariants.{Begin as BeginMsg, Data, Done as DoneMsg, Dump as DumpMsg, Host as HostMsg, Init as InitMsg, Notice as NoticeMsg, Poll as PollMsg, Probe as ProbeMsg}
+use Rattle.sl_history.specs.declared.message.Put.{Put}
+use Rattle.sl_history.specs.declared.message.Step.{Step}
 use Rattle.sl_finish.specs.Flight.{Weight, flight, puts_weight}
 use Rattle.sl_net.proofs.Lists.{Member, each-append, each-at, each-flat, each-of, member-from}
 use Rattle.sl_net.proofs.Sorts.{choice-is, is-into}

@@ -8,10 +8,10 @@ use Rattle.sl_net.specs.Parts.{below}
 use Rattle.sl_net.specs.Serving.{Served, served}
 use Rattle.sl_net.specs.Wired.{Reports}
 use Rattle.sl_net.specs.Wiring.{kind_of}
-use Rattle.sl_net.specs.declared.actor.ActorId.{ActorId}
-use Rattle.sl_net.specs.declared.actor.ActorId.TheVariants.{Control, Observer, Host as OfHost, Unit as OfUnit}
-use Rattle.sl_net.specs.declared.actor.Sort.TheVariants.{Dump, Poll}
-use Rattle.sl_net.specs.declared.actor.UnitId.{UnitId}
+use Rattle.sl_layout.specs.declared.actor.ActorId.{ActorId}
+use Rattle.sl_layout.specs.declared.actor.ActorId.TheVariants.{Control, Observer, Host as OfHost, Unit as OfUnit}
+use Rattle.sl_layout.specs.declared.actor.Sort.TheVariants.{Dump, Poll}
+use Rattle.sl_layout.specs.declared.actor.UnitId.{UnitId}
 use Rattle.sl_cut.specs.End.{AllTaken}
 use Rattle.sl_cut.specs.Fit.{fits, fits_link}
 use Rattle.sl_cut.specs.History.{History, Losses, World, history, on_link, put, taken, takes}
@@ -22,8 +22,8 @@ use Rattle.sl_cut.specs.Schedule.{sweep_of, sweeps}
 use Rattle.sl_cut.specs.Setup.{Setup}
 use Rattle.sl_cut.specs.Words.{Each, listed}
 use Rattle.sl_cut.specs.World.{Entry, IsLossTable, acting, next_step, run, turn}
-use Rattle.sl_cut.specs.declared.message.Message.{Message}
-use Rattle.sl_cut.specs.declared.message.Message.TheVariants.{Begin as BeginMsg, Data, Done as DoneMsg, Dump as DumpMsg, Host as HostMsg, Init as InitMsg, Notice as NoticeMsg, Poll as PollMsg, Probe as ProbeMsg}
+use Rattle.sl_history.specs.declared.message.Message.{Message}
+use Rattle.sl_history.specs.declared.message.Message.TheVariants.{Begin as BeginMsg, Data, Done as DoneMsg, Dump as DumpMsg, Host as HostMsg, Init as InitMsg, Notice as NoticeMsg, Poll as PollMsg, Probe as ProbeMsg}
 use Rattle.sl_net.proofs.Filters.{each-front}
 use Rattle.sl_net.proofs.Lists.{Member, each-flat, each-imp, each-of, member-flat, member-from}
 use Rattle.sl_net.proofs.ReportWays.{only-is-out}

@@ -5,10 +5,10 @@ use Rattle.std.specs.Prelude.{Bool, false, map, option_map, slice_get, true, ◌
 use Rattle.std.proofs.lemmas.Bool.{and_from, and_parts, or_left, or_parts, or_right}
 use Rattle.sl_net.specs.Fault.{fault_of, first_clash, has_end, has_guest, reuses_port, takes_used_port}
 use Rattle.sl_net.specs.Parts.{Parts, has_cable, host_from, other_end, same_port}
-use Rattle.sl_net.specs.declared.fault.NetFault.TheVariants.{N1, N5, N7}
-use Rattle.sl_net.specs.declared.parts.CablePart.{CablePart}
-use Rattle.sl_net.specs.declared.parts.HostPart.{HostPart}
-use Rattle.sl_net.specs.declared.parts.PortRef.{PortRef}
+use Rattle.sl_parts.specs.declared.fault.NetFault.TheVariants.{N1, N5, N7}
+use Rattle.sl_parts.specs.declared.parts.CablePart.{CablePart}
+use Rattle.sl_parts.specs.declared.parts.HostPart.{HostPart}
+use Rattle.sl_parts.specs.declared.parts.PortRef.{PortRef}
 use Rattle.sl_net.proofs.NetWired.{no-reason}
 use Rattle.sl_net.proofs.Sorts.{told}
 

@@ -9,8 +9,8 @@ use Rattle.sl_cut.specs.Setup.{Setup}
 use Rattle.sl_cut.specs.Window.{on_way}
 use Rattle.sl_cut.specs.Words.{weigh}
 use Rattle.sl_cut.specs.World.{Entry, carried}
-use Rattle.sl_cut.specs.declared.message.Message.{Message}
-use Rattle.sl_cut.specs.declared.message.Step.{Step}
+use Rattle.sl_history.specs.declared.message.Message.{Message}
+use Rattle.sl_history.specs.declared.message.Step.{Step}
 use Rattle.sl_finish.specs.Flight.{Weight, puts_weight}
 use Rattle.sl_finish.specs.Potential.{credit, potential, price}
 use Rattle.sl_net.proofs.Sorts.{choice-is, is-into}

@@ -5,13 +5,13 @@ use Rattle.std.proofs.lemmas.Bool.Decides.{eqb_tells}
 use Rattle.sl_net.specs.Net.{Net, actor_of, choice_of, link_numbers, link_of, links_from, links_into, links_out, same_sort}
 use Rattle.sl_net.specs.Serving.{Served, served, serving}
 use Rattle.sl_net.specs.Wired.{IsWired, Reports}
-use Rattle.sl_net.specs.declared.actor.ActorId.TheVariants.{Unit as OfUnit}
-use Rattle.sl_net.specs.declared.actor.Sort.{Sort}
-use Rattle.sl_net.specs.declared.actor.Sort.TheVariants.{Cable, Done, Dump, Notice, Poll}
-use Rattle.sl_net.specs.declared.actor.UnitId.{UnitId}
+use Rattle.sl_layout.specs.declared.actor.ActorId.TheVariants.{Unit as OfUnit}
+use Rattle.sl_layout.specs.declared.actor.Sort.{Sort}
+use Rattle.sl_layout.specs.declared.actor.Sort.TheVariants.{Cable, Done, Dump, Notice, Poll}
+use Rattle.sl_layout.specs.declared.actor.UnitId.{UnitId}
 use Rattle.sl_cut.specs.Puts.{side_puts}
 use Rattle.sl_cut.specs.Words.{weigh}
-use Rattle.sl_cut.specs.declared.message.Message.{Message}
+use Rattle.sl_history.specs.declared.message.Message.{Message}
 use Rattle.sl_finish.specs.Flight.{puts_weight}
 use Rattle.sl_finish.specs.Potential.{goes_on, own_at, own_side, price}
 use Rattle.sl_net.proofs.EndKinds.{poll-to}

@@ -4,8 +4,8 @@ use Rattle.std.proofs.Common.{◌+◌, ◌++◌, ◌<◌, ◌==◌, List, None, 
 use Rattle.std.specs.Prelude.{map, min, option_and_then, true, unwrap_or, ◌⊎◌}
 use Rattle.std.proofs.lemmas.Bool.{cases_lt}
 use Rattle.sl_net.specs.Parts.{Parts, numbers_from}
-use Rattle.sl_net.specs.declared.parts.CablePart.{CablePart}
-use Rattle.sl_net.specs.declared.parts.PortRef.{PortRef}
+use Rattle.sl_parts.specs.declared.parts.CablePart.{CablePart}
+use Rattle.sl_parts.specs.declared.parts.PortRef.{PortRef}
 use Rattle.sl_route.specs.Route.{Walk, cables_from, end_of, first_nonempty, first_port, host_port, least_walks, length_of, next_port, turned, walks, walks_between}
 use Rattle.sl_cut.specs.Words.{Each, least, least_in}
 use Rattle.sl_net.proofs.Filters.{each-filter, each-passes, member-of-flat, member-of-map}

@@ -9,15 +9,15 @@ use Rattle.std.proofs.lemmas.Bool.Decides.{eqb_tells}
 use Rattle.std.proofs.lemmas.List.{length-set}
 use Rattle.std.proofs.lemmas.Option.{get_or_from_slice_get}
 use Rattle.sl_net.specs.Net.{action_choice, actor_of, links_into, nobody}
-use Rattle.sl_net.specs.declared.actor.ActorId.{ActorId}
+use Rattle.sl_layout.specs.declared.actor.ActorId.{ActorId}
 use Rattle.sl_cut.specs.History.{History, Losses, World, first, history, on_link, put, taken}
 use Rattle.sl_cut.specs.Made.{Ran}
 use Rattle.sl_cut.specs.Puts.{action, puts_of}
 use Rattle.sl_cut.specs.Setup.{Setup}
 use Rattle.sl_cut.specs.World.{Entry, acting, after, carried, floor_for, front, next_step, run, start, step_by, taking, turn, world}
-use Rattle.sl_cut.specs.declared.message.Message.{Message}
-use Rattle.sl_cut.specs.declared.message.Put.{Put}
-use Rattle.sl_cut.specs.declared.message.Step.{Step}
+use Rattle.sl_history.specs.declared.message.Message.{Message}
+use Rattle.sl_history.specs.declared.message.Put.{Put}
+use Rattle.sl_history.specs.declared.message.Step.{Step}
 use Rattle.sl_cut.proofs.Ran.{ran}
 use Rattle.sl_cut.proofs.Turns.{GrowsAt, Steps, grows-after, kept_by_run, next-within, run-append, start-empty, stepped, taken-falls, taken-other, taken-step, turn-cases}
 

@@ -6,8 +6,8 @@ use Rattle.std.proofs.lemmas.Bool.Decides.{eqb_tells}
 use Rattle.sl_net.specs.Net.{Net, action_choice, actor_of, links_into}
 use Rattle.sl_net.specs.Parts.{below}
 use Rattle.sl_net.specs.Serving.{served}
-use Rattle.sl_net.specs.declared.actor.ActorId.{ActorId}
-use Rattle.sl_net.specs.declared.actor.ActorId.TheVariants.{Control, Observer, Host as OfHost, Unit as OfUnit}
+use Rattle.sl_layout.specs.declared.actor.ActorId.{ActorId}
+use Rattle.sl_layout.specs.declared.actor.ActorId.TheVariants.{Control, Observer, Host as OfHost, Unit as OfUnit}
 use Rattle.sl_cut.specs.End.{after_sweeps, again_from, finish, is_collected, rose, settle, sweep_round, then_from}
 use Rattle.sl_cut.specs.History.{Losses, World, taken}
 use Rattle.sl_cut.specs.Knowledge.{floor, issued, observer, resent}
@@ -15,7 +15,7 @@ use Rattle.sl_cut.specs.Schedule.{link_entries, pass_actions, pass_of, resend_en
 use Rattle.sl_cut.specs.Setup.{Setup}
 use Rattle.sl_cut.specs.Words.{Each, weigh}
 use Rattle.sl_cut.specs.World.{Entry, IsLegalFrom, kept_from, next_step, run, turn}
-use Rattle.sl_cut.specs.declared.message.Step.{Step}
+use Rattle.sl_history.specs.declared.message.Step.{Step}
 use Rattle.sl_finish.specs.Potential.{allowance, allowed}
 use Rattle.sl_net.proofs.Lists.{each-append, each-below, each-flat, each-map, each-of}
 use Rattle.sl_cut.proofs.Floors.{floor-run}

@@ -6,9 +6,9 @@ use Rattle.sl_net.specs.Net.{Net, action_choice, actor_of, units}
 use Rattle.sl_net.specs.Parts.{below}
 use Rattle.sl_net.specs.Serving.{served}
 use Rattle.sl_net.specs.Wired.{IsNet}
-use Rattle.sl_net.specs.declared.actor.ActorId.{ActorId}
-use Rattle.sl_net.specs.declared.actor.ActorId.TheVariants.{Control, Observer, Host as OfHost, Unit as OfUnit}
-use Rattle.sl_net.specs.declared.actor.Sort.TheVariants.{Cable, Crossbar, Init}
+use Rattle.sl_layout.specs.declared.actor.ActorId.{ActorId}
+use Rattle.sl_layout.specs.declared.actor.ActorId.TheVariants.{Control, Observer, Host as OfHost, Unit as OfUnit}
+use Rattle.sl_layout.specs.declared.actor.Sort.TheVariants.{Cable, Crossbar, Init}
 use Rattle.sl_net.specs.declared.input.Script1.{Script1}
 use Rattle.sl_net.specs.declared.input.Script1.TheVariants.{Choice, Pass}
 use Rattle.sl_cut.specs.Bound.{bound, bound_of, frame_count, input_bound, is_control, is_sweep, links_of_sort}

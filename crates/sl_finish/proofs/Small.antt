@@ -9,7 +9,7 @@ use Rattle.sl_net.specs.Net.{Net, actor_of, actors_of, is_unit, net_of, units}
 use Rattle.sl_net.specs.Parts.{Parts, below}
 use Rattle.sl_net.specs.Valid.{IsValid}
 use Rattle.sl_net.specs.Wired.{IsNet}
-use Rattle.sl_net.specs.declared.actor.Sort.TheVariants.{Cable, Crossbar, Init}
+use Rattle.sl_layout.specs.declared.actor.Sort.TheVariants.{Cable, Crossbar, Init}
 use Rattle.sl_net.specs.declared.input.Flow.{Flow}
 use Rattle.sl_cut.specs.Bound.{bound, bound_of, frame_count, input_bound, is_sweep, links_of_sort}
 use Rattle.sl_cut.specs.Setup.{Setup, setup_of}

@@ -4,13 +4,13 @@ use Rattle.std.specs.Prelude.{Bool, false, filter, flat_map, if◌then◌else◌
 use Rattle.sl_net.specs.Net.{Incoming, Net, actors_of, egress, from_host_or_cable, from_outside, incoming, ingress, link_numbers, link_of, links_to, net_of, no_link, place_of, same_sort, to_host, units_of}
 use Rattle.sl_net.specs.Parts.{Parts, below, host_at, other_end, used_ports}
 use Rattle.sl_net.specs.Valid.{IsValid}
-use Rattle.sl_net.specs.declared.actor.ActorId.{ActorId}
-use Rattle.sl_net.specs.declared.actor.ActorId.TheVariants.{Control, Host as OfHost, Observer}
-use Rattle.sl_net.specs.declared.actor.LinkPart.{LinkPart}
-use Rattle.sl_net.specs.declared.actor.Sort.{Sort}
-use Rattle.sl_net.specs.declared.actor.Sort.TheVariants.{Begin, Cable, Crossbar, Done, Dump, Init, Notice, Poll, ToHost}
-use Rattle.sl_net.specs.declared.parts.HostPart.{HostPart}
-use Rattle.sl_net.specs.declared.parts.PortRef.{PortRef}
+use Rattle.sl_layout.specs.declared.actor.ActorId.{ActorId}
+use Rattle.sl_layout.specs.declared.actor.ActorId.TheVariants.{Control, Host as OfHost, Observer}
+use Rattle.sl_layout.specs.declared.actor.LinkPart.{LinkPart}
+use Rattle.sl_layout.specs.declared.actor.Sort.{Sort}
+use Rattle.sl_layout.specs.declared.actor.Sort.TheVariants.{Begin, Cable, Crossbar, Done, Dump, Init, Notice, Poll, ToHost}
+use Rattle.sl_parts.specs.declared.parts.HostPart.{HostPart}
+use Rattle.sl_parts.specs.declared.parts.PortRef.{PortRef}
 use Rattle.sl_cut.specs.Bound.{links_of_sort}
 use Rattle.sl_cut.specs.Words.{tally, weigh}
 use Rattle.sl_net.proofs.Counting.{length_numbers}

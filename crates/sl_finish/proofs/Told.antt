@@ -7,11 +7,11 @@ use Rattle.sl_net.specs.Net.{Net, action_choice, actor_of, choice_of, link_of, l
 use Rattle.sl_net.specs.Serving.{Served, choice_from, served, serving}
 use Rattle.sl_net.specs.Wired.{IsWired, Reports}
 use Rattle.sl_net.specs.Wiring.{kind_of}
-use Rattle.sl_net.specs.declared.actor.ActorId.TheVariants.{Control, Unit as OfUnit}
-use Rattle.sl_net.specs.declared.actor.LinkKind.TheVariants.{Reliable}
-use Rattle.sl_net.specs.declared.actor.Sort.{Sort}
-use Rattle.sl_net.specs.declared.actor.Sort.TheVariants.{Done, Dump, Poll}
-use Rattle.sl_net.specs.declared.actor.UnitId.{UnitId}
+use Rattle.sl_layout.specs.declared.actor.ActorId.TheVariants.{Control, Unit as OfUnit}
+use Rattle.sl_layout.specs.declared.actor.LinkKind.TheVariants.{Reliable}
+use Rattle.sl_layout.specs.declared.actor.Sort.{Sort}
+use Rattle.sl_layout.specs.declared.actor.Sort.TheVariants.{Done, Dump, Poll}
+use Rattle.sl_layout.specs.declared.actor.UnitId.{UnitId}
 use Rattle.sl_cut.specs.End.{AllTaken}
 use Rattle.sl_cut.specs.History.{History, Losses, NeverFalls, World, done_of, heard, history, on_link, put, taken, takes, without_lost}
 use Rattle.sl_cut.specs.Knowledge.{is_again, known, observer}
@@ -20,10 +20,10 @@ use Rattle.sl_cut.specs.Puts.{control_puts, dump_answer, id_after, send, send_al
 use Rattle.sl_cut.specs.Setup.{Setup}
 use Rattle.sl_cut.specs.Words.{listed}
 use Rattle.sl_cut.specs.World.{IsLossTable, carried, receiver, sender}
-use Rattle.sl_cut.specs.declared.message.Message.{Message}
-use Rattle.sl_cut.specs.declared.message.Message.TheVariants.{Begin as BeginMsg, Data, Done as DoneMsg, Dump as DumpMsg, Host as HostMsg, Init as InitMsg, Notice as NoticeMsg, Poll as PollMsg, Probe as ProbeMsg}
-use Rattle.sl_cut.specs.declared.message.Put.{Put}
-use Rattle.sl_cut.specs.declared.message.Step.{Step}
+use Rattle.sl_history.specs.declared.message.Message.{Message}
+use Rattle.sl_history.specs.declared.message.Message.TheVariants.{Begin as BeginMsg, Data, Done as DoneMsg, Dump as DumpMsg, Host as HostMsg, Init as InitMsg, Notice as NoticeMsg, Poll as PollMsg, Probe as ProbeMsg}
+use Rattle.sl_history.specs.declared.message.Put.{Put}
+use Rattle.sl_history.specs.declared.message.Step.{Step}
 use Rattle.sl_net.proofs.Lists.{Member, member-flat, member-left, member-map, member-parts, member-right}
 use Rattle.sl_net.proofs.ReportWays.{choice-from-is, only-is-out}
 use Rattle.sl_net.proofs.Sorts.{IsOut, choice-is, is-into, out-member}

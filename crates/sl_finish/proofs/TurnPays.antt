@@ -4,11 +4,11 @@ use Rattle.std.specs.Prelude.{IsTrue, is_some, nat_lt, option_map, slice_get, tr
 use Rattle.std.proofs.lemmas.Bool.{and_parts, ltb-true}
 use Rattle.std.proofs.lemmas.Option.{slice_get_within}
 use Rattle.sl_net.specs.Net.{action_choice, actor_of, link_of, links_into, links_out}
-use Rattle.sl_net.specs.declared.actor.ActorId.{ActorId}
-use Rattle.sl_net.specs.declared.actor.ActorId.TheVariants.{Control, Observer, Host as OfHost, Unit as OfUnit}
-use Rattle.sl_net.specs.declared.actor.Sort.{Sort}
-use Rattle.sl_net.specs.declared.actor.Sort.TheVariants.{Begin, Cable, Crossbar, FromHost, Init}
-use Rattle.sl_net.specs.declared.actor.UnitId.{UnitId}
+use Rattle.sl_layout.specs.declared.actor.ActorId.{ActorId}
+use Rattle.sl_layout.specs.declared.actor.ActorId.TheVariants.{Control, Observer, Host as OfHost, Unit as OfUnit}
+use Rattle.sl_layout.specs.declared.actor.Sort.{Sort}
+use Rattle.sl_layout.specs.declared.actor.Sort.TheVariants.{Begin, Cable, Crossbar, FromHost, Init}
+use Rattle.sl_layout.specs.declared.actor.UnitId.{UnitId}
 use Rattle.sl_cut.specs.Fit.{is_stamped}
 use Rattle.sl_cut.specs.History.{History, Losses, NeverFalls, World, history, last, put, stamp_of, taken}
 use Rattle.sl_cut.specs.Knowledge.{can_issue, can_resend, floor, issued, observer, resent}
@@ -18,9 +18,9 @@ use Rattle.sl_cut.specs.Setup.{Setup, frames_of}
 use Rattle.sl_cut.specs.Window.{IsBelow}
 use Rattle.sl_cut.specs.Words.{weigh}
 use Rattle.sl_cut.specs.World.{Entry, IsLegalFrom, carried, floor_for, next_step, run, turn}
-use Rattle.sl_cut.specs.declared.message.Message.TheVariants.{Begin as BeginMsg, Host as HostMsg}
-use Rattle.sl_cut.specs.declared.message.Put.{Put}
-use Rattle.sl_cut.specs.declared.message.Step.{Step}
+use Rattle.sl_history.specs.declared.message.Message.TheVariants.{Begin as BeginMsg, Host as HostMsg}
+use Rattle.sl_history.specs.declared.message.Put.{Put}
+use Rattle.sl_history.specs.declared.message.Step.{Step}
 use Rattle.sl_finish.specs.Flight.{puts_weight}
 use Rattle.sl_finish.specs.Potential.{allowance, allowed, begin_price, credit, frame_price, potential, price, round_price}
 use Rattle.sl_net.proofs.Lists.{each-at}

@@ -4,9 +4,9 @@ use Rattle.std.specs.Prelude.{◌&&◌, Bool, false, length, true, if◌then◌e
 use Rattle.sl_net.specs.Net.{Net, action_choice, actor_of, units}
 use Rattle.sl_net.specs.Serving.{served}
 use Rattle.sl_net.specs.Wired.{IsNet}
-use Rattle.sl_net.specs.declared.actor.ActorId.{ActorId}
-use Rattle.sl_net.specs.declared.actor.ActorId.TheVariants.{Control, Observer, Host as OfHost, Unit as OfUnit}
-use Rattle.sl_net.specs.declared.actor.Sort.TheVariants.{Cable, Crossbar, Init}
+use Rattle.sl_layout.specs.declared.actor.ActorId.{ActorId}
+use Rattle.sl_layout.specs.declared.actor.ActorId.TheVariants.{Control, Observer, Host as OfHost, Unit as OfUnit}
+use Rattle.sl_layout.specs.declared.actor.Sort.TheVariants.{Cable, Crossbar, Init}
 use Rattle.sl_cut.specs.Bound.{bound, bound_of, frame_count, is_control, links_of_sort}
 use Rattle.sl_cut.specs.End.{IsFin, IsFinished}
 use Rattle.sl_cut.specs.History.{Losses}

@@ -7,22 +7,22 @@ use Rattle.std.proofs.lemmas.Option.{get_or_from_slice_get, slice_get_within}
 use Rattle.sl_net.specs.Net.{Net, actor_of, choices_of, data_channels, link_at, link_of, links_into, links_out, same_sort, sort_number}
 use Rattle.sl_net.specs.Parts.{below}
 use Rattle.sl_net.specs.Wired.{receives, unit_receives}
-use Rattle.sl_net.specs.declared.actor.ActorId.TheVariants.{Unit as OfUnit}
-use Rattle.sl_net.specs.declared.actor.Side.{Side}
-use Rattle.sl_net.specs.declared.actor.Side.TheVariants.{Egress, Ingress}
-use Rattle.sl_net.specs.declared.actor.Sort.{Sort}
-use Rattle.sl_net.specs.declared.actor.Sort.TheVariants.{Begin, Cable, Crossbar, Dump, Init, Notice}
-use Rattle.sl_net.specs.declared.actor.UnitId.{UnitId}
+use Rattle.sl_layout.specs.declared.actor.ActorId.TheVariants.{Unit as OfUnit}
+use Rattle.sl_layout.specs.declared.actor.Side.{Side}
+use Rattle.sl_layout.specs.declared.actor.Side.TheVariants.{Egress, Ingress}
+use Rattle.sl_layout.specs.declared.actor.Sort.{Sort}
+use Rattle.sl_layout.specs.declared.actor.Sort.TheVariants.{Begin, Cable, Crossbar, Dump, Init, Notice}
+use Rattle.sl_layout.specs.declared.actor.UnitId.{UnitId}
 use Rattle.sl_cut.specs.Fit.{fits, fits_link}
 use Rattle.sl_cut.specs.History.{History, Losses, World, history, last, stamp_of}
 use Rattle.sl_cut.specs.Puts.{dump_puts, id_after, is_own_port, notice_puts, puts_of, send_all, side_puts, unit_puts}
 use Rattle.sl_cut.specs.Setup.{Setup}
 use Rattle.sl_cut.specs.Words.{Each, weigh}
 use Rattle.sl_cut.specs.World.{taking}
-use Rattle.sl_cut.specs.declared.message.Message.{Message}
-use Rattle.sl_cut.specs.declared.message.Message.TheVariants.{Begin as BeginMsg, Data, Done as DoneMsg, Dump as DumpMsg, Host as HostMsg, Init as InitMsg, Notice as NoticeMsg, Poll as PollMsg, Probe as ProbeMsg}
-use Rattle.sl_cut.specs.declared.message.Put.{Put}
-use Rattle.sl_cut.specs.declared.message.Step.{Step}
+use Rattle.sl_history.specs.declared.message.Message.{Message}
+use Rattle.sl_history.specs.declared.message.Message.TheVariants.{Begin as BeginMsg, Data, Done as DoneMsg, Dump as DumpMsg, Host as HostMsg, Init as InitMsg, Notice as NoticeMsg, Poll as PollMsg, Probe as ProbeMsg}
+use Rattle.sl_history.specs.declared.message.Put.{Put}
+use Rattle.sl_history.specs.declared.message.Step.{Step}
 use Rattle.sl_finish.specs.Flight.{puts_weight}
 use Rattle.sl_finish.specs.Potential.{channels, credit, goes_on, init_price, is_cable, own_at, own_side, price, probe_price}
 use Rattle.sl_net.proofs.Lists.{Member, each-of, member-filter, member-from, member-left, member-right}

@@ -5,14 +5,14 @@ use Rattle.sl_net.specs.Net.{Incoming, Net, actor_of, actors_of, egress, from_ho
 use Rattle.sl_net.specs.Parts.{Parts, has_cable, host_at, other_end}
 use Rattle.sl_net.specs.Valid.{IsValid}
 use Rattle.sl_net.specs.Wired.{IsNet, receives, unit_receives}
-use Rattle.sl_net.specs.declared.actor.ActorId.{ActorId}
-use Rattle.sl_net.specs.declared.actor.ActorId.TheVariants.{Control, Observer, Host as OfHost, Unit as OfUnit}
-use Rattle.sl_net.specs.declared.actor.Side.{Side}
-use Rattle.sl_net.specs.declared.actor.Side.TheVariants.{Egress, Ingress}
-use Rattle.sl_net.specs.declared.actor.Sort.{Sort}
-use Rattle.sl_net.specs.declared.actor.Sort.TheVariants.{Cable, Crossbar, FromHost, Init, Poll, ToHost}
-use Rattle.sl_net.specs.declared.actor.UnitId.{UnitId}
-use Rattle.sl_net.specs.declared.parts.PortRef.{PortRef}
+use Rattle.sl_layout.specs.declared.actor.ActorId.{ActorId}
+use Rattle.sl_layout.specs.declared.actor.ActorId.TheVariants.{Control, Observer, Host as OfHost, Unit as OfUnit}
+use Rattle.sl_layout.specs.declared.actor.Side.{Side}
+use Rattle.sl_layout.specs.declared.actor.Side.TheVariants.{Egress, Ingress}
+use Rattle.sl_layout.specs.declared.actor.Sort.{Sort}
+use Rattle.sl_layout.specs.declared.actor.Sort.TheVariants.{Cable, Crossbar, FromHost, Init, Poll, ToHost}
+use Rattle.sl_layout.specs.declared.actor.UnitId.{UnitId}
+use Rattle.sl_parts.specs.declared.parts.PortRef.{PortRef}
 use Rattle.sl_cut.specs.Puts.{crossbar_to}
 use Rattle.sl_route.specs.Route.{Walk, first_port, least_walks, next_port}
 use Rattle.sl_cut.specs.Words.{Each}

@@ -3,8 +3,8 @@ use Rattle.std.proofs.Common.{◌*◌, ◌+◌, ◌++◌, ◌-◌, List, length,
 use Rattle.sl_net.specs.Net.{Net, actor_of, link_of}
 use Rattle.sl_net.specs.Parts.{below}
 use Rattle.sl_net.specs.Serving.{served}
-use Rattle.sl_net.specs.declared.actor.ActorId.{ActorId}
-use Rattle.sl_net.specs.declared.actor.ActorId.TheVariants.{Control, Observer, Host as OfHost, Unit as OfUnit}
+use Rattle.sl_layout.specs.declared.actor.ActorId.{ActorId}
+use Rattle.sl_layout.specs.declared.actor.ActorId.TheVariants.{Control, Observer, Host as OfHost, Unit as OfUnit}
 use Rattle.sl_cut.specs.End.{IsFin}
 use Rattle.sl_cut.specs.History.{Losses, history, last}
 use Rattle.sl_cut.specs.Setup.{Setup, frames_of}

@@ -4,11 +4,11 @@
 --     packet_fare, frame_fare    a packet, a frame on any link
 use Rattle.std.specs.Prelude.{◌+◌, List, None, Option, Some, suc, zero, ℕ, length}
 use Rattle.sl_net.specs.Net.{Net, actor_of, link_of, links_out}
-use Rattle.sl_net.specs.declared.actor.ActorId.{ActorId}
-use Rattle.sl_net.specs.declared.actor.ActorId.TheVariants.{Control, Unit as OfUnit}
-use Rattle.sl_net.specs.declared.actor.Side.{Side}
-use Rattle.sl_net.specs.declared.actor.Side.TheVariants.{Egress, Ingress}
-use Rattle.sl_net.specs.declared.actor.Sort.TheVariants.{Cable, ToHost}
+use Rattle.sl_layout.specs.declared.actor.ActorId.{ActorId}
+use Rattle.sl_layout.specs.declared.actor.ActorId.TheVariants.{Control, Unit as OfUnit}
+use Rattle.sl_layout.specs.declared.actor.Side.{Side}
+use Rattle.sl_layout.specs.declared.actor.Side.TheVariants.{Egress, Ingress}
+use Rattle.sl_layout.specs.declared.actor.Sort.TheVariants.{Cable, ToHost}
 use Rattle.sl_net.specs.declared.input.Packet.{Packet}
 use Rattle.sl_cut.specs.Frame.{packet_of}
 use Rattle.sl_cut.specs.Puts.{crossbar_to}

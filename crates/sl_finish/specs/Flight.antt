@@ -4,8 +4,8 @@ use Rattle.sl_net.specs.Net.{Net, link_numbers}
 use Rattle.sl_cut.specs.History.{Losses, World}
 use Rattle.sl_cut.specs.Window.{on_way}
 use Rattle.sl_cut.specs.Words.{weigh}
-use Rattle.sl_cut.specs.declared.message.Message.{Message}
-use Rattle.sl_cut.specs.declared.message.Put.{Put}
+use Rattle.sl_history.specs.declared.message.Message.{Message}
+use Rattle.sl_history.specs.declared.message.Put.{Put}
 
 abbrev pub Weight : Type 0
 Weight = ℕ → Message → ℕ

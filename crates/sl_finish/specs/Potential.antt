@@ -7,20 +7,20 @@ use Rattle.std.specs.Prelude.{◌*◌, ◌+◌, ◌++◌, ◌-◌, ◌==◌, Lis
 use Rattle.sl_net.specs.Net.{Net, action_choice, actor_of, choices_of, data_channels, link_of, links_out}
 use Rattle.sl_net.specs.Parts.{below}
 use Rattle.sl_net.specs.Serving.{Served, served}
-use Rattle.sl_net.specs.declared.actor.ActorId.{ActorId}
-use Rattle.sl_net.specs.declared.actor.ActorId.TheVariants.{Control, Observer, Host as OfHost, Unit as OfUnit}
-use Rattle.sl_net.specs.declared.actor.Side.{Side}
-use Rattle.sl_net.specs.declared.actor.Side.TheVariants.{Egress, Ingress}
-use Rattle.sl_net.specs.declared.actor.Sort.{Sort}
-use Rattle.sl_net.specs.declared.actor.Sort.TheVariants.{Begin, Cable, Crossbar, FromHost, Init}
-use Rattle.sl_net.specs.declared.actor.UnitId.{UnitId}
+use Rattle.sl_layout.specs.declared.actor.ActorId.{ActorId}
+use Rattle.sl_layout.specs.declared.actor.ActorId.TheVariants.{Control, Observer, Host as OfHost, Unit as OfUnit}
+use Rattle.sl_layout.specs.declared.actor.Side.{Side}
+use Rattle.sl_layout.specs.declared.actor.Side.TheVariants.{Egress, Ingress}
+use Rattle.sl_layout.specs.declared.actor.Sort.{Sort}
+use Rattle.sl_layout.specs.declared.actor.Sort.TheVariants.{Begin, Cable, Crossbar, FromHost, Init}
+use Rattle.sl_layout.specs.declared.actor.UnitId.{UnitId}
 use Rattle.sl_cut.specs.History.{History, Losses, World, history, last, taken}
 use Rattle.sl_cut.specs.Knowledge.{is_again, issued, resent}
 use Rattle.sl_cut.specs.Puts.{is_own_port}
 use Rattle.sl_cut.specs.Setup.{Setup, frames_of}
 use Rattle.sl_cut.specs.Words.{weigh}
 use Rattle.sl_cut.specs.World.{Entry}
-use Rattle.sl_cut.specs.declared.message.Message.TheVariants.{Begin as BeginMsg, Data, Done as DoneMsg, Dump as DumpMsg, Host as HostMsg, Init as InitMsg, Notice as NoticeMsg, Poll as PollMsg, Probe as ProbeMsg}
+use Rattle.sl_history.specs.declared.message.Message.TheVariants.{Begin as BeginMsg, Data, Done as DoneMsg, Dump as DumpMsg, Host as HostMsg, Init as InitMsg, Notice as NoticeMsg, Poll as PollMsg, Probe as ProbeMsg}
 use Rattle.sl_finish.specs.Fare.{frame_fare, packet_fare}
 use Rattle.sl_finish.specs.Flight.{Weight, flight}
 

@@ -5,7 +5,7 @@ ghost use Rattle.std.specs.Prelude.{◌≡◌, ℕ, suc, ◌+◌, ◌*◌, ◌^�
 ghost use Rattle.std.specs.List.{sum};
 ghost use Rattle.sl_net.specs.Input.{Input};
 ghost use Rattle.sl_net.specs.Wired.{IsNet};
-ghost use Rattle.sl_cut.specs.declared.message.Step.{Step};
+ghost use Rattle.sl_history.specs.declared.message.Step.{Step};
 ghost use Rattle.sl_cut.specs.History.{Losses};
 ghost use Rattle.sl_cut.specs.Setup.{Setup, setup_of};
 ghost use Rattle.sl_cut.specs.World.{Entry, IsLossTable, next_step, turn, run, world, kept, kept_from};

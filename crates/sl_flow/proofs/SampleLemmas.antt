@@ -7,7 +7,7 @@ use Rattle.std.specs.List.{list_all, All}
 use Rattle.std.proofs.lemmas.Bool.{and_parts, and_from, leb-true}
 use Rattle.std.proofs.lemmas.List.Sums.{AllPass-from_list_all, sum_by-le}
 use Rattle.std.proofs.lemmas.List.Elements.{All-get_or, All-from_get_or}
-use Rattle.sl_net.specs.declared.fault.NetFault.{NetFault}
+use Rattle.sl_parts.specs.declared.fault.NetFault.{NetFault}
 use Rattle.sl_net.specs.declared.input.Flow.{Flow}
 use Rattle.sl_net.specs.Text.{IsName, is_name_byte}
 use Rattle.sl_net.specs.Parts.{below}

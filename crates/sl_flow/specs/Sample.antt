@@ -2,10 +2,10 @@
 -- Where the number is odd, messages are lost and the window is full.
 use Rattle.std.specs.Prelude.{◌≡◌, ℕ, ◌+◌, ◌*◌, ◌/◌, ◌%◌, ◌<◌, ◌≤◌, ◌==◌, ◌++◌, if◌then◌else◌, List, [], ◌∷◌, map, length, None, codes, decimal}
 use Rattle.std.specs.List.{All, sum_by}
-use Rattle.sl_net.specs.declared.parts.PortRef.{PortRef}
-use Rattle.sl_net.specs.declared.parts.CablePart.{CablePart}
-use Rattle.sl_net.specs.declared.parts.DevicePart.{DevicePart}
-use Rattle.sl_net.specs.declared.parts.HostPart.{HostPart}
+use Rattle.sl_parts.specs.declared.parts.PortRef.{PortRef}
+use Rattle.sl_parts.specs.declared.parts.CablePart.{CablePart}
+use Rattle.sl_parts.specs.declared.parts.DevicePart.{DevicePart}
+use Rattle.sl_parts.specs.declared.parts.HostPart.{HostPart}
 use Rattle.sl_net.specs.declared.input.Snapshot.{Snapshot}
 use Rattle.sl_net.specs.declared.input.Flow.{Flow}
 use Rattle.sl_net.specs.Parts.{Parts, below}

@@ -53,7 +53,7 @@ fn flow(n: u64, h: u32) -> Flow
 }
 
 /// A flow from each host to the next.
-#[tactic(auto, using(sl_net::proofs::Counting::map_below_more))]
+#[tactic(auto, using(sl_parts::proofs::Counting::map_below_more))]
 pub fn flows(alloc: Global, n: u64) -> Result<Vec<Flow>, AllocError>
     requires { n ≤ 64 }
     ensures { IfOk result (λ flows. flows.items ≡ map (flow n) (below (host_count n))) }
@@ -71,6 +71,7 @@ fn by_parity(n: u64, even: u16, odd: u16) -> u16
     if n % 2 == 0 { even } else { odd }
 }
 
+/// The snapshot table of a sample.
 pub fn snapshot(n: u64) -> Snapshot
     ensures { result ≡ snapshot n }
 {
@@ -83,6 +84,7 @@ pub fn snapshot(n: u64) -> Snapshot
     }
 }
 
+/// The losses of a sample.
 pub fn loss(alloc: Global, n: u64) -> LossSpec
     ensures { result ≡ loss n }
 {

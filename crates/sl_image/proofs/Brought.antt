@@ -3,14 +3,14 @@ use Rattle.std.proofs.Common.{◌≡◌, ℕ, ◌+◌, ◌≤◌, List, [], ◌�
 use Rattle.std.specs.Prelude.{◌⊎◌, map, slice_get, unwrap_or, option_and_then, if◌then◌else◌}
 use Rattle.std.proofs.lemmas.Bool.{eq-eqb}
 use Rattle.std.proofs.lemmas.List.{length-set, length-map}
-use Rattle.sl_net.specs.declared.actor.UnitId.{UnitId}
-use Rattle.sl_net.specs.declared.actor.ActorId.TheVariants.{Observer, Unit as OfUnit}
-use Rattle.sl_net.specs.declared.actor.Sort.TheVariants.{Init, Poll, Dump}
+use Rattle.sl_layout.specs.declared.actor.UnitId.{UnitId}
+use Rattle.sl_layout.specs.declared.actor.ActorId.TheVariants.{Observer, Unit as OfUnit}
+use Rattle.sl_layout.specs.declared.actor.Sort.TheVariants.{Init, Poll, Dump}
 use Rattle.sl_net.specs.Net.{Net, actor_of, link_of, links_into, links_out, choice_of, choices_of, unit_place, data_channels}
 use Rattle.sl_net.specs.Serving.{serving, served, choice_from}
 use Rattle.sl_net.specs.Wired.{Reports, IsWired}
-use Rattle.sl_cut.specs.declared.message.Message.TheVariants.{Dump as DumpMsg, Done as DoneMsg}
-use Rattle.sl_cut.specs.declared.message.Step.{Step}
+use Rattle.sl_history.specs.declared.message.Message.TheVariants.{Dump as DumpMsg, Done as DoneMsg}
+use Rattle.sl_history.specs.declared.message.Step.{Step}
 use Rattle.sl_cut.specs.Words.{Each, Rises, numbers}
 use Rattle.sl_cut.specs.History.{History, World, Losses, history, dump_of, done_of, id, last, first}
 use Rattle.sl_cut.specs.Setup.{Setup}

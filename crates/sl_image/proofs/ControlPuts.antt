@@ -1,16 +1,18 @@
 -- What the machine of a control plane puts stands for the puts of its steps.
 use Rattle.std.proofs.Common.{◌≡◌, ℕ, List, [], ◌∷◌, ◌++◌, refl, sym, ap, subst, map}
 use Rattle.std.specs.Prelude.{cond, true, false, Bool, if◌then◌else◌, flat_map, slice_index, slice_index_or}
-use Rattle.sl_net.specs.declared.actor.Sort.TheVariants.{Dump, Done}
+use Rattle.sl_layout.specs.declared.actor.Sort.TheVariants.{Dump, Done}
 use Rattle.sl_net.specs.Net.{Net, links_out, action_choice, units, unit_place}
 use Rattle.sl_net.specs.Serving.{Served, choice_from}
 use Rattle.sl_net.specs.Wires.{out_of}
 use Rattle.sl_wire.specs.declared.message.PlainDump.{PlainDump}
 use Rattle.sl_wire.specs.declared.message.Msg.TheVariants as wire
-use Rattle.sl_control.specs.Control.{Sent, send_all as send_each, poll_by, answer_by, done_of}
+use Rattle.sl_machine.specs.Machine.{send_all as send_each}
+use Rattle.sl_wire.specs.declared.message.Msg.{Msg}
+use Rattle.sl_control.specs.Control.{poll_by, answer_by, done_of}
 use Rattle.sl_control.specs.Wires.{control_wires}
-use Rattle.sl_cut.specs.declared.message.Message.TheVariants.{Init as InitMsg, Poll as PollMsg, Done as DoneMsg}
-use Rattle.sl_cut.specs.declared.message.Put.{Put}
+use Rattle.sl_history.specs.declared.message.Message.TheVariants.{Init as InitMsg, Poll as PollMsg, Done as DoneMsg}
+use Rattle.sl_history.specs.declared.message.Put.{Put}
 use Rattle.sl_cut.specs.Words.{Each}
 use Rattle.sl_cut.specs.History.{History, first}
 use Rattle.sl_cut.specs.Knowledge.{dumped, told_of, is_outstanding, is_again}
@@ -18,14 +20,14 @@ use Rattle.sl_cut.specs.Puts.{send, send_all, poll_puts, dump_answer}
 use Rattle.sl_image.specs.Messages.{AreSent, IsDoneOf, SaysDone}
 use Rattle.sl_image.specs.ControlImage.{known_of, told_at}
 
-pub sent-append : (net : Net) (ring : ℕ) (us : ℕ → History) (a : ℕ) (told : ℕ → ℕ) (ps qs : List Put) (xs ys : List Sent) → AreSent net ring us a told ps xs → AreSent net ring us a told qs ys → AreSent net ring us a told (ps ++ qs) (xs ++ ys)
+pub sent-append : (net : Net) (ring : ℕ) (us : ℕ → History) (a : ℕ) (told : ℕ → ℕ) (ps qs : List Put) (xs ys : List (ℕ × Msg)) → AreSent net ring us a told ps xs → AreSent net ring us a told qs ys → AreSent net ring us a told (ps ++ qs) (xs ++ ys)
 sent-append net ring us a told [] qs [] ys h k = k
 sent-append net ring us a told [] qs (x ∷ xs) ys h k = absurd h
 sent-append net ring us a told (p ∷ ps) qs [] ys h k = absurd h
 sent-append net ring us a told (p ∷ ps) qs (x ∷ xs) ys h k = (h.0, sent-append net ring us a told ps qs xs ys h.1 k)
 
 -- of each unit
-pub sent-each : {A : Type 0} (net : Net) (ring : ℕ) (us : ℕ → History) (a : ℕ) (told : ℕ → ℕ) (f : A → List Put) (g : A → List Sent) (vs : List A) → Each (λ v. AreSent net ring us a told (f v) (g v)) vs
+pub sent-each : {A : Type 0} (net : Net) (ring : ℕ) (us : ℕ → History) (a : ℕ) (told : ℕ → ℕ) (f : A → List Put) (g : A → List (ℕ × Msg)) (vs : List A) → Each (λ v. AreSent net ring us a told (f v) (g v)) vs
     → AreSent net ring us a told (flat_map f vs) (flat_map g vs)
 sent-each net ring us a told f g [] h = tt
 sent-each net ring us a told f g (v ∷ vs) h = sent-append net ring us a told (f v) (flat_map f vs) (g v) (flat_map g vs) h.0 (sent-each net ring us a told f g vs h.1)
@@ -34,7 +36,7 @@ pub flat-map : {A B C : Type 0} (g : B → List C) (f : A → B) (xs : List A) �
 flat-map g f [] = refl
 flat-map g f (x ∷ xs) = ap (λ r. g (f x) ++ r) (flat-map g f xs)
 
-pub sent-if : (net : Net) (ring : ℕ) (us : ℕ → History) (a : ℕ) (told : ℕ → ℕ) (b : Bool) (ps : List Put) (xs : List Sent) → AreSent net ring us a told ps xs → AreSent net ring us a told (if b then ps else []) (cond b xs [])
+pub sent-if : (net : Net) (ring : ℕ) (us : ℕ → History) (a : ℕ) (told : ℕ → ℕ) (b : Bool) (ps : List Put) (xs : List (ℕ × Msg)) → AreSent net ring us a told ps xs → AreSent net ring us a told (if b then ps else []) (cond b xs [])
 sent-if net ring us a told true ps xs h = h
 sent-if net ring us a told false ps xs h = tt
 
@@ -69,7 +71,7 @@ sent-answer net ring us ws a k n v d e at c w o =
     again : List Put
     again = if is_again (action_choice net a) v (us a) then send PollMsg v.poll ∷ [] else []
 
-    more : List Sent
+    more : List (ℕ × Msg)
     more = if is_again (action_choice net a) v (us a) then (out_of net v.poll, wire.Poll) ∷ [] else []
 
     here : SaysDone net v.unit (first (dumped (choice_from net a v.unit Dump) (us a)) (ws v.unit)) (first n (ws v.unit)) (wire.Done (done_of d (known_of net us a v)))

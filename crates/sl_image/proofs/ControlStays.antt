@@ -1,7 +1,7 @@
 -- The machine of a control plane in a turn of another actor: what it knows are first steps of histories that only grow.
 use Rattle.std.proofs.Common.{◌≡◌, ℕ, ◌≤◌, List, length, sym, ap, subst, ◌∙◌, inl, inr}
 use Rattle.std.specs.Prelude.{◌⊎◌}
-use Rattle.sl_net.specs.declared.actor.Sort.TheVariants.{Poll}
+use Rattle.sl_layout.specs.declared.actor.Sort.TheVariants.{Poll}
 use Rattle.sl_net.specs.Net.{link_of, links_out, choice_of, action_choice}
 use Rattle.sl_net.specs.Serving.{serving}
 use Rattle.sl_net.specs.Wired.{IsWired}

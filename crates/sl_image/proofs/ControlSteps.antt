@@ -5,8 +5,8 @@ use Rattle.std.proofs.Common.{◌≡◌, ℕ, List, [], ◌∷◌, refl, sym, ap
 use Rattle.std.specs.Prelude.{cond, true, false, Bool, nat_eq, ◌==◌, ◌&&◌, ◌⊎◌, if◌then◌else◌, flat_map, slice_get}
 use Rattle.std.proofs.lemmas.Bool.{and_from}
 use Rattle.std.proofs.lemmas.Bool.Decides.{eqb_tells}
-use Rattle.sl_net.specs.declared.actor.ActorId.TheVariants.{Control, Unit as OfUnit}
-use Rattle.sl_net.specs.declared.actor.Sort.TheVariants.{Init, Poll, Notice, Dump, Begin, Done}
+use Rattle.sl_layout.specs.declared.actor.ActorId.TheVariants.{Control, Unit as OfUnit}
+use Rattle.sl_layout.specs.declared.actor.Sort.TheVariants.{Init, Poll, Notice, Dump, Begin, Done}
 use Rattle.sl_net.specs.Net.{Net, actor_of, link_of, links_into, links_out, action_choice}
 use Rattle.sl_net.specs.Serving.{Served, serving, served}
 use Rattle.sl_net.specs.Wired.{IsWired}
@@ -14,10 +14,10 @@ use Rattle.sl_wire.specs.declared.message.PlainDump.{PlainDump}
 use Rattle.sl_control.specs.declared.known.Known.{Known}
 use Rattle.sl_control.specs.Control.{asked, ask_by, ask_puts, is_read, takes_dump, dump_by, dump_puts, answered, answer_by}
 use Rattle.sl_control.specs.Wires.{unit_wires, unheard, control_wires, first_control}
-use Rattle.sl_cut.specs.declared.message.Message.{Message}
-use Rattle.sl_cut.specs.declared.message.Message.TheVariants.{Init as InitMsg, Notice as NoticeMsg, Dump as DumpMsg, Begin as BeginMsg}
-use Rattle.sl_cut.specs.declared.message.Put.{Put}
-use Rattle.sl_cut.specs.declared.message.Step.{Step}
+use Rattle.sl_history.specs.declared.message.Message.{Message}
+use Rattle.sl_history.specs.declared.message.Message.TheVariants.{Init as InitMsg, Notice as NoticeMsg, Dump as DumpMsg, Begin as BeginMsg}
+use Rattle.sl_history.specs.declared.message.Put.{Put}
+use Rattle.sl_history.specs.declared.message.Step.{Step}
 use Rattle.sl_cut.specs.Words.{Each}
 use Rattle.sl_cut.specs.History.{History, history, first, on_link}
 use Rattle.sl_cut.specs.Knowledge.{told_of, is_outstanding, asks, is_again}
@@ -88,9 +88,6 @@ begin-one net us ws a d l k b step z q t m i o e p = let v = served-at net a l z
     asked-by y = asks (action_choice net a) (serving net a l) step.choice y
 
 -- A notice.
-
-poll-out : (net : Net) (a l : ℕ) → Member l (links_out net a Poll) → IsOut net a Poll l
-poll-out net a l m = each-at (IsOut net a Poll) l (links_out net a Poll) (each-out net a Poll) m
 
 notice-puts : (net : Net) (a c l : ℕ) (h : History) (ps : List Put) → Member l (links_out net a Poll) → ps ≡ control_puts net a h c NoticeMsg
     → on_link l ps ≡ on_link l (if c == (serving net a l).notice then poll_puts (serving net a l) h else [])

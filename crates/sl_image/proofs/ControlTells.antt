@@ -5,14 +5,15 @@ use Rattle.std.specs.List.{list_all}
 use Rattle.std.proofs.lemmas.Bool.{lt-ltb, eq-eqb, and_from}
 use Rattle.std.proofs.lemmas.List.{length-map}
 use Rattle.std.proofs.lemmas.Nat.{mod_below}
-use Rattle.sl_net.specs.declared.actor.Sort.TheVariants.{Init}
+use Rattle.sl_layout.specs.declared.actor.Sort.TheVariants.{Init}
 use Rattle.sl_net.specs.Parts.{numbers_from}
 use Rattle.sl_net.specs.Net.{Net, data_channels, choices_of}
 use Rattle.sl_net.specs.Serving.{Served}
 use Rattle.sl_saves.specs.Calls.{number}
 use Rattle.sl_saves.specs.Views.{IsLive, held_saved, read}
 use Rattle.sl_wire.specs.declared.message.PlainDump.{PlainDump}
-use Rattle.sl_control.specs.Rows.{least_of as control_least, above, span, reached, seen_on, is_sized, is_readable, row as control_row}
+use Rattle.sl_wire.specs.Reach.{least_of as control_least, reached}
+use Rattle.sl_control.specs.Rows.{span, seen_on, is_sized, is_readable, row as control_row}
 use Rattle.sl_control.specs.Control.{is_read, answered, done_of}
 use Rattle.sl_control.specs.Wires.{unit_wires}
 use Rattle.sl_control.proofs.Reading.{readable-live}
@@ -30,11 +31,11 @@ least-is : (n : ℕ) (xs : List ℕ) → control_least n xs ≡ least_of n xs
 least-is n [] = refl
 least-is n (x ∷ xs) = least-is (min n x) xs
 
-map-above : {A : Type 0} (f g : ℕ → A) (a d : ℕ) → ((k : ℕ) → a < k → k ≤ a + d → f k ≡ g k) → map f (above a d) ≡ map g (numbers_from (suc a) d)
+map-above : {A : Type 0} (f g : ℕ → A) (a d : ℕ) → ((k : ℕ) → a < k → k ≤ a + d → f k ≡ g k) → map f (numbers_from (suc a) d) ≡ map g (numbers_from (suc a) d)
 map-above f g a zero h = refl
 map-above f g a (suc d) h = let x = h (suc a) (omega arith) (omega arith) in let y = map-above f g (suc a) d (λ k l m. h k (omega (arith, l)) (omega (arith, m))) in λ i. x i ∷ y i
 
-all-above : (p : ℕ → Bool) (a d : ℕ) → ((k : ℕ) → a < k → k ≤ a + d → p k ≡ true) → list_all p (above a d) ≡ true
+all-above : (p : ℕ → Bool) (a d : ℕ) → ((k : ℕ) → a < k → k ≤ a + d → p k ≡ true) → list_all p (numbers_from (suc a) d) ≡ true
 all-above p a zero h = refl
 all-above p a (suc d) h = and_from _ _ (h (suc a) (omega arith) (omega arith)) (all-above p (suc a) d (λ k l m. h k (omega (arith, l)) (omega (arith, m))))
 

@@ -6,8 +6,8 @@ use Rattle.std.proofs.lemmas.Bool.{cases_lt}
 use Rattle.std.proofs.lemmas.Bool.Decides.{eqb_tells}
 use Rattle.std.proofs.lemmas.List.{get_or_past}
 use Rattle.std.proofs.lemmas.Option.{slice_get-get_or, get_or_from_slice_get}
-use Rattle.sl_net.specs.declared.actor.ActorId.TheVariants.{Control}
-use Rattle.sl_net.specs.declared.actor.Sort.TheVariants.{Init, Poll, Notice, Dump, Begin}
+use Rattle.sl_layout.specs.declared.actor.ActorId.TheVariants.{Control}
+use Rattle.sl_layout.specs.declared.actor.Sort.TheVariants.{Init, Poll, Notice, Dump, Begin}
 use Rattle.sl_net.specs.Net.{Net, nobody, actor_of, link_of, link_at, links_into, links_out, action_choice, data_channels}
 use Rattle.sl_net.specs.Serving.{Served, serving, served}
 use Rattle.sl_net.specs.Wired.{IsNet, IsWired, receives}
@@ -17,12 +17,13 @@ use Rattle.sl_wire.specs.declared.message.PlainDump.{PlainDump}
 use Rattle.sl_wire.specs.declared.message.Msg.{Msg}
 use Rattle.sl_wire.specs.declared.message.Msg.TheVariants as wire
 use Rattle.sl_control.specs.declared.known.Known.{Known}
-use Rattle.sl_control.specs.Control.{ControlState, Sent, send_all as send_each, ask_by, ask_puts, dump_by, dump_puts, is_swept as is_swept_by, asked_all, control_take, control_act}
+use Rattle.sl_machine.specs.Machine.{send_all as send_each}
+use Rattle.sl_control.specs.Control.{ControlState, ask_by, ask_puts, dump_by, dump_puts, is_swept as is_swept_by, asked_all, control_take, control_act}
 use Rattle.sl_control.specs.Wires.{control_wires, outs_of}
-use Rattle.sl_cut.specs.declared.message.Message.{Message}
-use Rattle.sl_cut.specs.declared.message.Message.TheVariants.{Notice as NoticeMsg, Dump as DumpMsg, Begin as BeginMsg}
-use Rattle.sl_cut.specs.declared.message.Put.{Put}
-use Rattle.sl_cut.specs.declared.message.Step.{Step}
+use Rattle.sl_history.specs.declared.message.Message.{Message}
+use Rattle.sl_history.specs.declared.message.Message.TheVariants.{Notice as NoticeMsg, Dump as DumpMsg, Begin as BeginMsg}
+use Rattle.sl_history.specs.declared.message.Put.{Put}
+use Rattle.sl_history.specs.declared.message.Step.{Step}
 use Rattle.sl_cut.specs.Words.{Each}
 use Rattle.sl_cut.specs.History.{History, World, Losses, history, id, first, takes}
 use Rattle.sl_cut.specs.Setup.{Setup}
@@ -106,7 +107,7 @@ take-dump net ring us ws a c n step d z q t b f e p = record {
     answer : Served → List Put
     answer v = if step.choice == v.dump then dump_answer net a (us a) n v else []
 
-    out : Known → List Sent
+    out : Known → List (ℕ × Msg)
     out r = dump_puts ring (control_wires net a ring).done step.choice d r
 
 -- The sweep.

@@ -2,16 +2,16 @@
 use Rattle.std.proofs.Common.{◌≡◌, ℕ, zero, suc, ◌+◌, ◌<◌, ◌≤◌, List, [], ◌∷◌, ◌++◌, length, refl, sym, ap, ◌∙◌, Option, Some, None, arith, inl, inr, length-append, append-nil, eq-eqb, map}
 use Rattle.std.specs.Prelude.{cond, true, false, Bool, nat_lt, ◌==◌, ◌||◌, ◌⊎◌, if◌then◌else◌, replicate, take, option_map, unwrap_or, option_and_then, slice_get}
 use Rattle.std.proofs.lemmas.Bool.{lt-ltb, le-ltb, ltb-true, cases_Bool, ne_eqb}
-use Rattle.sl_net.specs.declared.actor.Sort.TheVariants.{Init}
+use Rattle.sl_layout.specs.declared.actor.Sort.TheVariants.{Init}
 use Rattle.sl_net.specs.Net.{Net, choices_of, data_channels}
 use Rattle.sl_net.specs.Serving.{Served}
 use Rattle.sl_control.specs.declared.known.Known.{Known}
 use Rattle.sl_control.specs.Control.{asked}
 use Rattle.sl_control.specs.Wires.{unit_wires, unheard}
-use Rattle.sl_cut.specs.declared.message.Message.{Message}
-use Rattle.sl_cut.specs.declared.message.Message.TheVariants.{Poll as PollMsg, Dump as DumpMsg}
-use Rattle.sl_cut.specs.declared.message.Put.{Put}
-use Rattle.sl_cut.specs.declared.message.Step.{Step}
+use Rattle.sl_history.specs.declared.message.Message.{Message}
+use Rattle.sl_history.specs.declared.message.Message.TheVariants.{Poll as PollMsg, Dump as DumpMsg}
+use Rattle.sl_history.specs.declared.message.Put.{Put}
+use Rattle.sl_history.specs.declared.message.Step.{Step}
 use Rattle.sl_cut.specs.Words.{least_of}
 use Rattle.sl_cut.specs.History.{History, last, first, dump_of, taken, on_link, put}
 use Rattle.sl_cut.specs.Knowledge.{dumped, is_outstanding, puts_on, asks, is_again}

@@ -2,14 +2,14 @@
 use Rattle.std.proofs.Common.{◌≡◌, ℕ, zero, suc, ◌+◌, ◌-◌, ◌≤◌, List, [], ◌∷◌, ◌++◌, length, refl, sym, ap, subst, ◌∙◌, Option, Some, None, arith, get_or, map, inl, inr}
 use Rattle.std.specs.Prelude.{true, false, Bool, nat_eq, ◌==◌, ◌⊎◌, if◌then◌else◌, filter, slice_get, slice_index, option_map}
 use Rattle.std.proofs.lemmas.Bool.Decides.{eqb_tells}
-use Rattle.sl_net.specs.declared.actor.ActorId.{ActorId}
-use Rattle.sl_net.specs.declared.actor.ActorId.TheVariants.{Control, Unit as OfUnit}
-use Rattle.sl_net.specs.declared.actor.UnitId.{UnitId}
-use Rattle.sl_net.specs.declared.actor.Side.{Side}
-use Rattle.sl_net.specs.declared.actor.Side.TheVariants.{Ingress, Egress}
-use Rattle.sl_net.specs.declared.actor.Sort.{Sort}
-use Rattle.sl_net.specs.declared.actor.Sort.TheVariants.{Crossbar, Init, Poll, Notice, Dump, Begin}
-use Rattle.sl_net.specs.declared.parts.PortRef.{PortRef}
+use Rattle.sl_layout.specs.declared.actor.ActorId.{ActorId}
+use Rattle.sl_layout.specs.declared.actor.ActorId.TheVariants.{Control, Unit as OfUnit}
+use Rattle.sl_layout.specs.declared.actor.UnitId.{UnitId}
+use Rattle.sl_layout.specs.declared.actor.Side.{Side}
+use Rattle.sl_layout.specs.declared.actor.Side.TheVariants.{Ingress, Egress}
+use Rattle.sl_layout.specs.declared.actor.Sort.{Sort}
+use Rattle.sl_layout.specs.declared.actor.Sort.TheVariants.{Crossbar, Init, Poll, Notice, Dump, Begin}
+use Rattle.sl_parts.specs.declared.parts.PortRef.{PortRef}
 use Rattle.sl_net.specs.Parts.{Parts, other_end, host_at, used_ports}
 use Rattle.sl_net.specs.Wired.{IsNet, receives}
 use Rattle.sl_net.specs.Net.{Net, ingress, net_of, actor_of, link_of, links_into, choices_of, action_choice, choice_of, unit_incoming, from_host_or_cable, place_in, units, unit_place}
@@ -19,9 +19,9 @@ use Rattle.sl_net.proofs.Sorts.{IsOut}
 use Rattle.sl_net.proofs.Linked.{is-at}
 use Rattle.sl_net.proofs.ReportWays.{unit-listed, only-is-out}
 use Rattle.sl_control.specs.Wires.{control_of}
-use Rattle.sl_cut.specs.declared.message.Message.{Message}
-use Rattle.sl_cut.specs.declared.message.Message.TheVariants.{Notice as NoticeMsg, Dump as DumpMsg, Begin as BeginMsg}
-use Rattle.sl_cut.specs.declared.message.Step.{Step}
+use Rattle.sl_history.specs.declared.message.Message.{Message}
+use Rattle.sl_history.specs.declared.message.Message.TheVariants.{Notice as NoticeMsg, Dump as DumpMsg, Begin as BeginMsg}
+use Rattle.sl_history.specs.declared.message.Step.{Step}
 use Rattle.sl_cut.specs.History.{World, Losses, history}
 use Rattle.sl_cut.specs.Setup.{Setup}
 use Rattle.sl_cut.specs.Puts.{puts_of, action}

@@ -4,9 +4,9 @@ use Rattle.std.specs.Prelude.{true, false, Bool, nat_lt, nat_eq, map, unwrap_or,
 use Rattle.std.proofs.lemmas.Bool.{lt-ltb, le-ltb, eq-eqb, cases_lt}
 use Rattle.std.proofs.lemmas.Bool.Decides.{eqb_tells}
 use Rattle.sl_saves.specs.Calls.{Call, Adopt, Credited, Credit, Save, saves, number, with_credit, IsRising}
-use Rattle.sl_cut.specs.declared.message.Message.{Message}
-use Rattle.sl_cut.specs.declared.message.Message.TheVariants.{Data}
-use Rattle.sl_cut.specs.declared.message.Step.{Step}
+use Rattle.sl_history.specs.declared.message.Message.{Message}
+use Rattle.sl_history.specs.declared.message.Message.TheVariants.{Data}
+use Rattle.sl_history.specs.declared.message.Step.{Step}
 use Rattle.sl_cut.specs.Words.{Each}
 use Rattle.sl_cut.specs.History.{History, stamp_of, id}
 use Rattle.sl_cut.specs.Counting.{packets, bytes}

@@ -4,9 +4,9 @@ use Rattle.std.proofs.Common.{◌≡◌, ℕ, List, [], ◌∷◌, refl, Some}
 use Rattle.sl_net.specs.declared.input.Packet.{Packet}
 use Rattle.sl_saves.specs.declared.entry.Saved.TheVariants.{Value, Skipped, Miscredited}
 use Rattle.sl_saves.specs.Calls.{Adopt, Credited, saves, saved}
-use Rattle.sl_cut.specs.declared.message.Message.TheVariants.{Data, Probe as ProbeMsg}
-use Rattle.sl_cut.specs.declared.message.Message.{Message}
-use Rattle.sl_cut.specs.declared.message.Step.{Step}
+use Rattle.sl_history.specs.declared.message.Message.TheVariants.{Data, Probe as ProbeMsg}
+use Rattle.sl_history.specs.declared.message.Message.{Message}
+use Rattle.sl_history.specs.declared.message.Step.{Step}
 use Rattle.sl_cut.specs.Findings.{no_total}
 use Rattle.sl_cut.specs.History.{History}
 use Rattle.sl_image.specs.Calls.{calls}

@@ -5,8 +5,8 @@ use Rattle.sl_net.specs.declared.input.Flow.{Flow}
 use Rattle.sl_net.specs.declared.input.Packet.{Packet}
 use Rattle.sl_net.specs.Parts.{below}
 use Rattle.sl_flow.specs.Flow.{packet_in, flow_packets}
-use Rattle.sl_cut.specs.declared.message.Message.{Message}
-use Rattle.sl_cut.specs.declared.message.Message.TheVariants.{Host as HostMsg, Data}
+use Rattle.sl_history.specs.declared.message.Message.{Message}
+use Rattle.sl_history.specs.declared.message.Message.TheVariants.{Host as HostMsg, Data}
 use Rattle.sl_cut.specs.Words.{Each, listed}
 use Rattle.sl_cut.specs.History.{Losses, history, put}
 use Rattle.sl_cut.specs.Frame.{plain_frame, packet_of, is_plain, packet_at}

@@ -6,9 +6,9 @@ use Rattle.sl_net.specs.declared.input.Packet.{Packet}
 use Rattle.sl_saves.specs.declared.entry.Total.{Total}
 use Rattle.sl_saves.specs.Calls.{one_more, total_on, channels}
 use Rattle.sl_saves.specs.Views.{IsFitting}
-use Rattle.sl_cut.specs.declared.message.Message.{Message}
-use Rattle.sl_cut.specs.declared.message.Message.TheVariants.{Data}
-use Rattle.sl_cut.specs.declared.message.Step.{Step}
+use Rattle.sl_history.specs.declared.message.Message.{Message}
+use Rattle.sl_history.specs.declared.message.Message.TheVariants.{Data}
+use Rattle.sl_history.specs.declared.message.Step.{Step}
 use Rattle.sl_cut.specs.declared.verdict.Cause.{Cause}
 use Rattle.sl_cut.specs.declared.verdict.Cause.TheVariants.{Skipped as WasSkipped, Miscredited as WasMiscredited}
 use Rattle.sl_cut.specs.History.{History, id, first}

@@ -6,8 +6,9 @@ use Rattle.sl_net.specs.Input.{Input}
 use Rattle.sl_net.specs.Net.{action_choice}
 use Rattle.sl_flow.specs.Flow.{packets_of}
 use Rattle.sl_wire.specs.Frames.{frame}
+use Rattle.sl_wire.specs.Frames.{plain_frame as wire_frame}
 use Rattle.sl_host.specs.Host.{raws_of}
-use Rattle.sl_host.specs.Host.{plain_frame as plain_there, frames_of as frames_there}
+use Rattle.sl_host.specs.Host.{frames_of as frames_there}
 use Rattle.sl_cut.specs.Frame.{plain_frame}
 use Rattle.sl_cut.specs.History.{Losses, history, taken}
 use Rattle.sl_cut.specs.Setup.{frames_of, setup_of}
@@ -15,11 +16,11 @@ use Rattle.sl_cut.specs.World.{world}
 use Rattle.sl_cut.proofs.Turns.{start-empty}
 use Rattle.sl_image.specs.HostImage.{host_of}
 
-plain-same : (p : Packet) → plain_there p ≡ plain_frame p
+plain-same : (p : Packet) → wire_frame p ≡ plain_frame p
 unfolding frame plain_frame
 plain-same p = refl
 
-map-each : (ps : List Packet) → map plain_there ps ≡ map plain_frame ps
+map-each : (ps : List Packet) → map wire_frame ps ≡ map plain_frame ps
 map-each [] = refl
 map-each (p ∷ ps) = let a = plain-same p in let b = map-each ps in λ i. a i ∷ b i
 

@@ -3,9 +3,9 @@ use Rattle.std.proofs.Common.{◌≡◌, ◌≢◌, ℕ, zero, suc, ◌-◌, ◌
 use Rattle.std.specs.Prelude.{◌⊎◌, true, slice_get, option_map, option_and_then}
 use Rattle.std.proofs.lemmas.Option.{slice_get_within}
 use Rattle.sl_machine.specs.Machine.{After}
-use Rattle.sl_net.specs.declared.actor.ActorId.TheVariants.{Host as OfHost}
-use Rattle.sl_net.specs.declared.actor.Sort.{Sort}
-use Rattle.sl_net.specs.declared.actor.Sort.TheVariants.{FromHost, ToHost, Cable, Crossbar, Init, Poll, Notice, Dump, Begin, Done}
+use Rattle.sl_layout.specs.declared.actor.ActorId.TheVariants.{Host as OfHost}
+use Rattle.sl_layout.specs.declared.actor.Sort.{Sort}
+use Rattle.sl_layout.specs.declared.actor.Sort.TheVariants.{FromHost, ToHost, Cable, Crossbar, Init, Poll, Notice, Dump, Begin, Done}
 use Rattle.sl_net.specs.Net.{Net, actor_of, action_choice, link_of, links_into, links_from, links_out}
 use Rattle.sl_net.specs.Wires.{out_of}
 use Rattle.sl_net.specs.Wired.{IsWired, receives}
@@ -13,9 +13,9 @@ use Rattle.sl_net.proofs.Sorts.{IsInto, is-into}
 use Rattle.sl_wire.specs.declared.message.Msg.{Msg}
 use Rattle.sl_wire.specs.declared.message.Msg.TheVariants as wire
 use Rattle.sl_host.specs.Host.{HostState, one_more, host_take, host_act, sending}
-use Rattle.sl_cut.specs.declared.message.Message.{Message}
-use Rattle.sl_cut.specs.declared.message.Message.TheVariants.{Host as HostMsg, Data, Probe as ProbeMsg, Init as InitMsg, Poll as PollMsg, Notice as NoticeMsg, Dump as DumpMsg, Begin as BeginMsg, Done as DoneMsg}
-use Rattle.sl_cut.specs.declared.message.Step.{Step}
+use Rattle.sl_history.specs.declared.message.Message.{Message}
+use Rattle.sl_history.specs.declared.message.Message.TheVariants.{Host as HostMsg, Data, Probe as ProbeMsg, Init as InitMsg, Poll as PollMsg, Notice as NoticeMsg, Dump as DumpMsg, Begin as BeginMsg, Done as DoneMsg}
+use Rattle.sl_history.specs.declared.message.Step.{Step}
 use Rattle.sl_cut.specs.Fit.{fits, fits_link}
 use Rattle.sl_cut.specs.History.{History, World, Losses, history, taken, put}
 use Rattle.sl_cut.specs.Made.{Ran}
@@ -23,7 +23,8 @@ use Rattle.sl_cut.specs.Puts.{send_all, action}
 use Rattle.sl_cut.specs.Setup.{Setup, frames_of}
 use Rattle.sl_cut.specs.World.{Entry, next_step, step_by, acting, carried, turn, world}
 use Rattle.sl_cut.proofs.Ran.{Takes, Acts, next-view, ran}
-use Rattle.sl_cut.proofs.Sizes.{history_size, world_size}
+use Rattle.sl_cut.proofs.Steps.{history_size}
+use Rattle.sl_cut.proofs.Sizes.{world_size}
 use Rattle.sl_cut.proofs.Stamps.{took-by, acted-by, each-lost, put-fits}
 use Rattle.sl_cut.proofs.Turns.{Steps, turn-cases, taken-this, taken-other, taken-step}
 use Rattle.sl_image.specs.HostImage.{host_of, IsHostOf}

@@ -5,9 +5,9 @@ use Rattle.std.proofs.lemmas.Bool.{lt-ltb, le-ltb, ltb-true, ltb-false, cases_lt
 use Rattle.sl_saves.specs.declared.entry.Saved.TheVariants.{Value, Miscredited}
 use Rattle.sl_saves.specs.Calls.{Credit, greatest, totals, ages}
 use Rattle.sl_saves.proofs.Chains.{any-greatest}
-use Rattle.sl_cut.specs.declared.message.Message.{Message}
-use Rattle.sl_cut.specs.declared.message.Message.TheVariants.{Data}
-use Rattle.sl_cut.specs.declared.message.Step.{Step}
+use Rattle.sl_history.specs.declared.message.Message.{Message}
+use Rattle.sl_history.specs.declared.message.Message.TheVariants.{Data}
+use Rattle.sl_history.specs.declared.message.Step.{Step}
 use Rattle.sl_cut.specs.Words.{least}
 use Rattle.sl_cut.specs.History.{History, id}
 use Rattle.sl_cut.specs.Counting.{packets, bytes}

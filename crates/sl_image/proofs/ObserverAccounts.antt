@@ -4,8 +4,8 @@ use Rattle.std.specs.Prelude.{◌⊎◌, ◌==◌, true, false, nat_eq, if◌the
 use Rattle.std.proofs.lemmas.Bool.Decides.{eqb_tells}
 use Rattle.std.proofs.lemmas.List.{get_or-map}
 use Rattle.std.proofs.lemmas.Option.{slice_get-map}
-use Rattle.sl_net.specs.declared.actor.ActorId.TheVariants.{Unit as OfUnit}
-use Rattle.sl_net.specs.declared.actor.UnitId.{UnitId}
+use Rattle.sl_layout.specs.declared.actor.ActorId.TheVariants.{Unit as OfUnit}
+use Rattle.sl_layout.specs.declared.actor.UnitId.{UnitId}
 use Rattle.sl_net.specs.declared.input.Snapshot.{Snapshot}
 use Rattle.sl_net.specs.Parts.{numbers_from}
 use Rattle.sl_net.specs.Net.{Net, actor_of, units, unit_place, data_channels}
@@ -24,7 +24,7 @@ use Rattle.sl_cut.specs.Knowledge.{observer, known, collected, upto_of, floor_of
 use Rattle.sl_cut.specs.Made.{Ran}
 use Rattle.sl_cut.proofs.Collected.{Reached, lag-of}
 use Rattle.sl_cut.proofs.Near.{least-start, least-each}
-use Rattle.sl_cut.proofs.Packets.{number-found}
+use Rattle.sl_cut.proofs.FoundPackets.{number-found}
 use Rattle.sl_cut.proofs.Prefixes.{first-all}
 use Rattle.sl_cut.proofs.Reported.{knows}
 use Rattle.sl_image.specs.Accounts.{account, accounts}

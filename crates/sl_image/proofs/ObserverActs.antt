@@ -4,8 +4,8 @@ use Rattle.std.specs.Prelude.{◌⊎◌, ◌==◌, ◌&&◌, true, false, Bool, 
 use Rattle.std.proofs.lemmas.Bool.{eqb-true}
 use Rattle.std.proofs.lemmas.Bool.Decides.{eqb_tells}
 use Rattle.sl_machine.specs.Machine.{After}
-use Rattle.sl_net.specs.declared.actor.ActorId.TheVariants.{Observer}
-use Rattle.sl_net.specs.declared.actor.Sort.TheVariants.{Begin as BeginSort}
+use Rattle.sl_layout.specs.declared.actor.ActorId.TheVariants.{Observer}
+use Rattle.sl_layout.specs.declared.actor.Sort.TheVariants.{Begin as BeginSort}
 use Rattle.sl_net.specs.declared.input.Snapshot.{Snapshot}
 use Rattle.sl_net.specs.Parts.{numbers_from}
 use Rattle.sl_net.specs.Net.{Net, link_of, link_numbers, links_into, links_from, links_out, action_choice, units, unit_place, place_in}
@@ -19,9 +19,9 @@ use Rattle.sl_wire.specs.declared.message.Msg.TheVariants as wire
 use Rattle.sl_observe.specs.Least.{least as least_there}
 use Rattle.sl_observe.specs.Observer.{ObserverState, observer_act, issue, resend}
 use Rattle.sl_observe.specs.Observer.{floor_of as floor_there, can_issue as can_issue_there, can_resend as can_resend_there, begin_all as begins_there}
-use Rattle.sl_cut.specs.declared.message.Message.TheVariants.{Begin as BeginMsg}
-use Rattle.sl_cut.specs.declared.message.Put.{Put}
-use Rattle.sl_cut.specs.declared.message.Step.{Step}
+use Rattle.sl_history.specs.declared.message.Message.TheVariants.{Begin as BeginMsg}
+use Rattle.sl_history.specs.declared.message.Put.{Put}
+use Rattle.sl_history.specs.declared.message.Step.{Step}
 use Rattle.sl_cut.specs.History.{History, World, Losses, history, done_of}
 use Rattle.sl_cut.specs.Setup.{Setup}
 use Rattle.sl_cut.specs.Knowledge.{observer, issued, resent, collected, floors, floor, can_issue, can_resend}

@@ -2,10 +2,10 @@
 use Rattle.std.proofs.Common.{◌≡◌, ℕ, ◌<◌, length, refl, sym, ap, subst, ◌∙◌, Some, arith, get_or}
 use Rattle.std.specs.Prelude.{map, slice_get}
 use Rattle.std.proofs.lemmas.Option.{get_or_from_slice_get, slice_get_within}
-use Rattle.sl_net.specs.declared.actor.ActorId.TheVariants.{Observer, Control, Unit as OfUnit}
-use Rattle.sl_net.specs.declared.actor.LinkPart.{LinkPart}
-use Rattle.sl_net.specs.declared.actor.Sort.TheVariants.{Poll, Done}
-use Rattle.sl_net.specs.declared.actor.UnitId.{UnitId}
+use Rattle.sl_layout.specs.declared.actor.ActorId.TheVariants.{Observer, Control, Unit as OfUnit}
+use Rattle.sl_layout.specs.declared.actor.LinkPart.{LinkPart}
+use Rattle.sl_layout.specs.declared.actor.Sort.TheVariants.{Poll, Done}
+use Rattle.sl_layout.specs.declared.actor.UnitId.{UnitId}
 use Rattle.sl_net.specs.Parts.{Parts, below}
 use Rattle.sl_net.specs.Net.{Net, net_of, actors_of, actor_of, link_of, links_into, place_of, choice_of, no_link}
 use Rattle.sl_net.specs.Valid.{IsValid}

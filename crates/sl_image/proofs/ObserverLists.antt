@@ -7,7 +7,8 @@ use Rattle.sl_net.specs.Net.{place_in}
 use Rattle.sl_saves.specs.declared.entry.Saved.{Saved}
 use Rattle.sl_cut.specs.Words.{least, least_in, least_of}
 use Rattle.sl_net.proofs.Lists.{Member, Distinct, inside}
-use Rattle.sl_observe.specs.Least.{least as least_there, least_of as least_of_there}
+use Rattle.sl_wire.specs.Reach.{least_of as least_of_there}
+use Rattle.sl_observe.specs.Least.{least as least_there}
 use Rattle.sl_observe.specs.Observer.{is_after}
 
 -- Places.

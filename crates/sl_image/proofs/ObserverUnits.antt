@@ -5,20 +5,21 @@ use Rattle.std.proofs.lemmas.Bool.{le-leb, and_from}
 use Rattle.std.proofs.lemmas.List.{map-append}
 use Rattle.sl_net.specs.Parts.{numbers_from}
 use Rattle.sl_net.specs.Net.{Net, actor_of, choices_of, data_channels}
-use Rattle.sl_net.specs.declared.actor.Sort.TheVariants.{Init}
+use Rattle.sl_layout.specs.declared.actor.Sort.TheVariants.{Init}
 use Rattle.sl_net.proofs.Counting.{length_numbers}
 use Rattle.sl_net.proofs.Sizes.{length_map-is}
 use Rattle.sl_net.proofs.NetWired.{map-map}
 use Rattle.sl_saves.specs.declared.entry.Saved.{Saved}
 use Rattle.sl_saves.specs.Views.{held_saved}
 use Rattle.sl_wire.specs.declared.message.Done.{Done}
-use Rattle.sl_observe.specs.Least.{least_of as least_of_there}
+use Rattle.sl_wire.specs.Reach.{least_of as least_of_there}
 use Rattle.sl_observe.specs.Observer.{device_of, reached, is_after, is_next, told, heard, first_unit}
+use Rattle.sl_control.specs.Rows.{span}
 use Rattle.sl_cut.specs.Words.{least_of}
 use Rattle.sl_cut.specs.History.{History, id, last}
 use Rattle.sl_cut.specs.Knowledge.{upto_of, floor_of}
 use Rattle.sl_image.specs.Rows.{row}
-use Rattle.sl_image.specs.Messages.{eight, lasts, held_row, span, IsDoneOf}
+use Rattle.sl_image.specs.Messages.{eight, lasts, held_row, IsDoneOf}
 use Rattle.sl_image.specs.ObserverImage.{unit_of}
 use Rattle.sl_cut.proofs.Near.{least-start}
 use Rattle.sl_image.proofs.ObserverLists.{map-numbers, numbers-more, rows-follow, take-front, take-zeros, least-of-same}

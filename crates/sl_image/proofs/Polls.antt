@@ -4,20 +4,20 @@ use Rattle.std.specs.Prelude.{◌⊎◌, true, false, Bool, not, ◌==◌, if◌
 use Rattle.std.proofs.lemmas.Bool.{ne_eqb, lt-ltb, le-ltb, cases_lt}
 use Rattle.std.proofs.lemmas.Bool.Decides.{eqb_tells}
 use Rattle.std.proofs.lemmas.Option.{slice_get_within}
-use Rattle.sl_net.specs.declared.actor.Side.{Side}
-use Rattle.sl_net.specs.declared.actor.Side.TheVariants.{Ingress, Egress}
-use Rattle.sl_net.specs.declared.actor.UnitId.{UnitId}
-use Rattle.sl_net.specs.declared.actor.ActorId.TheVariants.{Control, Unit as OfUnit}
-use Rattle.sl_net.specs.declared.actor.Sort.{Sort}
-use Rattle.sl_net.specs.declared.actor.Sort.TheVariants.{ToHost, Cable, Crossbar, Init, Poll, Notice, Dump, Done}
+use Rattle.sl_layout.specs.declared.actor.Side.{Side}
+use Rattle.sl_layout.specs.declared.actor.Side.TheVariants.{Ingress, Egress}
+use Rattle.sl_layout.specs.declared.actor.UnitId.{UnitId}
+use Rattle.sl_layout.specs.declared.actor.ActorId.TheVariants.{Control, Unit as OfUnit}
+use Rattle.sl_layout.specs.declared.actor.Sort.{Sort}
+use Rattle.sl_layout.specs.declared.actor.Sort.TheVariants.{ToHost, Cable, Crossbar, Init, Poll, Notice, Dump, Done}
 use Rattle.sl_net.specs.declared.input.Packet.{Packet}
 use Rattle.sl_net.specs.Net.{Net, actor_of, link_of, links_into, links_from, link_numbers, links_out, choice_of, action_choice, unit_place, same_sort}
 use Rattle.sl_net.specs.Serving.{Served, serving, served, choice_from}
 use Rattle.sl_net.specs.Wired.{Reports, IsWired}
-use Rattle.sl_cut.specs.declared.message.Message.{Message}
-use Rattle.sl_cut.specs.declared.message.Message.TheVariants.{Host as HostMsg, Data, Probe as ProbeMsg, Init as InitMsg, Poll as PollMsg, Notice as NoticeMsg, Dump as DumpMsg, Begin as BeginMsg, Done as DoneMsg}
-use Rattle.sl_cut.specs.declared.message.Put.{Put}
-use Rattle.sl_cut.specs.declared.message.Step.{Step}
+use Rattle.sl_history.specs.declared.message.Message.{Message}
+use Rattle.sl_history.specs.declared.message.Message.TheVariants.{Host as HostMsg, Data, Probe as ProbeMsg, Init as InitMsg, Poll as PollMsg, Notice as NoticeMsg, Dump as DumpMsg, Begin as BeginMsg, Done as DoneMsg}
+use Rattle.sl_history.specs.declared.message.Put.{Put}
+use Rattle.sl_history.specs.declared.message.Step.{Step}
 use Rattle.sl_cut.specs.Words.{Each, listed, numbers}
 use Rattle.sl_cut.specs.History.{History, World, Losses, history, last, taken, takes, put, on_link, stamp_of, dump_of, done_of, without_lost}
 use Rattle.sl_cut.specs.Setup.{Setup}

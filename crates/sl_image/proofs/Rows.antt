@@ -6,9 +6,9 @@ use Rattle.std.proofs.lemmas.Bool.{lt-ltb, le-ltb, eq-eqb, ne_eqb, cases_lt, cas
 use Rattle.std.proofs.lemmas.Bool.Decides.{nat_tests}
 use Rattle.sl_saves.specs.Calls.{Credit, saves, saved, judged, is_above, is_miscredit}
 use Rattle.sl_saves.proofs.Chains.{IsChain, chain-saves}
-use Rattle.sl_cut.specs.declared.message.Message.{Message}
-use Rattle.sl_cut.specs.declared.message.Message.TheVariants.{Data}
-use Rattle.sl_cut.specs.declared.message.Step.{Step}
+use Rattle.sl_history.specs.declared.message.Message.{Message}
+use Rattle.sl_history.specs.declared.message.Message.TheVariants.{Data}
+use Rattle.sl_history.specs.declared.message.Step.{Step}
 use Rattle.sl_cut.specs.Words.{Each, least}
 use Rattle.sl_cut.specs.History.{History, id}
 use Rattle.sl_cut.specs.Verdict.{is_old_data, skipped_to, miscredits, first_cause}

@@ -4,8 +4,8 @@ use Rattle.std.specs.Prelude.{true, false, Bool, if◌then◌else◌, slice_inde
 use Rattle.sl_net.specs.declared.input.Packet.{Packet}
 use Rattle.sl_net.specs.Parts.{below}
 use Rattle.sl_flow.specs.Flow.{packet_in}
-use Rattle.sl_cut.specs.declared.message.Message.{Message}
-use Rattle.sl_cut.specs.declared.message.Message.TheVariants.{Host as HostMsg}
+use Rattle.sl_history.specs.declared.message.Message.{Message}
+use Rattle.sl_history.specs.declared.message.Message.TheVariants.{Host as HostMsg}
 use Rattle.sl_cut.specs.Words.{Each}
 use Rattle.sl_cut.specs.History.{Losses, history}
 use Rattle.sl_cut.specs.Frame.{plain_frame, packet_of, number_at, is_plain, packet_at}

@@ -6,8 +6,8 @@ use Rattle.std.proofs.lemmas.Bool.Decides.{eqb_tells}
 use Rattle.std.proofs.lemmas.List.{set-append_left, get_or_append_left, get_or-take, length-map}
 use Rattle.sl_net.specs.Net.{place_in}
 use Rattle.sl_net.proofs.Lists.{Member, Distinct, each-of}
-use Rattle.sl_cut.specs.declared.message.Message.{Message}
-use Rattle.sl_cut.specs.declared.message.Step.{Step}
+use Rattle.sl_history.specs.declared.message.Message.{Message}
+use Rattle.sl_history.specs.declared.message.Step.{Step}
 use Rattle.sl_cut.specs.History.{History, stamp_of, last}
 use Rattle.sl_image.specs.Messages.{eight}
 use Rattle.sl_image.proofs.Entries.{map-each}

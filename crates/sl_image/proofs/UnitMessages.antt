@@ -2,11 +2,11 @@
 use Rattle.std.proofs.Common.{◌≡◌, ℕ, suc, ◌+◌, ◌^◌, ◌<◌, ◌≤◌, List, [], ◌∷◌, ◌++◌, length, refl, sym, ap, subst, ◌∙◌, Option, Some, None, arith}
 use Rattle.std.specs.Prelude.{true, false, Bool, not, ◌&&◌, slice_index_or, ◌==◌, if◌then◌else◌, is_none, unwrap_or, option_map}
 use Rattle.std.proofs.lemmas.Bool.{lt-ltb}
-use Rattle.sl_net.specs.declared.actor.Side.{Side}
-use Rattle.sl_net.specs.declared.actor.Side.TheVariants.{Ingress, Egress}
-use Rattle.sl_net.specs.declared.actor.Sort.TheVariants.{ToHost, Cable as CableSort, Crossbar as CrossbarSort, Init as InitSort, Dump as DumpSort}
-use Rattle.sl_net.specs.declared.actor.ActorId.TheVariants.{Unit as OfUnit}
-use Rattle.sl_net.specs.declared.actor.UnitId.{UnitId}
+use Rattle.sl_layout.specs.declared.actor.Side.{Side}
+use Rattle.sl_layout.specs.declared.actor.Side.TheVariants.{Ingress, Egress}
+use Rattle.sl_layout.specs.declared.actor.Sort.TheVariants.{ToHost, Cable as CableSort, Crossbar as CrossbarSort, Init as InitSort, Dump as DumpSort}
+use Rattle.sl_layout.specs.declared.actor.ActorId.TheVariants.{Unit as OfUnit}
+use Rattle.sl_layout.specs.declared.actor.UnitId.{UnitId}
 use Rattle.sl_net.specs.declared.input.Packet.{Packet}
 use Rattle.sl_net.specs.declared.input.Snapshot.{Snapshot}
 use Rattle.sl_net.specs.Net.{Net, actor_of, links_out, data_channels, choices_of, place_in}
@@ -21,11 +21,11 @@ use Rattle.sl_unit.specs.declared.registers.Channel.TheVariants.{Cpu, Upstream}
 use Rattle.sl_unit.specs.Registers.{Registers, more, dump_of, after_stamp, after_data}
 use Rattle.sl_unit.specs.Registers.{counted as counted_by}
 use Rattle.sl_unit.specs.Step.{UnitState, take_at, framed, routed, passed, probed, initiated, absorbed, send}
-use Rattle.sl_unit.specs.Step.{plain_frame as unit_frame}
-use Rattle.sl_cut.specs.declared.message.Message.{Message}
-use Rattle.sl_cut.specs.declared.message.Message.TheVariants.{Host as HostMsg, Data, Probe as ProbeMsg, Init as InitMsg, Poll as PollMsg, Dump as DumpMsg}
-use Rattle.sl_cut.specs.declared.message.Put.{Put}
-use Rattle.sl_cut.specs.declared.message.Step.{Step}
+use Rattle.sl_wire.specs.Frames.{plain_frame as wire_frame}
+use Rattle.sl_history.specs.declared.message.Message.{Message}
+use Rattle.sl_history.specs.declared.message.Message.TheVariants.{Host as HostMsg, Data, Probe as ProbeMsg, Init as InitMsg, Poll as PollMsg, Dump as DumpMsg}
+use Rattle.sl_history.specs.declared.message.Put.{Put}
+use Rattle.sl_history.specs.declared.message.Step.{Step}
 use Rattle.sl_cut.specs.Words.{tally}
 use Rattle.sl_cut.specs.World.{taking}
 use Rattle.sl_cut.specs.History.{History, stamp_of, id, last, first}
@@ -165,9 +165,9 @@ crossbar-data net table u d p us told c k own q ps h saved g m out = of_moves (d
         refl lo (takeable-near table.window c k (slice_index_or (eight (lasts net u h)) (place net u c) 0) h lo (g.near k refl))
         (stands net table u d p Egress (taking c (Data k q) ps ∷ h) 0 0 0 (after_data (place net u c) k q (regs_at net u d Egress h saved)) g.actor v refl refl refl)
         (sent-append net table.ring us u told (send_all (Data (id (taking c (Data k q) ps ∷ h)) q) (links_out net u CableSort)) (send_all (HostMsg (plain_frame q)) (links_out net u ToHost))
-        (send (wires_at net u d Egress table) (All CableSort) (wire.Data (after_data (place net u c) k q (regs_at net u d Egress h saved)).id q)) (send (wires_at net u d Egress table) (All ToHost) (wire.Host (unit_frame q)))
+        (send (wires_at net u d Egress table) (All CableSort) (wire.Data (after_data (place net u c) k q (regs_at net u d Egress h saved)).id q)) (send (wires_at net u d Egress table) (All ToHost) (wire.Host (wire_frame q)))
         (sort-sent net table.ring us u told (Data (id (taking c (Data k q) ps ∷ h)) q) (wire.Data (after_data (place net u c) k q (regs_at net u d Egress h saved)).id q) CableSort (wires_at net u d Egress table) refl (ap (λ r. wire.Data r.id q) v.is))
-        (sort-sent net table.ring us u told (HostMsg (plain_frame q)) (wire.Host (unit_frame q)) ToHost (wires_at net u d Egress table) refl (ap wire.Host (frame-is q))))
+        (sort-sent net table.ring us u told (HostMsg (plain_frame q)) (wire.Host (wire_frame q)) ToHost (wires_at net u d Egress table) refl (ap wire.Host (frame-is q))))
 
 pub crossbar-probe : (net : Net) (table : Snapshot) (u d p : ℕ) (us : ℕ → History) (told : ℕ → ℕ) (c k : ℕ) (own : Bool) (ps : List Put) (h : History) (saved : Listed)
     → IsGiven net table u d p Egress c h saved (ProbeMsg k) → Member c (data_channels net u) → (Member c (choices_of net u InitSort) → ⊥)

@@ -4,8 +4,8 @@
 use Rattle.std.proofs.Common.{◌≡◌, ℕ, ◌+◌, ◌-◌, ◌^◌, ◌<◌, ◌≤◌, List, [], ◌∷◌, ◌++◌, length, refl, sym, ap, subst, ◌∙◌, Some, None, arith, inl, inr}
 use Rattle.std.specs.Prelude.{◌⊎◌, max, map, if◌then◌else◌, unwrap_or, option_map}
 use Rattle.std.proofs.lemmas.Bool.{lt-ltb, le-ltb, cases_lt}
-use Rattle.sl_net.specs.declared.actor.Sort.TheVariants.{Init}
-use Rattle.sl_net.specs.declared.actor.UnitId.{UnitId}
+use Rattle.sl_layout.specs.declared.actor.Sort.TheVariants.{Init}
+use Rattle.sl_layout.specs.declared.actor.UnitId.{UnitId}
 use Rattle.sl_net.specs.declared.input.Packet.{Packet}
 use Rattle.sl_net.specs.Net.{Net, data_channels, choices_of, place_in}
 use Rattle.sl_net.proofs.Lists.{Member, Distinct}
@@ -14,10 +14,10 @@ use Rattle.sl_saves.specs.Keeping.{Listed, IsListed, list_adopted, list_credited
 use Rattle.sl_saves.proofs.Lists.{list-adopt, list-credit}
 use Rattle.sl_unit.specs.declared.registers.Channel.TheVariants.{Cpu, Upstream}
 use Rattle.sl_unit.specs.Registers.{Registers, more, adopted, credited, seen, counted, after_stamp, after_data}
-use Rattle.sl_cut.specs.declared.message.Message.{Message}
-use Rattle.sl_cut.specs.declared.message.Message.TheVariants.{Data, Probe as ProbeMsg, Init as InitMsg}
-use Rattle.sl_cut.specs.declared.message.Put.{Put}
-use Rattle.sl_cut.specs.declared.message.Step.{Step}
+use Rattle.sl_history.specs.declared.message.Message.{Message}
+use Rattle.sl_history.specs.declared.message.Message.TheVariants.{Data, Probe as ProbeMsg, Init as InitMsg}
+use Rattle.sl_history.specs.declared.message.Put.{Put}
+use Rattle.sl_history.specs.declared.message.Step.{Step}
 use Rattle.sl_cut.specs.World.{taking}
 use Rattle.sl_cut.specs.History.{History, stamp_of, id}
 use Rattle.sl_cut.specs.Counting.{packets, bytes, bad, expired, noroute}

@@ -1,30 +1,30 @@
 -- Puts of a machine that stand for those of a step.
 use Rattle.std.proofs.Common.{◌≡◌, ℕ, List, [], ◌∷◌, ◌++◌, refl, sym, ap, subst, ◌∙◌, append-nil}
 use Rattle.std.specs.Prelude.{map, true, false, Bool, if◌then◌else◌}
-use Rattle.sl_net.specs.declared.actor.Sort.{Sort}
+use Rattle.sl_layout.specs.declared.actor.Sort.{Sort}
 use Rattle.sl_net.specs.Net.{Net, links_out}
 use Rattle.sl_net.specs.Wires.{out_of}
 use Rattle.sl_wire.specs.declared.message.Msg.{Msg}
 use Rattle.sl_unit.specs.declared.wires.Way.TheVariants.{All, Toward}
 use Rattle.sl_unit.specs.Wires.{Wires, outs}
 use Rattle.sl_unit.specs.Made.{exits_of}
-use Rattle.sl_unit.specs.Step.{Sent, send}
-use Rattle.sl_unit.specs.Step.{send_all as sent_all}
+use Rattle.sl_unit.specs.Step.{send}
+use Rattle.sl_machine.specs.Machine.{send_all as sent_all}
 use Rattle.sl_unit.proofs.Numbers.{sorts_are, toward_are}
-use Rattle.sl_cut.specs.declared.message.Message.{Message}
-use Rattle.sl_cut.specs.declared.message.Put.{Put}
+use Rattle.sl_history.specs.declared.message.Message.{Message}
+use Rattle.sl_history.specs.declared.message.Put.{Put}
 use Rattle.sl_cut.specs.History.{History}
 use Rattle.sl_cut.specs.Puts.{send_all, crossbar_to}
 use Rattle.sl_image.specs.Messages.{IsMessage, AreSent}
 
-pub sent-append : (net : Net) (ring : ℕ) (us : ℕ → History) (a : ℕ) (told : ℕ → ℕ) (ps qs : List Put) (xs ys : Sent) → AreSent net ring us a told ps xs → AreSent net ring us a told qs ys
+pub sent-append : (net : Net) (ring : ℕ) (us : ℕ → History) (a : ℕ) (told : ℕ → ℕ) (ps qs : List Put) (xs ys : List (ℕ × Msg)) → AreSent net ring us a told ps xs → AreSent net ring us a told qs ys
     → AreSent net ring us a told (ps ++ qs) (xs ++ ys)
 sent-append net ring us a told [] qs [] ys h k = k
 sent-append net ring us a told (p ∷ ps) qs (x ∷ xs) ys h k = (h.0, sent-append net ring us a told ps qs xs ys h.1 k)
 sent-append net ring us a told [] qs (x ∷ xs) ys h k = absurd h
 sent-append net ring us a told (p ∷ ps) qs [] ys h k = absurd h
 
-pub sent-nil : (net : Net) (ring : ℕ) (us : ℕ → History) (a : ℕ) (told : ℕ → ℕ) (ps : List Put) (xs : Sent) → AreSent net ring us a told ps xs → AreSent net ring us a told (ps ++ []) xs
+pub sent-nil : (net : Net) (ring : ℕ) (us : ℕ → History) (a : ℕ) (told : ℕ → ℕ) (ps : List Put) (xs : List (ℕ × Msg)) → AreSent net ring us a told ps xs → AreSent net ring us a told (ps ++ []) xs
 sent-nil net ring us a told ps xs h = subst (λ qs. AreSent net ring us a told qs xs) (sym (append-nil ps)) h
 
 -- a message on some links
@@ -43,10 +43,10 @@ pub toward-sent : (net : Net) (ring : ℕ) (us : ℕ → History) (a : ℕ) (tol
     → AreSent net ring us a told (send_all m (crossbar_to net a d port)) (send w (Toward d port) x)
 toward-sent net ring us a told m x d port w e h = subst (λ os. AreSent net ring us a told (send_all m (crossbar_to net a d port)) (sent_all x os)) (sym (ap (λ es. outs (Toward d port) es) e ∙ toward_are net a d port)) (sends-are net ring us a told m x (crossbar_to net a d port) h)
 
-pub sent-if : (net : Net) (ring : ℕ) (us : ℕ → History) (a : ℕ) (told : ℕ → ℕ) (b : Bool) (ps : List Put) (xs : Sent) → AreSent net ring us a told ps xs → AreSent net ring us a told (if b then ps else []) (if b then xs else [])
+pub sent-if : (net : Net) (ring : ℕ) (us : ℕ → History) (a : ℕ) (told : ℕ → ℕ) (b : Bool) (ps : List Put) (xs : List (ℕ × Msg)) → AreSent net ring us a told ps xs → AreSent net ring us a told (if b then ps else []) (if b then xs else [])
 sent-if net ring us a told true ps xs h = h
 sent-if net ring us a told false ps xs h = tt
 
-pub sent-unless : (net : Net) (ring : ℕ) (us : ℕ → History) (a : ℕ) (told : ℕ → ℕ) (b : Bool) (ps : List Put) (xs : Sent) → AreSent net ring us a told ps xs → AreSent net ring us a told (if b then [] else ps) (if b then [] else xs)
+pub sent-unless : (net : Net) (ring : ℕ) (us : ℕ → History) (a : ℕ) (told : ℕ → ℕ) (b : Bool) (ps : List Put) (xs : List (ℕ × Msg)) → AreSent net ring us a told ps xs → AreSent net ring us a told (if b then [] else ps) (if b then [] else xs)
 sent-unless net ring us a told true ps xs h = tt
 sent-unless net ring us a told false ps xs h = h

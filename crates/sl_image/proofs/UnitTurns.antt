@@ -6,11 +6,11 @@ use Rattle.std.proofs.lemmas.Bool.{le-leb, cases_lt}
 use Rattle.std.proofs.lemmas.List.{length-map}
 use Rattle.std.proofs.lemmas.Option.{slice_get-get_or, slice_get_past}
 use Rattle.sl_machine.specs.Machine.{After}
-use Rattle.sl_net.specs.declared.actor.Side.{Side}
-use Rattle.sl_net.specs.declared.actor.Side.TheVariants.{Ingress, Egress}
-use Rattle.sl_net.specs.declared.actor.Sort.TheVariants.{Notice as NoticeSort}
-use Rattle.sl_net.specs.declared.actor.ActorId.TheVariants.{Unit as OfUnit}
-use Rattle.sl_net.specs.declared.actor.UnitId.{UnitId}
+use Rattle.sl_layout.specs.declared.actor.Side.{Side}
+use Rattle.sl_layout.specs.declared.actor.Side.TheVariants.{Ingress, Egress}
+use Rattle.sl_layout.specs.declared.actor.Sort.TheVariants.{Notice as NoticeSort}
+use Rattle.sl_layout.specs.declared.actor.ActorId.TheVariants.{Unit as OfUnit}
+use Rattle.sl_layout.specs.declared.actor.UnitId.{UnitId}
 use Rattle.sl_net.specs.declared.input.Packet.{Packet}
 use Rattle.sl_net.specs.declared.input.Snapshot.{Snapshot}
 use Rattle.sl_net.specs.Parts.{Parts, below}
@@ -27,8 +27,8 @@ use Rattle.sl_unit.specs.Registers.{Registers, more, last_on, is_near}
 use Rattle.sl_unit.specs.Made.{device_of, entrances_of, exits_of, ports_of}
 use Rattle.sl_unit.specs.declared.wires.Way.TheVariants.{All}
 use Rattle.sl_unit.specs.Step.{UnitState, onward, routed, stamped, notices, ignored, send}
-use Rattle.sl_cut.specs.declared.message.Message.TheVariants.{Data, Notice as NoticeMsg}
-use Rattle.sl_cut.specs.declared.message.Put.{Put}
+use Rattle.sl_history.specs.declared.message.Message.TheVariants.{Data, Notice as NoticeMsg}
+use Rattle.sl_history.specs.declared.message.Put.{Put}
 use Rattle.sl_cut.specs.History.{History, id, last}
 use Rattle.sl_cut.specs.Puts.{send_all, route, notice_puts}
 use Rattle.sl_cut.specs.Puts.{onward as puts_onward}

@@ -2,12 +2,12 @@
 use Rattle.std.proofs.Common.{◌≡◌, ℕ, zero, suc, ◌-◌, ◌^◌, ◌<◌, ◌≤◌, List, [], ◌∷◌, ◌++◌, length, refl, sym, ap, subst, ◌∙◌, Option, Some, None, arith, inl, inr}
 use Rattle.std.specs.Prelude.{◌⊎◌, true, slice_get, take, replicate, map, unwrap_or, option_map, option_and_then}
 use Rattle.std.proofs.lemmas.List.{length-map, length-set}
-use Rattle.sl_net.specs.declared.actor.ActorId.{ActorId}
-use Rattle.sl_net.specs.declared.actor.ActorId.TheVariants.{Unit as OfUnit}
-use Rattle.sl_net.specs.declared.actor.Side.{Side}
-use Rattle.sl_net.specs.declared.actor.Side.TheVariants.{Ingress, Egress}
-use Rattle.sl_net.specs.declared.actor.Sort.TheVariants.{Init}
-use Rattle.sl_net.specs.declared.actor.UnitId.{UnitId}
+use Rattle.sl_layout.specs.declared.actor.ActorId.{ActorId}
+use Rattle.sl_layout.specs.declared.actor.ActorId.TheVariants.{Unit as OfUnit}
+use Rattle.sl_layout.specs.declared.actor.Side.{Side}
+use Rattle.sl_layout.specs.declared.actor.Side.TheVariants.{Ingress, Egress}
+use Rattle.sl_layout.specs.declared.actor.Sort.TheVariants.{Init}
+use Rattle.sl_layout.specs.declared.actor.UnitId.{UnitId}
 use Rattle.sl_net.specs.declared.input.Snapshot.{Snapshot}
 use Rattle.sl_net.specs.Net.{Net, actor_of, link_of, links_into, data_channels, choices_of, action_choice}
 use Rattle.sl_net.specs.Wired.{IsNet, IsWired, receives, unit_receives}
@@ -16,9 +16,9 @@ use Rattle.sl_wire.specs.declared.message.Msg.{Msg}
 use Rattle.sl_unit.specs.Made.{IsRanged}
 use Rattle.sl_unit.specs.Registers.{first_registers}
 use Rattle.sl_unit.specs.Step.{UnitState, unit_take}
-use Rattle.sl_cut.specs.declared.message.Message.{Message}
-use Rattle.sl_cut.specs.declared.message.Put.{Put}
-use Rattle.sl_cut.specs.declared.message.Step.{Step}
+use Rattle.sl_history.specs.declared.message.Message.{Message}
+use Rattle.sl_history.specs.declared.message.Put.{Put}
+use Rattle.sl_history.specs.declared.message.Step.{Step}
 use Rattle.sl_cut.specs.History.{History, World, Losses, history, stamp_of, taken, put}
 use Rattle.sl_cut.specs.Setup.{Setup}
 use Rattle.sl_cut.specs.Counting.{counted_in}
@@ -29,7 +29,8 @@ use Rattle.sl_cut.proofs.Turns.{kept_by_run, Steps, grows-after, stepped, next-w
 use Rattle.sl_cut.proofs.Ran.{Takes, Acts, next-view, ran}
 use Rattle.sl_cut.proofs.Near.{in-window}
 use Rattle.sl_cut.proofs.Stamps.{each-lost, put-fits}
-use Rattle.sl_cut.proofs.Sizes.{history_size, world_size}
+use Rattle.sl_cut.proofs.Steps.{history_size}
+use Rattle.sl_cut.proofs.Sizes.{world_size}
 use Rattle.sl_image.specs.Messages.{IsMessage, AreSent}
 use Rattle.sl_image.specs.Short.{TakesShort, SendsShort}
 use Rattle.sl_image.specs.Window.{IsTakeable}

@@ -5,9 +5,9 @@ use Rattle.std.specs.Prelude.{ℕ, ◌-◌, List, [], ◌∷◌, ◌++◌, map, 
 use Rattle.sl_net.specs.declared.input.Packet.{Packet}
 use Rattle.sl_net.specs.Net.{place_in}
 use Rattle.sl_saves.specs.Calls.{Call, Adopt, Credited, Credit}
-use Rattle.sl_cut.specs.declared.message.Message.{Message}
-use Rattle.sl_cut.specs.declared.message.Message.TheVariants.{Data}
-use Rattle.sl_cut.specs.declared.message.Step.{Step}
+use Rattle.sl_history.specs.declared.message.Message.{Message}
+use Rattle.sl_history.specs.declared.message.Message.TheVariants.{Data}
+use Rattle.sl_history.specs.declared.message.Step.{Step}
 use Rattle.sl_cut.specs.History.{History, id}
 use Rattle.sl_cut.specs.Counting.{packets, bytes}
 

@@ -6,7 +6,7 @@ use Rattle.std.specs.Prelude.{◌≡◌, ℕ, List, Option, Some}
 use Rattle.sl_machine.specs.Machine.{After}
 use Rattle.sl_net.specs.Net.{Net}
 use Rattle.sl_wire.specs.declared.message.Msg.{Msg}
-use Rattle.sl_cut.specs.declared.message.Put.{Put}
+use Rattle.sl_history.specs.declared.message.Put.{Put}
 use Rattle.sl_cut.specs.History.{History}
 use Rattle.sl_image.specs.Messages.{AreSent}
 

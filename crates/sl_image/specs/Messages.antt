@@ -4,9 +4,8 @@
 --     IsMessage net ring us a told m x   x stands for the message m that the actor a puts
 --     AreSent net ring us a told ps xs   the puts of a machine stand for those of a step
 -- told gives for the place of each unit how many of its steps were told before.
-use Rattle.std.specs.Prelude.{◌≡◌, ℕ, suc, ◌-◌, List, [], ◌∷◌, ◌++◌, map, take, length, replicate, slice_index, slice_get, option_map, unwrap_or}
-use Rattle.sl_net.specs.declared.actor.Sort.TheVariants.{Init as InitSort}
-use Rattle.sl_net.specs.Parts.{numbers_from}
+use Rattle.std.specs.Prelude.{◌≡◌, ℕ, List, [], ◌∷◌, ◌++◌, map, take, length, replicate, slice_index, slice_get, option_map, unwrap_or}
+use Rattle.sl_layout.specs.declared.actor.Sort.TheVariants.{Init as InitSort}
 use Rattle.sl_net.specs.Net.{Net, units, unit_place, data_channels, choices_of}
 use Rattle.sl_net.specs.Wires.{out_of}
 use Rattle.sl_saves.specs.declared.entry.Saved.{Saved}
@@ -15,9 +14,10 @@ use Rattle.sl_wire.specs.declared.message.PlainDump.{PlainDump}
 use Rattle.sl_wire.specs.declared.message.Done.{Done}
 use Rattle.sl_wire.specs.declared.message.Msg.{Msg}
 use Rattle.sl_wire.specs.declared.message.Msg.TheVariants as wire
-use Rattle.sl_cut.specs.declared.message.Message.{Message}
-use Rattle.sl_cut.specs.declared.message.Message.TheVariants.{Host, Data, Probe, Init, Poll, Notice, Dump as DumpMsg, Begin, Done as DoneMsg}
-use Rattle.sl_cut.specs.declared.message.Put.{Put}
+use Rattle.sl_control.specs.Rows.{span}
+use Rattle.sl_history.specs.declared.message.Message.{Message}
+use Rattle.sl_history.specs.declared.message.Message.TheVariants.{Host, Data, Probe, Init, Poll, Notice, Dump as DumpMsg, Begin, Done as DoneMsg}
+use Rattle.sl_history.specs.declared.message.Put.{Put}
 use Rattle.sl_cut.specs.History.{History, id, last, first}
 use Rattle.sl_cut.specs.Knowledge.{upto_of, floor_of}
 use Rattle.sl_image.specs.Calls.{calls}
@@ -45,10 +45,6 @@ pub record IsDumpOf (net : Net) (ring u : ℕ) (g : History) (d : PlainDump) : T
 -- a number with its row, as slots hold it
 abbrev pub held_row : Net → ℕ → History → ℕ → ℕ × Saved
 held_row net u g k = (k, held_saved (row (data_channels net u) k g))
-
--- the numbers above a, up to b
-abbrev pub span : ℕ → ℕ → List ℕ
-span a b = numbers_from (suc a) (b - a)
 
 pub record IsDoneOf (net : Net) (u : ℕ) (before now : History) (d : Done) : Type 0 where
   pub unit : d.unit ≡ unit_place net u

@@ -1,6 +1,6 @@
 -- Lengths of packets.
 use Rattle.std.specs.Prelude.{◌<◌, ◌^◌, unwrap_or, option_map}
-use Rattle.sl_cut.specs.declared.message.Message.{Message}
+use Rattle.sl_history.specs.declared.message.Message.{Message}
 use Rattle.sl_cut.specs.Words.{Each}
 use Rattle.sl_cut.specs.History.{History}
 use Rattle.sl_cut.specs.Counting.{counted_in, counted}

@@ -4,9 +4,9 @@
 --     FollowsStep ..                 the state after a step stands for the history after it, and the puts for its puts
 use Rattle.std.specs.Prelude.{◌≡◌, ℕ, List}
 use Rattle.sl_machine.specs.Machine.{After}
-use Rattle.sl_net.specs.declared.actor.Side.{Side}
-use Rattle.sl_net.specs.declared.actor.Side.TheVariants.{Ingress, Egress}
-use Rattle.sl_net.specs.declared.actor.UnitId.{UnitId}
+use Rattle.sl_layout.specs.declared.actor.Side.{Side}
+use Rattle.sl_layout.specs.declared.actor.Side.TheVariants.{Ingress, Egress}
+use Rattle.sl_layout.specs.declared.actor.UnitId.{UnitId}
 use Rattle.sl_net.specs.declared.input.Snapshot.{Snapshot}
 use Rattle.sl_net.specs.Net.{Net, data_channels}
 use Rattle.sl_saves.specs.Calls.{Call}
@@ -15,7 +15,7 @@ use Rattle.sl_wire.specs.declared.message.Msg.{Msg}
 use Rattle.sl_unit.specs.Registers.{Registers}
 use Rattle.sl_unit.specs.Step.{UnitState}
 use Rattle.sl_unit.specs.Made.{ingress_state, egress_state}
-use Rattle.sl_cut.specs.declared.message.Put.{Put}
+use Rattle.sl_history.specs.declared.message.Put.{Put}
 use Rattle.sl_cut.specs.History.{History, id}
 use Rattle.sl_cut.specs.Counting.{packets, bytes, bad, expired, noroute}
 use Rattle.sl_image.specs.Calls.{calls}

@@ -1,14 +1,14 @@
 // The machine of a control plane stands for its history, over all schedules and losses. The
 // functions do nothing: their contracts are the laws, and the proofs are in proofs/.
 ghost use Rattle.std.specs.Prelude.{◌≡◌, ◌≢◌, ℕ, ◌≤◌, List, Some, None};
-ghost use Rattle.sl_net.specs.declared.actor.ActorId.TheVariants.{Control};
+ghost use Rattle.sl_layout.specs.declared.actor.ActorId.TheVariants.{Control};
 ghost use Rattle.sl_net.specs.Net.{Net, actor_of, link_of, link_at};
 ghost use Rattle.sl_net.specs.Wired.{IsNet};
 ghost use Rattle.sl_wire.specs.declared.message.Msg.{Msg};
 ghost use Rattle.sl_control.specs.Control.{ControlState, control_take, control_act};
 ghost use Rattle.sl_control.specs.Wires.{control_of, first_control};
-ghost use Rattle.sl_cut.specs.declared.message.Message.{Message};
-ghost use Rattle.sl_cut.specs.declared.message.Step.{Step};
+ghost use Rattle.sl_history.specs.declared.message.Message.{Message};
+ghost use Rattle.sl_history.specs.declared.message.Step.{Step};
 ghost use Rattle.sl_cut.specs.History.{Losses, history};
 ghost use Rattle.sl_cut.specs.Setup.{Setup};
 ghost use Rattle.sl_cut.specs.World.{Entry, start, next_step, turn, world};

@@ -1,14 +1,14 @@
 // A host's machine stands for the host's history. The functions do nothing: their contracts are the
 // laws, and the proofs are in proofs/.
 ghost use Rattle.std.specs.Prelude.{◌≡◌, ◌≢◌, ◌<◌, ◌^◌, ℕ, [], List, length, Some, None, slice_get};
-ghost use Rattle.sl_net.specs.declared.actor.ActorId.TheVariants.{Host as OfHost};
+ghost use Rattle.sl_layout.specs.declared.actor.ActorId.TheVariants.{Host as OfHost};
 ghost use Rattle.sl_net.specs.Input.{Input};
 ghost use Rattle.sl_net.specs.Net.{Net, action_choice, links_into, links_from};
 ghost use Rattle.sl_net.specs.Wired.{IsNet};
 ghost use Rattle.sl_wire.specs.declared.message.Msg.{Msg};
 ghost use Rattle.sl_host.specs.Host.{HostState, frames_of, host_take, host_act};
-ghost use Rattle.sl_cut.specs.declared.message.Message.{Message};
-ghost use Rattle.sl_cut.specs.declared.message.Step.{Step};
+ghost use Rattle.sl_history.specs.declared.message.Message.{Message};
+ghost use Rattle.sl_history.specs.declared.message.Step.{Step};
 ghost use Rattle.sl_cut.specs.History.{Losses, history};
 ghost use Rattle.sl_cut.specs.Setup.{Setup, setup_of};
 ghost use Rattle.sl_cut.specs.World.{Entry, next_step, turn, world};

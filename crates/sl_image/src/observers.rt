@@ -1,8 +1,8 @@
 // The observer's machine stands for the histories of a world. The functions do nothing: their
 // contracts are the laws, and the proofs are in proofs/.
 ghost use Rattle.std.specs.Prelude.{◌≡◌, ◌≢◌, ◌≤◌, ◌<◌, ◌+◌, ◌^◌, ℕ, [], List, length, map, Some, None};
-ghost use Rattle.sl_net.specs.declared.actor.UnitId.{UnitId};
-ghost use Rattle.sl_net.specs.declared.actor.ActorId.TheVariants.{Unit as OfUnit};
+ghost use Rattle.sl_layout.specs.declared.actor.UnitId.{UnitId};
+ghost use Rattle.sl_layout.specs.declared.actor.ActorId.TheVariants.{Unit as OfUnit};
 ghost use Rattle.sl_net.specs.declared.input.Snapshot.{Snapshot};
 ghost use Rattle.sl_net.specs.Parts.{numbers_from};
 ghost use Rattle.sl_net.specs.Net.{actor_of, action_choice, units, unit_place, data_channels};
@@ -10,8 +10,8 @@ ghost use Rattle.sl_net.specs.Wired.{IsNet};
 ghost use Rattle.sl_wire.specs.declared.message.Msg.{Msg};
 ghost use Rattle.sl_observe.specs.Observer.{ObserverState, first_state, observer_take, observer_act, unit_at, seen_of, saved_of};
 ghost use Rattle.sl_observe.specs.Observer.{floor_of as floor_told};
-ghost use Rattle.sl_cut.specs.declared.message.Message.{Message};
-ghost use Rattle.sl_cut.specs.declared.message.Step.{Step};
+ghost use Rattle.sl_history.specs.declared.message.Message.{Message};
+ghost use Rattle.sl_history.specs.declared.message.Step.{Step};
 ghost use Rattle.sl_cut.specs.History.{Losses, history, id};
 ghost use Rattle.sl_cut.specs.Setup.{Setup};
 ghost use Rattle.sl_cut.specs.Knowledge.{observer, collected, issued, resent, upto_of, unit_floor, floor};

@@ -1,13 +1,13 @@
 // Laws of what is reported of units, over all schedules and losses. The functions do nothing: their
 // contracts are the laws, and the proofs are in proofs/.
 ghost use Rattle.std.specs.Prelude.{◌≡◌, ℕ, ◌<◌, ◌≤◌, List, ◌++◌, length, true, Some};
-ghost use Rattle.sl_net.specs.declared.actor.UnitId.{UnitId};
-ghost use Rattle.sl_net.specs.declared.actor.ActorId.TheVariants.{Control, Unit as OfUnit};
+ghost use Rattle.sl_layout.specs.declared.actor.UnitId.{UnitId};
+ghost use Rattle.sl_layout.specs.declared.actor.ActorId.TheVariants.{Control, Unit as OfUnit};
 ghost use Rattle.sl_net.specs.Net.{Net, actor_of, choice_of, unit_place};
 ghost use Rattle.sl_net.specs.Serving.{served};
 ghost use Rattle.sl_net.specs.Wired.{IsNet, Reports};
-ghost use Rattle.sl_cut.specs.declared.message.Message.TheVariants.{Dump as DumpMsg, Done as DoneMsg};
-ghost use Rattle.sl_cut.specs.declared.message.Step.{Step};
+ghost use Rattle.sl_history.specs.declared.message.Message.TheVariants.{Dump as DumpMsg, Done as DoneMsg};
+ghost use Rattle.sl_history.specs.declared.message.Step.{Step};
 ghost use Rattle.sl_cut.specs.Words.{Each, numbers};
 ghost use Rattle.sl_saves.specs.declared.entry.View.{View};
 ghost use Rattle.sl_saves.specs.Views.{IsShown, IsLive, held_saved, read};

@@ -1,9 +1,9 @@
 // Laws of the machines of units: each stands for its unit's history, whatever the schedule. The
 // functions do nothing: their contracts are the laws, and the proofs are in proofs/.
 ghost use Rattle.std.specs.Prelude.{◌≡◌, ℕ, ◌^◌, ◌<◌, List, [], length, slice_get, Some, None, IsSome};
-ghost use Rattle.sl_net.specs.declared.actor.ActorId.TheVariants.{Unit as OfUnit};
-ghost use Rattle.sl_net.specs.declared.actor.Side.TheVariants.{Ingress, Egress};
-ghost use Rattle.sl_net.specs.declared.actor.UnitId.{UnitId};
+ghost use Rattle.sl_layout.specs.declared.actor.ActorId.TheVariants.{Unit as OfUnit};
+ghost use Rattle.sl_layout.specs.declared.actor.Side.TheVariants.{Ingress, Egress};
+ghost use Rattle.sl_layout.specs.declared.actor.UnitId.{UnitId};
 ghost use Rattle.sl_net.specs.declared.input.Snapshot.{Snapshot};
 ghost use Rattle.sl_net.specs.Net.{Net, actor_of, links_into};
 ghost use Rattle.sl_net.specs.Wired.{IsNet};
@@ -11,8 +11,8 @@ ghost use Rattle.sl_wire.specs.declared.message.Msg.{Msg};
 ghost use Rattle.sl_unit.specs.Made.{IsRanged, ingress_state, egress_state};
 ghost use Rattle.sl_unit.specs.Step.{UnitState, unit_rules};
 ghost use Rattle.sl_unit.specs.Units.{shown_counts};
-ghost use Rattle.sl_cut.specs.declared.message.Message.{Message};
-ghost use Rattle.sl_cut.specs.declared.message.Step.{Step};
+ghost use Rattle.sl_history.specs.declared.message.Message.{Message};
+ghost use Rattle.sl_history.specs.declared.message.Step.{Step};
 ghost use Rattle.sl_cut.specs.Words.{Each, listed};
 ghost use Rattle.sl_cut.specs.History.{History, Losses, history, put};
 ghost use Rattle.sl_cut.specs.Counting.{counted, packets, bytes, bad, expired, noroute};

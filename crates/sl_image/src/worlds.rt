@@ -2,13 +2,13 @@
 // of them, and the findings that these give. The functions do nothing: their contracts are the
 // laws, and the proofs are in proofs/. Most call the law that nets are wired.
 ghost use Rattle.std.specs.Prelude.{◌≡◌, ℕ, ◌^◌, ◌<◌, ◌≤◌, List, ◌++◌, length, map, Some, None};
-ghost use Rattle.sl_net.specs.declared.actor.UnitId.{UnitId};
-ghost use Rattle.sl_net.specs.declared.actor.ActorId.TheVariants.{Unit as OfUnit};
+ghost use Rattle.sl_layout.specs.declared.actor.UnitId.{UnitId};
+ghost use Rattle.sl_layout.specs.declared.actor.ActorId.TheVariants.{Unit as OfUnit};
 ghost use Rattle.sl_net.specs.Parts.{numbers_from};
 ghost use Rattle.sl_net.specs.Net.{actor_of, data_channels};
 ghost use Rattle.sl_saves.specs.Views.{held_saved};
 ghost use Rattle.sl_net.specs.Wired.{IsNet};
-ghost use Rattle.sl_cut.specs.declared.message.Step.{Step};
+ghost use Rattle.sl_history.specs.declared.message.Step.{Step};
 ghost use Rattle.sl_cut.specs.Words.{Each};
 ghost use Rattle.sl_cut.specs.History.{History, Losses, history, stamp_taken, first};
 ghost use Rattle.sl_cut.specs.Setup.{Setup};

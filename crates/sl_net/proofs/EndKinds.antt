@@ -1,14 +1,14 @@
 -- What the actors at the ends of a link are, by its sort.
 use Rattle.std.proofs.Common.{◌≡◌, ℕ, ◌<◌, length, refl, subst, inl, inr, Some}
 use Rattle.std.specs.Prelude.{◌⊎◌, true, slice_get}
-use Rattle.sl_net.specs.declared.actor.ActorId.{ActorId}
-use Rattle.sl_net.specs.declared.actor.ActorId.TheVariants.{Observer, Control, Unit as OfUnit, Host as OfHost}
-use Rattle.sl_net.specs.declared.actor.UnitId.{UnitId}
-use Rattle.sl_net.specs.declared.actor.Side.{Side}
-use Rattle.sl_net.specs.declared.actor.Side.TheVariants.{Ingress, Egress}
-use Rattle.sl_net.specs.declared.actor.Sort.{Sort}
-use Rattle.sl_net.specs.declared.actor.Sort.TheVariants.{Cable, Crossbar, Init, Poll, Notice, Dump, Begin, Done}
-use Rattle.sl_net.specs.Net.{Net, actor_of, link_of, links_into}
+use Rattle.sl_layout.specs.declared.actor.ActorId.{ActorId}
+use Rattle.sl_layout.specs.declared.actor.ActorId.TheVariants.{Observer, Control, Unit as OfUnit, Host as OfHost}
+use Rattle.sl_layout.specs.declared.actor.UnitId.{UnitId}
+use Rattle.sl_layout.specs.declared.actor.Side.{Side}
+use Rattle.sl_layout.specs.declared.actor.Side.TheVariants.{Ingress, Egress}
+use Rattle.sl_layout.specs.declared.actor.Sort.{Sort}
+use Rattle.sl_layout.specs.declared.actor.Sort.TheVariants.{Cable, Crossbar, Init, Poll, Notice, Dump, Begin, Done}
+use Rattle.sl_layout.specs.Net.{Net, actor_of, link_of, links_into}
 use Rattle.sl_net.specs.Wired.{sends, receives, unit_sends, unit_receives, IsWired}
 use Rattle.sl_net.proofs.Sorts.{is-into}
 

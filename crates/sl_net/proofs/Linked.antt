@@ -5,24 +5,24 @@ use Rattle.std.proofs.Common.{◌≡◌, ℕ, ◌<◌, ◌≤◌, List, [], ◌�
 use Rattle.std.specs.Prelude.{◌⊎◌, true, false, Bool, map, flat_map, slice_get}
 use Rattle.std.proofs.lemmas.Bool.{cases_lt}
 use Rattle.std.proofs.lemmas.List.{get_or_past}
-use Rattle.sl_net.specs.declared.actor.ActorId.{ActorId}
-use Rattle.sl_net.specs.declared.actor.ActorId.TheVariants.{Observer, Control, Unit as OfUnit, Host as OfHost}
-use Rattle.sl_net.specs.declared.actor.Side.{Side}
-use Rattle.sl_net.specs.declared.actor.Side.TheVariants.{Ingress, Egress}
-use Rattle.sl_net.specs.declared.actor.Sort.{Sort}
-use Rattle.sl_net.specs.declared.actor.Sort.TheVariants.{FromHost, Cable, Crossbar, Init, Poll, Notice, Dump, Begin, Done}
-use Rattle.sl_net.specs.declared.actor.LinkPart.{LinkPart}
-use Rattle.sl_net.specs.declared.parts.PortRef.{PortRef}
-use Rattle.sl_net.specs.Parts.{Parts, below, other_end, host_at, used_ports, ports_of, is_used}
-use Rattle.sl_net.specs.Net.{net_of, link_of, actor_of, nobody, no_link, ingress, egress, units_of, actors_of, Incoming, incoming, unit_incoming, from_outside, from_host_or_cable, to_host, place_of, links_to}
-use Rattle.sl_net.specs.Valid.{IsValid}
-use Rattle.sl_net.specs.Roster.{IsActor}
+use Rattle.sl_layout.specs.declared.actor.ActorId.{ActorId}
+use Rattle.sl_layout.specs.declared.actor.ActorId.TheVariants.{Observer, Control, Unit as OfUnit, Host as OfHost}
+use Rattle.sl_layout.specs.declared.actor.Side.{Side}
+use Rattle.sl_layout.specs.declared.actor.Side.TheVariants.{Ingress, Egress}
+use Rattle.sl_layout.specs.declared.actor.Sort.{Sort}
+use Rattle.sl_layout.specs.declared.actor.Sort.TheVariants.{FromHost, Cable, Crossbar, Init, Poll, Notice, Dump, Begin, Done}
+use Rattle.sl_layout.specs.declared.actor.LinkPart.{LinkPart}
+use Rattle.sl_parts.specs.declared.parts.PortRef.{PortRef}
+use Rattle.sl_parts.specs.Parts.{Parts, below, other_end, host_at, used_ports, ports_of, is_used}
+use Rattle.sl_layout.specs.Net.{net_of, link_of, actor_of, nobody, no_link, ingress, egress, units_of, actors_of, Incoming, incoming, unit_incoming, from_outside, from_host_or_cable, to_host, place_of, links_to}
+use Rattle.sl_parts.specs.Valid.{IsValid}
+use Rattle.sl_layout.specs.Roster.{IsActor}
 use Rattle.sl_net.specs.Wired.{sends, receives}
-use Rattle.sl_net.proofs.Lists.{Each, each-append, each-map, each-imp, each-flat, each-of, each-at, each-index, Member, member-flat, member-map, Distinct, distinct-append, distinct-filter, distinct-from}
-use Rattle.sl_net.proofs.Actors.{actor-member, each-actor, actor-at, actors-distinct, place-at, units-distinct, each-unit-of}
-use Rattle.sl_net.proofs.Senders.{IsSender, IsLink, each-sender, each-link}
+use Rattle.sl_parts.proofs.Lists.{Each, each-append, each-map, each-imp, each-flat, each-of, each-at, each-index, Member, member-flat, member-map, Distinct, distinct-append, distinct-filter, distinct-from}
+use Rattle.sl_layout.proofs.Actors.{actor-member, each-actor, actor-at, actors-distinct, place-at, units-distinct, each-unit-of}
+use Rattle.sl_layout.proofs.Senders.{IsSender, IsLink, each-sender, each-link}
 use Rattle.sl_net.proofs.EndKinds.{home}
-use Rattle.sl_net.proofs.Filters.{member-of-map, place-of-member, distinct-map, distinct-joined, one-place}
+use Rattle.sl_parts.proofs.Filters.{member-of-map, place-of-member, distinct-map, distinct-joined, one-place}
 
 -- Actors by their places.
 

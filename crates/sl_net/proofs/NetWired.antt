@@ -4,25 +4,25 @@
 use Rattle.std.proofs.Common.{◌≡◌, ℕ, zero, suc, ◌<◌, List, [], ◌∷◌, ◌++◌, length, refl, sym, ap, subst, ◌∙◌, Option, Some, None, arith, inl, inr, eq-eqb, get_or, append-nil}
 use Rattle.std.specs.Prelude.{◌⊎◌, cond, true, false, Bool, ◌==◌, nat_eq, map, filter, flat_map, slice_get}
 use Rattle.std.proofs.lemmas.Bool.Decides.{eqb_tells}
-use Rattle.sl_net.specs.declared.actor.ActorId.{ActorId}
-use Rattle.sl_net.specs.declared.actor.ActorId.TheVariants.{Observer, Control, Unit as OfUnit}
-use Rattle.sl_net.specs.declared.actor.UnitId.{UnitId}
-use Rattle.sl_net.specs.declared.actor.Side.{Side}
-use Rattle.sl_net.specs.declared.actor.Side.TheVariants.{Ingress, Egress}
-use Rattle.sl_net.specs.declared.actor.Sort.{Sort}
-use Rattle.sl_net.specs.declared.actor.Sort.TheVariants.{ToHost, Crossbar, Init, Poll, Notice, Dump, Begin, Done}
-use Rattle.sl_net.specs.declared.actor.LinkPart.{LinkPart}
-use Rattle.sl_net.specs.Parts.{Parts, below, numbers_from, used_ports, ports_of, is_used}
-use Rattle.sl_net.specs.Net.{Net, net_of, link_of, link_numbers, links_into, links_from, links_out, actor_of, no_link, same_sort, ingress, egress, units_of, actors_of, incoming, unit_incoming, from_outside, place_of, links_to}
-use Rattle.sl_net.specs.Valid.{IsValid}
-use Rattle.sl_net.specs.Roster.{IsActor}
-use Rattle.sl_net.specs.declared.fault.NetFault.{NetFault}
-use Rattle.sl_net.specs.Fault.{first_of, fault_of, no_device, too_many_devices, wrong_ports, stray_cable, stray_host, reused_port, too_many_hosts, used_host_port, device_namesake, host_namesake}
+use Rattle.sl_layout.specs.declared.actor.ActorId.{ActorId}
+use Rattle.sl_layout.specs.declared.actor.ActorId.TheVariants.{Observer, Control, Unit as OfUnit}
+use Rattle.sl_layout.specs.declared.actor.UnitId.{UnitId}
+use Rattle.sl_layout.specs.declared.actor.Side.{Side}
+use Rattle.sl_layout.specs.declared.actor.Side.TheVariants.{Ingress, Egress}
+use Rattle.sl_layout.specs.declared.actor.Sort.{Sort}
+use Rattle.sl_layout.specs.declared.actor.Sort.TheVariants.{ToHost, Crossbar, Init, Poll, Notice, Dump, Begin, Done}
+use Rattle.sl_layout.specs.declared.actor.LinkPart.{LinkPart}
+use Rattle.sl_parts.specs.Parts.{Parts, below, numbers_from, used_ports, ports_of, is_used}
+use Rattle.sl_layout.specs.Net.{Net, net_of, link_of, link_numbers, links_into, links_from, links_out, actor_of, no_link, same_sort, ingress, egress, units_of, actors_of, incoming, unit_incoming, from_outside, place_of, links_to}
+use Rattle.sl_parts.specs.Valid.{IsValid}
+use Rattle.sl_layout.specs.Roster.{IsActor}
+use Rattle.sl_parts.specs.declared.fault.NetFault.{NetFault}
+use Rattle.sl_parts.specs.Fault.{first_of, fault_of, no_device, too_many_devices, wrong_ports, stray_cable, stray_host, reused_port, too_many_hosts, used_host_port, device_namesake, host_namesake}
 use Rattle.sl_net.specs.Wired.{sends, receives, Reports, IsWired, IsNet}
-use Rattle.sl_net.proofs.Checked.{valid_from}
-use Rattle.sl_net.proofs.Lists.{Each, each-map, each-imp, each-of, each-at, Member, member-right, member-flat, member-from, member-map, member-filter, Distinct, distinct-filter, distinct-from}
-use Rattle.sl_net.proofs.Filters.{only-one}
-use Rattle.sl_net.proofs.Actors.{actor-member, each-actor, actor-at, actors-distinct}
+use Rattle.sl_parts.proofs.Checked.{valid_from}
+use Rattle.sl_parts.proofs.Lists.{Each, each-map, each-imp, each-of, each-at, Member, member-right, member-flat, member-from, member-map, member-filter, Distinct, distinct-filter, distinct-from}
+use Rattle.sl_parts.proofs.Filters.{only-one}
+use Rattle.sl_layout.proofs.Actors.{actor-member, each-actor, actor-at, actors-distinct}
 use Rattle.sl_net.proofs.Sorts.{IsOut, each-out, out-member, is-link, is-into, one-choice}
 use Rattle.sl_net.proofs.EndKinds.{home, notice-receiver, dump-receiver, begin-receiver, done-receiver, poll-sender, begin-sender}
 use Rattle.sl_net.proofs.Linked.{same-place, IsAt, is-at, Joined, reports_of, link_from, Linked, linked, one-link, Ends, ends}

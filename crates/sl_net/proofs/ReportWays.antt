@@ -5,15 +5,15 @@ use Rattle.std.proofs.lemmas.Bool.{cases_lt}
 use Rattle.std.proofs.lemmas.Bool.Decides.{eqb_tells}
 use Rattle.std.proofs.lemmas.List.{get_or_past}
 use Rattle.std.proofs.lemmas.Option.{slice_get_within, get_or_from_slice_get}
-use Rattle.sl_net.specs.declared.actor.ActorId.TheVariants.{Unit as OfUnit}
-use Rattle.sl_net.specs.declared.actor.UnitId.{UnitId}
-use Rattle.sl_net.specs.declared.actor.Sort.{Sort}
-use Rattle.sl_net.specs.declared.actor.Sort.TheVariants.{Poll, Dump}
-use Rattle.sl_net.specs.Parts.{below}
-use Rattle.sl_net.specs.Net.{Net, actor_of, nobody, link_of, link_at, links_into, links_out, choices_of, choice_of, sort_number, same_sort, place_in, is_unit, units, unit_place}
-use Rattle.sl_net.specs.Serving.{choice_from, serving, served}
+use Rattle.sl_layout.specs.declared.actor.ActorId.TheVariants.{Unit as OfUnit}
+use Rattle.sl_layout.specs.declared.actor.UnitId.{UnitId}
+use Rattle.sl_layout.specs.declared.actor.Sort.{Sort}
+use Rattle.sl_layout.specs.declared.actor.Sort.TheVariants.{Poll, Dump}
+use Rattle.sl_parts.specs.Parts.{below}
+use Rattle.sl_layout.specs.Net.{Net, actor_of, nobody, link_of, link_at, links_into, links_out, choices_of, choice_of, sort_number, same_sort, place_in, is_unit, units, unit_place}
+use Rattle.sl_layout.specs.Serving.{choice_from, serving, served}
 use Rattle.sl_net.specs.Wired.{Reports}
-use Rattle.sl_net.proofs.Lists.{Each, each-map, each-imp, each-both, Member, member-filter, member-from}
+use Rattle.sl_parts.proofs.Lists.{Each, each-map, each-imp, each-both, Member, member-filter, member-from}
 use Rattle.sl_net.proofs.Sorts.{told, IsOut, each-out, out-member, IsChoice, each-choice, choice-takes, choice-is, is-into}
 
 -- Places.

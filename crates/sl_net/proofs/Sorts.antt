@@ -7,12 +7,12 @@ use Rattle.std.proofs.lemmas.Bool.Decides.{eqb_tells}
 use Rattle.std.proofs.lemmas.Bool.{cases_lt}
 use Rattle.std.proofs.lemmas.List.{get_or_past}
 use Rattle.std.proofs.lemmas.Option.{slice_get_within, slice_get-get_or, get_or_from_slice_get}
-use Rattle.sl_net.specs.declared.actor.Sort.{Sort}
-use Rattle.sl_net.specs.declared.actor.Sort.TheVariants.{FromHost, ToHost, Cable, Crossbar, Init, Poll, Notice, Dump, Begin, Done}
-use Rattle.sl_net.specs.Parts.{below, numbers_from}
-use Rattle.sl_net.specs.Net.{Net, link_of, link_at, link_numbers, links_into, links_from, links_out, no_link, choices_of, sort_number, same_sort, place_in, choice_of}
-use Rattle.sl_net.proofs.Lists.{Each, each-imp, each-both, each-below, Member, member-filter, member-from, distinct-filter, distinct-from}
-use Rattle.sl_net.proofs.Filters.{each-member, one-place}
+use Rattle.sl_layout.specs.declared.actor.Sort.{Sort}
+use Rattle.sl_layout.specs.declared.actor.Sort.TheVariants.{FromHost, ToHost, Cable, Crossbar, Init, Poll, Notice, Dump, Begin, Done}
+use Rattle.sl_parts.specs.Parts.{below, numbers_from}
+use Rattle.sl_layout.specs.Net.{Net, link_of, link_at, link_numbers, links_into, links_from, links_out, no_link, choices_of, sort_number, same_sort, place_in, choice_of}
+use Rattle.sl_parts.proofs.Lists.{Each, each-imp, each-both, each-below, Member, member-filter, member-from, distinct-filter, distinct-from}
+use Rattle.sl_parts.proofs.Filters.{each-member, one-place}
 
 pub told : (x y : ℕ) → nat_eq x y ≡ true → x ≡ y
 told x y h = by_tells (eqb_tells x y)

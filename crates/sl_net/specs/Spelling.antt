@@ -1,14 +1,14 @@
 -- The spelling of actors and of their choices.
 use Rattle.std.specs.Prelude.{◌<◌, ◌+◌, ◌-◌, ℕ, codes, decimal, ◌++◌, ◌&&◌, ◌==◌, nat_lt, if◌then◌else◌, List, [], ◌∷◌, length, map, slice_index, slice_index_or, Option, Some, None}
-use Rattle.sl_net.specs.declared.actor.Side.{Side}
-use Rattle.sl_net.specs.declared.actor.Side.TheVariants.{Ingress, Egress}
-use Rattle.sl_net.specs.declared.actor.ActorId.{ActorId}
-use Rattle.sl_net.specs.declared.actor.ActorId.TheVariants.{Observer, Control, Unit as OfUnit, Host as OfHost}
-use Rattle.sl_net.specs.declared.actor.Sort.{Sort}
-use Rattle.sl_net.specs.declared.actor.Sort.TheVariants.{FromHost, ToHost, Cable, Crossbar, Init, Poll, Notice, Dump, Begin, Done}
-use Rattle.sl_net.specs.Parts.{Parts}
-use Rattle.sl_net.specs.Net.{Net, actor_of, link_of, link_at, action_choice}
-use Rattle.sl_net.specs.Wiring.{actions_of}
+use Rattle.sl_layout.specs.declared.actor.Side.{Side}
+use Rattle.sl_layout.specs.declared.actor.Side.TheVariants.{Ingress, Egress}
+use Rattle.sl_layout.specs.declared.actor.ActorId.{ActorId}
+use Rattle.sl_layout.specs.declared.actor.ActorId.TheVariants.{Observer, Control, Unit as OfUnit, Host as OfHost}
+use Rattle.sl_layout.specs.declared.actor.Sort.{Sort}
+use Rattle.sl_layout.specs.declared.actor.Sort.TheVariants.{FromHost, ToHost, Cable, Crossbar, Init, Poll, Notice, Dump, Begin, Done}
+use Rattle.sl_parts.specs.Parts.{Parts}
+use Rattle.sl_layout.specs.Net.{Net, actor_of, link_of, link_at, action_choice}
+use Rattle.sl_layout.specs.Wiring.{actions_of}
 
 abbrev pub device_name : Parts → ℕ → List ℕ
 device_name parts d = slice_index_or (map (λ part. part.name) parts.devices) d []

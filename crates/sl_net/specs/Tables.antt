@@ -1,8 +1,8 @@
 -- What a net keeps beside its units.
 use Rattle.std.specs.Prelude.{◌≡◌, ℕ, List, map}
 use Rattle.sl_machine.specs.Plan.{Plan, IsSound}
-use Rattle.sl_net.specs.Net.{Net, units}
-use Rattle.sl_net.specs.Wiring.{plan_of, upstream_of}
+use Rattle.sl_layout.specs.Net.{Net, units}
+use Rattle.sl_layout.specs.Wiring.{plan_of, upstream_of}
 
 pub record HasTables (net : Net) (wiring : Plan) (upstream : List (List ℕ)) : Type 0 where
   pub wiring_is : wiring ≡ plan_of net

@@ -1,6 +1,7 @@
 // The plain types of an accepted input.
 use crate::net::Net;
-use crate::text::Bytes;
+use sl_layout::LinkKind;
+use sl_parts::Bytes;
 use std::marker::Model;
 
 /// The snapshot table: `width` is the bits of a wrapped id, `window` and `ring` the sizes of the
@@ -39,6 +40,24 @@ impl Model for LossSpec {
     ghost Value = { LossSpec };
 
     ghost view = { λ l. record { seed = l.seed; cable = l.cable; crossbar = l.crossbar; init = l.init; notice = l.notice; drops = l.drops.items } };
+}
+
+impl LossSpec {
+    ghost use Rattle.std.specs.Prelude.{◌≡◌};
+    ghost use Rattle.sl_net.specs.Input.{rate_of};
+
+    /// How many of a thousand puts on links of a kind are lost.
+    pub fn rate_of(&self, kind: LinkKind) -> u16
+        ensures { result ≡ rate_of self.now kind }
+    {
+        match kind {
+            LinkKind::Cable => self.cable,
+            LinkKind::Crossbar => self.crossbar,
+            LinkKind::Init => self.init,
+            LinkKind::Notice => self.notice,
+            LinkKind::Reliable => 0,
+        }
+    }
 }
 
 /// A flow: `count` packets of `bytes` bytes from a host to a host, with the hop limit `hops`.

@@ -1,6 +1,6 @@
 // Laws of nets. The functions do nothing: their contracts are the laws, and the proofs are in
 // proofs/.
-ghost use Rattle.sl_net.specs.Net.{Net};
+ghost use Rattle.sl_layout.specs.Net.{Net};
 ghost use Rattle.sl_net.specs.Wired.{IsNet, IsWired};
 
 /// Each net that is made of parts without a fault is wired as the laws of histories ask.

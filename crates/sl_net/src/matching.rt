@@ -1,11 +1,11 @@
 // Whether the pieces of a spelling stand in a text, one after another.
 ghost use Rattle.std.specs.Prelude.{◌≡◌, ◌<◌, ◌≤◌, ◌+◌, ◌++◌, [], ◌∷◌, codes, decimal, length, IfSome, IsTrue, ◌↔◌, ◌&&◌, ◌==◌, nat_lt, slice_index, option_and_then, Option, Some};
 ghost use Rattle.sl_net.specs.Spelling.{skip, link_word, link_rest, port_of, side_text, actor_text, sender_text, link_text, action_text, device_name, host_name};
-ghost use Rattle.sl_net.specs.Valid.{IsValid};
-ghost use Rattle.sl_net.specs.Roster.{IsActor};
+ghost use Rattle.sl_parts.specs.Valid.{IsValid};
+ghost use Rattle.sl_layout.specs.Roster.{IsActor};
 
-use crate::actor::{ActorId, Side, Sort, UnitId};
-use crate::parts::Parts;
+use sl_layout::{ActorId, Side, Sort, UnitId};
+use sl_parts::Parts;
 
 fn stands(text: &[u8], at: usize, byte: u8) -> bool
     ensures { result ≡ (nat_lt at (length text.now) && (slice_index text.now at == byte)) }

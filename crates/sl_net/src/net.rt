@@ -2,26 +2,21 @@
 ghost use Rattle.std.specs.Prelude.{◌≡◌, ◌≢◌, ◌<◌, ◌≤◌, None, Some, IfOk, IfErr, OnOk, length, slice_index};
 ghost use Rattle.std.specs.List.{All};
 ghost use Rattle.sl_machine.specs.Plan.{IsSound};
-ghost use Rattle.sl_net.specs.Fault.{fault_of};
-ghost use Rattle.sl_net.specs.Valid.{IsValid};
-ghost use Rattle.sl_net.specs.Net.{net_of, actor_of, link_of, links_into, links_from, units, unit_place};
-ghost use Rattle.sl_net.specs.Roster.{IsActor};
-ghost use Rattle.sl_net.specs.Wires.{HasEnds};
+ghost use Rattle.sl_parts.specs.Fault.{fault_of};
+ghost use Rattle.sl_parts.specs.Valid.{IsValid};
+ghost use Rattle.sl_layout.specs.Net.{net_of, actor_of, link_of, links_into, links_from, units, unit_place};
+ghost use Rattle.sl_layout.specs.Roster.{IsActor};
+ghost use Rattle.sl_layout.specs.Wires.{HasEnds};
 ghost use Rattle.sl_net.specs.Spelling.{choice_count};
-ghost use Rattle.sl_net.specs.Units.{AreUnits};
-ghost use Rattle.sl_net.specs.Wiring.{kind_of, upstream_of, plan_of};
+ghost use Rattle.sl_layout.specs.Units.{AreUnits};
+ghost use Rattle.sl_layout.specs.Wiring.{kind_of, upstream_of, plan_of};
 
-use crate::actor::{ActorId, LinkKind, LinkPart, Sort, UnitId};
-use crate::fault::NetFault;
-use crate::layout::Layout;
-use crate::numbers::{Numbers, row};
-use crate::parts::Parts;
-use crate::roster::Roster;
-use crate::units::Units;
-use crate::upstream::list_upstream;
-use crate::wires::Wires;
-use crate::wiring::{actions_of, make_wiring};
+use sl_layout::{
+    ActorId, Layout, LinkKind, LinkPart, Roster, Sort, UnitId, Units, Wires, actions_of,
+    list_upstream, make_wiring,
+};
 use sl_machine::Wiring;
+use sl_parts::{NetFault, Numbers, Parts, row};
 use std::alloc::{AllocError, Global};
 use std::marker::Model;
 
@@ -34,7 +29,7 @@ pub struct Net {
 }
 
 impl Model for Net {
-    ghost use Rattle.sl_net.specs.Net.{Net};
+    ghost use Rattle.sl_layout.specs.Net.{Net};
 
     ghost Value = { Net };
 

@@ -2,9 +2,9 @@
 ghost use Rattle.std.specs.Prelude.{◌≡◌, ◌<◌, ◌≤◌, ℕ, Some, length, IfSome, IfNone, MatchOption};
 ghost use Rattle.sl_net.specs.Spelling.{skip, choice_word, choice_text, choice_count, HasChoice};
 
-use crate::actor::ActorId;
 use crate::matching::{skip, skip_action, skip_actor, skip_link};
 use crate::net::Net;
+use sl_layout::ActorId;
 
 /// Where the text goes on past a choice, named among those of its actor.
 fn skip_word(text: &[u8], net: &Net, actor: u32, choice: u32, at: usize) -> Option<usize>

@@ -1,15 +1,14 @@
 // Choices spelled out.
 ghost use Rattle.std.specs.Prelude.{◌≡◌, ◌<◌, ◌≤◌, ◌++◌, decimal, codes, OnOk, IfOk, length};
-ghost use Rattle.sl_net.specs.Valid.{IsValid};
-ghost use Rattle.sl_net.specs.Roster.{IsActor};
+ghost use Rattle.sl_parts.specs.Valid.{IsValid};
+ghost use Rattle.sl_layout.specs.Roster.{IsActor};
 ghost use Rattle.sl_net.specs.Spelling.{port_of, side_text, actor_text, sender_text, link_text, action_text, device_name, host_name, choice_word, choice_text, HasChoice};
 
-use crate::actor::{ActorId, Sort, UnitId};
 use crate::matching::{link_word, side_word};
 use crate::net::Net;
-use crate::parts::Parts;
-use crate::text::Line;
+use sl_layout::{ActorId, Sort, UnitId};
 use sl_machine::Memory;
+use sl_parts::{Line, Parts};
 use std::alloc::{AllocError, Global};
 
 #[tactic(auto, using(std::proofs::lemmas::Fmt::decimal_digit))]

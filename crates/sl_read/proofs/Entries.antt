@@ -2,17 +2,17 @@
 use Rattle.std.proofs.Common.{◌≡◌, ℕ, ◌+◌, ◌≤◌, List, [], ◌∷◌, length, Option, Some, None, Ok, refl, subst, arith}
 use Rattle.std.specs.Prelude.{IfSome}
 use Rattle.toml.specs.Data.{Data, string, integer, float, boolean, datetime, array, table, Items, no_items, item, Members}
-use Rattle.sl_read.specs.declared.path.TableName.TheVariants.{Top}
-use Rattle.sl_read.specs.declared.path.TableName.TheVariants as table_name
-use Rattle.sl_read.specs.declared.path.Key.TheVariants.{Device, Cable, Host, Snapshot, Loss, Flow, Raw, Script, Entries}
-use Rattle.sl_read.specs.declared.path.Path.{Path}
-use Rattle.sl_read.specs.Paths.{at, element, key_text}
-use Rattle.sl_read.specs.Refusals.{◌>>=◌}
-use Rattle.sl_read.specs.Fields.{only, get_key, required, optional, text_at}
+use Rattle.sl_form.specs.declared.path.TableName.TheVariants.{Top}
+use Rattle.sl_form.specs.declared.path.TableName.TheVariants as table_name
+use Rattle.sl_form.specs.declared.path.Key.TheVariants.{Device, Cable, Host, Snapshot, Loss, Flow, Raw, Script, Entries}
+use Rattle.sl_form.specs.declared.path.Path.{Path}
+use Rattle.sl_form.specs.Paths.{at, element, key_text}
+use Rattle.sl_form.specs.Refusals.{◌>>=◌}
+use Rattle.sl_form.specs.Fields.{only, get_key, required, optional, text_at}
 use Rattle.sl_read.specs.Rows.{table_at, items_at, required_tables, optional_tables, required_table, optional_table}
 use Rattle.sl_read.specs.Tables.{entries_at, texts_of, script_of, any_script_of}
 use Rattle.sl_read.specs.Sections.{Sections, sections_of}
-use Rattle.sl_read.proofs.Arrays.{text_weight, text_count, FewTexts, FewInMembers, member-few}
+use Rattle.sl_form.proofs.Arrays.{text_weight, text_count, FewTexts, FewInMembers, member-few}
 use Rattle.sl_read.proofs.Steps.{bind_ok, same_ok}
 
 -- The entries are the texts of an array.

@@ -5,23 +5,23 @@ use Rattle.std.proofs.lemmas.Bool.{ltb-false, leb-true, and_parts}
 use Rattle.toml.specs.Data.{Items, Members}
 use Rattle.sl_net.proofs.Lists.{Each}
 use Rattle.sl_net.specs.declared.input.Snapshot.{Snapshot}
-use Rattle.sl_read.specs.declared.path.TableName.TheVariants.{Top}
-use Rattle.sl_read.specs.declared.path.TableName.TheVariants as table
-use Rattle.sl_read.specs.declared.path.Key.TheVariants.{Device, Cable, Host, Flow, Raw, Bits, Window, Ring, Count, Retries, Seed, Crossbar, Init, Notice, Drop, Link, N, From, To, Bytes, Hops, Hex}
+use Rattle.sl_form.specs.declared.path.TableName.TheVariants.{Top}
+use Rattle.sl_form.specs.declared.path.TableName.TheVariants as table
+use Rattle.sl_form.specs.declared.path.Key.TheVariants.{Device, Cable, Host, Flow, Raw, Bits, Window, Ring, Count, Retries, Seed, Crossbar, Init, Notice, Drop, Link, N, From, To, Bytes, Hops, Hex}
 use Rattle.sl_read.specs.declared.flow.FlowRow.{FlowRow}
 use Rattle.sl_read.specs.declared.raw.RawRow.{RawRow}
 use Rattle.sl_read.specs.declared.loss.DropRow.{DropRow}
 use Rattle.sl_read.specs.declared.loss.LossRow.{LossRow}
 use Rattle.sl_read.specs.declared.document.Document.{Document}
 use Rattle.sl_read.specs.Accepted.{IsSnapshot}
-use Rattle.sl_read.specs.Paths.{at}
-use Rattle.sl_read.specs.Fields.{only, required_text, required_form}
+use Rattle.sl_form.specs.Paths.{at}
+use Rattle.sl_form.specs.Fields.{only, required_text, required_form}
 use Rattle.sl_read.specs.Rows.{optional_tables, rows}
-use Rattle.sl_read.specs.Forms.{name_of, digit_of, byte_of, pairs_of, hex_of}
+use Rattle.sl_form.specs.Forms.{name_of, digit_of, byte_of, pairs_of, hex_of}
 use Rattle.sl_read.specs.Tables.{device_of, cable_of, host_of, any_script_of, snapshot_of, drop_of, count_items, few_drops, drops_at, loss_of, any_loss_of, flow_of, raw_of}
 use Rattle.sl_read.specs.Sections.{Sections, sections_of}
 use Rattle.sl_read.specs.Documents.{walk_of, document_of}
-use Rattle.sl_read.proofs.Arrays.{FewInMembers}
+use Rattle.sl_form.proofs.Arrays.{FewInMembers}
 use Rattle.sl_read.proofs.Entries.{any_script_few, sections_few}
 use Rattle.sl_read.proofs.Steps.{bind_ok, same_ok, not_held, and_then_some, map_some, same_some, formed_ok, number_then, option_then, rows_ok}
 

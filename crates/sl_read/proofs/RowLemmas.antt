@@ -4,11 +4,11 @@ use Rattle.toml.specs.Data.{Members}
 use Rattle.toml.specs.View.{view, items_view}
 use Rattle.toml.specs.declared.value.Value.{Value}
 use Rattle.toml.proofs.Views.{items_view-drop}
-use Rattle.sl_read.specs.declared.path.TableName.{TableName}
-use Rattle.sl_read.specs.declared.path.Key.{Key}
-use Rattle.sl_read.specs.declared.refusal.Refusal.{Refusal}
-use Rattle.sl_read.specs.Paths.{element}
-use Rattle.sl_read.specs.Refusals.{◌>>=◌}
+use Rattle.sl_form.specs.declared.path.TableName.{TableName}
+use Rattle.sl_form.specs.declared.path.Key.{Key}
+use Rattle.sl_form.specs.declared.refusal.Refusal.{Refusal}
+use Rattle.sl_form.specs.Paths.{element}
+use Rattle.sl_form.specs.Refusals.{◌>>=◌}
 use Rattle.sl_read.specs.Rows.{rows, row, all_tables, table_at}
 
 -- what was read, after what was found before

@@ -2,7 +2,7 @@
 use Rattle.std.proofs.Common.{◌≡◌, ℕ, ◌+◌, ◌<◌, List, [], ◌∷◌, ◌++◌, length, get_or, drop, Ok, Err, refl, ap, sym, ◌∙◌, add-one, drop-cons}
 use Rattle.sl_net.specs.Net.{Net}
 use Rattle.sl_net.specs.declared.input.Script1.{Script1}
-use Rattle.sl_read.specs.declared.refusal.Refusal.{Refusal}
+use Rattle.sl_form.specs.declared.refusal.Refusal.{Refusal}
 use Rattle.sl_read.specs.Choices.{fitting, passes, entries_of}
 use Rattle.sl_read.proofs.RowLemmas.{with_front, with_front_none, with_front_all, with_front_more}
 

@@ -9,8 +9,8 @@ use Rattle.std.proofs.lemmas.List.Quantifiers.{position-Some}
 use Rattle.std.proofs.lemmas.List.Sums.{sum_by-cons}
 use Rattle.toml.specs.Data.{Members}
 use Rattle.toml.specs.Parse.{parse_document}
-use Rattle.sl_net.specs.declared.fault.NetFault.{NetFault}
-use Rattle.sl_net.specs.declared.parts.HostPart.{HostPart}
+use Rattle.sl_parts.specs.declared.fault.NetFault.{NetFault}
+use Rattle.sl_parts.specs.declared.parts.HostPart.{HostPart}
 use Rattle.sl_net.specs.declared.input.Drop1.{Drop1}
 use Rattle.sl_net.specs.declared.input.Flow.{Flow}
 use Rattle.sl_net.specs.declared.input.RawPart.{RawPart}
@@ -19,18 +19,18 @@ use Rattle.sl_net.specs.declared.input.Script1.TheVariants.{Pass}
 use Rattle.sl_net.specs.Parts.{Parts}
 use Rattle.sl_net.specs.Fault.{fault_of}
 use Rattle.sl_net.specs.Net.{Net, net_of, link_of, link_at, action_choice}
-use Rattle.sl_net.specs.Wiring.{kind_of}
+use Rattle.sl_net.specs.Wiring.{kind_of, is_lossy}
 use Rattle.sl_net.specs.Spelling.{HasChoice, choice_text}
 use Rattle.sl_net.specs.Input.{Input}
 use Rattle.sl_net.specs.Number.{plain_number}
 use Rattle.sl_net.proofs.Lists.{Each, all-from_each, each-at, Member}
 use Rattle.sl_net.proofs.UnitLists.{low_filter}
 use Rattle.sl_net.proofs.NumberLemmas.{is_plain_number}
-use Rattle.sl_read.specs.declared.path.TableName.TheVariants as table
-use Rattle.sl_read.specs.declared.path.Key.TheVariants.{From, To, Link}
-use Rattle.sl_read.specs.declared.path.Path.{Path}
-use Rattle.sl_read.specs.declared.refusal.Refusal.{Refusal}
-use Rattle.sl_read.specs.declared.refusal.Refusal.TheVariants.{TooLong}
+use Rattle.sl_form.specs.declared.path.TableName.TheVariants as table
+use Rattle.sl_form.specs.declared.path.Key.TheVariants.{From, To, Link}
+use Rattle.sl_form.specs.declared.path.Path.{Path}
+use Rattle.sl_form.specs.declared.refusal.Refusal.{Refusal}
+use Rattle.sl_form.specs.declared.refusal.Refusal.TheVariants.{TooLong}
 use Rattle.sl_read.specs.declared.flow.FlowRow.{FlowRow}
 use Rattle.sl_read.specs.declared.raw.RawRow.{RawRow}
 use Rattle.sl_read.specs.declared.loss.DropRow.{DropRow}
@@ -38,14 +38,14 @@ use Rattle.sl_read.specs.declared.document.Document.{Document}
 use Rattle.sl_read.specs.declared.read.Traffic.{Traffic}
 use Rattle.sl_read.specs.declared.read.Contents.{Contents}
 use Rattle.sl_read.specs.Accepted.{IsDrop, IsLoss, IsFlow, IsRaw, IsEntry, IsAccepted}
-use Rattle.sl_read.specs.Paths.{at}
+use Rattle.sl_form.specs.Paths.{at}
 use Rattle.sl_read.specs.Documents.{document_of}
-use Rattle.sl_read.specs.Forms.{pass_of, positive}
+use Rattle.sl_form.specs.Forms.{pass_of, positive}
 use Rattle.sl_read.specs.Places.{each, known, host_place, flow_part, raw_part, parts_of}
-use Rattle.sl_read.specs.Choices.{first, choices, choice_named, is_lossy, lossy_link, link_named, drop_part, pass_or, as_choice, entry_of, fits, fitting, passes, entries_of}
+use Rattle.sl_read.specs.Choices.{first, choices, choice_named, lossy_link, link_named, drop_part, pass_or, as_choice, entry_of, fits, fitting, passes, entries_of}
 use Rattle.sl_read.specs.Inputs.{unless_refused, built, net_in, packets, few_packets, traffic_in, contents_in, settled, tables_of, parsed, text_of, reading_of, numbered, input_of}
-use Rattle.sl_read.proofs.Shorter.{IsShort, some-if, some-then}
-use Rattle.sl_read.proofs.Arrays.{FewInMembers, document-few}
+use Rattle.sl_form.proofs.Shorter.{IsShort, some-if, some-then}
+use Rattle.sl_form.proofs.Arrays.{FewInMembers, document-few}
 use Rattle.sl_read.proofs.Steps.{bind_ok, same_ok, same_some, held, not_held, kept, and_then_some, map_some, known_ok, each_ok}
 use Rattle.sl_read.proofs.Ranges.{IsDocument, IsRawRow, IsDropRow, IsFlowRow, document_ok}
 use Rattle.sl_read.proofs.OneChoice.{each_has}

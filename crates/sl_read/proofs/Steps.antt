@@ -5,13 +5,13 @@ use Rattle.std.proofs.lemmas.Bool.{and_parts}
 use Rattle.std.proofs.lemmas.Bool.Decides.{nat_tests}
 use Rattle.toml.specs.Data.{Data, string, integer, float, boolean, datetime, array, table, Items, no_items, item, Members}
 use Rattle.sl_net.proofs.Lists.{Each}
-use Rattle.sl_read.specs.declared.path.TableName.{TableName}
-use Rattle.sl_read.specs.declared.path.Key.{Key}
-use Rattle.sl_read.specs.declared.path.Path.{Path}
-use Rattle.sl_read.specs.declared.refusal.Refusal.{Refusal}
-use Rattle.sl_read.specs.Paths.{at, element}
-use Rattle.sl_read.specs.Refusals.{◌>>=◌}
-use Rattle.sl_read.specs.Fields.{get_key, required, optional, in_range, number, required_number, optional_number, formed}
+use Rattle.sl_form.specs.declared.path.TableName.{TableName}
+use Rattle.sl_form.specs.declared.path.Key.{Key}
+use Rattle.sl_form.specs.declared.path.Path.{Path}
+use Rattle.sl_form.specs.declared.refusal.Refusal.{Refusal}
+use Rattle.sl_form.specs.Paths.{at, element}
+use Rattle.sl_form.specs.Refusals.{◌>>=◌}
+use Rattle.sl_form.specs.Fields.{get_key, required, optional, in_range, number, required_number, optional_number, formed}
 use Rattle.sl_read.specs.Rows.{table_at, row, rows}
 use Rattle.sl_read.specs.Tables.{count_items}
 use Rattle.sl_read.specs.Places.{each, known}

@@ -3,11 +3,11 @@ use Rattle.std.proofs.Common.{◌≡◌, ℕ, suc, ◌+◌, ◌<◌, List, [], �
 use Rattle.toml.specs.View.{view, items_view}
 use Rattle.toml.specs.declared.value.Value.{Value}
 use Rattle.toml.proofs.Views.{items_view-drop}
-use Rattle.sl_read.specs.declared.path.TableName.TheVariants.{Script}
-use Rattle.sl_read.specs.declared.path.Key.TheVariants.{Entries}
-use Rattle.sl_read.specs.declared.refusal.Refusal.{Refusal}
-use Rattle.sl_read.specs.Paths.{element}
-use Rattle.sl_read.specs.Fields.{text_at}
+use Rattle.sl_form.specs.declared.path.TableName.TheVariants.{Script}
+use Rattle.sl_form.specs.declared.path.Key.TheVariants.{Entries}
+use Rattle.sl_form.specs.declared.refusal.Refusal.{Refusal}
+use Rattle.sl_form.specs.Paths.{element}
+use Rattle.sl_form.specs.Fields.{text_at}
 use Rattle.sl_read.specs.Tables.{texts_of, count_items}
 use Rattle.sl_read.proofs.RowLemmas.{with_front, with_front_none, with_front_all, with_front_more}
 

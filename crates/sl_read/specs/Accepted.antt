@@ -10,10 +10,10 @@ use Rattle.sl_net.specs.declared.input.Script1.TheVariants.{Pass, Choice}
 use Rattle.sl_net.specs.Parts.{Parts}
 use Rattle.sl_net.specs.Fault.{fault_of}
 use Rattle.sl_net.specs.Net.{Net, net_of, link_of}
-use Rattle.sl_net.specs.Wiring.{kind_of}
+use Rattle.sl_net.specs.Wiring.{kind_of, is_lossy}
 use Rattle.sl_net.specs.Spelling.{HasChoice}
 use Rattle.sl_net.specs.Input.{Input, LossSpec}
-use Rattle.sl_read.specs.Choices.{is_lossy, passes}
+use Rattle.sl_read.specs.Choices.{passes}
 use Rattle.sl_read.specs.Inputs.{packets}
 
 -- at least one snapshot fits the window, a wrapped id stands for one number in it, and the ring holds it

@@ -3,21 +3,19 @@ use Rattle.std.specs.Prelude.{ℕ, ◌+◌, Bool, true, false, ◌&&◌, nat_lt,
 use Rattle.sl_net.specs.declared.input.Drop1.{Drop1}
 use Rattle.sl_net.specs.declared.input.Script1.{Script1}
 use Rattle.sl_net.specs.declared.input.Script1.TheVariants.{Pass, Choice}
-use Rattle.sl_net.specs.declared.actor.LinkKind.{LinkKind}
-use Rattle.sl_net.specs.declared.actor.LinkKind.TheVariants.{Reliable}
 use Rattle.sl_net.specs.Parts.{below}
 use Rattle.sl_net.specs.Net.{Net, link_of, link_at, action_choice}
-use Rattle.sl_net.specs.Wiring.{kind_of}
+use Rattle.sl_net.specs.Wiring.{kind_of, is_lossy}
 use Rattle.sl_net.specs.Spelling.{choice_text, choice_count}
-use Rattle.sl_read.specs.declared.path.TableName.TheVariants as table
-use Rattle.sl_read.specs.declared.path.Key.TheVariants.{Link}
-use Rattle.sl_read.specs.declared.refusal.Refusal.{Refusal}
-use Rattle.sl_read.specs.declared.refusal.Refusal.TheVariants.{Entry}
+use Rattle.sl_form.specs.declared.path.TableName.TheVariants as table
+use Rattle.sl_form.specs.declared.path.Key.TheVariants.{Link}
+use Rattle.sl_form.specs.declared.refusal.Refusal.{Refusal}
+use Rattle.sl_form.specs.declared.refusal.Refusal.TheVariants.{Entry}
 use Rattle.sl_read.specs.declared.loss.DropRow.{DropRow}
-use Rattle.sl_read.specs.Paths.{at}
-use Rattle.sl_read.specs.Refusals.{◌>>=◌}
+use Rattle.sl_form.specs.Paths.{at}
+use Rattle.sl_form.specs.Refusals.{◌>>=◌}
 use Rattle.sl_read.specs.Places.{known}
-use Rattle.sl_read.specs.Forms.{pass_of}
+use Rattle.sl_form.specs.Forms.{pass_of}
 
 -- each choice of each actor
 abbrev pub choices : Net → List (ℕ × ℕ)
@@ -31,10 +29,6 @@ first passes (p ∷ ps) = if passes p then Some p else first passes ps
 -- the choice whose spelling a text is
 unfoldable pub choice_named : Net → List ℕ → Option (ℕ × ℕ)
 choice_named net text = first (λ p. bytes_eq (choice_text net p.0 p.1) text) (choices net)
-
-abbrev pub is_lossy : LinkKind → Bool
-is_lossy Reliable = false
-is_lossy _ = true
 
 -- the link that a choice takes from, where messages on it may be lost
 abbrev pub lossy_link : Net → ℕ → ℕ → Option ℕ

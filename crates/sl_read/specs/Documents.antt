@@ -1,11 +1,11 @@
 -- The shape of the input: the top table, and then each table in order.
 use Rattle.std.specs.Prelude.{Result, Ok}
 use Rattle.toml.specs.Data.{Members}
-use Rattle.sl_read.specs.declared.path.TableName.TheVariants.{Top}
-use Rattle.sl_read.specs.declared.path.Key.TheVariants.{Device, Cable, Host, Flow, Raw}
-use Rattle.sl_read.specs.declared.refusal.Refusal.{Refusal}
+use Rattle.sl_form.specs.declared.path.TableName.TheVariants.{Top}
+use Rattle.sl_form.specs.declared.path.Key.TheVariants.{Device, Cable, Host, Flow, Raw}
+use Rattle.sl_form.specs.declared.refusal.Refusal.{Refusal}
 use Rattle.sl_read.specs.declared.document.Document.{Document}
-use Rattle.sl_read.specs.Refusals.{◌>>=◌}
+use Rattle.sl_form.specs.Refusals.{◌>>=◌}
 use Rattle.sl_read.specs.Rows.{rows}
 use Rattle.sl_read.specs.Sections.{Sections, sections_of}
 use Rattle.sl_read.specs.Tables.{device_of, cable_of, host_of, snapshot_of, any_loss_of, flow_of, raw_of, any_script_of}

@@ -5,8 +5,8 @@ use Rattle.std.specs.List.{sum}
 use Rattle.std.specs.Str.{is_utf8}
 use Rattle.toml.specs.Data.{Members}
 use Rattle.toml.specs.Parse.{parse_document}
-use Rattle.sl_net.specs.declared.fault.NetFault.{NetFault}
-use Rattle.sl_net.specs.declared.parts.HostPart.{HostPart}
+use Rattle.sl_parts.specs.declared.fault.NetFault.{NetFault}
+use Rattle.sl_parts.specs.declared.parts.HostPart.{HostPart}
 use Rattle.sl_net.specs.declared.input.Flow.{Flow}
 use Rattle.sl_net.specs.declared.input.RawPart.{RawPart}
 use Rattle.sl_net.specs.declared.input.Drop1.{Drop1}
@@ -14,16 +14,16 @@ use Rattle.sl_net.specs.Parts.{Parts}
 use Rattle.sl_net.specs.Fault.{fault_of}
 use Rattle.sl_net.specs.Net.{Net, net_of}
 use Rattle.sl_net.specs.Input.{Input, LossSpec}
-use Rattle.sl_read.specs.declared.refusal.Refusal.{Refusal}
-use Rattle.sl_read.specs.declared.refusal.Refusal.TheVariants.{TooLong, NotToml, Absent, Unlisted, Form, Range, Unknown, Entry, Net as WrongNet, TooMany}
+use Rattle.sl_form.specs.declared.refusal.Refusal.{Refusal}
+use Rattle.sl_form.specs.declared.refusal.Refusal.TheVariants.{TooLong, NotToml, Absent, Unlisted, Form, Range, Unknown, Entry, Net as WrongNet, TooMany}
 use Rattle.sl_read.specs.declared.fault.InputFault.{InputFault}
 use Rattle.sl_read.specs.declared.fault.InputFault.TheVariants.{I1, I2, I3, I4, I5, I6, I7, I8, I9, I10}
 use Rattle.sl_read.specs.declared.loss.LossRow.{LossRow}
 use Rattle.sl_read.specs.declared.document.Document.{Document}
 use Rattle.sl_read.specs.declared.read.Traffic.{Traffic}
 use Rattle.sl_read.specs.declared.read.Contents.{Contents}
-use Rattle.sl_read.specs.Paths.{path_text, table_text}
-use Rattle.sl_read.specs.Refusals.{◌>>=◌}
+use Rattle.sl_form.specs.Paths.{path_text, table_text}
+use Rattle.sl_form.specs.Refusals.{◌>>=◌}
 use Rattle.sl_read.specs.Documents.{document_of}
 use Rattle.sl_read.specs.Places.{each, parts_of, flow_part, raw_part}
 use Rattle.sl_read.specs.Choices.{drop_part, entries_of}

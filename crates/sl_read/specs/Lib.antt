@@ -1,7 +1,7 @@
-pub mod Paths
-pub mod Refusals
-pub mod Fields
-pub mod Forms
+pub use Rattle.sl_form.specs.Paths
+pub use Rattle.sl_form.specs.Refusals
+pub use Rattle.sl_form.specs.Fields
+pub use Rattle.sl_form.specs.Forms
 pub mod Rows
 pub mod Tables
 pub mod Sections

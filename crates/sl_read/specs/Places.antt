@@ -1,25 +1,25 @@
 -- Names of devices and hosts, looked up: a name that stands twice is its first holder.
 use Rattle.std.specs.Prelude.{ℕ, ◌+◌, List, [], ◌∷◌, Option, Some, None, bytes_eq, Result, Ok, Err}
 use Rattle.std.specs.List.{position}
-use Rattle.sl_net.specs.declared.parts.PortRef.{PortRef}
-use Rattle.sl_net.specs.declared.parts.CablePart.{CablePart}
-use Rattle.sl_net.specs.declared.parts.DevicePart.{DevicePart}
-use Rattle.sl_net.specs.declared.parts.HostPart.{HostPart}
+use Rattle.sl_parts.specs.declared.parts.PortRef.{PortRef}
+use Rattle.sl_parts.specs.declared.parts.CablePart.{CablePart}
+use Rattle.sl_parts.specs.declared.parts.DevicePart.{DevicePart}
+use Rattle.sl_parts.specs.declared.parts.HostPart.{HostPart}
 use Rattle.sl_net.specs.declared.input.Flow.{Flow}
 use Rattle.sl_net.specs.declared.input.RawPart.{RawPart}
 use Rattle.sl_net.specs.Parts.{Parts}
-use Rattle.sl_read.specs.declared.path.TableName.TheVariants as table
-use Rattle.sl_read.specs.declared.path.Key.TheVariants.{A, B, At, From, To}
-use Rattle.sl_read.specs.declared.path.Path.{Path}
-use Rattle.sl_read.specs.declared.refusal.Refusal.{Refusal}
-use Rattle.sl_read.specs.declared.refusal.Refusal.TheVariants.{Unknown}
-use Rattle.sl_read.specs.declared.forms.PortText.{PortText}
+use Rattle.sl_form.specs.declared.path.TableName.TheVariants as table
+use Rattle.sl_form.specs.declared.path.Key.TheVariants.{A, B, At, From, To}
+use Rattle.sl_form.specs.declared.path.Path.{Path}
+use Rattle.sl_form.specs.declared.refusal.Refusal.{Refusal}
+use Rattle.sl_form.specs.declared.refusal.Refusal.TheVariants.{Unknown}
+use Rattle.sl_form.specs.declared.forms.PortText.{PortText}
 use Rattle.sl_read.specs.declared.cable.CableRow.{CableRow}
 use Rattle.sl_read.specs.declared.host.HostRow.{HostRow}
 use Rattle.sl_read.specs.declared.flow.FlowRow.{FlowRow}
 use Rattle.sl_read.specs.declared.raw.RawRow.{RawRow}
-use Rattle.sl_read.specs.Paths.{at}
-use Rattle.sl_read.specs.Refusals.{◌>>=◌}
+use Rattle.sl_form.specs.Paths.{at}
+use Rattle.sl_form.specs.Refusals.{◌>>=◌}
 
 -- each element with its place, from place i on
 module _ {A B : Type 0} (f : ℕ → A → Result B Refusal) where

@@ -1,14 +1,14 @@
 -- Tables in tables, and lists of tables.
 use Rattle.std.specs.Prelude.{ℕ, ◌+◌, List, [], ◌∷◌, Option, Some, None, Result, Ok, Err}
 use Rattle.toml.specs.Data.{Data, array, table, Items, no_items, item, Members}
-use Rattle.sl_read.specs.declared.path.TableName.{TableName}
-use Rattle.sl_read.specs.declared.path.Key.{Key}
-use Rattle.sl_read.specs.declared.path.Path.{Path}
-use Rattle.sl_read.specs.declared.refusal.Refusal.{Refusal}
-use Rattle.sl_read.specs.declared.refusal.Refusal.TheVariants.{Form}
-use Rattle.sl_read.specs.Paths.{at, element}
-use Rattle.sl_read.specs.Refusals.{◌>>=◌}
-use Rattle.sl_read.specs.Fields.{get_key, required, optional}
+use Rattle.sl_form.specs.declared.path.TableName.{TableName}
+use Rattle.sl_form.specs.declared.path.Key.{Key}
+use Rattle.sl_form.specs.declared.path.Path.{Path}
+use Rattle.sl_form.specs.declared.refusal.Refusal.{Refusal}
+use Rattle.sl_form.specs.declared.refusal.Refusal.TheVariants.{Form}
+use Rattle.sl_form.specs.Paths.{at, element}
+use Rattle.sl_form.specs.Refusals.{◌>>=◌}
+use Rattle.sl_form.specs.Fields.{get_key, required, optional}
 
 abbrev pub table_at : Path → Data → Result Members Refusal
 table_at p (table ms) = Ok ms

@@ -2,12 +2,12 @@
 use Rattle.std.specs.Prelude.{[], ◌∷◌, Option, option_map, Result, Ok}
 use Rattle.toml.specs.Data.{Items, Members}
 use Rattle.toml.specs.View.{items_view, table_view}
-use Rattle.sl_read.specs.declared.path.TableName.TheVariants.{Top}
-use Rattle.sl_read.specs.declared.path.Key.TheVariants.{Device, Cable, Host, Snapshot, Loss, Flow, Raw, Script}
-use Rattle.sl_read.specs.declared.refusal.Refusal.{Refusal}
+use Rattle.sl_form.specs.declared.path.TableName.TheVariants.{Top}
+use Rattle.sl_form.specs.declared.path.Key.TheVariants.{Device, Cable, Host, Snapshot, Loss, Flow, Raw, Script}
+use Rattle.sl_form.specs.declared.refusal.Refusal.{Refusal}
 use Rattle.sl_read.specs.declared.top.Sections as code
-use Rattle.sl_read.specs.Refusals.{◌>>=◌}
-use Rattle.sl_read.specs.Fields.{only}
+use Rattle.sl_form.specs.Refusals.{◌>>=◌}
+use Rattle.sl_form.specs.Fields.{only}
 use Rattle.sl_read.specs.Rows.{required_tables, optional_tables, required_table, optional_table}
 
 -- the values of the top table, each of the kind that it has to be

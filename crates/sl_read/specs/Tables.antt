@@ -2,22 +2,22 @@
 -- order, with its kind, its form and its range.
 use Rattle.std.specs.Prelude.{ℕ, suc, pos, ◌+◌, ◌-◌, ◌^◌, nat_lt, if◌then◌else◌, List, [], ◌∷◌, Option, Some, None, Result, Ok, Err}
 use Rattle.toml.specs.Data.{Items, no_items, item, Members}
-use Rattle.sl_net.specs.declared.parts.DevicePart.{DevicePart}
+use Rattle.sl_parts.specs.declared.parts.DevicePart.{DevicePart}
 use Rattle.sl_net.specs.declared.input.Snapshot.{Snapshot}
-use Rattle.sl_read.specs.declared.path.TableName.TheVariants as table
-use Rattle.sl_read.specs.declared.path.Key.TheVariants.{Name, Ports, A, B, At, Bits, Window, Ring, Count, Retries, Seed, Cable, Crossbar, Init, Notice, Drop, Link, N, From, To, Bytes, Hops, Hex, Entries}
-use Rattle.sl_read.specs.declared.refusal.Refusal.{Refusal}
-use Rattle.sl_read.specs.declared.refusal.Refusal.TheVariants.{Range}
+use Rattle.sl_form.specs.declared.path.TableName.TheVariants as table
+use Rattle.sl_form.specs.declared.path.Key.TheVariants.{Name, Ports, A, B, At, Bits, Window, Ring, Count, Retries, Seed, Cable, Crossbar, Init, Notice, Drop, Link, N, From, To, Bytes, Hops, Hex, Entries}
+use Rattle.sl_form.specs.declared.refusal.Refusal.{Refusal}
+use Rattle.sl_form.specs.declared.refusal.Refusal.TheVariants.{Range}
 use Rattle.sl_read.specs.declared.cable.CableRow.{CableRow}
 use Rattle.sl_read.specs.declared.host.HostRow.{HostRow}
 use Rattle.sl_read.specs.declared.flow.FlowRow.{FlowRow}
 use Rattle.sl_read.specs.declared.raw.RawRow.{RawRow}
 use Rattle.sl_read.specs.declared.loss.DropRow.{DropRow}
 use Rattle.sl_read.specs.declared.loss.LossRow.{LossRow}
-use Rattle.sl_read.specs.Paths.{at, element}
-use Rattle.sl_read.specs.Refusals.{◌>>=◌}
-use Rattle.sl_read.specs.Fields.{only, get_key, required, required_number, optional_number, required_text, required_form, text_at}
-use Rattle.sl_read.specs.Forms.{name_of, port_of, hex_of}
+use Rattle.sl_form.specs.Paths.{at, element}
+use Rattle.sl_form.specs.Refusals.{◌>>=◌}
+use Rattle.sl_form.specs.Fields.{only, get_key, required, required_number, optional_number, required_text, required_form, text_at}
+use Rattle.sl_form.specs.Forms.{name_of, port_of, hex_of}
 use Rattle.sl_read.specs.Rows.{items_at, optional_tables, rows}
 
 abbrev pub device_of : ℕ → Members → Result DevicePart Refusal

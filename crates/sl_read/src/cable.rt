@@ -1,9 +1,6 @@
 // Cables, by the names of the devices at their ends.
-use crate::fields::only;
-use crate::forms::{PortText, required_port};
-use crate::path::{Key, TableName};
-use crate::refusal::ReadError;
 use crate::rows::Row;
+use sl_form::{Key, PortText, ReadError, TableName, only, required_port};
 use std::alloc::Global;
 use toml::Table;
 

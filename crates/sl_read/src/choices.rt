@@ -1,17 +1,14 @@
 // Spellings of links and of script entries, looked up in the net.
 ghost use Rattle.std.specs.Prelude.{◌≡◌, ◌<◌, ◌≤◌, ◌+◌, IfOk, IfSome, length};
 ghost use Rattle.sl_net.specs.Spelling.{HasChoice, choice_count};
-ghost use Rattle.sl_read.specs.Refusals.{Answers};
+ghost use Rattle.sl_form.specs.Refusals.{Answers};
 ghost use Rattle.sl_read.specs.Places.{each};
 ghost use Rattle.sl_spell.specs.Spelled.{HasOneSpelling};
 ghost use Rattle.sl_read.specs.Choices.{choice_named, lossy_link, link_named, drop_part, entry_of, fitting, entries_of, passes};
 
-use crate::forms::pass_of;
-use crate::listed::{Listed, Text};
 use crate::loss::DropRow;
-use crate::path::{Key, Path, TableName};
-use crate::refusal::{ReadError, Refusal};
-use sl_net::{Drop1, LinkKind, Net, Script1, find_choice};
+use sl_form::{Key, Listed, Path, ReadError, Refusal, TableName, Text, pass_of};
+use sl_net::{Drop1, Net, Script1, find_choice};
 use std::alloc::Global;
 
 /// The choice of a spelling.
@@ -37,9 +34,10 @@ fn lossy_link(net: &Net, actor: u32, choice: u32) -> Option<u32>
         return None;
     }
     let link = links[choice as usize];
-    match net.kind(link) {
-        LinkKind::Reliable => None,
-        _ => Some(link),
+    if net.kind(link).is_lossy() {
+        Some(link)
+    } else {
+        None
     }
 }
 

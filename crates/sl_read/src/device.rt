@@ -1,9 +1,6 @@
 // Devices.
-use crate::fields::{only, required_number};
-use crate::forms::required_name;
-use crate::path::{Key, TableName};
-use crate::refusal::ReadError;
 use crate::rows::Row;
+use sl_form::{Key, ReadError, TableName, only, required_name, required_number};
 use sl_net::DevicePart;
 use std::alloc::Global;
 use toml::Table;

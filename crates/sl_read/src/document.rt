@@ -1,22 +1,20 @@
 // The tables of the input, one after the other.
 ghost use Rattle.std.specs.Prelude.{◌≡◌};
 ghost use Rattle.toml.specs.View.{table_view};
-ghost use Rattle.sl_read.specs.Refusals.{Answers};
+ghost use Rattle.sl_form.specs.Refusals.{Answers};
 ghost use Rattle.sl_read.specs.Sections.{sections_view};
 ghost use Rattle.sl_read.specs.Documents.{walk_of, document_of};
 
 use crate::cable::CableRow;
 use crate::flow::FlowRow;
 use crate::host::HostRow;
-use crate::listed::{Listed, Text};
 use crate::loss::{LossRow, read_loss};
-use crate::path::{Key, TableName};
 use crate::raw::RawRow;
-use crate::refusal::ReadError;
 use crate::rows::rows;
 use crate::script::read_script;
 use crate::snapshot::read_snapshot;
 use crate::top::{Sections, read_top};
+use sl_form::{Key, Listed, ReadError, TableName, Text};
 use sl_net::{DevicePart, Snapshot};
 use std::alloc::Global;
 use toml::Table;

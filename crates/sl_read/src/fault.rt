@@ -1,11 +1,10 @@
 // Why an input is refused, as callers see it.
 ghost use Rattle.std.specs.Prelude.{◌≡◌, ◌≢◌, IfOk};
 ghost use Rattle.sl_read.specs.declared.fault.InputFault.TheVariants.{Memory};
-ghost use Rattle.sl_read.specs.Paths.{path_text, table_text};
+ghost use Rattle.sl_form.specs.Paths.{path_text, table_text};
 ghost use Rattle.sl_read.specs.Inputs.{fault};
 
-use crate::path::{Path, TableName};
-use crate::refusal::Refusal;
+use sl_form::{Path, Refusal, TableName};
 use sl_net::{Line, NetFault};
 use std::alloc::{AllocError, Global};
 use thiserror::Error;

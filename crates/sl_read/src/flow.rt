@@ -1,9 +1,6 @@
 // Flows, by the names of their hosts.
-use crate::fields::{only, required_number};
-use crate::forms::required_name;
-use crate::path::{Key, TableName};
-use crate::refusal::ReadError;
 use crate::rows::Row;
+use sl_form::{Key, ReadError, TableName, only, required_name, required_number};
 use sl_net::Name;
 use std::alloc::Global;
 use toml::Table;

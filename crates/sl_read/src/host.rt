@@ -1,9 +1,6 @@
 // Hosts, and the ports that they stand at.
-use crate::fields::only;
-use crate::forms::{PortText, required_name, required_port};
-use crate::path::{Key, TableName};
-use crate::refusal::ReadError;
 use crate::rows::Row;
+use sl_form::{Key, PortText, ReadError, TableName, only, required_name, required_port};
 use sl_net::Name;
 use std::alloc::Global;
 use toml::Table;

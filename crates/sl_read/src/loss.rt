@@ -1,14 +1,14 @@
 // The table of the losses, and the losses listed one by one.
 ghost use Rattle.std.specs.Prelude.{◌≡◌, Option, option_map};
 ghost use Rattle.toml.specs.View.{items_view, table_view};
-ghost use Rattle.sl_read.specs.Refusals.{Answers, Shows};
+ghost use Rattle.sl_form.specs.Refusals.{Answers, Shows};
 ghost use Rattle.sl_read.specs.Tables.{loss_of, drops_at, any_loss_of};
 
-use crate::fields::{only, optional_number, required_number, required_text};
-use crate::listed::{Listed, Text};
-use crate::path::{Key, Path, TableName};
-use crate::refusal::{ReadError, Refusal};
 use crate::rows::{Row, optional_tables, rows};
+use sl_form::{
+    Key, Listed, Path, ReadError, Refusal, TableName, Text, only, optional_number, required_number,
+    required_text,
+};
 use std::alloc::Global;
 use toml::{Table, Value};
 

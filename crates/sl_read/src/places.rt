@@ -1,17 +1,14 @@
 // Names of devices and hosts, looked up.
 ghost use Rattle.std.specs.Prelude.{◌≡◌, Ok, Err, bytes_eq};
 ghost use Rattle.std.specs.List.{position};
-ghost use Rattle.sl_read.specs.Refusals.{Answers};
+ghost use Rattle.sl_form.specs.Refusals.{Answers};
 ghost use Rattle.sl_read.specs.Places.{device_place, host_place, known, port_place, cable_part, host_part, flow_part, raw_part, each, parts_of};
 
 use crate::cable::CableRow;
 use crate::flow::FlowRow;
-use crate::forms::PortText;
 use crate::host::HostRow;
-use crate::listed::Listed;
-use crate::path::{Key, Path, TableName};
 use crate::raw::RawRow;
-use crate::refusal::{ReadError, Refusal};
+use sl_form::{Key, Listed, Path, PortText, ReadError, Refusal, TableName};
 use sl_net::{Bytes, CablePart, DevicePart, Flow, HostPart, Name, Parts, PortRef, RawPart};
 use std::alloc::Global;
 

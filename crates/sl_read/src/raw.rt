@@ -1,9 +1,6 @@
 // Raw frames, by the names of their hosts.
-use crate::fields::only;
-use crate::forms::{required_hex, required_name};
-use crate::path::{Key, TableName};
-use crate::refusal::ReadError;
 use crate::rows::Row;
+use sl_form::{Key, ReadError, TableName, only, required_hex, required_name};
 use sl_net::{Bytes, Name};
 use std::alloc::Global;
 use toml::Table;

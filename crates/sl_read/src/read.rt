@@ -2,17 +2,16 @@
 ghost use Rattle.std.specs.Prelude.{◌≡◌, ◌≢◌, Ok, Err, IfOk, IfErr, option_map, map};
 ghost use Rattle.std.specs.List.{sum};
 ghost use Rattle.toml.specs.View.{table_view};
-ghost use Rattle.sl_read.specs.Refusals.{Answers};
+ghost use Rattle.sl_form.specs.Refusals.{Answers};
 ghost use Rattle.sl_read.specs.Accepted.{IsAccepted};
 ghost use Rattle.sl_read.specs.Inputs.{built, packets, few_packets, losses, net_in, traffic_in, contents_in, settled, tables_of, text_of, reading_of, input_of};
 
 use crate::choices::{place_drops, read_entries};
 use crate::document::{Document, read_document};
 use crate::fault::{InputFault, fault_of};
-use crate::listed::Listed;
 use crate::loss::LossRow;
 use crate::places::{place_flows, place_parts, place_raws};
-use crate::refusal::{ReadError, Refusal};
+use sl_form::{Listed, ReadError, Refusal};
 use sl_net::{Drop1, Flow, HostPart, Input, LossSpec, Net, NetFault, Parts, RawPart, Script1};
 use sl_spell::one_spelling;
 use std::alloc::Global;
@@ -169,7 +168,7 @@ fn read_table(alloc: Global, table: &Table) -> Result<Input, ReadError>
     settle(alloc, &document)
 }
 
-#[tactic(auto, using(crate::proofs::FormLemmas::texts))]
+#[tactic(auto, using(sl_form::proofs::FormLemmas::texts))]
 fn text_of(bytes: &[u8]) -> Option<&str>
     ensures { option_map (λ s. s.now) result ≡ text_of bytes.now }
 {

@@ -2,14 +2,11 @@
 ghost use Rattle.std.specs.Prelude.{◌≡◌, ℕ, Result};
 ghost use Rattle.toml.specs.Data.{Members, no_items};
 ghost use Rattle.toml.specs.View.{view, items_view, table_view};
-ghost use Rattle.sl_read.specs.declared.refusal.Refusal.{Refusal};
-ghost use Rattle.sl_read.specs.Refusals.{Answers, Shows};
+ghost use Rattle.sl_form.specs.declared.refusal.Refusal.{Refusal};
+ghost use Rattle.sl_form.specs.Refusals.{Answers, Shows};
 ghost use Rattle.sl_read.specs.Rows.{table_at, items_at, all_tables, tables_at, required_tables, optional_tables, required_table, rows, row};
 
-use crate::fields::find;
-use crate::listed::Listed;
-use crate::path::{Key, Path, TableName};
-use crate::refusal::{ReadError, Refusal};
+use sl_form::{Key, Listed, Path, ReadError, Refusal, TableName, find};
 use std::alloc::Global;
 use toml::{Table, Value};
 

@@ -1,18 +1,15 @@
 // The table of the script: the texts of its entries.
 ghost use Rattle.std.specs.Prelude.{◌≡◌, option_map};
 ghost use Rattle.toml.specs.View.{view, items_view, table_view};
-ghost use Rattle.sl_read.specs.Refusals.{Answers, Shows};
-ghost use Rattle.sl_read.specs.declared.path.TableName.TheVariants.{Script};
-ghost use Rattle.sl_read.specs.declared.path.Key.TheVariants.{Entries};
-ghost use Rattle.sl_read.specs.Paths.{element};
-ghost use Rattle.sl_read.specs.Fields.{text_at};
+ghost use Rattle.sl_form.specs.Refusals.{Answers, Shows};
+ghost use Rattle.sl_form.specs.declared.path.TableName.TheVariants.{Script};
+ghost use Rattle.sl_form.specs.declared.path.Key.TheVariants.{Entries};
+ghost use Rattle.sl_form.specs.Paths.{element};
+ghost use Rattle.sl_form.specs.Fields.{text_at};
 ghost use Rattle.sl_read.specs.Tables.{script_of, entries_at, texts_of, any_script_of};
 
-use crate::fields::{find, only, text_at};
-use crate::listed::{Listed, Text};
-use crate::path::{Key, Path, TableName};
-use crate::refusal::{ReadError, Refusal};
 use crate::rows::items_at;
+use sl_form::{Key, Listed, Path, ReadError, Refusal, TableName, Text, find, only, text_at};
 use std::alloc::Global;
 use toml::{Table, Value};
 

@@ -3,9 +3,7 @@ ghost use Rattle.std.specs.Prelude.{◌≡◌, ◌^◌, ◌≤◌};
 ghost use Rattle.toml.specs.View.{table_view};
 ghost use Rattle.sl_read.specs.Tables.{snapshot_of};
 
-use crate::fields::{only, optional_number, required_number};
-use crate::path::{Key, TableName};
-use crate::refusal::Refusal;
+use sl_form::{Key, Refusal, TableName, only, optional_number, required_number};
 use sl_net::Snapshot;
 use toml::Table;
 

@@ -1,14 +1,12 @@
 // The top table.
 ghost use Rattle.std.specs.Prelude.{◌≡◌, option_map};
 ghost use Rattle.toml.specs.View.{table_view};
-ghost use Rattle.sl_read.specs.Refusals.{Shows};
+ghost use Rattle.sl_form.specs.Refusals.{Shows};
 ghost use Rattle.sl_read.specs.Rows.{optional_table};
 ghost use Rattle.sl_read.specs.Sections.{sections_view, sections_of};
 
-use crate::fields::{find, only};
-use crate::path::{Key, Path, TableName};
-use crate::refusal::Refusal;
 use crate::rows::{optional_tables, required_table, required_tables, table_at};
+use sl_form::{Key, Path, Refusal, TableName, find, only};
 use toml::{Table, Value};
 
 /// The values of the top table, each of the kind that it has to be.

@@ -2,7 +2,7 @@
 use Rattle.std.specs.Prelude.{◌≡◌, ℕ, List, [], ◌∷◌, ◌++◌, codes, refl}
 use Rattle.std.specs.Fmt.{digits}
 use Rattle.sl_net.specs.declared.input.Script1.TheVariants.{Pass}
-use Rattle.sl_net.specs.declared.actor.Sort.TheVariants.{Cable, Notice}
+use Rattle.sl_layout.specs.declared.actor.Sort.TheVariants.{Cable, Notice}
 use Rattle.sl_net.specs.Net.{link_of, same_sort}
 use Rattle.sl_cut.specs.History.{Losses}
 use Rattle.sl_cut.specs.Frame.{plain_frame, packet_of}

@@ -4,9 +4,9 @@ use Rattle.std.proofs.lemmas.List.{drop_more, drop_all, append-nil, map-append}
 use Rattle.std.proofs.lemmas.Bool.{cases_order}
 use Rattle.std.specs.Prelude.{codes, decimal}
 use Rattle.std.specs.List.{flat_map}
-use Rattle.sl_net.specs.declared.parts.HostPart.{HostPart}
-use Rattle.sl_net.specs.declared.actor.Sort.{Sort}
-use Rattle.sl_net.specs.declared.actor.Sort.TheVariants.{Cable, Crossbar}
+use Rattle.sl_parts.specs.declared.parts.HostPart.{HostPart}
+use Rattle.sl_layout.specs.declared.actor.Sort.{Sort}
+use Rattle.sl_layout.specs.declared.actor.Sort.TheVariants.{Cable, Crossbar}
 use Rattle.sl_net.specs.Parts.{numbers_from}
 use Rattle.sl_cut.specs.Findings.{channel_links}
 use Rattle.sl_net.specs.Net.{Net, net_of, units, link_of, link_at, links_into, choices_of, same_sort}

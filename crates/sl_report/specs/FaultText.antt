@@ -1,10 +1,10 @@
 -- The text of a refused input: one line with the number of the refusal and what it keeps.
 use Rattle.std.specs.Prelude.{ℕ, List, [], ◌++◌, codes, decimal}
 use Rattle.std.specs.Fmt.{signed_decimal}
-use Rattle.sl_net.specs.declared.fault.Place.{Place}
-use Rattle.sl_net.specs.declared.fault.Place.TheVariants.{Device, Cable, Host}
-use Rattle.sl_net.specs.declared.fault.NetFault.{NetFault}
-use Rattle.sl_net.specs.declared.fault.NetFault.TheVariants as net
+use Rattle.sl_parts.specs.declared.fault.Place.{Place}
+use Rattle.sl_parts.specs.declared.fault.Place.TheVariants.{Device, Cable, Host}
+use Rattle.sl_parts.specs.declared.fault.NetFault.{NetFault}
+use Rattle.sl_parts.specs.declared.fault.NetFault.TheVariants as net
 use Rattle.sl_read.specs.declared.fault.InputFault.{InputFault}
 use Rattle.sl_read.specs.declared.fault.InputFault.TheVariants as fault
 

@@ -4,18 +4,8 @@ ghost use Rattle.std.specs.List.{All};
 ghost use Rattle.sl_net.specs.Net.{link_of, same_sort};
 ghost use Rattle.sl_cut.specs.Findings.{channel_links};
 
-use sl_net::{Net, Sort};
+use sl_net::{Net, Sort, push_if};
 use std::alloc::{AllocError, Global};
-
-/// Adds a number where it passes.
-fn push_if(numbers: &mut Vec<u32>, passes: bool, number: u32) -> Result<(), AllocError>
-    ensures { OnOk result (numbers.new.items ≡ numbers.old.items ++ cond passes (number ∷ []) []) }
-{
-    if passes {
-        numbers.push(number)?;
-    }
-    Ok(())
-}
 
 /// Adds those of some links that are of a sort.
 #[tactic(auto, using(crate::proofs::TextLemmas::filter_more))]

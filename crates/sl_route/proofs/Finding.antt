@@ -1,12 +1,11 @@
 -- Steps of the search.
-use Rattle.std.proofs.Common.{◌≡◌, ◌≢◌, ℕ, suc, ◌<◌, List, [], ◌∷◌, ◌++◌, length, get_or, set, replicate, refl, sym, ap, subst, ◌∙◌, arith, inl, inr}
+use Rattle.std.proofs.Common.{◌≡◌, ◌≢◌, ℕ, suc, ◌<◌, List, [], ◌∷◌, length, get_or, set, replicate, refl, sym, ap, subst, ◌∙◌, arith, inl, inr}
 use Rattle.std.specs.Prelude.{◌⊎◌, Bool, true, false, cond, ◌&&◌, ◌||◌, ◌==◌, Option, Some, None, is_none}
 use Rattle.std.specs.List.{All, AllByRecursion, list_any}
 use Rattle.std.proofs.lemmas.Bool.{eq-eqb, eqb-true, ne_eqb}
 use Rattle.std.proofs.lemmas.Bool.Decides.{eqb_tells}
 use Rattle.std.proofs.lemmas.List.{length-set, length-replicate, get_or-replicate, get_or-set_same, get_or-set_other}
-use Rattle.std.proofs.lemmas.List.Elements.{All-push, All-cons, All-nil, recursion_from_All}
-use Rattle.std.proofs.lemmas.List.Folds.{list_any-append}
+use Rattle.std.proofs.lemmas.List.Elements.{All-cons, All-nil, recursion_from_All}
 use Rattle.sl_route.specs.Graph.{Graph, neighbours_at, leads, reaches, first_to_pass, within, IsGraph, is_at, lists, Finds, IsSearched}
 use Rattle.sl_route.proofs.First.{bool_same, is_false, none-passes, IsFirst, first-is, first-at}
 
@@ -41,19 +40,6 @@ merged-lists None false true q n = refl
 merged-lists None false false q n = refl
 merged-lists (Some m) false p q n = refl
 
--- nothing is found
-pub finds-none : (n : ℕ) (old : List (Option ℕ)) (ds : List ℕ) → Finds n (λ d. false) old old ds ds
-finds-none n old ds = record { size = refl; each = λ d l. sym (none (get_or old d None)); listed = λ d l. sym (none-lists (get_or old d None) (lists ds d)); near = λ a. a }
-  where
-    none : (o : Option ℕ) → cond (is_none o && false) (Some n) o ≡ o
-    none None = refl
-    none (Some m) = refl
-
-    none-lists : (o : Option ℕ) (b : Bool) → (b || (is_none o && false)) ≡ b
-    none-lists o true = refl
-    none-lists None false = refl
-    none-lists (Some m) false = refl
-
 -- some are found and then others
 pub finds-more : (n : ℕ) (p q r : ℕ → Bool) (xs ys zs : List (Option ℕ)) (us vs ws : List ℕ) → Finds n p xs ys us vs → Finds n q ys zs vs ws → ((d : ℕ) → r d ≡ (p d || q d)) → Finds n r xs zs us ws
 finds-more n p q r xs ys zs us vs ws f g h = record {
@@ -68,53 +54,6 @@ finds-more n p q r xs ys zs us vs ws f g h = record {
 
 abbrev pub Tells : ℕ → ℕ → Type 0
 Tells x d = (((x == d) ≡ true) × (x ≡ d)) ⊎ (((x == d) ≡ false) × (x ≢ d))
-
--- a device that was not reached
-pub finds-new : (n x : ℕ) (old : List (Option ℕ)) (ds : List ℕ) → x < length old → get_or old x None ≡ None → Finds n (λ d. x == d) old (set old x (Some n)) ds (ds ++ x ∷ [])
-finds-new n x old ds l h = record {
-  size = length-set old x (Some n);
-  each = λ d k. each d (eqb_tells x d);
-  listed = λ d k. list_any-append (λ y. y == d) ds (x ∷ []) ∙ ap (λ b. lists ds d || b) (listed d (eqb_tells x d));
-  near = λ a. All-push (λ y. y < length old) ds x a l;
-}
-  where
-    each : (d : ℕ) → Tells x d → get_or (set old x (Some n)) d None ≡ cond (is_none (get_or old d None) && (x == d)) (Some n) (get_or old d None)
-    each d (inl e) = ap (λ y. get_or (set old x (Some n)) y None) (sym e.1) ∙ get_or-set_same old x (Some n) None l
-        ∙ sym (ap (λ b. cond (is_none (get_or old d None) && b) (Some n) (get_or old d None)) e.0 ∙ ap (λ o. cond (is_none o && true) (Some n) o) (ap (λ y. get_or old y None) (sym e.1) ∙ h))
-    each d (inr e) = get_or-set_other old x d (Some n) None (λ q. e.1 (sym q)) ∙ sym (ap (λ b. cond (is_none (get_or old d None) && b) (Some n) (get_or old d None)) e.0 ∙ unchanged (get_or old d None))
-      where
-        unchanged : (o : Option ℕ) → cond (is_none o && false) (Some n) o ≡ o
-        unchanged None = refl
-        unchanged (Some m) = refl
-
-    listed : (d : ℕ) → Tells x d → ((x == d) || false) ≡ (is_none (get_or old d None) && (x == d))
-    listed d (inl e) = ap (λ b. b || false) e.0 ∙ sym (ap (λ b. is_none (get_or old d None) && b) e.0 ∙ ap (λ o. is_none o && true) (ap (λ y. get_or old y None) (sym e.1) ∙ h))
-    listed d (inr e) = ap (λ b. b || false) e.0 ∙ sym (ap (λ b. is_none (get_or old d None) && b) e.0 ∙ never (is_none (get_or old d None)))
-      where
-        never : (b : Bool) → (b && false) ≡ false
-        never true = refl
-        never false = refl
-
--- a device that was reached
-pub finds-old : (n x : ℕ) (old : List (Option ℕ)) (ds : List ℕ) → is_none (get_or old x None) ≡ false → Finds n (λ d. x == d) old old ds ds
-finds-old n x old ds h = record {
-  size = refl;
-  each = λ d k. sym (ap (λ b. cond b (Some n) (get_or old d None)) (nothing d (eqb_tells x d)));
-  listed = λ d k. sym (ap (λ b. lists ds d || b) (nothing d (eqb_tells x d)) ∙ same (lists ds d));
-  near = λ a. a;
-}
-  where
-    nothing : (d : ℕ) → Tells x d → (is_none (get_or old d None) && (x == d)) ≡ false
-    nothing d (inl e) = ap (λ b. b && (x == d)) (ap (λ y. is_none (get_or old y None)) (sym e.1) ∙ h)
-    nothing d (inr e) = ap (λ b. is_none (get_or old d None) && b) e.0 ∙ never (is_none (get_or old d None))
-      where
-        never : (b : Bool) → (b && false) ≡ false
-        never true = refl
-        never false = refl
-
-    same : (b : Bool) → (b || false) ≡ b
-    same true = refl
-    same false = refl
 
 -- The search one cable further.
 
@@ -181,9 +120,6 @@ searched-more g e n far new last next i s f = record {
   near = subst (λ m. All (λ x. x < m) next) s.size (f.near (λ k d l. absurd (omega (arith, l))));
 }
   where
-    found_now : ℕ → Bool
-    found_now d = list_any (λ x. leads g x d) last
-
     agree : (d : ℕ) (o : Option ℕ) → within g e n d ≡ o → (is_none o && list_any (λ x. leads g x d) last) ≡ (is_none o && reaches g e (suc n) d)
     agree d None q = further g e n d far last i s q
     agree d (Some m) q = refl

@@ -5,14 +5,14 @@ use Rattle.std.specs.List.{All, AllByRecursion, list_any}
 use Rattle.std.proofs.lemmas.Bool.{cases_lt, eq-eqb, eqb-true}
 use Rattle.std.proofs.lemmas.List.Elements.{recursion_from_All, All-contains_itself, All-filter, filter_passes}
 use Rattle.std.proofs.lemmas.List.Folds.{list_any_at}
-use Rattle.sl_net.specs.declared.parts.PortRef.{PortRef}
-use Rattle.sl_net.specs.declared.parts.CablePart.{CablePart}
+use Rattle.sl_parts.specs.declared.parts.PortRef.{PortRef}
+use Rattle.sl_parts.specs.declared.parts.CablePart.{CablePart}
 use Rattle.sl_net.specs.Parts.{Parts, below}
 use Rattle.sl_net.specs.Valid.{IsValid}
 use Rattle.sl_route.specs.Least.{least, least_in}
 use Rattle.sl_route.specs.Route.{cables_from, walks_between, first_nonempty, least_walks, length_of, first_port, host_port, hops, next_port}
 use Rattle.sl_route.specs.Graph.{reaches, within, is_at}
-use Rattle.sl_route.specs.Walks.{IsCable, GoesOn}
+use Rattle.sl_route.specs.Walks.{IsCable, LeadsNearer}
 use Rattle.sl_route.proofs.Walks.{has, directed, between-suc, has-flat, least-flat}
 use Rattle.sl_route.proofs.First.{is_false, IsFirst, first-is, first-at}
 use Rattle.sl_route.proofs.Graphs.{graph_of, reaches-is}
@@ -73,7 +73,7 @@ is-at : (o : Option ℕ) (n : ℕ) → is_at n o ≡ true → o ≡ Some n
 is-at None n h = absurd cc
 is-at (Some m) n h = ap Some (eqb-true m n h)
 
-goes-on : (parts : Parts) (d h n m : ℕ) (at : PortRef) → IsValid parts → host_port parts h ≡ Some at → length parts.devices ≡ suc m → within (graph_of parts) at.device m d ≡ Some (suc n) → GoesOn parts d h n
+goes-on : (parts : Parts) (d h n m : ℕ) (at : PortRef) → IsValid parts → host_port parts h ≡ Some at → length parts.devices ≡ suc m → within (graph_of parts) at.device m d ≡ Some (suc n) → LeadsNearer parts d h n
 unfolding within next_port
 goes-on parts d h n m at v q s w = record {
   cable = low.cable;
@@ -104,15 +104,15 @@ goes-on parts d h n m at v q s w = record {
         apart : (t : Bool) → t ≡ true → t ≡ false → ⊥
         apart t x y = cc
 
-pub next-nearer : (parts : Parts) (d h n : ℕ) → IsValid parts → hops parts d h ≡ Some (suc n) → GoesOn parts d h n
+pub next-nearer : (parts : Parts) (d h n : ℕ) → IsValid parts → hops parts d h ≡ Some (suc n) → LeadsNearer parts d h n
 unfolding hops
 next-nearer parts d h n v w = by_host (host_port parts h) refl w
   where
-    by_host : (o : Option PortRef) → host_port parts h ≡ o → option_and_then (λ at. length_of (least_walks parts d at.device)) o ≡ Some (suc n) → GoesOn parts d h n
+    by_host : (o : Option PortRef) → host_port parts h ≡ o → option_and_then (λ at. length_of (least_walks parts d at.device)) o ≡ Some (suc n) → LeadsNearer parts d h n
     by_host None q p = absurd cc
     by_host (Some at) q p = by_count (length parts.devices) refl (host-near parts h at v q)
       where
-        by_count : (k : ℕ) → length parts.devices ≡ k → at.device < length parts.devices → GoesOn parts d h n
+        by_count : (k : ℕ) → length parts.devices ≡ k → at.device < length parts.devices → LeadsNearer parts d h n
         by_count zero s l = absurd (omega (arith, s, l))
         by_count (suc m) s l = goes-on parts d h n m at v q s (sym (hops-are parts d h m at v q s) ∙ w)
 

@@ -5,9 +5,9 @@ use Rattle.std.specs.List.{AllByRecursion, Contains, list_any}
 use Rattle.std.proofs.lemmas.Bool.{cases_lt, and_parts, eq-eqb, eqb-true}
 use Rattle.std.proofs.lemmas.List.Elements.{recursion_from_All, All-contains, All-contains_itself}
 use Rattle.std.proofs.lemmas.List.Folds.{list_any_at}
-use Rattle.sl_net.specs.declared.parts.PortRef.{PortRef}
-use Rattle.sl_net.specs.declared.parts.CablePart.{CablePart}
-use Rattle.sl_net.specs.declared.parts.HostPart.{HostPart}
+use Rattle.sl_parts.specs.declared.parts.PortRef.{PortRef}
+use Rattle.sl_parts.specs.declared.parts.CablePart.{CablePart}
+use Rattle.sl_parts.specs.declared.parts.HostPart.{HostPart}
 use Rattle.sl_net.specs.Parts.{Parts, below}
 use Rattle.sl_net.specs.Valid.{IsPort, IsValid}
 use Rattle.sl_net.proofs.Counting.{number_at, length_numbers, length_below}

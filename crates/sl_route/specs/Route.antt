@@ -4,8 +4,8 @@
 -- Both are None where there is no walk or no such host. A least walk meets no device twice, so it has fewer cables than the net has devices,
 -- and only the walks of fewer cables are looked at.
 use Rattle.std.specs.Prelude.{ℕ, suc, zero, List, [], ◌∷◌, ◌++◌, map, filter, flat_map, length, ◌==◌, Option, Some, None, slice_get, option_and_then}
-use Rattle.sl_net.specs.declared.parts.PortRef.{PortRef}
-use Rattle.sl_net.specs.declared.parts.CablePart.{CablePart}
+use Rattle.sl_parts.specs.declared.parts.PortRef.{PortRef}
+use Rattle.sl_parts.specs.declared.parts.CablePart.{CablePart}
 use Rattle.sl_net.specs.Parts.{Parts, below}
 use Rattle.sl_route.specs.Least.{least}
 

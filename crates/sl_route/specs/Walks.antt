@@ -2,7 +2,7 @@
 --     IsWalk parts d e walk    a walk from the device d to the device e
 use Rattle.std.specs.Prelude.{◌≡◌, ℕ, ◌≤◌, [], ◌∷◌, ◌++◌, map, length, Option, Some, None}
 use Rattle.std.specs.List.{Contains}
-use Rattle.sl_net.specs.declared.parts.CablePart.{CablePart}
+use Rattle.sl_parts.specs.declared.parts.CablePart.{CablePart}
 use Rattle.sl_net.specs.Parts.{Parts}
 use Rattle.sl_route.specs.Route.{Walk, turned, hops, next_port}
 
@@ -28,7 +28,7 @@ AreHops parts d e None = (walk : Walk) → IsWalk parts d e walk → ⊥
 AreHops parts d e (Some n) = IsLeast parts d e n
 
 -- by the next port a cable leads to a device from which the host is one cable nearer
-pub record GoesOn (parts : Parts) (d h n : ℕ) : Type 0 where
+pub record LeadsNearer (parts : Parts) (d h n : ℕ) : Type 0 where
   pub cable : CablePart
   pub is_cable : IsCable parts cable
   pub begins : cable.a.device ≡ d

@@ -1,11 +1,11 @@
 // Laws of routes. The functions do nothing: their contracts are the laws, and the proofs are in
 // proofs/.
 ghost use Rattle.std.specs.Prelude.{ℕ, suc, ◌≡◌, ◌<◌, Some, length};
-ghost use Rattle.sl_net.specs.declared.parts.PortRef.{PortRef};
+ghost use Rattle.sl_parts.specs.declared.parts.PortRef.{PortRef};
 ghost use Rattle.sl_net.specs.Parts.{Parts};
 ghost use Rattle.sl_net.specs.Valid.{IsValid};
 ghost use Rattle.sl_route.specs.Route.{host_port, hops};
-ghost use Rattle.sl_route.specs.Walks.{AreHops, GoesOn};
+ghost use Rattle.sl_route.specs.Walks.{AreHops, LeadsNearer};
 
 /// The hops are the least number of cables of a walk of any length to the host's device, and
 /// there are none exactly where no walk leads there.
@@ -16,6 +16,6 @@ pub fn hops_are_least()
 /// The cable of the next port leads to a device from which the host is one cable nearer. A way has
 /// fewer cables than there are devices.
 pub fn routes_lead_nearer()
-    ensures nearer { (parts : Parts) (d h n : ℕ) → IsValid parts → hops parts d h ≡ Some (suc n) → GoesOn parts d h n }
+    ensures nearer { (parts : Parts) (d h n : ℕ) → IsValid parts → hops parts d h ≡ Some (suc n) → LeadsNearer parts d h n }
     ensures few { (parts : Parts) (d h n : ℕ) → IsValid parts → hops parts d h ≡ Some n → n < length parts.devices }
 {}

@@ -13,13 +13,16 @@ use std::marker::Model;
 /// A port of a device, and the device that its cable leads to.
 #[derive(Clone, Copy)]
 pub struct Neighbour {
+    /// The port.
     pub port: u8,
+    /// The device at the other end of its cable.
     pub device: u32,
 }
 
 /// The neighbours of one device.
 #[derive(Drop)]
 pub struct Neighbours {
+    /// The neighbours, one for each cable at the device.
     pub items: Vec<Neighbour>,
 }
 

@@ -11,10 +11,12 @@ use sl_net::PortRef;
 use std::alloc::{AllocError, Global};
 use std::marker::Model;
 
-/// The ways to one host: from each device the next port, and the number of cables.
+/// The ways to one host, by device.
 #[derive(Drop)]
 pub struct Ways {
+    /// The next port from each device, where there is a way.
     pub ports: Vec<Option<u8>>,
+    /// The number of cables from each device, where there is a way.
     pub hops: Vec<Option<u32>>,
 }
 

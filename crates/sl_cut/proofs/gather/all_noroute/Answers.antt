@@ -1,8 +1,8 @@
 use Rattle.sl_cut.proofs.ForwardFindings.{weigh_more, weigh_take}
-use Rattle.sl_cut.proofs.Sizes.{length_steps}
-use Rattle.sl_cut.specs.Counting.{noroute}
+use Rattle.sl_history.proofs.Steps.{length_steps}
+use Rattle.sl_history.specs.Counting.{noroute}
 use Rattle.sl_cut.specs.Findings.{device_of}
-use Rattle.sl_cut.specs.History.{history}
+use Rattle.sl_history.specs.History.{history}
 use Rattle.sl_net.specs.Net.{actor_of}
 use Rattle.std.proofs.Common.{ap, arith, get_or, length, ℕ, ◌+◌, ◌∙◌, ◌≡◌, ◌≤◌}
 use Rattle.std.specs.Prelude.{reverse}

@@ -1,7 +1,7 @@
-use Rattle.sl_cut.specs.Counting.{noroute}
+use Rattle.sl_history.specs.Counting.{noroute}
 use Rattle.sl_cut.specs.Findings.{device_of}
-use Rattle.sl_cut.specs.History.{history}
-use Rattle.sl_cut.specs.Words.{weigh}
+use Rattle.sl_history.specs.History.{history}
+use Rattle.sl_history.specs.Words.{weigh}
 use Rattle.sl_net.specs.Net.{actor_of}
 use Rattle.std.proofs.Common.{length, take, ◌≡◌, ◌≤◌}
 use Rattle.sl_cut.proofs.gather.all_noroute.Given as goal

@@ -1,5 +1,5 @@
 use Rattle.sl_cut.specs.Findings.{finding}
-use Rattle.sl_cut.specs.Losses.{losses}
+use Rattle.sl_step.specs.Losses.{losses}
 use Rattle.sl_net.specs.Parts.{numbers_from}
 use Rattle.std.proofs.Common.{◌≡◌}
 use Rattle.std.specs.Prelude.{map}

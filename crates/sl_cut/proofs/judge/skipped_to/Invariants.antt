@@ -1,4 +1,4 @@
-use Rattle.sl_cut.specs.History.{id}
+use Rattle.sl_history.specs.History.{id}
 use Rattle.sl_cut.specs.Verdict.{skipped_to}
 use Rattle.std.proofs.Common.{take, ◌≡◌}
 use Rattle.std.specs.Prelude.{reverse}

@@ -1,4 +1,4 @@
-use Rattle.sl_cut.specs.World.{world}
+use Rattle.sl_step.specs.World.{world}
 use Rattle.sl_cut.proofs.laws.channel_values_are_late_data.Goals as goal
 use Rattle.sl_cut.proofs.Ran.{ran}
 use Rattle.sl_cut.proofs.Consistent.{value-is-late}

@@ -1,9 +1,9 @@
 use Rattle.std.proofs.Common.{sym, subst}
-use Rattle.sl_cut.specs.History.{history, first}
-use Rattle.sl_cut.specs.World.{start, world}
+use Rattle.sl_history.specs.History.{history, first}
+use Rattle.sl_step.specs.World.{start, world}
 use Rattle.sl_cut.specs.Collected.{IsKept}
 use Rattle.sl_cut.proofs.laws.collected_rows_stay.Goals as goal
-use Rattle.sl_cut.proofs.Turns.{run-append}
+use Rattle.sl_step.proofs.Turns.{run-append}
 use Rattle.sl_cut.proofs.Ran.{ran}
 use Rattle.sl_cut.proofs.Collected.{kept-ahead}
 

@@ -1,4 +1,4 @@
-use Rattle.sl_cut.specs.World.{world}
+use Rattle.sl_step.specs.World.{world}
 use Rattle.sl_cut.proofs.laws.collected_verdicts_are_known.Goals as goal
 use Rattle.sl_cut.proofs.Bounds.{all-below}
 use Rattle.sl_cut.proofs.KnownVerdict.{known-verdict-now}

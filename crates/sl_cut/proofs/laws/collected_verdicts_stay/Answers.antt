@@ -1,8 +1,8 @@
 use Rattle.std.proofs.Common.{ap, ◌∙◌}
-use Rattle.sl_cut.specs.World.{start, world}
+use Rattle.sl_step.specs.World.{start, world}
 use Rattle.sl_cut.specs.Verdict.{verdict}
 use Rattle.sl_cut.proofs.laws.collected_verdicts_stay.Goals as goal
-use Rattle.sl_cut.proofs.Turns.{run-append}
+use Rattle.sl_step.proofs.Turns.{run-append}
 use Rattle.sl_cut.proofs.Bounds.{all-below}
 use Rattle.sl_cut.proofs.KnownVerdict.{verdict-stays}
 

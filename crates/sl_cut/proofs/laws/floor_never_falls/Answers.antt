@@ -1,8 +1,8 @@
 use Rattle.std.proofs.Common.{◌≤◌, sym, subst}
-use Rattle.sl_cut.specs.Knowledge.{floor}
-use Rattle.sl_cut.specs.World.{start, world}
+use Rattle.sl_history.specs.Knowledge.{floor}
+use Rattle.sl_step.specs.World.{start, world}
 use Rattle.sl_cut.proofs.laws.floor_never_falls.Goals as goal
-use Rattle.sl_cut.proofs.Turns.{run-append}
+use Rattle.sl_step.proofs.Turns.{run-append}
 use Rattle.sl_cut.proofs.Ran.{ran}
 use Rattle.sl_cut.proofs.Floors.{floor-run}
 

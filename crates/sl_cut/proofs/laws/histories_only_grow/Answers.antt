@@ -1,8 +1,8 @@
 use Rattle.std.proofs.Common.{ap, ◌∙◌}
-use Rattle.sl_cut.specs.History.{history, first}
-use Rattle.sl_cut.specs.World.{start, world}
+use Rattle.sl_history.specs.History.{history, first}
+use Rattle.sl_step.specs.World.{start, world}
 use Rattle.sl_cut.proofs.laws.histories_only_grow.Goals as goal
-use Rattle.sl_cut.proofs.Turns.{run-append}
+use Rattle.sl_step.proofs.Turns.{run-append}
 use Rattle.sl_cut.proofs.Floors.{extends-run}
 
 pub returns : goal.returns

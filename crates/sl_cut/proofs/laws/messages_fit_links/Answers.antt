@@ -1,5 +1,5 @@
 use Rattle.sl_net.specs.Net.{link_of}
-use Rattle.sl_cut.specs.World.{world, sender}
+use Rattle.sl_step.specs.World.{world, sender}
 use Rattle.sl_cut.proofs.laws.messages_fit_links.Goals as goal
 use Rattle.sl_cut.proofs.Ran.{ran}
 use Rattle.sl_cut.proofs.Stamps.{put-fits}

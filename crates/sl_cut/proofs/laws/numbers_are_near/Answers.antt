@@ -1,4 +1,4 @@
-use Rattle.sl_cut.specs.World.{world}
+use Rattle.sl_step.specs.World.{world}
 use Rattle.sl_cut.proofs.laws.numbers_are_near.Goals as goal
 use Rattle.sl_cut.proofs.Ran.{ran}
 use Rattle.sl_cut.proofs.Near.{in-window, near}

@@ -1,8 +1,8 @@
 use Rattle.std.proofs.Common.{ℕ, ◌+◌, ◌<◌, arith}
 use Rattle.sl_net.specs.Serving.{served}
-use Rattle.sl_cut.specs.History.{history, id}
-use Rattle.sl_cut.specs.Knowledge.{told_of, upto_of}
-use Rattle.sl_cut.specs.World.{world}
+use Rattle.sl_history.specs.History.{history, id}
+use Rattle.sl_history.specs.Knowledge.{told_of, upto_of}
+use Rattle.sl_step.specs.World.{world}
 use Rattle.sl_net.proofs.Lists.{each-imp}
 use Rattle.sl_cut.proofs.laws.uncollected_numbers_are_near.Goals as goal
 use Rattle.sl_cut.proofs.Ran.{ran}

@@ -1,6 +1,6 @@
 use Rattle.std.proofs.Common.{sym, subst}
 use Rattle.std.proofs.lemmas.Option.{get_or_from_slice_get}
-use Rattle.sl_net.specs.declared.actor.ActorId.TheVariants.{Host as OfHost}
+use Rattle.sl_layout.specs.declared.actor.ActorId.TheVariants.{Host as OfHost}
 use Rattle.sl_net.specs.Net.{nobody}
 use Rattle.sl_host.specs.Host.{host_take}
 use Rattle.sl_cut.specs.History.{history}

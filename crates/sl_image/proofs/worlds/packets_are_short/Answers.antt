@@ -1,6 +1,7 @@
 use Rattle.std.proofs.Common.{refl, arith}
 use Rattle.sl_cut.specs.World.{world}
-use Rattle.sl_cut.proofs.Sizes.{history_size, world_size}
+use Rattle.sl_cut.proofs.Steps.{history_size}
+use Rattle.sl_cut.proofs.Sizes.{world_size}
 use Rattle.sl_image.proofs.Shorts.{all-short}
 use Rattle.sl_image.proofs.worlds.packets_are_short.Goals as goal
 

@@ -2,7 +2,8 @@ use Rattle.std.proofs.Common.{arith}
 use Rattle.sl_saves.proofs.Held.{held-fitting}
 use Rattle.sl_cut.specs.History.{history, first}
 use Rattle.sl_cut.specs.World.{world}
-use Rattle.sl_cut.proofs.Sizes.{history_size, world_size}
+use Rattle.sl_cut.proofs.Steps.{history_size}
+use Rattle.sl_cut.proofs.Sizes.{world_size}
 use Rattle.std.proofs.Common.{refl}
 use Rattle.sl_image.specs.Rows.{row}
 use Rattle.sl_image.proofs.Fits.{fits-row, first-le, first-short}

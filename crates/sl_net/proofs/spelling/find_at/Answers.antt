@@ -1,6 +1,6 @@
 use Rattle.std.proofs.Common.{◌≡◌, length, Some, ap, sym, ◌∙◌}
 use Rattle.std.specs.Prelude.{codes}
-use Rattle.sl_net.specs.Net.{actor_of}
+use Rattle.sl_layout.specs.Net.{actor_of}
 use Rattle.sl_net.specs.Spelling.{skip, actor_text, choice_text, choice_word, choice_count}
 use Rattle.sl_net.proofs.Skips.{skip_past, found_past}
 use Rattle.sl_net.proofs.spelling.find_at.Goals as goal

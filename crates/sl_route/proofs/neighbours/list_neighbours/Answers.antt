@@ -1,6 +1,6 @@
 use Rattle.std.proofs.Common.{◌≡◌, ◌++◌, ◌∷◌, [], length, get_or, set, take, map, ap, ◌∙◌, arith}
 use Rattle.std.proofs.lemmas.List.Elements.{All-same}
-use Rattle.sl_net.specs.declared.parts.CablePart.{CablePart}
+use Rattle.sl_parts.specs.declared.parts.CablePart.{CablePart}
 use Rattle.sl_net.specs.Parts.{Parts, below}
 use Rattle.sl_net.proofs.Counting.{length_below}
 use Rattle.sl_route.specs.Route.{turned}

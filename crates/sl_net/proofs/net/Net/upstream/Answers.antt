@@ -1,8 +1,8 @@
 use Rattle.std.proofs.Common.{◌<◌, [], ap, subst, sym, ◌∙◌, length, get_or}
 use Rattle.std.specs.Prelude.{slice_index}
 use Rattle.std.proofs.lemmas.List.{get_or-map}
-use Rattle.sl_net.specs.Net.{units}
-use Rattle.sl_net.specs.Wiring.{upstream_of}
+use Rattle.sl_layout.specs.Net.{units}
+use Rattle.sl_layout.specs.Wiring.{upstream_of}
 use Rattle.sl_net.proofs.net.Net.upstream.Goals as goal
 
 pub returns : goal.returns

@@ -1,0 +1,64 @@
+// How many messages are lost, by kinds of links.
+ghost use Rattle.std.specs.Prelude.{◌≡◌, [], ◌∷◌, cond, IfOk};
+ghost use Rattle.sl_net.specs.Net.{link_of, same_sort};
+ghost use Rattle.sl_cut.specs.Findings.{lost_on, lost_of, losses_of};
+ghost use Rattle.sl_step.specs.Losses.{losses};
+ghost use Rattle.sl_history.specs.Words.{weigh};
+
+use crate::findings::Lost;
+use sl_history::{World, link_of, put};
+use sl_net::{Input, Sort};
+use sl_step::without_lost;
+use std::alloc::{AllocError, Global};
+
+/// How many puts on a link are lost.
+#[tactic(auto, using(sl_step::proofs::ForwardLosses::lost_and_kept))]
+fn lost_on(alloc: Global, input: &Input, world: &World, link: u32) -> Result<u64, AllocError>
+    ensures { IfOk result (λ count. count ≡ lost_on input.now.net (losses input.now) world.now link) }
+{
+    let messages = put(alloc, link, world.steps(link_of(&input.net, link).from))?;
+    let kept = without_lost(alloc, input, link, messages.as_slice())?;
+    Ok((messages.len() - kept.len()) as u64)
+}
+
+/// How many puts on a link are lost, 0 where it is of another sort.
+fn lost_if(
+    alloc: Global,
+    input: &Input,
+    world: &World,
+    link: u32,
+    sort: Sort,
+) -> Result<u64, AllocError>
+    ensures { IfOk result (λ count. count ≡ weigh (lost_on input.now.net (losses input.now) world.now) (cond (same_sort (link_of input.now.net link).sort sort) (link ∷ []) [])) }
+{
+    if link_of(&input.net, link).sort.is(sort) {
+        lost_on(alloc, input, world, link)
+    } else {
+        Ok(0)
+    }
+}
+
+/// How many puts on links of a sort are lost. A number past the last of a u64 is answered as want
+/// of memory: so many messages are nowhere.
+fn lost_of(alloc: Global, input: &Input, world: &World, sort: Sort) -> Result<u64, AllocError>
+    ensures { IfOk result (λ count. count ≡ lost_of input.now.net (losses input.now) world.now sort) }
+{
+    let mut total: u64 = 0;
+    for link in 0..input.net.links().len() as u32 {
+        let more = lost_if(alloc, input, world, link, sort)?;
+        total = total.checked_add(more).ok_or(AllocError)?;
+    }
+    Ok(total)
+}
+
+/// The lost puts by kinds of links.
+pub fn losses_of(alloc: Global, input: &Input, world: &World) -> Result<Lost, AllocError>
+    ensures { IfOk result (λ lost. lost ≡ losses_of input.now.net (losses input.now) world.now) }
+{
+    Ok(Lost {
+        cable: lost_of(alloc, input, world, Sort::Cable)?,
+        crossbar: lost_of(alloc, input, world, Sort::Crossbar)?,
+        init: lost_of(alloc, input, world, Sort::Init)?,
+        notice: lost_of(alloc, input, world, Sort::Notice)?,
+    })
+}

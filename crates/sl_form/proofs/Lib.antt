@@ -1,0 +1,4 @@
+pub mod FieldLemmas
+pub mod FormLemmas
+pub mod Shorter
+pub mod Arrays

@@ -1,0 +1,4 @@
+pub mod Paths
+pub mod Refusals
+pub mod Fields
+pub mod Forms

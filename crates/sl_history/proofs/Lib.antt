@@ -1,0 +1,6 @@
+pub mod ForwardLists
+pub mod ForwardSteps
+pub mod FoundPackets
+pub mod Steps
+pub mod Walks
+pub mod NoActor

@@ -1,0 +1,9 @@
+pub mod Numbering
+pub mod Actors
+pub mod Sizes
+pub mod Senders
+pub mod Grouping
+pub mod Ends
+pub mod Placing
+pub mod UnitLists
+pub mod Sound

@@ -1,7 +1,0 @@
-use Rattle.std.proofs.Common.{ℕ, List, [], arith}
-use Rattle.std.proofs.lemmas.Grind.{common_steps}
-use Rattle.sl_net.proofs.Counting.{map_below_more}
-use Rattle.sl_net.proofs.groups.empty_lists.Goals as goal
-
-pub loop-i-preserved : goal.loop-i-preserved
-loop-i-preserved c = rw (map_below_more {A = List ℕ} (λ a. []) c.loop-i._i) (grind (arith, common_steps))

@@ -1,5 +1,0 @@
-use Rattle.sl_net.proofs.NumberLemmas.{is_plain_number}
-use Rattle.sl_net.proofs.number.plain_numbers.Goals as goal
-
-pub returns : goal.returns
-returns c = is_plain_number

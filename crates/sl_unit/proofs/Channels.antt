@@ -3,14 +3,14 @@ use Rattle.std.proofs.Common.{◌≡◌, ℕ, suc, ◌+◌, ◌<◌, ◌≤◌, 
 use Rattle.std.specs.Prelude.{cond, true, false, Bool, filter, ◌⊎◌, ◌==◌, IsSome}
 use Rattle.std.specs.List.{All}
 use Rattle.std.proofs.lemmas.Bool.Decides.{eqb_tells}
-use Rattle.sl_net.specs.declared.actor.Side.{Side}
-use Rattle.sl_net.specs.declared.actor.Side.TheVariants.{Ingress, Egress}
-use Rattle.sl_net.specs.declared.actor.ActorId.{ActorId}
-use Rattle.sl_net.specs.declared.actor.ActorId.TheVariants.{Observer, Control, Unit as OfUnit, Host as OfHost}
-use Rattle.sl_net.specs.declared.actor.Sort.{Sort}
-use Rattle.sl_net.specs.declared.actor.Sort.TheVariants.{FromHost, ToHost, Cable, Crossbar, Init, Poll, Notice, Dump, Begin, Done}
-use Rattle.sl_net.specs.declared.actor.LinkPart.{LinkPart}
-use Rattle.sl_net.specs.declared.parts.PortRef.{PortRef}
+use Rattle.sl_layout.specs.declared.actor.Side.{Side}
+use Rattle.sl_layout.specs.declared.actor.Side.TheVariants.{Ingress, Egress}
+use Rattle.sl_layout.specs.declared.actor.ActorId.{ActorId}
+use Rattle.sl_layout.specs.declared.actor.ActorId.TheVariants.{Observer, Control, Unit as OfUnit, Host as OfHost}
+use Rattle.sl_layout.specs.declared.actor.Sort.{Sort}
+use Rattle.sl_layout.specs.declared.actor.Sort.TheVariants.{FromHost, ToHost, Cable, Crossbar, Init, Poll, Notice, Dump, Begin, Done}
+use Rattle.sl_layout.specs.declared.actor.LinkPart.{LinkPart}
+use Rattle.sl_parts.specs.declared.parts.PortRef.{PortRef}
 use Rattle.sl_net.specs.Parts.{Parts, below, used_ports, host_at, other_end}
 use Rattle.sl_net.specs.Net.{Net, net_of, Incoming, incoming, ingress, from_host_or_cable, from_outside, unit_incoming, links_into, link_of, link_at, place_of, place_in, actors_of, actor_of, same_sort, sort_number, choices_of, data_channels}
 use Rattle.sl_net.specs.Valid.{IsValid}

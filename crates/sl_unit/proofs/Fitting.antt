@@ -3,9 +3,9 @@ use Rattle.std.proofs.Common.{◌≡◌, ℕ, zero, suc, ◌+◌, ◌-◌, ◌<�
 use Rattle.std.specs.Prelude.{cond, true, false, Bool, filter, nat_lt, not, ◌⊎◌, ◌==◌, ◌&&◌, ◌||◌, if◌then◌else◌}
 use Rattle.std.proofs.lemmas.Bool.{lt-ltb}
 use Rattle.std.proofs.lemmas.Bool.Decides.{eqb_tells}
-use Rattle.sl_machine.specs.Machine.{After, is_fitting, puts_on}
+use Rattle.sl_machine.specs.Machine.{After, is_fitting, puts_on, send_all}
 use Rattle.sl_net.specs.Parts.{below, numbers_from}
-use Rattle.sl_net.specs.declared.actor.Sort.TheVariants as sort
+use Rattle.sl_layout.specs.declared.actor.Sort.TheVariants as sort
 use Rattle.sl_net.specs.declared.input.Packet.{Packet}
 use Rattle.sl_net.specs.Net.{same_sort}
 use Rattle.sl_wire.specs.declared.message.Msg.{Msg}
@@ -15,7 +15,8 @@ use Rattle.sl_unit.specs.declared.wires.Way.TheVariants.{All, Toward}
 use Rattle.sl_unit.specs.declared.registers.Channel.{Channel}
 use Rattle.sl_unit.specs.Wires.{Wires, is_out, no_exit, port_to}
 use Rattle.sl_unit.specs.Registers.{Registers, more, counted, last_on, is_near}
-use Rattle.sl_unit.specs.Step.{UnitState, Sent, send_all, send, plain_frame, onward, routed, passed, probed, initiated, absorbed, stamped, framed}
+use Rattle.sl_wire.specs.Frames.{plain_frame}
+use Rattle.sl_unit.specs.Step.{UnitState, send, onward, routed, passed, probed, initiated, absorbed, stamped, framed}
 use Rattle.sl_unit.proofs.Ways.{sort_of, ways_apart}
 
 -- a number below the first is on none of the links
@@ -40,7 +41,7 @@ other_absent m q o (x ∷ xs) h = by_bool (q x) refl (other_absent m q o xs h) (
     by_bool true e r (inl t) = absurd (let z : true ≡ false = sym e ∙ ap q t.1 ∙ h in cc)
     by_bool true e r (inr t) = ap (λ b. b || puts_on o (send_all m (filter q xs))) t.0 ∙ r
 
-on_append : (o : ℕ) (ps qs : Sent) → puts_on o ps ≡ false → puts_on o qs ≡ false → puts_on o (ps ++ qs) ≡ false
+on_append : (o : ℕ) (ps qs : List (ℕ × Msg)) → puts_on o ps ≡ false → puts_on o qs ≡ false → puts_on o (ps ++ qs) ≡ false
 on_append o [] qs h k = k
 on_append o (p ∷ ps) qs h k = by_bool (p.0 == o) h (λ h. on_append o ps qs h k)
   where
@@ -48,12 +49,12 @@ on_append o (p ∷ ps) qs h k = by_bool (p.0 == o) h (λ h. on_append o ps qs h 
     by_bool true h f = h
     by_bool false h f = f h
 
-all_fit : (n : ℕ) (m : Msg) (p : ℕ → Bool) (ps : Sent) (s k : ℕ) → s + k ≤ n → is_fitting n ps ≡ true → ((o : ℕ) → p o ≡ true → puts_on o ps ≡ false)
+all_fit : (n : ℕ) (m : Msg) (p : ℕ → Bool) (ps : List (ℕ × Msg)) (s k : ℕ) → s + k ≤ n → is_fitting n ps ≡ true → ((o : ℕ) → p o ≡ true → puts_on o ps ≡ false)
     → is_fitting n (send_all m (filter p (numbers_from s k)) ++ ps) ≡ true
 all_fit n m p ps s zero h f a = f
 all_fit n m p ps s (suc k) h f a = by_bool (p s) refl (all_fit n m p ps (suc s) k (omega arith) f a)
   where
-    rest : Sent
+    rest : List (ℕ × Msg)
     rest = send_all m (filter p (numbers_from (suc s) k)) ++ ps
 
     by_bool : (b : Bool) → p s ≡ b → is_fitting n (send_all m (filter p (numbers_from (suc s) k)) ++ ps) ≡ true
@@ -65,7 +66,7 @@ all_fit n m p ps s (suc k) h f a = by_bool (p s) refl (all_fit n m p ps (suc s) 
         ∙ ap (λ b. not b && is_fitting n (send_all m (filter p (numbers_from (suc s) k)) ++ ps)) q ∙ r
 
 -- puts on a way, before puts that don't go on its links
-way_first : (w : Wires) (a : Way) (m : Msg) (ps : Sent) → is_fitting (length w.exits) ps ≡ true → ((o : ℕ) → is_out a w.exits o ≡ true → puts_on o ps ≡ false)
+way_first : (w : Wires) (a : Way) (m : Msg) (ps : List (ℕ × Msg)) → is_fitting (length w.exits) ps ≡ true → ((o : ℕ) → is_out a w.exits o ≡ true → puts_on o ps ≡ false)
     → is_fitting (length w.exits) (send w a m ++ ps) ≡ true
 way_first w a m ps f h = all_fit (length w.exits) m (is_out a w.exits) ps 0 (length w.exits) (omega arith) f h
 
@@ -79,7 +80,7 @@ two_fit : (w : Wires) (a b : Way) (m n : Msg) → same_sort (sort_of a) (sort_of
 two_fit w a b m n q = way_first w a m (send w b n) (one_fits w b n) (way_absent w a b n q)
 
 -- alone and with a notice
-pub record IsFit (w : Wires) (ps : Sent) : Type 0 where
+pub record IsFit (w : Wires) (ps : List (ℕ × Msg)) : Type 0 where
   pub alone : is_fitting (length w.exits) ps ≡ true
   pub noticed : is_fitting (length w.exits) (ps ++ send w (All sort.Notice) Notice) ≡ true
 

@@ -5,7 +5,7 @@ use Rattle.std.proofs.lemmas.List.{length-map}
 use Rattle.sl_net.specs.Parts.{below, numbers_from}
 use Rattle.sl_net.proofs.Counting.{filter_below_more}
 use Rattle.sl_wire.specs.declared.message.Msg.{Msg}
-use Rattle.sl_unit.specs.Step.{send_all, Sent}
+use Rattle.sl_machine.specs.Machine.{send_all}
 
 grows : (p : ℕ → Bool) (s i k : ℕ) → p (s + i) ≡ true → length (filter p (numbers_from s i)) < length (filter p (numbers_from s (i + suc k)))
 grows p s zero k t = let e : s + 0 ≡ s = omega arith in let z : 0 + suc k ≡ suc k = omega arith in
@@ -29,7 +29,7 @@ outs_rise p i n h t = let e : i + suc (n - suc i) ≡ n = omega arith in let z :
     subst (λ m. length (filter p (below i)) < length (filter p (below m))) e (grows p 0 i (n - suc i) (subst (λ n. p n ≡ true) z t))
 
 -- one number more
-pub sent_more : (m : Msg) (p : ℕ → Bool) (before : Sent) (i : ℕ) → (before ++ send_all m (filter p (below i))) ++ cond (p i) ((i, m) ∷ []) [] ≡ before ++ send_all m (filter p (below (i + 1)))
+pub sent_more : (m : Msg) (p : ℕ → Bool) (before : List (ℕ × Msg)) (i : ℕ) → (before ++ send_all m (filter p (below i))) ++ cond (p i) ((i, m) ∷ []) [] ≡ before ++ send_all m (filter p (below (i + 1)))
 sent_more m p before i = append_assoc before (send_all m (filter p (below i))) (cond (p i) ((i, m) ∷ []) [])
     ∙ ap (λ ps. before ++ ps) (by_bool (p i) ∙ ap (send_all m) (sym (filter_below_more p i)))
   where

@@ -3,8 +3,8 @@ use Rattle.std.proofs.Common.{◌≡◌, ℕ, suc, ◌+◌, ◌-◌, ◌≤◌, 
 use Rattle.std.specs.Prelude.{cond, true, false, Bool, filter, ◌⊎◌, ◌==◌, ◌&&◌, if◌then◌else◌}
 use Rattle.std.proofs.lemmas.Bool.Decides.{eqb_tells}
 use Rattle.sl_net.specs.Parts.{below}
-use Rattle.sl_net.specs.declared.actor.Sort.{Sort}
-use Rattle.sl_net.specs.declared.actor.Sort.TheVariants as sort
+use Rattle.sl_layout.specs.declared.actor.Sort.{Sort}
+use Rattle.sl_layout.specs.declared.actor.Sort.TheVariants as sort
 use Rattle.sl_net.specs.declared.input.Packet.{Packet}
 use Rattle.sl_net.specs.Net.{same_sort, sort_number, same_actor, egress}
 use Rattle.sl_net.proofs.Counting.{length_numbers}
@@ -15,7 +15,9 @@ use Rattle.sl_unit.specs.declared.wires.Way.TheVariants.{All, Toward}
 use Rattle.sl_wire.specs.declared.message.Msg.TheVariants.{Host, Data, Probe}
 use Rattle.sl_unit.specs.Wires.{Wires, leads, is_out, outs, no_exit, port_to}
 use Rattle.sl_unit.specs.Registers.{Registers, more}
-use Rattle.sl_unit.specs.Step.{send_all, plain_frame, onward, routed, passed, probed, initiated}
+use Rattle.sl_wire.specs.Frames.{plain_frame}
+use Rattle.sl_machine.specs.Machine.{send_all}
+use Rattle.sl_unit.specs.Step.{onward, routed, passed, probed, initiated}
 use Rattle.sl_unit.proofs.Outs.{length_sent}
 
 pub outs_few : (way : Way) (exits : List Exit) → length (outs way exits) ≤ length exits

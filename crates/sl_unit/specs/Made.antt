@@ -1,10 +1,10 @@
 -- A unit of a net. a is its actor's number.
 use Rattle.std.specs.Prelude.{ℕ, ◌≤◌, Bool, false, List, [], length, map, Option, Some, None, slice_index}
-use Rattle.sl_net.specs.declared.actor.Side.{Side}
-use Rattle.sl_net.specs.declared.actor.ActorId.{ActorId}
-use Rattle.sl_net.specs.declared.actor.ActorId.TheVariants.{Unit as OfUnit}
-use Rattle.sl_net.specs.declared.actor.Sort.{Sort}
-use Rattle.sl_net.specs.declared.actor.Sort.TheVariants.{FromHost, Cable as CableSort, Crossbar as CrossbarSort, Init as InitSort, Poll as PollSort}
+use Rattle.sl_layout.specs.declared.actor.Side.{Side}
+use Rattle.sl_layout.specs.declared.actor.ActorId.{ActorId}
+use Rattle.sl_layout.specs.declared.actor.ActorId.TheVariants.{Unit as OfUnit}
+use Rattle.sl_layout.specs.declared.actor.Sort.{Sort}
+use Rattle.sl_layout.specs.declared.actor.Sort.TheVariants.{FromHost, Cable as CableSort, Crossbar as CrossbarSort, Init as InitSort, Poll as PollSort}
 use Rattle.sl_net.specs.declared.input.Snapshot.{Snapshot}
 use Rattle.sl_net.specs.Parts.{below}
 use Rattle.sl_net.specs.Net.{Net, same_actor, ingress, actor_of, link_of, link_at, links_into, links_from, place_in, data_channels, units}

@@ -1,12 +1,12 @@
 -- What the registers of a unit stand for, and the room that a turn needs.
 use Rattle.std.specs.Prelude.{◌≡◌, ℕ, true, List, length}
 use Rattle.std.specs.List.{All}
-use Rattle.sl_net.specs.declared.actor.Sort.TheVariants.{ToHost, Dump as DumpSort}
+use Rattle.sl_layout.specs.declared.actor.Sort.TheVariants.{ToHost, Dump as DumpSort}
 use Rattle.sl_saves.specs.declared.entry.View.{View}
 use Rattle.sl_saves.specs.Lists.{list_kept, ListHasRoom}
 use Rattle.sl_unit.specs.declared.wires.Way.TheVariants.{All as AllOf}
 use Rattle.sl_unit.specs.declared.registers.Registers.{Registers as Declared}
-use Rattle.sl_unit.specs.Wires.{Wires, outs, entrance_at, is_poll}
+use Rattle.sl_unit.specs.Wires.{Wires, outs, entrance_at, is_poll, is_crossbar}
 use Rattle.sl_unit.specs.Registers.{Registers}
 use Rattle.sl_unit.specs.Step.{UnitState}
 
@@ -39,5 +39,5 @@ pub record HasViews (w : Wires) (size : ℕ) (views : List View) : Type 0 where
 -- the room for a turn of the choice c
 pub record HasRoom (w : Wires) (r : Declared) (frames : List (List ℕ)) (views : List View) (c : ℕ) : Type 0 where
   pub saves : ListHasRoom r.saves
-  pub frames_are : HasFrames w frames
+  pub frames_are : is_crossbar (entrance_at w c) ≡ true → HasFrames w frames
   pub views_are : is_poll (entrance_at w c) ≡ true → HasViews w (registers_of r).saved.size views

@@ -1,9 +1,9 @@
 -- A unit's step.
 --     unit_take s c m    what a unit makes of the message m that it takes by the choice c
 -- A stamped message outside the window, and a message that its link doesn't carry, are ignored.
-use Rattle.std.specs.Prelude.{ℕ, ◌-◌, Bool, ◌==◌, if◌then◌else◌, List, [], ◌++◌, length, map, Option, Some, None, Result, Ok, Err}
-use Rattle.sl_machine.specs.Machine.{After, Rules, Counts}
-use Rattle.sl_net.specs.declared.actor.Sort.TheVariants.{ToHost, Cable as CableSort, Crossbar as CrossbarSort, Notice as NoticeSort, Dump as DumpSort}
+use Rattle.std.specs.Prelude.{ℕ, ◌-◌, Bool, ◌==◌, if◌then◌else◌, List, [], ◌++◌, length, Option, Some, None, Result, Ok, Err}
+use Rattle.sl_machine.specs.Machine.{After, Rules, Counts, send_all}
+use Rattle.sl_layout.specs.declared.actor.Sort.TheVariants.{ToHost, Cable as CableSort, Crossbar as CrossbarSort, Notice as NoticeSort, Dump as DumpSort}
 use Rattle.sl_net.specs.declared.input.Packet.{Packet}
 use Rattle.sl_wire.specs.declared.frame.Kind.{Kind}
 use Rattle.sl_wire.specs.declared.frame.Kind.TheVariants.{Plain}
@@ -11,7 +11,7 @@ use Rattle.sl_wire.specs.declared.frame.Header.{Header}
 use Rattle.sl_wire.specs.declared.frame.WireFault.{WireFault}
 use Rattle.sl_wire.specs.declared.message.Msg.{Msg}
 use Rattle.sl_wire.specs.declared.message.Msg.TheVariants.{Host as HostMsg, Data, Probe, Init as InitMsg, Poll as PollMsg, Notice, Dump}
-use Rattle.sl_wire.specs.Frames.{frame, decoded}
+use Rattle.sl_wire.specs.Frames.{plain_frame, decoded}
 use Rattle.sl_unit.specs.declared.wires.Entrance.{Entrance}
 use Rattle.sl_unit.specs.declared.wires.Entrance.TheVariants.{Host, Cable, Crossbar, Init, Poll}
 use Rattle.sl_unit.specs.declared.wires.Way.{Way}
@@ -27,22 +27,11 @@ pub record UnitState : Type 0 where
   pub window : ℕ
   pub registers : Registers
 
-abbrev pub Sent : Type 0
-Sent = List (ℕ × Msg)
-
-abbrev pub send_all : Msg → List ℕ → Sent
-send_all m os = map (λ o. (o, m)) os
-
-abbrev pub send : Wires → Way → Msg → Sent
+-- a message on each link of a way
+abbrev pub send : Wires → Way → Msg → List (ℕ × Msg)
 send w way m = send_all m (outs way w.exits)
 
 -- Plain frames.
-
-abbrev pub plain_header : Header
-plain_header = record { kind = Plain; id = record { raw = 0 }; channel = 0 }
-
-abbrev pub plain_frame : Packet → List ℕ
-plain_frame p = frame plain_header p
 
 abbrev pub if_plain : Kind → Packet → Option Packet
 if_plain Plain p = Some p
@@ -90,7 +79,7 @@ abbrev pub ignored : UnitState → After UnitState Msg
 ignored s = record { state = s; puts = [] }
 
 -- a notice where the last-seen number changes
-abbrev pub notices : UnitState → Channel → ℕ → Sent
+abbrev pub notices : UnitState → Channel → ℕ → List (ℕ × Msg)
 notices s channel stamp = if last_on channel s.registers == stamp then [] else send s.wires (All NoticeSort) Notice
 
 -- a stamped message, where `a` has the registers after it and its further way

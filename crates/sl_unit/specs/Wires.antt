@@ -2,8 +2,8 @@
 --     outs way exits     the numbers of the outgoing links on which a message goes, ascending
 use Rattle.std.specs.Prelude.{ℕ, ◌<◌, ◌^◌, Bool, true, false, ◌&&◌, List, length, filter, Option, slice_index_or, slice_get, option_and_then}
 use Rattle.std.specs.List.{All as AllEach}
-use Rattle.sl_net.specs.declared.actor.Sort.TheVariants.{Crossbar, FromHost}
-use Rattle.sl_net.specs.declared.actor.ActorId.TheVariants.{Observer}
+use Rattle.sl_layout.specs.declared.actor.Sort.TheVariants.{Crossbar, FromHost}
+use Rattle.sl_layout.specs.declared.actor.ActorId.TheVariants.{Observer}
 use Rattle.sl_net.specs.Parts.{below}
 use Rattle.sl_net.specs.Net.{same_sort, same_actor, egress}
 use Rattle.sl_unit.specs.declared.wires.Entrance.{Entrance}
@@ -57,3 +57,8 @@ pub record IsUsable (w : Wires) : Type 0 where
 abbrev pub is_poll : Entrance → Bool
 is_poll Poll = true
 is_poll _ = false
+
+-- a packet that comes here may leave for a host
+abbrev pub is_crossbar : Entrance → Bool
+is_crossbar (FromCrossbar channel own) = true
+is_crossbar _ = false

@@ -1,5 +1,5 @@
 // The links of a unit in a net.
-ghost use Rattle.std.specs.Prelude.{◌≡◌, ◌<◌, ◌≤◌, ◌^◌, ◌++◌, ◌∷◌, [], ℕ, cond, OnOk, IfOk, IsSome, length};
+ghost use Rattle.std.specs.Prelude.{◌≡◌, ◌<◌, ◌≤◌, ◌^◌, ◌++◌, [], OnOk, IfOk, IsSome, length};
 ghost use Rattle.std.specs.List.{All};
 ghost use Rattle.sl_net.specs.Net.{actor_of, choices_of, data_channels, place_in};
 ghost use Rattle.sl_route.specs.Routes.{IsRoutesOf};
@@ -8,19 +8,9 @@ ghost use Rattle.sl_unit.specs.Made.{side_of, device_of, is_own, entrance, entra
 
 use crate::wires::{Entrance, Exit, Wires};
 use sl_ids::Width;
-use sl_net::{ActorId, Net, Side, Sort};
+use sl_net::{ActorId, Net, Side, Sort, push_if};
 use sl_route::Routes;
 use std::alloc::{AllocError, Global};
-
-/// Adds the number at the end where it passes.
-fn push_if(numbers: &mut Vec<u32>, passes: bool, number: u32) -> Result<(), AllocError>
-    ensures { OnOk result (numbers.new.items ≡ numbers.old.items ++ cond passes (number ∷ []) []) }
-{
-    if passes {
-        numbers.push(number)?;
-    }
-    Ok(())
-}
 
 /// Adds the choices of an actor that take from links of a sort.
 fn add_choices(choices: &mut Vec<u32>, net: &Net, actor: u32, sort: Sort) -> Result<(), AllocError>

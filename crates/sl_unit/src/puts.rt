@@ -1,27 +1,29 @@
 // The messages that a unit puts.
-ghost use Rattle.std.specs.Prelude.{◌≡◌, ◌+◌, ◌≤◌, ◌<◌, ◌^◌, ◌++◌, ◌∷◌, ℕ, [], length, cond, true};
+ghost use Rattle.std.specs.Prelude.{◌≡◌, ◌+◌, ◌≤◌, ◌<◌, ◌^◌, ◌++◌, ◌∷◌, [], length, cond, true};
 ghost use Rattle.std.specs.List.{All};
 ghost use Rattle.sl_wire.specs.declared.message.Msg.TheVariants.{Host, Dump};
+ghost use Rattle.sl_wire.specs.Frames.{plain_frame};
 ghost use Rattle.sl_unit.specs.Wires.{outs};
-ghost use Rattle.sl_unit.specs.Step.{send_all, plain_frame};
+ghost use Rattle.sl_machine.specs.Machine.{send_all};
 ghost use Rattle.sl_unit.specs.Notes.{message_of};
 ghost use Rattle.sl_unit.specs.Registers.{dump_of};
 ghost use Rattle.sl_unit.specs.Room.{registers_of};
 
 use crate::registers::Registers;
 use crate::wires::{Exit, Way};
-use sl_ids::{Wid, Width};
 use sl_machine::Outputs;
 use sl_net::{Bytes, Packet, Sort};
 use sl_saves::View;
-use sl_wire::{Header, Kind, Msg, encode};
+use sl_wire::{Msg, plain_frame};
 
-/// A message that can go on several links: a data packet and a probe with their stamps, and a
-/// notice.
+/// A message that can go on several links.
 #[derive(Clone, Copy)]
 pub enum Note {
+    /// A data packet with its stamp.
     Data(u64, Packet),
+    /// A probe with its stamp.
     Probe(u64),
+    /// A notice.
     Notice,
 }
 
@@ -61,16 +63,11 @@ pub fn put_on(exits: &[Exit], way: Way, note: Note, out: &mut Outputs<Msg>)
 }
 
 /// Writes the plain frame of a packet over a frame.
-fn write_plain(frame: &mut Bytes, width: Width, packet: &Packet)
+fn write_plain(frame: &mut Bytes, packet: &Packet)
     requires { length frame.old ≡ 24 }
     ensures { frame.new ≡ plain_frame packet.now }
 {
-    let header = Header {
-        kind: Kind::Plain,
-        id: Wid { raw: 0 },
-        channel: 0,
-    };
-    let plain = encode(width, &header, packet);
+    let plain = plain_frame(packet);
     frame.items.as_mut_slice().copy_from_slice(&plain.bytes);
 }
 
@@ -79,7 +76,6 @@ fn put_frame_if(
     out: &mut Outputs<Msg>,
     goes: bool,
     link: u32,
-    width: Width,
     packet: &Packet,
     frames: &mut Vec<Bytes>,
 )
@@ -93,20 +89,14 @@ fn put_frame_if(
 {
     if goes {
         if let Some(mut frame) = frames.pop() {
-            write_plain(&mut frame, width, packet);
+            write_plain(&mut frame, packet);
             out.put(link, Msg::Host(frame));
         }
     }
 }
 
 /// Puts a packet, as a plain frame, on each link to a host.
-pub fn put_frames(
-    exits: &[Exit],
-    width: Width,
-    packet: &Packet,
-    frames: &mut Vec<Bytes>,
-    out: &mut Outputs<Msg>,
-)
+pub fn put_frames(exits: &[Exit], packet: &Packet, frames: &mut Vec<Bytes>, out: &mut Outputs<Msg>)
     requires few { length exits.now < 2 ^ 32 }
     requires room { length out.old.items + length (outs (Way.All Sort.ToHost) exits.now) ≤ out.old.room }
     requires frames { length frames.old.items ≡ length (outs (Way.All Sort.ToHost) exits.now) }
@@ -117,7 +107,7 @@ pub fn put_frames(
 {
     for i in 0..exits.len() {
         let goes = exits[i].leads(Way::All(Sort::ToHost));
-        put_frame_if(out, goes, i as u32, width, packet, frames);
+        put_frame_if(out, goes, i as u32, packet, frames);
     }
 }
 

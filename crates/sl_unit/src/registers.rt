@@ -1,36 +1,62 @@
 // The registers of a unit.
-ghost use Rattle.std.specs.Prelude.{◌≡◌, ◌<◌, ◌≤◌, ◌-◌, ◌^◌, ℕ, length, IfOk, OnOk};
-ghost use Rattle.sl_saves.specs.Lists.{ListHasRoom, list_window};
+ghost use Rattle.std.specs.Prelude.{◌≡◌, ◌<◌, ◌≤◌, ◌-◌, ◌^◌, length, IfOk, OnOk};
+ghost use Rattle.sl_saves.specs.Lists.{ListHasRoom, list_window, list_size};
 ghost use Rattle.sl_unit.specs.Registers.{IsChannel, first_registers, last_on, is_near, adopted, credited, seen, counted, after_stamp, after_data, more, dump_of};
 
 use sl_machine::Memory;
 use sl_net::Packet;
-use sl_saves::{ListSaves, Saves, View};
+use sl_saves::{ListSaves, Saves, Slot, Slots, Total, View};
 use sl_wire::PlainDump;
 use std::alloc::Global;
 
-/// The channel by which a stamped message comes: that of the control plane, or a data channel by
-/// its place.
+/// A slot in which nothing is saved.
+const BLANK: Slot = Slot {
+    packets: 0,
+    bytes: 0,
+    inflight: [Total {
+        packets: 0,
+        bytes: 0,
+    }; 8],
+    back: 0,
+    reach: 0,
+};
+
+/// The channel by which a stamped message comes.
 #[derive(Clone, Copy)]
 pub enum Channel {
+    /// That of the control plane.
     Cpu,
+    /// A data channel, by its place among the unit's data channels.
     Upstream(u32),
 }
 
-/// The registers, with the window within which stamps are read.
+/// The registers of a unit. The counters stay at the greatest number of 64 bits once there.
 #[derive(Drop)]
 pub struct Registers {
+    /// The window within which stamps are read.
     pub window: u16,
+    /// How many slots a view of what was saved has.
+    pub ring: u16,
+    /// The unit's id.
     pub id: u64,
+    /// The last-seen id of its control plane, 0 of an egress unit.
     pub cpu: u64,
+    /// The last-seen ids of its data channels in order, 0 past them.
     pub last: [u64; 8],
+    /// The data packets counted.
     pub packets: u64,
+    /// The bytes of these.
     pub bytes: u64,
+    /// The frames dropped that were no plain frames.
     pub bad: u64,
+    /// The packets dropped that had no hop left.
     pub expired: u64,
+    /// The packets dropped that had no route.
     pub noroute: u64,
+    /// What was saved.
     pub saves: ListSaves,
     pub ghost window_is: { list_window saves ≡ window },
+    pub ghost ring_is: { list_size saves ≡ ring },
     pub ghost window_fits: { window < 2 ^ 16 },
 }
 
@@ -47,6 +73,7 @@ impl Registers {
         let saves = ListSaves::new(alloc, window, ring)?;
         Ok(Registers {
             window,
+            ring,
             id: 0,
             cpu: 0,
             last: [0; 8],
@@ -218,10 +245,14 @@ impl Registers {
         self.saves.ready()
     }
 
-    /// A view for a dump.
-    pub fn view(&self) -> Result<View, Memory>
+    /// A view for a dump, with nothing in it yet.
+    pub fn blank_view(&self, alloc: Global) -> Result<View, Memory>
         ensures { IfOk result (λ view. length view.slots ≡ (registers_of self.now).saved.size) }
     {
-        self.saves.view()
+        let items = vec![in alloc; BLANK; self.ring as usize].map_err(|_| Memory)?;
+        Ok(View {
+            at: 0,
+            slots: Slots { items },
+        })
     }
 }

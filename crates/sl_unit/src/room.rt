@@ -1,5 +1,5 @@
 // The room that a unit takes before a turn.
-ghost use Rattle.std.specs.Prelude.{◌≡◌, ◌<◌, ◌^◌, ℕ, OnOk, IfOk, length};
+ghost use Rattle.std.specs.Prelude.{◌≡◌, ◌<◌, OnOk, IfOk, length};
 ghost use Rattle.std.specs.List.{All};
 ghost use Rattle.sl_unit.specs.Wires.{outs};
 ghost use Rattle.sl_unit.specs.Room.{registers_of, HasFrames, HasViews};
@@ -55,8 +55,11 @@ pub fn make_views(wires: &Wires, registers: &Registers, views: &mut Vec<View>) -
 {
     let count = count_outs(wires.exits(), Way::All(Sort::Dump));
     views.clear();
+    let alloc = *views.allocator();
     for _i in 0..count {
-        views.push(registers.view()?).map_err(|_| Memory)?;
+        views
+            .push(registers.blank_view(alloc)?)
+            .map_err(|_| Memory)?;
     }
     Ok(())
 }

@@ -80,7 +80,7 @@ fn pass(
         Note::Data(registers.id, *packet),
         out,
     );
-    put_frames(exits, wires.width(), packet, frames, out);
+    put_frames(exits, packet, frames, out);
 }
 
 /// The packet of which the bytes are the plain frame.
@@ -259,7 +259,6 @@ fn initiate(wires: &Wires, registers: &Registers, out: &mut Outputs<Msg>)
 }
 
 /// Takes an initiation.
-#[tactic(auto, using(crate::proofs::Ways::initiated_few))]
 pub fn take_init(wires: &Wires, registers: &mut Registers, stamp: u64, out: &mut Outputs<Msg>)
     requires empty { out.old.items ≡ [] }
     requires room { length wires.now.exits ≤ out.old.room }

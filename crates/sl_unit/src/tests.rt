@@ -4,12 +4,11 @@ ghost use Rattle.sl_net.specs.Net.{units};
 ghost use Rattle.sl_unit.specs.Made.{IsRanged};
 
 use crate::{Unit, UnitCounts, unit_side};
-use sl_ids::{Wid, Width};
 use sl_machine::{Machine, Memory, Outputs};
 use sl_net::{Bytes, DevicePart, HostPart, Name, Net, Packet, Parts, PortRef, Side, Snapshot};
 use sl_route::Routes;
 use sl_saves::{Saved, View, read_saved, try_read_saved};
-use sl_wire::{Header, Kind, Msg, PlainDump, encode};
+use sl_wire::{Msg, PlainDump, plain_frame};
 use std::alloc::Global;
 use std::test::Fail;
 
@@ -183,13 +182,7 @@ fn new_registers(rt: HostRuntime) -> Result<(), Fail> {
 
 /// The plain frame of a packet, its byte `place` changed by `more`.
 fn frame(alloc: Global, packet: &Packet, place: usize, more: u8) -> Result<Msg, Fail> {
-    let width = Width::new(2).ok_or("two bits")?;
-    let header = Header {
-        kind: Kind::Plain,
-        id: Wid { raw: 0 },
-        channel: 0,
-    };
-    let mut bytes = encode(width, &header, packet).bytes;
+    let mut bytes = plain_frame(packet).bytes;
     if place < 24 {
         bytes[place] = bytes[place].wrapping_add(more);
     }

@@ -1,5 +1,5 @@
 // Units as machines.
-ghost use Rattle.std.specs.Prelude.{◌≡◌, ◌<◌, ◌≤◌, ℕ, Some, None, IfOk, length, slice_index};
+ghost use Rattle.std.specs.Prelude.{◌≡◌, ◌<◌, ℕ, Some, None, IfOk, length, slice_index};
 ghost use Rattle.std.specs.List.{All};
 ghost use Rattle.sl_unit.specs.Room.{HasRoom};
 
@@ -32,14 +32,18 @@ pub struct Unit {
     ghost ready: { (c : ℕ) → prepared ≡ Some c → HasRoom wires registers frames.items views.items c },
 }
 
-/// What a unit counted: data packets and their bytes, and the packets that it dropped since they
-/// were no plain frames, had no hop left, or had no route.
+/// What a unit counted, as far as 64 bits go.
 #[derive(Clone, Copy, Debug, PartialEq, Eq)]
 pub struct UnitCounts {
+    /// The data packets that it took.
     pub packets: u64,
+    /// The bytes of these.
     pub bytes: u64,
+    /// The frames of its host dropped that were no plain frames.
     pub bad: u64,
+    /// The packets dropped that had no hop left.
     pub expired: u64,
+    /// The packets dropped that had no route.
     pub noroute: u64,
 }
 
@@ -167,9 +171,10 @@ impl Machine for Unit {
     fn ready(&mut self, choice: u32) -> Result<(), Memory> {
         self.prepared = None;
         self.registers.make_room()?;
-        make_frames(&self.wires, &mut self.frames)?;
-        if let Entrance::Poll = self.wires.entrance(choice) {
-            make_views(&self.wires, &self.registers, &mut self.views)?;
+        match self.wires.entrance(choice) {
+            Entrance::Crossbar { .. } => make_frames(&self.wires, &mut self.frames)?,
+            Entrance::Poll => make_views(&self.wires, &self.registers, &mut self.views)?,
+            _ => {}
         }
         self.prepared = Some(choice);
         Ok(())

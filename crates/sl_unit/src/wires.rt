@@ -1,5 +1,5 @@
 // What a unit knows of its links.
-ghost use Rattle.std.specs.Prelude.{◌≡◌, ◌<◌, ◌^◌, ℕ, length};
+ghost use Rattle.std.specs.Prelude.{◌≡◌, ◌<◌, ◌^◌, length};
 ghost use Rattle.sl_net.specs.Net.{same_actor, egress};
 ghost use Rattle.sl_unit.specs.Wires.{IsSmall, entrance_at, leads, port_to};
 
@@ -24,18 +24,21 @@ pub enum Entrance {
     Other,
 }
 
-/// An outgoing link: its sort, and the actor to which it leads.
+/// An outgoing link.
 #[derive(Clone, Copy)]
 pub struct Exit {
+    /// Its sort.
     pub sort: Sort,
+    /// The actor to which it leads.
     pub to: ActorId,
 }
 
-/// The outgoing links on which a message goes: all of a sort, or the crossbar link to the egress
-/// unit of a port.
+/// The outgoing links on which a message goes.
 #[derive(Clone, Copy)]
 pub enum Way {
+    /// All of a sort.
     All(Sort),
+    /// The crossbar link to the egress unit of a port.
     Toward { device: u32, port: u32 },
 }
 
@@ -66,15 +69,20 @@ impl Exit {
     }
 }
 
-/// The links of a unit: what comes by each choice, the outgoing links by their numbers, the next
-/// port to each host, the width of wrapped ids, and how many actions it has, which is none.
+/// What a unit knows of its links and of the routes from its device.
 #[derive(Drop)]
 pub struct Wires {
+    /// The number of its device.
     pub device: u32,
+    /// What comes by each choice.
     pub entrances: Vec<Entrance>,
+    /// The outgoing links by their numbers.
     pub exits: Vec<Exit>,
+    /// The next port to each host, where there is a way.
     pub ports: Vec<Option<u8>>,
+    /// The width of wrapped ids.
     pub width: Width,
+    /// How many own actions it has, which is none.
     pub actions: u32,
 }
 

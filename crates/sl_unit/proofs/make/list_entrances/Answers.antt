@@ -1,5 +1,5 @@
 use Rattle.std.proofs.Common.{◌≡◌, ◌++◌, ◌∷◌, [], ap, sym, ◌∙◌, map, get_or}
-use Rattle.sl_net.specs.declared.actor.LinkPart.{LinkPart}
+use Rattle.sl_layout.specs.declared.actor.LinkPart.{LinkPart}
 use Rattle.sl_net.specs.Parts.{below}
 use Rattle.sl_net.specs.Net.{actor_of, data_channels, link_at, link_of, place_in}
 use Rattle.sl_net.proofs.Counting.{map_below_more}

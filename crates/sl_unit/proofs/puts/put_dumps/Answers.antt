@@ -1,13 +1,13 @@
 use Rattle.std.proofs.Common.{◌≡◌, ℕ, ◌+◌, ◌<◌, ◌++◌, ◌∷◌, [], ap, ◌∙◌, arith, length, length-append, sym}
 use Rattle.std.specs.Prelude.{cond, filter}
-use Rattle.sl_net.specs.declared.actor.Sort.TheVariants as sort
+use Rattle.sl_layout.specs.declared.actor.Sort.TheVariants as sort
 use Rattle.sl_net.specs.Parts.{below}
 use Rattle.sl_wire.specs.declared.message.Msg.TheVariants.{Dump}
 use Rattle.sl_unit.specs.Registers.{dump_of}
 use Rattle.sl_unit.specs.Room.{registers_of}
 use Rattle.sl_unit.specs.declared.wires.Way.TheVariants.{All as AllOf}
 use Rattle.sl_unit.specs.Wires.{is_out}
-use Rattle.sl_unit.specs.Step.{send_all}
+use Rattle.sl_machine.specs.Machine.{send_all}
 use Rattle.sl_unit.proofs.Outs.{outs_rise, sent_more, length_sent, many_more}
 use Rattle.sl_unit.proofs.puts.put_dumps.Goals as goal
 

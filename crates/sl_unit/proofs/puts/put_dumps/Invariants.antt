@@ -1,14 +1,14 @@
 use Rattle.std.proofs.Common.{◌≡◌, ◌++◌, ◌+◌, length}
 use Rattle.std.specs.Prelude.{filter}
 use Rattle.std.specs.List.{All}
-use Rattle.sl_net.specs.declared.actor.Sort.TheVariants as sort
+use Rattle.sl_layout.specs.declared.actor.Sort.TheVariants as sort
 use Rattle.sl_net.specs.Parts.{below}
 use Rattle.sl_wire.specs.declared.message.Msg.TheVariants.{Dump}
 use Rattle.sl_unit.specs.declared.wires.Way.TheVariants.{All as AllOf}
 use Rattle.sl_unit.specs.Wires.{is_out}
 use Rattle.sl_unit.specs.Registers.{dump_of}
 use Rattle.sl_unit.specs.Room.{registers_of}
-use Rattle.sl_unit.specs.Step.{send_all}
+use Rattle.sl_machine.specs.Machine.{send_all}
 use Rattle.sl_unit.proofs.puts.put_dumps.Given as goal
 
 abbrev pub invariant-loop-i : goal.invariant-loop-i

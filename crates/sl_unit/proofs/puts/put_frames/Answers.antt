@@ -1,12 +1,12 @@
 use Rattle.std.proofs.Common.{◌≡◌, ℕ, ◌+◌, ◌<◌, ◌++◌, ◌∷◌, [], ap, ◌∙◌, arith, length, length-append, sym}
 use Rattle.std.specs.Prelude.{cond, filter}
-use Rattle.sl_net.specs.declared.actor.Sort.TheVariants as sort
+use Rattle.sl_layout.specs.declared.actor.Sort.TheVariants as sort
 use Rattle.sl_net.specs.Parts.{below}
 use Rattle.sl_wire.specs.declared.message.Msg.TheVariants.{Host}
-use Rattle.sl_unit.specs.Step.{plain_frame}
+use Rattle.sl_wire.specs.Frames.{plain_frame}
 use Rattle.sl_unit.specs.declared.wires.Way.TheVariants.{All as AllOf}
 use Rattle.sl_unit.specs.Wires.{is_out}
-use Rattle.sl_unit.specs.Step.{send_all}
+use Rattle.sl_machine.specs.Machine.{send_all}
 use Rattle.sl_unit.proofs.Outs.{outs_rise, sent_more, length_sent, many_more}
 use Rattle.sl_unit.proofs.puts.put_frames.Goals as goal
 

@@ -1,12 +1,13 @@
 use Rattle.std.proofs.Common.{◌≡◌, ◌++◌, ◌+◌, length}
 use Rattle.std.specs.Prelude.{filter}
 use Rattle.std.specs.List.{All}
-use Rattle.sl_net.specs.declared.actor.Sort.TheVariants.{ToHost}
+use Rattle.sl_layout.specs.declared.actor.Sort.TheVariants.{ToHost}
 use Rattle.sl_net.specs.Parts.{below}
 use Rattle.sl_wire.specs.declared.message.Msg.TheVariants.{Host}
 use Rattle.sl_unit.specs.declared.wires.Way.TheVariants.{All as AllOf}
 use Rattle.sl_unit.specs.Wires.{is_out}
-use Rattle.sl_unit.specs.Step.{send_all, plain_frame}
+use Rattle.sl_wire.specs.Frames.{plain_frame}
+use Rattle.sl_machine.specs.Machine.{send_all}
 use Rattle.sl_unit.proofs.puts.put_frames.Given as goal
 
 abbrev pub invariant-loop-i : goal.invariant-loop-i

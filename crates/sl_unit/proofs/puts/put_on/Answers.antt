@@ -2,7 +2,7 @@ use Rattle.std.proofs.Common.{◌≡◌, ◌+◌, ◌<◌, ◌++◌, ◌∷◌, 
 use Rattle.std.specs.Prelude.{cond, filter}
 use Rattle.sl_net.specs.Parts.{below}
 use Rattle.sl_unit.specs.Wires.{is_out}
-use Rattle.sl_unit.specs.Step.{send_all}
+use Rattle.sl_machine.specs.Machine.{send_all}
 use Rattle.sl_unit.specs.Notes.{message_of}
 use Rattle.sl_unit.proofs.Outs.{outs_rise, sent_more, length_sent}
 use Rattle.sl_unit.proofs.puts.put_on.Goals as goal

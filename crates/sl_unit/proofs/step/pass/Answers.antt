@@ -1,9 +1,9 @@
 use Rattle.std.proofs.Common.{◌≡◌, ◌++◌, ap, ◌∙◌, arith, length, refl}
-use Rattle.sl_net.specs.declared.actor.Sort.TheVariants as sort
+use Rattle.sl_layout.specs.declared.actor.Sort.TheVariants as sort
 use Rattle.sl_wire.specs.declared.message.Msg.TheVariants.{Data}
 use Rattle.sl_unit.specs.declared.wires.Way.TheVariants.{All}
 use Rattle.sl_unit.specs.Wires.{outs}
-use Rattle.sl_unit.specs.Step.{send_all}
+use Rattle.sl_machine.specs.Machine.{send_all}
 use Rattle.sl_unit.proofs.Outs.{length_sent}
 use Rattle.sl_unit.proofs.Ways.{two_ways}
 use Rattle.sl_unit.proofs.step.pass.Goals as goal

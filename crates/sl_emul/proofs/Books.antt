@@ -27,7 +27,7 @@ use Rattle.sl_proto.specs.Nodes.{NodeState}
 use Rattle.sl_proto.specs.Meaning.{IsRunnable}
 use Rattle.sl_proto.specs.Runs.{Follows}
 use Rattle.sl_proto.specs.Standing.{case_of, world_of, run_at, StandsFor, FinishesTo}
-use Rattle.sl_emul.specs.Run.{CanRun, IsRunBook, AreNodesOf, IsRunOf}
+use Rattle.sl_emul.specs.Run.{CanRun, IsRunBook, AreNodesOf, IsOutcome}
 
 -- What the laws of lower crates say.
 
@@ -94,9 +94,9 @@ module _ (i : Input) (lost : Losses) (v u t : Scene NodeState Msg) (empty : v.bo
 
   -- what is kept of the last scene
   pub is-run-of : Bounded → Consistent → IsNet i.net → StandsFor i.net (case_of i lost) t → (book : List BookEntry) (front : ℕ) (found : Findings) (nodes : List NodeState)
-      → book ≡ t.book → front ≡ length u.book → found ≡ findings (setup_of i) lost (schedule_of t.book) → nodes ≡ t.states → IsRunOf i lost book front found nodes
+      → book ≡ t.book → front ≡ length u.book → found ≡ findings (setup_of i) lost (schedule_of t.book) → nodes ≡ t.states → IsOutcome i lost book front found nodes
   is-run-of bounded consistent net stands book front found nodes book-is front-at told states =
-      subst (λ b. IsRunOf i lost b front found nodes) (sym book-is) (subst (λ n. IsRunOf i lost t.book n found nodes) (sym front-at) (record {
+      subst (λ b. IsOutcome i lost b front found nodes) (sym book-is) (subst (λ n. IsOutcome i lost t.book n found nodes) (sym front-at) (record {
         run = is-run bounded consistent net stands;
         tells = told;
         stand = subst (AreNodesOf i (world_of (case_of i lost) t)) (sym states) (record { each = stands.image.states_each; stand = stands.image.states });

@@ -2,7 +2,7 @@
 --     CanRun i              what a run asks of its input
 --     IsRunBook ..          the book of a run: legal, finished, bounded, and cut consistently for each number
 --     AreNodesOf i w ns     one node per actor, each of which stands for its history
---     IsRunOf ..            the book, the findings and the nodes of a run
+--     IsOutcome ..            the book, the findings and the nodes of a run
 use Rattle.std.specs.Prelude.{◌≡◌, ℕ, ◌≤◌, List, length, Some, slice_get}
 use Rattle.std.specs.List.{All}
 use Rattle.sl_machine.specs.declared.wiring.Entry.{Entry}
@@ -47,7 +47,7 @@ pub record AreNodesOf (i : Input) (w : World) (nodes : List NodeState) : Type 0 
   pub stand : (a : ℕ) (node : NodeState) → slice_get nodes a ≡ Some node → NodeStands (setup_of i) i.snapshot w a node
 
 -- the findings are those of the book's schedule, and the nodes those of the world that it leads to
-pub record IsRunOf (i : Input) (lost : Losses) (book : List Entry) (front : ℕ) (found : Findings) (nodes : List NodeState) : Type 0 where
+pub record IsOutcome (i : Input) (lost : Losses) (book : List Entry) (front : ℕ) (found : Findings) (nodes : List NodeState) : Type 0 where
   pub run : IsRunBook i lost book front
   pub tells : found ≡ findings (setup_of i) lost (schedule_of book)
   pub stand : AreNodesOf i (world (setup_of i) lost (schedule_of book)) nodes

@@ -5,7 +5,7 @@ ghost use Rattle.sl_cut.specs.Losses.{losses};
 ghost use Rattle.sl_world.specs.World.{scene};
 ghost use Rattle.sl_proto.specs.Nodes.{node_state};
 ghost use Rattle.sl_proto.specs.Standing.{case_of, StandsFor, HasObserver};
-ghost use Rattle.sl_emul.specs.Run.{CanRun, IsRunOf};
+ghost use Rattle.sl_emul.specs.Run.{CanRun, IsOutcome};
 
 use sl_cut::{Findings, cuts_are_consistent, inputs_spare_reliable_links};
 use sl_finish::inputs_are_bounded;
@@ -45,7 +45,7 @@ pub fn first_world(alloc: Global, input: &Input) -> Result<World<Node>, Memory>
 /// Runs an input on the nodes of its net: takes the turns of its script, and finishes.
 pub fn run_stepped(alloc: Global, input: &Input) -> Result<Run, Memory>
     requires { CanRun input.now }
-    ensures { IfOk result (λ r. IsRunOf input.now (losses input.now) r.book.entries r.front r.findings (map node_state r.nodes.items)) }
+    ensures { IfOk result (λ r. IsOutcome input.now (losses input.now) r.book.entries r.front r.findings (map node_state r.nodes.items)) }
 {
     inputs_are_bounded();
     cuts_are_consistent();

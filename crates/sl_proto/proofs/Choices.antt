@@ -4,8 +4,8 @@ use Rattle.std.specs.Prelude.{Bool, true, false, slice_index}
 use Rattle.std.specs.List.{All}
 use Rattle.std.proofs.lemmas.List.{get_or-map}
 use Rattle.sl_machine.specs.Plan.{HasChoice}
-use Rattle.sl_net.specs.declared.actor.ActorId.{ActorId}
-use Rattle.sl_net.specs.declared.actor.ActorId.TheVariants.{Observer, Control, Unit as OfUnit, Host as OfHost}
+use Rattle.sl_layout.specs.declared.actor.ActorId.{ActorId}
+use Rattle.sl_layout.specs.declared.actor.ActorId.TheVariants.{Observer, Control, Unit as OfUnit, Host as OfHost}
 use Rattle.sl_net.specs.Parts.{Parts}
 use Rattle.sl_net.specs.Net.{Net, net_of, nobody, actors_of, actor_of, links_into}
 use Rattle.sl_net.specs.Wiring.{plan_of, actions_of}

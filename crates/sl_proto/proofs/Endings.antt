@@ -5,8 +5,8 @@ use Rattle.std.proofs.lemmas.Bool.{cases_lt}
 use Rattle.std.proofs.lemmas.Bool.Decides.{eqb_tells}
 use Rattle.std.proofs.lemmas.List.{length-map}
 use Rattle.sl_machine.specs.declared.wiring.Entry.{Entry as BookEntry}
-use Rattle.sl_net.specs.declared.actor.ActorId.{ActorId}
-use Rattle.sl_net.specs.declared.actor.ActorId.TheVariants.{Observer}
+use Rattle.sl_layout.specs.declared.actor.ActorId.{ActorId}
+use Rattle.sl_layout.specs.declared.actor.ActorId.TheVariants.{Observer}
 use Rattle.sl_net.specs.Net.{Net, actor_of}
 use Rattle.sl_net.specs.Wired.{IsNet}
 use Rattle.sl_wire.specs.declared.message.Msg.{Msg}
@@ -41,7 +41,7 @@ entries b = length-map b (λ e. (e.actor, e.choice))
 same-entries : (x : Case) (v u : Scene NodeState Msg) → length u.book ≡ length v.book → length (run_at x u).book ≡ length (run_at x v).book
 same-entries x v u e = entries u.book ∙ e ∙ sym (entries v.book)
 
-more-entries : (x : Case) (v u : Scene NodeState Msg) → length u.book ≢ length v.book → length (run_at x u).book ≢ length (run_at x v).book
+pub more-entries : (x : Case) (v u : Scene NodeState Msg) → length u.book ≢ length v.book → length (run_at x u).book ≢ length (run_at x v).book
 more-entries x v u e k = e (sym (entries u.book) ∙ k ∙ entries v.book)
 
 -- Settling.

@@ -3,16 +3,16 @@ use Rattle.std.proofs.Common.{◌≡◌, ℕ, zero, suc, ◌+◌, ◌<◌, List,
 use Rattle.std.specs.Prelude.{◌⊎◌, true, false, Bool, ◌==◌, ◌&&◌, ◌||◌, if◌then◌else◌, map, slice_get, option_map}
 use Rattle.std.specs.List.{list_any}
 use Rattle.std.proofs.lemmas.Bool.{eqb-true}
-use Rattle.sl_net.specs.declared.actor.ActorId.{ActorId}
-use Rattle.sl_net.specs.declared.actor.ActorId.TheVariants.{Observer, Control, Unit as OfUnit, Host as OfHost}
-use Rattle.sl_net.specs.declared.actor.Side.{Side}
-use Rattle.sl_net.specs.declared.actor.Side.TheVariants.{Ingress, Egress}
-use Rattle.sl_net.specs.declared.actor.Sort.{Sort}
-use Rattle.sl_net.specs.declared.actor.Sort.TheVariants.{FromHost, ToHost, Cable, Crossbar, Init, Poll, Notice, Dump, Begin, Done}
-use Rattle.sl_net.specs.declared.parts.PortRef.{PortRef}
-use Rattle.sl_net.specs.declared.parts.HostPart.{HostPart}
+use Rattle.sl_layout.specs.declared.actor.ActorId.{ActorId}
+use Rattle.sl_layout.specs.declared.actor.ActorId.TheVariants.{Observer, Control, Unit as OfUnit, Host as OfHost}
+use Rattle.sl_layout.specs.declared.actor.Side.{Side}
+use Rattle.sl_layout.specs.declared.actor.Side.TheVariants.{Ingress, Egress}
+use Rattle.sl_layout.specs.declared.actor.Sort.{Sort}
+use Rattle.sl_layout.specs.declared.actor.Sort.TheVariants.{FromHost, ToHost, Cable, Crossbar, Init, Poll, Notice, Dump, Begin, Done}
+use Rattle.sl_parts.specs.declared.parts.PortRef.{PortRef}
+use Rattle.sl_parts.specs.declared.parts.HostPart.{HostPart}
 use Rattle.sl_net.specs.Parts.{Parts, other_end, host_at, host_from, same_port}
-use Rattle.sl_net.specs.declared.fault.NetFault.TheVariants.{N7}
+use Rattle.sl_parts.specs.declared.fault.NetFault.TheVariants.{N7}
 use Rattle.sl_net.specs.Fault.{fault_of, first_clash, takes_used_port, has_guest}
 use Rattle.sl_net.specs.Valid.{IsValid}
 use Rattle.sl_net.specs.Net.{net_of, link_of, link_numbers, links_into, links_from, no_link, ingress, actors_of, Incoming, incoming, from_outside, from_host_or_cable, to_host, place_of}

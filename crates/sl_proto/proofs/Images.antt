@@ -6,17 +6,17 @@ use Rattle.std.proofs.lemmas.Bool.Decides.{eqb_tells}
 use Rattle.std.proofs.lemmas.List.{length-map}
 use Rattle.sl_machine.specs.Machine.{After}
 use Rattle.sl_machine.specs.Plan.{IsSound, link_in, link_out, link_at}
-use Rattle.sl_net.specs.declared.actor.Sort.{Sort}
-use Rattle.sl_net.specs.declared.actor.Sort.TheVariants.{Done}
+use Rattle.sl_layout.specs.declared.actor.Sort.{Sort}
+use Rattle.sl_layout.specs.declared.actor.Sort.TheVariants.{Done}
 use Rattle.sl_net.specs.Net.{Net, link_of, links_into, choice_of}
 use Rattle.sl_net.specs.Wires.{out_of}
 use Rattle.sl_net.specs.Wiring.{kind_of, wired_link, plan_of}
 use Rattle.sl_net.specs.Wired.{IsWired}
 use Rattle.sl_wire.specs.declared.message.Msg.{Msg}
-use Rattle.sl_cut.specs.declared.message.Message.{Message}
-use Rattle.sl_cut.specs.declared.message.Message.TheVariants.{Done as DoneMsg}
-use Rattle.sl_cut.specs.declared.message.Put.{Put}
-use Rattle.sl_cut.specs.declared.message.Step.{Step}
+use Rattle.sl_history.specs.declared.message.Message.{Message}
+use Rattle.sl_history.specs.declared.message.Message.TheVariants.{Done as DoneMsg}
+use Rattle.sl_history.specs.declared.message.Put.{Put}
+use Rattle.sl_history.specs.declared.message.Step.{Step}
 use Rattle.sl_cut.specs.Words.{Each}
 use Rattle.sl_cut.specs.History.{History, World, Losses, history, done_of, taken, takes, put, on_link, without_lost}
 use Rattle.sl_cut.specs.Setup.{Setup}
@@ -35,7 +35,7 @@ use Rattle.sl_world.specs.Scene.{Line, Scene, line_at, done, put_each}
 use Rattle.sl_world.specs.Keeping.{length-put_each}
 use Rattle.sl_world.proofs.LinkLemmas.{link_in_is}
 use Rattle.sl_proto.specs.Image.{tell, tell_all, told_on, told_by, IsLineOf, IsImage}
-use Rattle.sl_proto.specs.Follow.{StandsAfter}
+use Rattle.sl_proto.specs.Machines.{StandsAfter}
 use Rattle.sl_proto.specs.Spread.{ArePutFrom}
 use Rattle.sl_proto.proofs.Spread.{IsSpread, step-spread, put-from, one-each}
 use Rattle.sl_proto.proofs.Queues.{tell_all-append, untold, heard-told, queue-grown}

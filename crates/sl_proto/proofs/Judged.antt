@@ -10,7 +10,7 @@ use Rattle.sl_net.specs.Net.{Net, units}
 use Rattle.sl_net.proofs.NetWired.{map-map}
 use Rattle.sl_saves.specs.declared.entry.Saved.{Saved}
 use Rattle.sl_saves.specs.declared.entry.Saved.TheVariants.{Value, Skipped, Miscredited}
-use Rattle.sl_observe.specs.Least.{least_of as least_of_there}
+use Rattle.sl_wire.specs.Reach.{least_of as least_of_there}
 use Rattle.sl_observe.specs.Observer.{UnitState, ObserverState, new_unit, unit_at, saved_of, floor_of}
 use Rattle.sl_cut.specs.declared.verdict.Cause.{Cause}
 use Rattle.sl_cut.specs.declared.verdict.Lag.{Lag}

@@ -15,6 +15,7 @@ pub mod NodeSteps
 pub mod Trails
 pub mod Endings
 pub mod Standing
+pub mod Fronts
 pub mod FirstNode
 pub mod Choices
 pub mod Judged

@@ -6,7 +6,7 @@ use Rattle.sl_loss.specs.Loss.{Loss, is_lost, loses_next, after_put, one_more}
 use Rattle.sl_net.specs.Parts.{numbers_from}
 use Rattle.sl_net.specs.Net.{Net}
 use Rattle.sl_wire.specs.declared.message.Msg.{Msg}
-use Rattle.sl_cut.specs.declared.message.Message.{Message}
+use Rattle.sl_history.specs.declared.message.Message.{Message}
 use Rattle.sl_cut.specs.Words.{tally}
 use Rattle.sl_cut.specs.History.{History, without_lost}
 use Rattle.sl_image.specs.Messages.{IsMessage}

@@ -1,17 +1,17 @@
 -- A turn of a node, by what the turn of its machine leaves.
 use Rattle.std.proofs.Common.{◌≡◌, ℕ, sym, subst, Option, Some}
 use Rattle.sl_machine.specs.Machine.{After}
-use Rattle.sl_net.specs.declared.actor.ActorId.{ActorId}
+use Rattle.sl_layout.specs.declared.actor.ActorId.{ActorId}
 use Rattle.sl_net.specs.declared.input.Snapshot.{Snapshot}
 use Rattle.sl_net.specs.Net.{actor_of}
 use Rattle.sl_wire.specs.declared.message.Msg.{Msg}
-use Rattle.sl_cut.specs.declared.message.Step.{Step}
+use Rattle.sl_history.specs.declared.message.Step.{Step}
 use Rattle.sl_cut.specs.History.{World, history}
 use Rattle.sl_cut.specs.Setup.{Setup}
 use Rattle.sl_proto.specs.Nodes.{NodeState}
 use Rattle.sl_proto.specs.Meaning.{StandsAs, NodeStands}
 use Rattle.sl_proto.specs.Image.{ArePut}
-use Rattle.sl_proto.specs.Follow.{StandsAfter, ActsAs}
+use Rattle.sl_proto.specs.Machines.{StandsAfter, ActsAs}
 
 pub stands-here : (s : Setup) (table : Snapshot) (w : World) (a : ℕ) (y : ActorId) (state : NodeState) → actor_of s.net a ≡ y → StandsAs s table w a y state → NodeStands s table w a state
 stands-here s table w a y state q st = subst (λ y. StandsAs s table w a y state) (sym q) st

@@ -4,16 +4,16 @@
 use Rattle.std.proofs.Common.{◌≡◌, ℕ, zero, suc, ◌+◌, ◌-◌, ◌<◌, ◌≤◌, List, [], ◌∷◌, length, refl, sym, ap, subst, ◌∙◌, Option, Some, None, arith, inl, inr}
 use Rattle.std.specs.Prelude.{◌⊎◌, true, slice_get, slice_index}
 use Rattle.sl_machine.specs.Machine.{After}
-use Rattle.sl_net.specs.declared.actor.ActorId.TheVariants.{Observer, Control, Host as OfHost}
-use Rattle.sl_net.specs.declared.actor.Sort.TheVariants.{Dump, Done}
+use Rattle.sl_layout.specs.declared.actor.ActorId.TheVariants.{Observer, Control, Host as OfHost}
+use Rattle.sl_layout.specs.declared.actor.Sort.TheVariants.{Dump, Done}
 use Rattle.sl_net.specs.Net.{Net, actor_of, action_choice, link_of, links_into, choice_of, units, unit_place}
 use Rattle.sl_net.specs.Serving.{choice_from}
 use Rattle.sl_net.specs.Wired.{IsWired}
 use Rattle.sl_wire.specs.declared.message.Msg.{Msg}
-use Rattle.sl_cut.specs.declared.message.Message.{Message}
-use Rattle.sl_cut.specs.declared.message.Message.TheVariants.{Done as DoneMsg}
-use Rattle.sl_cut.specs.declared.message.Put.{Put}
-use Rattle.sl_cut.specs.declared.message.Step.{Step}
+use Rattle.sl_history.specs.declared.message.Message.{Message}
+use Rattle.sl_history.specs.declared.message.Message.TheVariants.{Done as DoneMsg}
+use Rattle.sl_history.specs.declared.message.Put.{Put}
+use Rattle.sl_history.specs.declared.message.Step.{Step}
 use Rattle.sl_cut.specs.Words.{Each}
 use Rattle.sl_cut.specs.History.{History, World, Losses, history, taken, put}
 use Rattle.sl_cut.specs.Setup.{Setup}

@@ -6,9 +6,9 @@ use Rattle.std.specs.Prelude.{◌⊎◌, true, false, Bool, ◌==◌, if◌then�
 use Rattle.std.proofs.lemmas.Bool.Decides.{eqb_tells}
 use Rattle.sl_net.specs.Net.{Net, units}
 use Rattle.sl_wire.specs.declared.message.Msg.{Msg}
-use Rattle.sl_cut.specs.declared.message.Message.{Message}
-use Rattle.sl_cut.specs.declared.message.Message.TheVariants.{Dump as DumpMsg, Done as DoneMsg}
-use Rattle.sl_cut.specs.declared.message.Step.{Step}
+use Rattle.sl_history.specs.declared.message.Message.{Message}
+use Rattle.sl_history.specs.declared.message.Message.TheVariants.{Dump as DumpMsg, Done as DoneMsg}
+use Rattle.sl_history.specs.declared.message.Step.{Step}
 use Rattle.sl_cut.specs.Words.{Each, listed}
 use Rattle.sl_cut.specs.History.{History, World, history, first, done_of, takes}
 use Rattle.sl_cut.proofs.Turns.{GrowsAt}

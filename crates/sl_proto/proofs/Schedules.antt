@@ -8,8 +8,8 @@ use Rattle.sl_loss.specs.Loss.{Loss}
 use Rattle.sl_net.specs.Net.{link_of, choice_of}
 use Rattle.sl_net.specs.Wiring.{plan_of}
 use Rattle.sl_wire.specs.declared.message.Msg.{Msg}
-use Rattle.sl_cut.specs.declared.message.Message.{Message}
-use Rattle.sl_cut.specs.declared.message.Step.{Step}
+use Rattle.sl_history.specs.declared.message.Message.{Message}
+use Rattle.sl_history.specs.declared.message.Step.{Step}
 use Rattle.sl_cut.specs.History.{World, Losses, history, taken, put, without_lost}
 use Rattle.sl_cut.specs.Words.{tally}
 use Rattle.sl_net.specs.Parts.{numbers_from}

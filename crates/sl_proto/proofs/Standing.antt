@@ -18,7 +18,7 @@ use Rattle.sl_world.specs.Legal.{numbered_from, schedule_of-numbered_from}
 use Rattle.sl_proto.specs.Image.{IsImage}
 use Rattle.sl_proto.specs.Meaning.{NodeStands}
 use Rattle.sl_proto.specs.Nodes.{NodeState, node_rules}
-use Rattle.sl_proto.specs.Runs.{Run, Follows, IsBookOf}
+use Rattle.sl_proto.specs.Runs.{Run, Follows, IsBookOfTurns}
 use Rattle.sl_proto.specs.Standing.{Case, world_of, run_at, StandsFor}
 use Rattle.sl_proto.proofs.Turned.{Given}
 use Rattle.sl_proto.proofs.Schedules.{all-image, grown-book}
@@ -39,7 +39,7 @@ length-numbered : (n : ℕ) (es : List Entry) → length (numbered_from n es) �
 length-numbered n [] = refl
 length-numbered n (e ∷ es) = ap suc (length-numbered (n + 1) es)
 
-pub numbered_book : (book : List BookEntry) (es : List Entry) → book ≡ numbered_from 0 es → IsBookOf (record { entries = book }) es
+pub numbered_book : (book : List BookEntry) (es : List Entry) → book ≡ numbered_from 0 es → IsBookOfTurns (record { entries = book }) es
 numbered_book book es h = record {
   schedule = ap schedule_of h ∙ schedule_of-numbered_from 0 es;
   numbers = ap numbers_of h ∙ numbers-numbered 0 es ∙ ap (numbers_from 1) (sym (ap length h ∙ length-numbered 0 es));

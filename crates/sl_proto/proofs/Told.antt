@@ -4,12 +4,12 @@ use Rattle.std.specs.Prelude.{◌&&◌, true, false, Bool, if◌then◌else◌, 
 use Rattle.std.proofs.lemmas.List.{get_or-map, take_more}
 use Rattle.std.proofs.lemmas.Option.{slice_get_within, get_or_from_slice_get}
 use Rattle.sl_machine.specs.declared.wiring.Entry.{Entry as BookEntry}
-use Rattle.sl_net.specs.declared.actor.ActorId.{ActorId}
-use Rattle.sl_net.specs.declared.actor.ActorId.TheVariants.{Observer, Control, Unit as OfUnit, Host as OfHost}
-use Rattle.sl_net.specs.declared.actor.Side.{Side}
-use Rattle.sl_net.specs.declared.actor.Side.TheVariants.{Ingress, Egress}
-use Rattle.sl_net.specs.declared.actor.Sort.{Sort}
-use Rattle.sl_net.specs.declared.actor.Sort.TheVariants.{Cable, Crossbar, Init, Notice}
+use Rattle.sl_layout.specs.declared.actor.ActorId.{ActorId}
+use Rattle.sl_layout.specs.declared.actor.ActorId.TheVariants.{Observer, Control, Unit as OfUnit, Host as OfHost}
+use Rattle.sl_layout.specs.declared.actor.Side.{Side}
+use Rattle.sl_layout.specs.declared.actor.Side.TheVariants.{Ingress, Egress}
+use Rattle.sl_layout.specs.declared.actor.Sort.{Sort}
+use Rattle.sl_layout.specs.declared.actor.Sort.TheVariants.{Cable, Crossbar, Init, Notice}
 use Rattle.sl_net.specs.declared.input.Snapshot.{Snapshot}
 use Rattle.sl_net.specs.Parts.{numbers_from, below}
 use Rattle.sl_net.specs.Net.{Net, same_side, same_sort, actor_of, link_of, link_numbers, is_unit, is_host, units, hosts, data_channels}
@@ -19,7 +19,7 @@ use Rattle.sl_net.proofs.Counting.{length_numbers}
 use Rattle.sl_net.proofs.Sizes.{length_map-is}
 use Rattle.sl_saves.specs.Views.{held_saved}
 use Rattle.sl_wire.specs.declared.message.Msg.{Msg}
-use Rattle.sl_observe.specs.Least.{least_of as least_of_there}
+use Rattle.sl_wire.specs.Reach.{least_of as least_of_there}
 use Rattle.sl_observe.specs.Observer.{ObserverState, new_unit, floor_of}
 use Rattle.sl_cut.specs.Words.{listed, numbers, weigh, tally}
 use Rattle.sl_cut.specs.History.{History, World, Losses, history, put}
@@ -32,7 +32,8 @@ use Rattle.sl_cut.specs.Findings.{is_ingress, device_of, ingress_units, drops_of
 use Rattle.sl_cut.proofs.ForwardFindings.{weigh_more, weigh_take, weigh_below_more}
 use Rattle.sl_cut.proofs.ForwardLists.{filter-and}
 use Rattle.sl_cut.proofs.Ran.{ran}
-use Rattle.sl_cut.proofs.Sizes.{history_size, world_size, ingress_size}
+use Rattle.sl_cut.proofs.Steps.{history_size}
+use Rattle.sl_cut.proofs.Sizes.{world_size, ingress_size}
 use Rattle.sl_image.specs.Accounts.{finding_by}
 use Rattle.sl_image.specs.ObserverImage.{unit_of, observer_of, IsObserverOf}
 use Rattle.sl_image.specs.Messages.{lasts}

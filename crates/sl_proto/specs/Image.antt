@@ -12,9 +12,9 @@ use Rattle.sl_wire.specs.declared.message.Msg.{Msg}
 use Rattle.sl_net.specs.Net.{Net, link_of, choice_of}
 use Rattle.sl_net.specs.Wires.{out_of}
 use Rattle.sl_net.specs.Wiring.{plan_of}
-use Rattle.sl_cut.specs.declared.message.Message.{Message}
-use Rattle.sl_cut.specs.declared.message.Put.{Put}
-use Rattle.sl_cut.specs.declared.message.Step.{Step}
+use Rattle.sl_history.specs.declared.message.Message.{Message}
+use Rattle.sl_history.specs.declared.message.Put.{Put}
+use Rattle.sl_history.specs.declared.message.Step.{Step}
 use Rattle.sl_cut.specs.History.{History, World, Losses, history, done_of, heard, put}
 use Rattle.sl_cut.specs.Setup.{Setup}
 use Rattle.sl_cut.specs.World.{start, sender, receiver}

@@ -3,8 +3,8 @@
 --     IsRunnable s table lost         what the laws of nodes ask, as an accepted input has it
 use Rattle.std.specs.Prelude.{ℕ}
 use Rattle.sl_machine.specs.Plan.{IsSound}
-use Rattle.sl_net.specs.declared.actor.ActorId.{ActorId}
-use Rattle.sl_net.specs.declared.actor.ActorId.TheVariants.{Observer, Control, Unit as OfUnit, Host as OfHost}
+use Rattle.sl_layout.specs.declared.actor.ActorId.{ActorId}
+use Rattle.sl_layout.specs.declared.actor.ActorId.TheVariants.{Observer, Control, Unit as OfUnit, Host as OfHost}
 use Rattle.sl_net.specs.declared.input.Snapshot.{Snapshot}
 use Rattle.sl_net.specs.Net.{actor_of}
 use Rattle.sl_net.specs.Wired.{IsNet}

@@ -1,6 +1,6 @@
 -- Runs: a world beside the turns that led to it.
 --     Goes, Follows              what a run does by some entries, none of which is idle, or by any entries
---     IsBookOf b es              the book of a run whose turns are these
+--     IsBookOfTurns b es              the book of a run whose turns are these
 use Rattle.std.specs.Prelude.{◌≡◌, List, ◌++◌, length}
 use Rattle.sl_machine.specs.Book.{Book}
 use Rattle.sl_net.specs.Parts.{numbers_from}
@@ -24,6 +24,6 @@ pub record Goes (s : Setup) (lost : Losses) (old : Run) (es : List Entry) (new :
   pub book : new.book ≡ old.book ++ es
 
 -- numbered from 1
-pub record IsBookOf (b : Book) (es : List Entry) : Type 0 where
+pub record IsBookOfTurns (b : Book) (es : List Entry) : Type 0 where
   pub schedule : schedule_of b.entries ≡ es
   pub numbers : numbers_of b.entries ≡ numbers_from 1 (length b.entries)

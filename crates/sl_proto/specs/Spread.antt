@@ -1,7 +1,7 @@
 -- Where a step puts its messages.
 use Rattle.std.specs.Prelude.{◌≡◌, ℕ, ◌<◌, List, length}
 use Rattle.sl_net.specs.Net.{Net, link_of}
-use Rattle.sl_cut.specs.declared.message.Put.{Put}
+use Rattle.sl_history.specs.declared.message.Put.{Put}
 use Rattle.sl_cut.specs.Words.{Each}
 
 -- on links from this actor

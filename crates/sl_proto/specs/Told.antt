@@ -4,14 +4,14 @@
 --     CanTell net v o       what is asked of a scene v of the net whose observer has the state o
 --     told net count v o    its findings of so many snapshots
 use Rattle.std.specs.Prelude.{◌≡◌, ℕ, ◌<◌, ◌^◌, List, map, filter, length, take, Option, Some, None, slice_index}
-use Rattle.sl_net.specs.declared.actor.Sort.{Sort}
-use Rattle.sl_net.specs.declared.actor.Sort.TheVariants.{Cable, Crossbar, Init, Notice}
+use Rattle.sl_layout.specs.declared.actor.Sort.{Sort}
+use Rattle.sl_layout.specs.declared.actor.Sort.TheVariants.{Cable, Crossbar, Init, Notice}
 use Rattle.sl_net.specs.Parts.{numbers_from}
 use Rattle.sl_net.specs.Net.{Net, same_sort, link_of, link_numbers, units, data_channels}
 use Rattle.sl_saves.specs.declared.entry.Saved.{Saved}
 use Rattle.sl_saves.specs.declared.entry.Saved.TheVariants.{Value}
 use Rattle.sl_wire.specs.declared.message.Msg.{Msg}
-use Rattle.sl_observe.specs.Least.{least_of}
+use Rattle.sl_wire.specs.Reach.{least_of}
 use Rattle.sl_observe.specs.Observer.{UnitState, ObserverState, unit_at, floor_of}
 use Rattle.sl_cut.specs.declared.findings.Drops.{Drops}
 use Rattle.sl_cut.specs.declared.findings.Findings.{Findings}

@@ -7,13 +7,14 @@ ghost use Rattle.sl_net.specs.Wiring.{plan_of};
 ghost use Rattle.sl_cut.specs.History.{World};
 ghost use Rattle.sl_cut.specs.World.{Entry, world, kept_from};
 ghost use Rattle.sl_cut.specs.Schedule.{settling_pass, sweeps, resend_entry};
-ghost use Rattle.sl_cut.specs.End.{settle, finish, is_collected, rose, sweep_round, again_from, Settled};
-ghost use Rattle.sl_proto.specs.Standing.{Case, world_of, StandsFor, HasObserver, SettlesTo, FinishesTo};
+ghost use Rattle.sl_cut.specs.End.{settle, finish, is_collected, rose, sweep_round, again_from, Settled, IsFin};
+ghost use Rattle.sl_proto.specs.Standing.{Case, world_of, run_at, StandsFor, HasObserver, SettlesTo, FinishesTo};
 ghost use Rattle.sl_proto.specs.Rounds.{EndsAt, RoundAt, HasReached};
+ghost use Rattle.sl_proto.specs.Fronts.{Leads, Whatever, SettlesBy, SweepsBy, ResendsBy, SettlesTowards, FinishesTowards};
 
 use crate::schedule::{all_sweeps, pass_of, passes_are_choices};
 use crate::taker::{Taker, drive_within};
-use sl_finish::{finishing_finishes, idle_passes_settle};
+use sl_finish::{finishing_ends, finishing_finishes, idle_passes_settle};
 use sl_image::observers_tell;
 use sl_machine::Memory;
 use sl_net::{Net, nets_are_wired};
@@ -98,6 +99,7 @@ fn settle_within<T: Taker>(
     ensures stands { (x : Case) → StandsFor net.now x (T.scene taker.old) → StandsFor net.now x (T.scene taker.new) }
     ensures ends { (x : Case) → StandsFor net.now x (T.scene taker.old) → IfOk result (λ ended. EndsAt x (T.scene taker.old) (settle fuel x.setup x.lost (world_of x (T.scene taker.old))) (T.scene taker.new) ended) }
     ensures settled { (x : Case) → StandsFor net.now x (T.scene taker.old) → IfOk result (λ ended. ended ≡ true → Settled x.setup x.lost (world_of x (T.scene taker.new))) }
+    ensures front { (x : Case) → StandsFor net.now x (T.scene taker.old) → Leads x.setup x.lost (SettlesBy x.setup x.lost (world_of x (T.scene taker.old))) (run_at x (T.scene taker.old)) Whatever (run_at x (T.scene taker.new)) }
 {
     takes_choices(net);
     idle_passes_settle();
@@ -121,7 +123,9 @@ fn settle_with<T: Taker>(alloc: Global, net: &Net, taker: &mut T, fuel: u64) -> 
     ensures observer { HasObserver (T.scene taker.old) → HasObserver (T.scene taker.new) }
     ensures stands { (x : Case) → StandsFor net.now x (T.scene taker.old) → StandsFor net.now x (T.scene taker.new) }
     ensures settles { (x : Case) → StandsFor net.now x (T.scene taker.old) → OnOk result (SettlesTo x (T.scene taker.old) (T.scene taker.new)) }
+    ensures front { (x : Case) → StandsFor net.now x (T.scene taker.old) → SettlesTowards x.setup x.lost (run_at x (T.scene taker.old)) (run_at x (T.scene taker.new)) }
 {
+    finishing_ends();
     let pass = pass_of(alloc, net, true)?;
     if settle_within(net, taker, pass.as_slice(), fuel)? {
         Ok(())
@@ -137,6 +141,8 @@ fn resend<T: Taker>(net: &Net, taker: &mut T) -> Result<Round, Memory>
     ensures observer { HasObserver (T.scene taker.old) → HasObserver (T.scene taker.new) }
     ensures stands { (x : Case) → StandsFor net.now x (T.scene taker.old) → StandsFor net.now x (T.scene taker.new) }
     ensures round { (x : Case) → StandsFor net.now x (T.scene taker.old) → IfOk result (λ round. RoundAt x (T.scene taker.old) (λ go. again_from x.setup x.lost (world_of x (T.scene taker.old)) go (kept_from x.setup x.lost (world_of x (T.scene taker.old)) (resend_entry x.setup.net ∷ []))) (T.scene taker.new) round) }
+    ensures front { (x : Case) → StandsFor net.now x (T.scene taker.old) → Leads x.setup x.lost (ResendsBy x.setup x.lost (world_of x (T.scene taker.old))) (run_at x (T.scene taker.old)) Whatever (run_at x (T.scene taker.new)) }
+    ensures again { (x : Case) → StandsFor net.now x (T.scene taker.old) → IfOk result (λ round. round ≡ Round.Again → Leads x.setup x.lost (ResendsBy x.setup x.lost (world_of x (T.scene taker.old))) (run_at x (T.scene taker.old)) (IsFin x.setup x.lost (world_of x (T.scene taker.new))) (run_at x (T.scene taker.new))) }
 {
     takes_choices(net);
     let before = taker.entries();
@@ -164,6 +170,8 @@ fn take_round<T: Taker>(
     ensures observer { HasObserver (T.scene taker.new) }
     ensures stands { (x : Case) → StandsFor net.now x (T.scene taker.old) → StandsFor net.now x (T.scene taker.new) }
     ensures round { (x : Case) → 0 < x.setup.window → StandsFor net.now x (T.scene taker.old) → Settled x.setup x.lost (world_of x (T.scene taker.old)) → IfOk result (λ round. RoundAt x (T.scene taker.old) (λ go. sweep_round fuel go x.setup x.lost (world_of x (T.scene taker.old)) (is_collected x.setup (world_of x (T.scene taker.old)))) (T.scene taker.new) round) }
+    ensures front { (x : Case) → 0 < x.setup.window → StandsFor net.now x (T.scene taker.old) → Settled x.setup x.lost (world_of x (T.scene taker.old)) → Leads x.setup x.lost (SweepsBy x.setup x.lost (world_of x (T.scene taker.old))) (run_at x (T.scene taker.old)) Whatever (run_at x (T.scene taker.new)) }
+    ensures again { (x : Case) → 0 < x.setup.window → StandsFor net.now x (T.scene taker.old) → Settled x.setup x.lost (world_of x (T.scene taker.old)) → IfOk result (λ round. round ≡ Round.Again → Leads x.setup x.lost (SweepsBy x.setup x.lost (world_of x (T.scene taker.old))) (run_at x (T.scene taker.old)) (IsFin x.setup x.lost (world_of x (T.scene taker.new))) (run_at x (T.scene taker.new))) }
 {
     takes_choices(net);
     let before = tell(taker);
@@ -196,6 +204,7 @@ fn finish_within<T: Taker>(
     ensures observer { HasObserver (T.scene taker.new) }
     ensures stands { (x : Case) → StandsFor net.now x (T.scene taker.old) → StandsFor net.now x (T.scene taker.new) }
     ensures ends { (x : Case) → 0 < x.setup.window → StandsFor net.now x (T.scene taker.old) → IfOk result (λ ended. EndsAt x (T.scene taker.old) (finish fuel x.setup x.lost (world_of x (T.scene taker.old))) (T.scene taker.new) ended) }
+    ensures front { (x : Case) → 0 < x.setup.window → StandsFor net.now x (T.scene taker.old) → Leads x.setup x.lost (IsFin x.setup x.lost (world_of x (T.scene taker.old))) (run_at x (T.scene taker.old)) Whatever (run_at x (T.scene taker.new)) }
 {
     let mut left = fuel;
     while left > 0 {
@@ -220,8 +229,10 @@ fn finish_with<T: Taker>(alloc: Global, net: &Net, taker: &mut T, fuel: u64) -> 
     ensures observer { HasObserver (T.scene taker.new) }
     ensures stands { (x : Case) → StandsFor net.now x (T.scene taker.old) → StandsFor net.now x (T.scene taker.new) }
     ensures finishes { (x : Case) → 0 < x.setup.window → StandsFor net.now x (T.scene taker.old) → OnOk result (FinishesTo x (T.scene taker.old) (T.scene taker.new)) }
+    ensures front { (x : Case) → 0 < x.setup.window → StandsFor net.now x (T.scene taker.old) → FinishesTowards x.setup x.lost (run_at x (T.scene taker.old)) (run_at x (T.scene taker.new)) }
 {
     finishing_finishes();
+    finishing_ends();
     let settling = pass_of(alloc, net, true)?;
     let sweeps = all_sweeps(alloc, net)?;
     if finish_within(net, taker, settling.as_slice(), sweeps.as_slice(), fuel)? {
@@ -232,19 +243,22 @@ fn finish_with<T: Taker>(alloc: Global, net: &Net, taker: &mut T, fuel: u64) -> 
 }
 
 /// Settles: takes settling passes until one in which nothing happens. Then each link is empty, each
-/// host has put all its messages, and there is nothing to issue.
+/// host has put all its messages, and there is nothing to issue. After want of memory the turns
+/// that were taken are the first of those that settling takes.
 pub fn settle<T: Taker>(alloc: Global, net: &Net, taker: &mut T) -> Result<(), Memory>
     requires plan { (T.scene taker.old).plan ≡ plan_of net.now }
     ensures plan { (T.scene taker.new).plan ≡ plan_of net.now }
     ensures observer { HasObserver (T.scene taker.old) → HasObserver (T.scene taker.new) }
     ensures stands { (x : Case) → StandsFor net.now x (T.scene taker.old) → StandsFor net.now x (T.scene taker.new) }
     ensures settles { (x : Case) → StandsFor net.now x (T.scene taker.old) → OnOk result (SettlesTo x (T.scene taker.old) (T.scene taker.new)) }
+    ensures front { (x : Case) → StandsFor net.now x (T.scene taker.old) → SettlesTowards x.setup x.lost (run_at x (T.scene taker.old)) (run_at x (T.scene taker.new)) }
 {
     settle_with(alloc, net, taker, u64::MAX)
 }
 
 /// Finishes: settles, sweeps and resends until all snapshots are issued and collected, or no retry
-/// is left.
+/// is left. After want of memory the turns that were taken are the first of those that finishing
+/// takes.
 pub fn finish<T: Taker>(alloc: Global, net: &Net, taker: &mut T) -> Result<(), Memory>
     requires plan { (T.scene taker.old).plan ≡ plan_of net.now }
     requires observer { HasObserver (T.scene taker.old) }
@@ -252,6 +266,7 @@ pub fn finish<T: Taker>(alloc: Global, net: &Net, taker: &mut T) -> Result<(), M
     ensures observer { HasObserver (T.scene taker.new) }
     ensures stands { (x : Case) → StandsFor net.now x (T.scene taker.old) → StandsFor net.now x (T.scene taker.new) }
     ensures finishes { (x : Case) → 0 < x.setup.window → StandsFor net.now x (T.scene taker.old) → OnOk result (FinishesTo x (T.scene taker.old) (T.scene taker.new)) }
+    ensures front { (x : Case) → 0 < x.setup.window → StandsFor net.now x (T.scene taker.old) → FinishesTowards x.setup x.lost (run_at x (T.scene taker.old)) (run_at x (T.scene taker.new)) }
 {
     finish_with(alloc, net, taker, u64::MAX)
 }

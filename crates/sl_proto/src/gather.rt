@@ -1,5 +1,5 @@
 // The findings of a finished world of nodes.
-ghost use Rattle.std.specs.Prelude.{◌≡◌, ◌<◌, ◌^◌, ℕ, [], ◌∷◌, ◌++◌, length, cond, IfOk, OnOk, Some, slice_get};
+ghost use Rattle.std.specs.Prelude.{◌≡◌, ◌<◌, ◌^◌, [], ◌∷◌, ◌++◌, length, cond, IfOk, OnOk, Some};
 ghost use Rattle.sl_net.specs.Net.{same_sort, link_of};
 ghost use Rattle.sl_cut.specs.Words.{listed, numbers, weigh};
 ghost use Rattle.sl_cut.specs.History.{Losses};
@@ -8,8 +8,8 @@ ghost use Rattle.sl_cut.specs.Books.{schedule_of};
 ghost use Rattle.sl_cut.specs.End.{IsFinished};
 ghost use Rattle.sl_cut.specs.Findings.{findings};
 ghost use Rattle.sl_world.specs.World.{scene};
-ghost use Rattle.sl_proto.specs.Nodes.{ObserverNode, node_state};
-ghost use Rattle.sl_proto.specs.Standing.{case_of, world_of, StandsFor, HasObserver};
+ghost use Rattle.sl_proto.specs.Nodes.{node_state};
+ghost use Rattle.sl_proto.specs.Standing.{case_of, world_of, StandsFor};
 ghost use Rattle.sl_proto.specs.Told.{sent_told, delivered_told, drops_told, all_drops, lost_told, all_lost, CanTell, told};
 
 use crate::node::Node;

@@ -1,14 +1,14 @@
 // Laws of worlds of machines. The functions do nothing: their contracts are the laws, and the
 // proofs are in proofs/.
 ghost use Rattle.std.specs.Prelude.{◌≡◌, ℕ, ◌≤◌, List, length, Some};
-ghost use Rattle.sl_net.specs.declared.actor.UnitId.{UnitId};
-ghost use Rattle.sl_net.specs.declared.actor.ActorId.TheVariants.{Unit as OfUnit};
+ghost use Rattle.sl_layout.specs.declared.actor.UnitId.{UnitId};
+ghost use Rattle.sl_layout.specs.declared.actor.ActorId.TheVariants.{Unit as OfUnit};
 ghost use Rattle.sl_net.specs.Net.{Net, actor_of, choice_of, unit_place};
 ghost use Rattle.sl_net.specs.Wired.{IsNet, Reports};
 ghost use Rattle.sl_wire.specs.declared.message.Msg.{Msg};
-ghost use Rattle.sl_cut.specs.declared.message.Message.TheVariants.{Done as DoneMsg};
-ghost use Rattle.sl_cut.specs.declared.message.Put.{Put};
-ghost use Rattle.sl_cut.specs.declared.message.Step.{Step};
+ghost use Rattle.sl_history.specs.declared.message.Message.TheVariants.{Done as DoneMsg};
+ghost use Rattle.sl_history.specs.declared.message.Put.{Put};
+ghost use Rattle.sl_history.specs.declared.message.Step.{Step};
 ghost use Rattle.sl_cut.specs.Words.{Each};
 ghost use Rattle.sl_cut.specs.History.{History, Losses, history, on_link};
 ghost use Rattle.sl_cut.specs.Setup.{Setup};

@@ -3,12 +3,12 @@ ghost use Rattle.std.specs.Prelude.{◌≡◌, ℕ, ◌<◌, ◌++◌, ◌∷◌
 ghost use Rattle.sl_net.specs.Parts.{below};
 ghost use Rattle.sl_net.specs.Net.{link_numbers};
 ghost use Rattle.sl_loss.specs.Loss.{IsFresh};
-ghost use Rattle.sl_cut.specs.Losses.{rate_of, is_lossy, drops_on, loss_on, losses};
+ghost use Rattle.sl_cut.specs.Losses.{drops_on, loss_on, losses};
 ghost use Rattle.sl_proto.specs.Image.{GoesOn};
 
 use sl_loss::Loss;
 use sl_machine::Memory;
-use sl_net::{Drop1, Input, LinkKind, LossSpec};
+use sl_net::{Drop1, Input, LossSpec};
 use std::alloc::Global;
 use std::marker::Model;
 
@@ -24,28 +24,6 @@ impl Model for Listed {
     ghost Value = { List ℕ };
 
     ghost view = { λ d. d.numbers.items };
-}
-
-/// The rate of a kind of link, of a thousand puts.
-fn rate_of(loss: &LossSpec, kind: LinkKind) -> u16
-    ensures { result ≡ rate_of loss.now kind }
-{
-    match kind {
-        LinkKind::Cable => loss.cable,
-        LinkKind::Crossbar => loss.crossbar,
-        LinkKind::Init => loss.init,
-        LinkKind::Notice => loss.notice,
-        LinkKind::Reliable => 0,
-    }
-}
-
-fn is_lossy(kind: LinkKind) -> bool
-    ensures { result ≡ is_lossy kind }
-{
-    match kind {
-        LinkKind::Reliable => false,
-        _ => true,
-    }
 }
 
 fn empty_lists(alloc: Global, count: usize) -> Result<Vec<Listed>, Memory>
@@ -104,10 +82,10 @@ fn loss_on(alloc: Global, input: &Input, link: u32, drops: &[u64]) -> Result<Opt
     ensures { IfOk result (λ loss. loss ≡ loss_on input.now link) }
 {
     let kind = input.net.kind(link);
-    if !is_lossy(kind) {
+    if !kind.is_lossy() {
         return Ok(None);
     }
-    let rate = rate_of(&input.loss, kind);
+    let rate = input.loss.rate_of(kind);
     Ok(Some(Loss::new(alloc, input.loss.seed, link as u64, rate, drops)?))
 }
 

@@ -14,12 +14,12 @@ ghost use Rattle.sl_cut.specs.Setup.{Setup, setup_of};
 ghost use Rattle.sl_cut.specs.World.{Entry, start, world, IsLegal, kept};
 ghost use Rattle.sl_world.specs.Scene.{Scene, first_scene, after_all, run_of};
 ghost use Rattle.sl_world.specs.Scene.{kept as scene_kept};
-ghost use Rattle.sl_proto.specs.Follow.{Follow};
+ghost use Rattle.sl_proto.specs.Machines.{FollowHistories};
 ghost use Rattle.sl_proto.specs.Image.{GoesOn, IsImage, IsFirst};
 ghost use Rattle.sl_proto.specs.Meaning.{NodeStands, IsRunnable};
 ghost use Rattle.sl_proto.specs.Built.{first_states};
 ghost use Rattle.sl_proto.specs.Nodes.{NodeState, node_rules};
-ghost use Rattle.sl_proto.specs.Runs.{Follows, IsBookOf};
+ghost use Rattle.sl_proto.specs.Runs.{Follows, IsBookOfTurns};
 ghost use Rattle.sl_proto.specs.Standing.{Case, case_of, run_at, StandsFor, HasObserver};
 
 use sl_image::{
@@ -31,7 +31,7 @@ use sl_net::nets_are_wired;
 
 /// Each turn of a node does the step of its actor, and is idle where this has none.
 pub fn nodes_follow()
-    ensures { (s : Setup) (table : Snapshot) (lost : Losses) → IsRunnable s table lost → Follow s lost table.ring (NodeStands s table) node_rules }
+    ensures { (s : Setup) (table : Snapshot) (lost : Losses) → IsRunnable s table lost → FollowHistories s lost table.ring (NodeStands s table) node_rules }
 {
     nets_are_wired();
     units_take_messages();
@@ -71,7 +71,7 @@ pub fn nodes_stand_for_histories()
         → IsFirst s lost (NodeStands s table) states losses → length es < 2 ^ 40 → scene_kept node_rules (first_scene (plan_of s.net) states losses) es ≡ kept s lost es }
     ensures book { (s : Setup) (table : Snapshot) (lost : Losses) (states : List NodeState) (losses : List (Option Loss)) (es : List Entry) → IsRunnable s table lost
         → IsFirst s lost (NodeStands s table) states losses → length es < 2 ^ 40
-        → IsBookOf (record { entries = (after_all node_rules (first_scene (plan_of s.net) states losses) es).book }) (kept s lost es) }
+        → IsBookOfTurns (record { entries = (after_all node_rules (first_scene (plan_of s.net) states losses) es).book }) (kept s lost es) }
     ensures legal { (s : Setup) (table : Snapshot) (lost : Losses) (states : List NodeState) (losses : List (Option Loss)) (es : List Entry) → IsRunnable s table lost
         → IsFirst s lost (NodeStands s table) states losses → length es < 2 ^ 40 → IsLegal s lost es
         → run_of node_rules (first_scene (plan_of s.net) states losses) es ≡ Some (after_all node_rules (first_scene (plan_of s.net) states losses) es) }

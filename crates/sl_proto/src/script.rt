@@ -4,6 +4,7 @@ ghost use Rattle.sl_machine.specs.Plan.{HasChoice};
 ghost use Rattle.sl_net.specs.Wiring.{plan_of};
 ghost use Rattle.sl_cut.specs.Schedule.{pass, passes_of, expand_one, expand};
 ghost use Rattle.sl_proto.specs.Runs.{Follows};
+ghost use Rattle.sl_proto.specs.Fronts.{FollowsFront};
 ghost use Rattle.sl_proto.specs.Standing.{Case, run_at, StandsFor, HasObserver};
 ghost use Rattle.sl_proto.specs.Script.{IsScriptEntry};
 
@@ -26,6 +27,7 @@ fn drive_passes<T: Taker>(
     ensures observer { HasObserver (T.scene taker.old) → HasObserver (T.scene taker.new) }
     ensures stands { (x : Case) → StandsFor net.now x (T.scene taker.old) → StandsFor net.now x (T.scene taker.new) }
     ensures follows { (x : Case) → StandsFor net.now x (T.scene taker.old) → OnOk result (Follows x.setup x.lost (run_at x (T.scene taker.old)) (passes_of once.now count) (run_at x (T.scene taker.new))) }
+    ensures front { (x : Case) → StandsFor net.now x (T.scene taker.old) → FollowsFront x.setup x.lost (run_at x (T.scene taker.old)) (passes_of once.now count) (run_at x (T.scene taker.new)) }
 {
     for _done in 0..count {
         drive_within(net, taker, once)?;
@@ -48,6 +50,7 @@ fn drive_entry<T: Taker>(
     ensures observer { HasObserver (T.scene taker.old) → HasObserver (T.scene taker.new) }
     ensures stands { (x : Case) → StandsFor net.now x (T.scene taker.old) → StandsFor net.now x (T.scene taker.new) }
     ensures follows { (x : Case) → StandsFor net.now x (T.scene taker.old) → OnOk result (Follows x.setup x.lost (run_at x (T.scene taker.old)) (expand_one net.now entry) (run_at x (T.scene taker.new))) }
+    ensures front { (x : Case) → StandsFor net.now x (T.scene taker.old) → FollowsFront x.setup x.lost (run_at x (T.scene taker.old)) (expand_one net.now entry) (run_at x (T.scene taker.new)) }
 {
     match entry {
         Script1::Pass(count) => drive_passes(net, taker, once, count),
@@ -70,6 +73,7 @@ fn drive_entries<T: Taker>(
     ensures observer { HasObserver (T.scene taker.old) → HasObserver (T.scene taker.new) }
     ensures stands { (x : Case) → StandsFor net.now x (T.scene taker.old) → StandsFor net.now x (T.scene taker.new) }
     ensures follows { (x : Case) → StandsFor net.now x (T.scene taker.old) → OnOk result (Follows x.setup x.lost (run_at x (T.scene taker.old)) (expand net.now script.now) (run_at x (T.scene taker.new))) }
+    ensures front { (x : Case) → StandsFor net.now x (T.scene taker.old) → FollowsFront x.setup x.lost (run_at x (T.scene taker.old)) (expand net.now script.now) (run_at x (T.scene taker.new)) }
 {
     for entry in script {
         drive_entry(net, taker, once, *entry)?;
@@ -77,9 +81,10 @@ fn drive_entries<T: Taker>(
     Ok(())
 }
 
-/// Takes the turns of a script entry by entry, a pass at a time. Where the nodes stand for the world
-/// of their book they do so afterwards, also after want of memory. A book of 2^40 entries would fill
-/// any memory, so it is answered as want of memory.
+/// Takes the turns of a script entry by entry, a pass at a time; after want of memory, those of a
+/// front of its schedule. Where the nodes stand for the world of their book they do so afterwards,
+/// also after want of memory. A book of 2^40 entries would fill any memory, so it is answered as
+/// want of memory.
 pub fn drive_script<T: Taker>(
     alloc: Global,
     net: &Net,
@@ -92,6 +97,7 @@ pub fn drive_script<T: Taker>(
     ensures observer { HasObserver (T.scene taker.old) → HasObserver (T.scene taker.new) }
     ensures stands { (x : Case) → StandsFor net.now x (T.scene taker.old) → StandsFor net.now x (T.scene taker.new) }
     ensures follows { (x : Case) → StandsFor net.now x (T.scene taker.old) → OnOk result (Follows x.setup x.lost (run_at x (T.scene taker.old)) (expand net.now script.now) (run_at x (T.scene taker.new))) }
+    ensures front { (x : Case) → StandsFor net.now x (T.scene taker.old) → FollowsFront x.setup x.lost (run_at x (T.scene taker.old)) (expand net.now script.now) (run_at x (T.scene taker.new)) }
 {
     // A net is that of its parts.
     let _parts = net.parts();

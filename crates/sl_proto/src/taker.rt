@@ -1,11 +1,12 @@
 // Whoever takes turns: a world of nodes, as data, and schedules of its turns.
-ghost use Rattle.std.specs.Prelude.{◌≡◌, ℕ, ◌+◌, ◌<◌, ◌≤◌, ◌^◌, ◌++◌, List, length, All, Ok, Some, None, OnOk, OnErr, slice_get};
+ghost use Rattle.std.specs.Prelude.{◌≡◌, ◌+◌, ◌<◌, ◌≤◌, ◌^◌, length, All, Ok, Some, None, OnOk, OnErr, slice_get};
 ghost use Rattle.sl_machine.specs.Plan.{HasChoice};
 ghost use Rattle.sl_net.specs.Wiring.{plan_of};
 ghost use Rattle.sl_wire.specs.declared.message.Msg.{Msg};
 ghost use Rattle.sl_world.specs.Scene.{Scene, turn_of, after_turn, after_all, IsFront};
 ghost use Rattle.sl_proto.specs.Nodes.{NodeState, ObserverNode, node_rules};
 ghost use Rattle.sl_proto.specs.Runs.{Follows};
+ghost use Rattle.sl_proto.specs.Fronts.{FollowsFront};
 ghost use Rattle.sl_proto.specs.Standing.{Case, run_at, StandsFor, HasObserver};
 
 use crate::node::Node;
@@ -76,6 +77,7 @@ pub fn drive<T: Taker>(net: &Net, taker: &mut T, schedule: &[(u32, u32)]) -> Res
     ensures observer { HasObserver (T.scene taker.old) → HasObserver (T.scene taker.new) }
     ensures stands { (x : Case) → StandsFor net.now x (T.scene taker.old) → StandsFor net.now x (T.scene taker.new) }
     ensures follows { (x : Case) → StandsFor net.now x (T.scene taker.old) → OnOk result (Follows x.setup x.lost (run_at x (T.scene taker.old)) schedule.now (run_at x (T.scene taker.new))) }
+    ensures follows_front { (x : Case) → StandsFor net.now x (T.scene taker.old) → FollowsFront x.setup x.lost (run_at x (T.scene taker.old)) schedule.now (run_at x (T.scene taker.new)) }
 {
     nodes_follow_their_books();
     turns(taker, schedule)
@@ -97,8 +99,9 @@ fn turns<T: Taker>(taker: &mut T, schedule: &[(u32, u32)]) -> Result<(), Memory>
 }
 
 /// Takes the turns of a whole schedule where the book stays below 2^40 entries with them. A longer
-/// book would fill any memory, so it is answered as want of memory. Where the nodes stand for the
-/// world of their book they do so afterwards, also after want of memory.
+/// book would fill any memory, so it is answered as want of memory, with no turn taken. After want
+/// of memory the turns of a front of the schedule were taken. Where the nodes stand for the world
+/// of their book they do so afterwards, also after want of memory.
 pub fn drive_within<T: Taker>(
     net: &Net,
     taker: &mut T,
@@ -106,10 +109,12 @@ pub fn drive_within<T: Taker>(
 ) -> Result<(), Memory>
     requires plan { (T.scene taker.old).plan ≡ plan_of net.now }
     requires choices { All (λ e. HasChoice (plan_of net.now) e.0 e.1) schedule.now }
+    ensures front { IsFront node_rules (T.scene taker.old) schedule.now (T.scene taker.new) }
     ensures plan { (T.scene taker.new).plan ≡ plan_of net.now }
     ensures observer { HasObserver (T.scene taker.old) → HasObserver (T.scene taker.new) }
     ensures stands { (x : Case) → StandsFor net.now x (T.scene taker.old) → StandsFor net.now x (T.scene taker.new) }
     ensures follows { (x : Case) → StandsFor net.now x (T.scene taker.old) → OnOk result (Follows x.setup x.lost (run_at x (T.scene taker.old)) schedule.now (run_at x (T.scene taker.new))) }
+    ensures follows_front { (x : Case) → StandsFor net.now x (T.scene taker.old) → FollowsFront x.setup x.lost (run_at x (T.scene taker.old)) schedule.now (run_at x (T.scene taker.new)) }
 {
     let limit: u64 = 1 << 40;
     let entries = taker.entries();

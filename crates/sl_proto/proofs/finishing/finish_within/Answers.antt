@@ -1,9 +1,11 @@
 use Rattle.std.proofs.Common.{arith, rules, subst, ◌≡◌}
 use Rattle.std.specs.Prelude.{true, false}
-use Rattle.sl_cut.specs.End.{settle}
+use Rattle.sl_cut.specs.End.{settle, IsFin}
 use Rattle.sl_proto.specs.Rounds.{EndsAt, RoundAt}
-use Rattle.sl_proto.specs.Standing.{world_of}
+use Rattle.sl_proto.specs.Standing.{world_of, run_at}
+use Rattle.sl_proto.specs.Fronts.{SweepsBy, Whatever}
 use Rattle.sl_proto.proofs.Endings.{Sweeping, finishing-ends, finishing-falls-short, finishing-goes-on, settling-falls-short}
+use Rattle.sl_proto.proofs.Fronts.{leads-none, leads-on, leads-somewhere, finishing-front, finishing-settles}
 use Rattle.sl_proto.proofs.finishing.finish_within.Goals as goal
 
 pub returns-then-not-branch-clause-ends : goal.returns-then-not-branch-clause-ends
@@ -39,6 +41,85 @@ returns-in-Short-clause-ends g c x pos h =
     (subst (EndsAt x now (settle c.loop-left.left x.setup x.lost (world_of x now)) mid) b (c.in_ok-settle_within.ensures.ends x there))
     (subst (RoundAt x mid (Sweeping x c.loop-left.left mid) new) c.in-Short.is (c.in_ok-take_round.ensures.round x pos (c.in_ok-settle_within.ensures.stands x there) (c.in_ok-settle_within.ensures.settled x there b)))
 
+pub loop-left-init : goal.loop-left-init
+loop-left-init g c = record {
+  plan = c.requires.plan;
+  observer = c.requires.observer;
+  stands = λ x h. h;
+  finishing = λ x pos h new ended m. m;
+  leads = λ x pos h. leads-none x.setup x.lost (IsFin x.setup x.lost (world_of x (g.T.Taker.scene c.args.taker.now))) (run_at x (g.T.Taker.scene c.args.taker.now));
+}
+
+pub returns-in_err-settle_within-clause-front : goal.returns-in_err-settle_within-clause-front
+returns-in_err-settle_within-clause-front g c x pos h =
+    let old = run_at x (g.T.Taker.scene c.args.taker.now) in
+    let now = run_at x (g.T.Taker.scene c.loop-left.taker) in
+    let new = run_at x (g.T.Taker.scene c.settle_within.new.taker) in
+    leads-on x.setup x.lost (IsFin x.setup x.lost old.world) (IsFin x.setup x.lost now.world) Whatever old now new (c.loop-left.invariant.leads x pos h)
+    (finishing-front x.setup x.lost now new (c.settle_within.ensures.front x (c.loop-left.invariant.stands x h)))
+
+pub returns-then-not-branch-clause-front : goal.returns-then-not-branch-clause-front
+returns-then-not-branch-clause-front g c x pos h =
+    let old = run_at x (g.T.Taker.scene c.args.taker.now) in
+    let now = run_at x (g.T.Taker.scene c.loop-left.taker) in
+    let new = run_at x (g.T.Taker.scene c.settle_within.new.taker) in
+    leads-on x.setup x.lost (IsFin x.setup x.lost old.world) (IsFin x.setup x.lost now.world) Whatever old now new (c.loop-left.invariant.leads x pos h)
+    (finishing-front x.setup x.lost now new (c.settle_within.ensures.front x (c.loop-left.invariant.stands x h)))
+
+pub returns-in_err-take_round-clause-front : goal.returns-in_err-take_round-clause-front
+returns-in_err-take_round-clause-front g c x pos h =
+    let scene = g.T.Taker.scene in
+    let u = scene c.loop-left.taker in
+    let v = scene c.settle_within.new.taker in
+    let old = run_at x (scene c.args.taker.now) in
+    let now = run_at x u in
+    let mid = run_at x v in
+    let new = run_at x (scene c.take_round.new.taker) in
+    let there = c.loop-left.invariant.stands x h in
+    let b : c.in_ok-settle_within.field-0 ≡ true = search rules in
+    leads-on x.setup x.lost (IsFin x.setup x.lost old.world) (IsFin x.setup x.lost now.world) Whatever old now new (c.loop-left.invariant.leads x pos h)
+    (leads-on x.setup x.lost (IsFin x.setup x.lost now.world) (SweepsBy x.setup x.lost mid.world) Whatever now mid new
+    (finishing-settles x.setup x.lost c.loop-left.left now mid (subst (EndsAt x u (settle c.loop-left.left x.setup x.lost (world_of x u)) v) b (c.in_ok-settle_within.ensures.ends x there)))
+    (c.take_round.ensures.front x pos (c.in_ok-settle_within.ensures.stands x there) (c.in_ok-settle_within.ensures.settled x there b)))
+
+pub returns-in-Ended-clause-front : goal.returns-in-Ended-clause-front
+returns-in-Ended-clause-front g c x pos h =
+    let scene = g.T.Taker.scene in
+    let u = scene c.loop-left.taker in
+    let v = scene c.settle_within.new.taker in
+    let old = run_at x (scene c.args.taker.now) in
+    let now = run_at x u in
+    let mid = run_at x v in
+    let new = run_at x (scene c.take_round.new.taker) in
+    let there = c.loop-left.invariant.stands x h in
+    let b : c.in_ok-settle_within.field-0 ≡ true = search rules in
+    leads-on x.setup x.lost (IsFin x.setup x.lost old.world) (IsFin x.setup x.lost now.world) Whatever old now new (c.loop-left.invariant.leads x pos h)
+    (leads-on x.setup x.lost (IsFin x.setup x.lost now.world) (SweepsBy x.setup x.lost mid.world) Whatever now mid new
+    (finishing-settles x.setup x.lost c.loop-left.left now mid (subst (EndsAt x u (settle c.loop-left.left x.setup x.lost (world_of x u)) v) b (c.in_ok-settle_within.ensures.ends x there)))
+    (c.take_round.ensures.front x pos (c.in_ok-settle_within.ensures.stands x there) (c.in_ok-settle_within.ensures.settled x there b)))
+
+pub returns-in-Short-clause-front : goal.returns-in-Short-clause-front
+returns-in-Short-clause-front g c x pos h =
+    let scene = g.T.Taker.scene in
+    let u = scene c.loop-left.taker in
+    let v = scene c.settle_within.new.taker in
+    let old = run_at x (scene c.args.taker.now) in
+    let now = run_at x u in
+    let mid = run_at x v in
+    let new = run_at x (scene c.take_round.new.taker) in
+    let there = c.loop-left.invariant.stands x h in
+    let b : c.in_ok-settle_within.field-0 ≡ true = search rules in
+    leads-on x.setup x.lost (IsFin x.setup x.lost old.world) (IsFin x.setup x.lost now.world) Whatever old now new (c.loop-left.invariant.leads x pos h)
+    (leads-on x.setup x.lost (IsFin x.setup x.lost now.world) (SweepsBy x.setup x.lost mid.world) Whatever now mid new
+    (finishing-settles x.setup x.lost c.loop-left.left now mid (subst (EndsAt x u (settle c.loop-left.left x.setup x.lost (world_of x u)) v) b (c.in_ok-settle_within.ensures.ends x there)))
+    (c.take_round.ensures.front x pos (c.in_ok-settle_within.ensures.stands x there) (c.in_ok-settle_within.ensures.settled x there b)))
+
+pub returns-clause-front : goal.returns-clause-front
+returns-clause-front g c x pos h =
+    let old = run_at x (g.T.Taker.scene c.args.taker.now) in
+    let now = run_at x (g.T.Taker.scene c.loop-left.taker) in
+    leads-somewhere x.setup x.lost (IsFin x.setup x.lost old.world) (IsFin x.setup x.lost now.world) old now (c.loop-left.invariant.leads x pos h)
+
 pub loop-left-preserved : goal.loop-left-preserved
 loop-left-preserved g c =
     let scene = g.T.Taker.scene in
@@ -54,4 +135,10 @@ loop-left-preserved g c =
           finishing-goes-on x c.args.fuel c.loop-left.left (scene c.args.taker.now) now mid new (c.loop-left.invariant.finishing x pos h) (omega arith)
           (subst (EndsAt x now (settle c.loop-left.left x.setup x.lost (world_of x now)) mid) b (c.in_ok-settle_within.ensures.ends x there))
           (subst (RoundAt x mid (Sweeping x c.loop-left.left mid) new) c.in-Again.is (c.in_ok-take_round.ensures.round x pos (c.in_ok-settle_within.ensures.stands x there) (c.in_ok-settle_within.ensures.settled x there b)));
+      leads = λ x pos h. let there = c.loop-left.invariant.stands x h in
+          let P = IsFin x.setup x.lost (world_of x (scene c.args.taker.now)) in let Q = IsFin x.setup x.lost (world_of x now) in let R = IsFin x.setup x.lost (world_of x new) in
+          leads-on x.setup x.lost P Q R (run_at x (scene c.args.taker.now)) (run_at x now) (run_at x new) (c.loop-left.invariant.leads x pos h)
+          (leads-on x.setup x.lost Q (SweepsBy x.setup x.lost (world_of x mid)) R (run_at x now) (run_at x mid) (run_at x new)
+          (finishing-settles x.setup x.lost c.loop-left.left (run_at x now) (run_at x mid) (subst (EndsAt x now (settle c.loop-left.left x.setup x.lost (world_of x now)) mid) b (c.in_ok-settle_within.ensures.ends x there)))
+          (c.in_ok-take_round.ensures.again x pos (c.in_ok-settle_within.ensures.stands x there) (c.in_ok-settle_within.ensures.settled x there b) c.in-Again.is));
     }

@@ -1,6 +1,8 @@
 use Rattle.std.proofs.Common.{◌≡◌, ◌<◌}
 use Rattle.sl_net.specs.Wiring.{plan_of}
-use Rattle.sl_proto.specs.Standing.{Case, StandsFor, HasObserver}
+use Rattle.sl_cut.specs.End.{IsFin}
+use Rattle.sl_proto.specs.Standing.{Case, world_of, run_at, StandsFor, HasObserver}
+use Rattle.sl_proto.specs.Fronts.{Leads}
 use Rattle.sl_proto.proofs.Endings.{IsFinishingAt}
 use Rattle.sl_proto.proofs.finishing.finish_within.Given as goal
 
@@ -11,6 +13,8 @@ invariant-loop-left g l =
       observer : HasObserver (g.T.Taker.scene l.taker);
       stands : (x : Case) → StandsFor l.net x (g.T.Taker.scene l.fn.taker) → StandsFor l.net x (g.T.Taker.scene l.taker);
       finishing : (x : Case) → 0 < x.setup.window → StandsFor l.net x (g.T.Taker.scene l.fn.taker) → IsFinishingAt x l.fuel (g.T.Taker.scene l.fn.taker) l.left (g.T.Taker.scene l.taker);
+      leads : (x : Case) → 0 < x.setup.window → StandsFor l.net x (g.T.Taker.scene l.fn.taker)
+          → Leads x.setup x.lost (IsFin x.setup x.lost (world_of x (g.T.Taker.scene l.fn.taker))) (run_at x (g.T.Taker.scene l.fn.taker)) (IsFin x.setup x.lost (world_of x (g.T.Taker.scene l.taker))) (run_at x (g.T.Taker.scene l.taker));
     }
 
 abbrev pub decreases-loop-left : goal.decreases-loop-left

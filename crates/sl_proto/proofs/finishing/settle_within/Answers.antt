@@ -1,7 +1,12 @@
 use Rattle.std.proofs.Common.{arith, subst, sym, All}
 use Rattle.sl_machine.specs.Plan.{HasChoice}
 use Rattle.sl_net.specs.Wiring.{plan_of}
-use Rattle.sl_proto.proofs.Endings.{settling-ends, settling-goes-on, settled-there}
+use Rattle.sl_cut.specs.Schedule.{settling_pass}
+use Rattle.sl_proto.specs.Standing.{world_of, run_at}
+use Rattle.sl_proto.specs.Runs.{Follows}
+use Rattle.sl_proto.specs.Fronts.{FollowsFront, SettlesBy, Whatever}
+use Rattle.sl_proto.proofs.Endings.{settling-ends, settling-goes-on, settled-there, more-entries}
+use Rattle.sl_proto.proofs.Fronts.{over, leads-none, leads-on, leads-somewhere, pass-front, pass-leads}
 use Rattle.sl_proto.proofs.finishing.settle_within.Goals as goal
 
 pub drive_within-requires-clause-choices : goal.drive_within-requires-clause-choices
@@ -19,6 +24,39 @@ returns-then-entries-before-clause-settled g c x h _ =
     settled-there c.idle_passes_settle.ensures c.args.net.now x c.args.fuel (scene c.args.taker.now) (scene c.drive_within.new.taker)
     (c.in_ok-drive_within.ensures.stands x (c.loop-left.invariant.stands x h)) (returns-then-entries-before-clause-ends g c x h)
 
+pub loop-left-init : goal.loop-left-init
+loop-left-init g c = record {
+  plan = c.requires.plan;
+  observer = λ h. h;
+  stands = λ x h. h;
+  settling = λ x h new ended m. m;
+  leads = λ x h. leads-none x.setup x.lost (SettlesBy x.setup x.lost (world_of x (g.T.Taker.scene c.args.taker.now))) (run_at x (g.T.Taker.scene c.args.taker.now));
+}
+
+pub returns-in_err-drive_within-clause-front : goal.returns-in_err-drive_within-clause-front
+returns-in_err-drive_within-clause-front g c x h =
+    let old = run_at x (g.T.Taker.scene c.args.taker.now) in
+    let now = run_at x (g.T.Taker.scene c.loop-left.taker) in
+    let new = run_at x (g.T.Taker.scene c.drive_within.new.taker) in
+    leads-on x.setup x.lost (SettlesBy x.setup x.lost old.world) (SettlesBy x.setup x.lost now.world) Whatever old now new (c.loop-left.invariant.leads x h)
+    (pass-front x.setup x.lost now new
+    (over (λ es. FollowsFront x.setup x.lost now es new) settling_pass c.args.net.now x.setup.net c.args.pass.now h.net_is c.requires.pass (c.drive_within.ensures.follows_front x (c.loop-left.invariant.stands x h))))
+
+pub returns-then-entries-before-clause-front : goal.returns-then-entries-before-clause-front
+returns-then-entries-before-clause-front g c x h =
+    let old = run_at x (g.T.Taker.scene c.args.taker.now) in
+    let now = run_at x (g.T.Taker.scene c.loop-left.taker) in
+    let new = run_at x (g.T.Taker.scene c.drive_within.new.taker) in
+    leads-on x.setup x.lost (SettlesBy x.setup x.lost old.world) (SettlesBy x.setup x.lost now.world) Whatever old now new (c.loop-left.invariant.leads x h)
+    (pass-front x.setup x.lost now new
+    (over (λ es. FollowsFront x.setup x.lost now es new) settling_pass c.args.net.now x.setup.net c.args.pass.now h.net_is c.requires.pass (c.drive_within.ensures.follows_front x (c.loop-left.invariant.stands x h))))
+
+pub returns-clause-front : goal.returns-clause-front
+returns-clause-front g c x h =
+    let old = run_at x (g.T.Taker.scene c.args.taker.now) in
+    let now = run_at x (g.T.Taker.scene c.loop-left.taker) in
+    leads-somewhere x.setup x.lost (SettlesBy x.setup x.lost old.world) (SettlesBy x.setup x.lost now.world) old now (c.loop-left.invariant.leads x h)
+
 pub loop-left-preserved : goal.loop-left-preserved
 loop-left-preserved g c =
     let scene = g.T.Taker.scene in
@@ -28,4 +66,9 @@ loop-left-preserved g c =
       stands = λ x h. c.in_ok-drive_within.ensures.stands x (c.loop-left.invariant.stands x h);
       settling = λ x h. settling-goes-on c.args.net.now x c.args.fuel c.loop-left.left (scene c.args.taker.now) (scene c.loop-left.taker) (scene c.drive_within.new.taker) c.args.pass.now h.net_is c.requires.pass
           (c.loop-left.invariant.settling x h) (omega arith) (c.in_ok-drive_within.ensures.follows x (c.loop-left.invariant.stands x h)) (λ e. absurd (c.if-entries-before.false (omega arith)));
+      leads = λ x h. let old = run_at x (scene c.args.taker.now) in let now = run_at x (scene c.loop-left.taker) in let new = run_at x (scene c.drive_within.new.taker) in
+          leads-on x.setup x.lost (SettlesBy x.setup x.lost old.world) (SettlesBy x.setup x.lost now.world) (SettlesBy x.setup x.lost new.world) old now new (c.loop-left.invariant.leads x h)
+          (pass-leads x.setup x.lost now new
+          (over (λ es. Follows x.setup x.lost now es new) settling_pass c.args.net.now x.setup.net c.args.pass.now h.net_is c.requires.pass (c.in_ok-drive_within.ensures.follows x (c.loop-left.invariant.stands x h)))
+          (more-entries x (scene c.loop-left.taker) (scene c.drive_within.new.taker) (λ e. absurd (c.if-entries-before.false (omega arith)))));
     }

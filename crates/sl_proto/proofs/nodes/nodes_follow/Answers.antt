@@ -2,8 +2,8 @@ use Rattle.std.proofs.Common.{◌≡◌, ℕ, zero, suc, ◌+◌, ◌^◌, ◌<�
 use Rattle.std.specs.Prelude.{◌⊎◌, if◌then◌else◌, slice_get, option_map, IsSome}
 use Rattle.std.proofs.lemmas.Bool.{cases_lt, lt-ltb, le-ltb}
 use Rattle.std.proofs.lemmas.Option.{slice_get-get_or, get_or_from_slice_get}
-use Rattle.sl_net.specs.declared.actor.ActorId.{ActorId}
-use Rattle.sl_net.specs.declared.actor.ActorId.TheVariants.{Observer, Control, Unit as OfUnit, Host as OfHost}
+use Rattle.sl_layout.specs.declared.actor.ActorId.{ActorId}
+use Rattle.sl_layout.specs.declared.actor.ActorId.TheVariants.{Observer, Control, Unit as OfUnit, Host as OfHost}
 use Rattle.sl_net.specs.Net.{nobody, actor_of, action_choice, link_of, link_at, links_into}
 use Rattle.sl_net.specs.Wired.{IsWired}
 use Rattle.sl_wire.specs.declared.message.Msg.{Msg}
@@ -11,8 +11,8 @@ use Rattle.sl_observe.specs.Observer.{ObserverState, observer_take, observer_act
 use Rattle.sl_control.specs.Control.{control_take}
 use Rattle.sl_unit.specs.Step.{unit_rules}
 use Rattle.sl_host.specs.Host.{host_take, host_act}
-use Rattle.sl_cut.specs.declared.message.Message.{Message}
-use Rattle.sl_cut.specs.declared.message.Step.{Step}
+use Rattle.sl_history.specs.declared.message.Message.{Message}
+use Rattle.sl_history.specs.declared.message.Step.{Step}
 use Rattle.sl_cut.specs.History.{history}
 use Rattle.sl_cut.specs.World.{Entry, next_step, turn, world}
 use Rattle.sl_cut.proofs.Ran.{ran}
@@ -22,7 +22,7 @@ use Rattle.sl_image.specs.HostImage.{IsHostOf}
 use Rattle.sl_image.specs.Messages.{IsMessage}
 use Rattle.sl_image.specs.ObserverImage.{IsObserverOf, known_at}
 use Rattle.sl_proto.specs.Image.{told_by}
-use Rattle.sl_proto.specs.Follow.{StandsAfter, ActsAs}
+use Rattle.sl_proto.specs.Machines.{StandsAfter, ActsAs}
 use Rattle.sl_proto.specs.Meaning.{StandsAs, NodeStands}
 use Rattle.sl_proto.specs.Nodes.{NodeState, ObserverNode, ControlNode, UnitNode, HostNode, as_node, node_take, node_act}
 use Rattle.sl_proto.proofs.Queues.{retold, untold}

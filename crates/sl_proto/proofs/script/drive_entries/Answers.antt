@@ -3,6 +3,7 @@ use Rattle.sl_net.specs.declared.input.Script1.TheVariants.{Pass}
 use Rattle.sl_proto.proofs.Trails.{follows-script}
 use Rattle.sl_proto.specs.Standing.{run_at}
 use Rattle.sl_proto.proofs.Standing.{follows-none}
+use Rattle.sl_proto.proofs.Fronts.{front-script}
 use Rattle.sl_proto.proofs.script.drive_entries.Goals as goal
 
 pub loop-entry-init : goal.loop-entry-init
@@ -20,3 +21,8 @@ loop-entry-preserved g c = let so_far = c.loop-entry.invariant in let step = c.i
   stands = λ x st. step.stands x (so_far.stands x st);
   follows = λ x st. follows-script x.setup x.lost _ (run_at x (g.T.Taker.scene c.loop-entry.taker)) _ c.args.net.now c.args.script.now c.loop-entry.entry-index (Pass 0) (omega arith) (so_far.follows x st) (step.follows x (so_far.stands x st));
 }
+
+pub returns-in_err-drive_entry-clause-front : goal.returns-in_err-drive_entry-clause-front
+returns-in_err-drive_entry-clause-front g c x st = let so_far = c.loop-entry.invariant in let scene = g.T.Taker.scene in
+    front-script x.setup x.lost (run_at x (scene c.args.taker.now)) (run_at x (scene c.loop-entry.taker)) (run_at x (scene c.drive_entry.new.taker)) c.args.net.now c.args.script.now c.loop-entry.entry-index (Pass 0) (omega arith)
+    (so_far.follows x st) (c.drive_entry.ensures.front x (so_far.stands x st))

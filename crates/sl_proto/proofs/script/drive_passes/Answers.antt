@@ -1,6 +1,8 @@
+use Rattle.std.proofs.Common.{arith}
 use Rattle.sl_proto.proofs.Trails.{follows-passes}
 use Rattle.sl_proto.specs.Standing.{run_at}
 use Rattle.sl_proto.proofs.Standing.{follows-none}
+use Rattle.sl_proto.proofs.Fronts.{front-passes}
 use Rattle.sl_proto.proofs.script.drive_passes.Goals as goal
 
 pub loop-done-init : goal.loop-done-init
@@ -18,3 +20,8 @@ loop-done-preserved g c = let so_far = c.loop-done.invariant in let step = c.in_
   stands = λ x st. step.stands x (so_far.stands x st);
   follows = λ x st. follows-passes x.setup x.lost _ (run_at x (g.T.Taker.scene c.loop-done.taker)) _ c.args.once.now c.loop-done._done (so_far.follows x st) (step.follows x (so_far.stands x st));
 }
+
+pub returns-in_err-drive_within-clause-front : goal.returns-in_err-drive_within-clause-front
+returns-in_err-drive_within-clause-front g c x st = let so_far = c.loop-done.invariant in let scene = g.T.Taker.scene in
+    front-passes x.setup x.lost (run_at x (scene c.args.taker.now)) (run_at x (scene c.loop-done.taker)) (run_at x (scene c.drive_within.new.taker)) c.args.once.now c.loop-done._done c.args.count (omega arith)
+    (so_far.follows x st) (c.drive_within.ensures.follows_front x (so_far.stands x st))

@@ -2,6 +2,7 @@ use Rattle.std.proofs.Common.{sym, subst, arith, take, length-take}
 use Rattle.std.proofs.lemmas.Result.{on_ok_weaker}
 use Rattle.sl_proto.specs.Runs.{Follows}
 use Rattle.sl_proto.specs.Standing.{run_at, StandsFor, HasObserver}
+use Rattle.sl_proto.proofs.Fronts.{front-taken}
 use Rattle.sl_proto.proofs.taker.drive.Goals as goal
 
 pub returns-clause-observer : goal.returns-clause-observer
@@ -18,3 +19,9 @@ returns-clause-follows g c x st = let v = g.T.Taker.scene c.args.taker.now in le
     on_ok_weaker c.turns.result
     (λ is. subst (λ u. Follows x.setup x.lost (run_at x v) es (run_at x u)) (sym is) (c.nodes_follow_their_books.ensures.follows c.args.net.now x v es st c.requires.book))
     c.turns.ensures.ok
+
+pub returns-clause-follows_front : goal.returns-clause-follows_front
+returns-clause-follows_front g c x st = let f = c.turns.ensures.front in let es = c.args.schedule.now in let v = g.T.Taker.scene c.args.taker.now in let n = length-take f.entries es in
+    front-taken x.setup x.lost (run_at x v) (run_at x (g.T.Taker.scene c.turns.new.taker)) es f.entries
+    (subst (λ u. Follows x.setup x.lost (run_at x v) (take f.entries es) (run_at x u)) (sym f.is)
+    (c.nodes_follow_their_books.ensures.follows c.args.net.now x v (take f.entries es) st (omega (arith, c.requires.book, n, f.within))))

@@ -1,7 +1,7 @@
 -- What the machines of a net are asked for, so that a scene of them goes on standing for a world.
 --     StandsAfter ..     what a turn leaves stands for the step of the turn
 --     FollowSteps ..     each turn of a machine does the step of its actor, and is idle where this has none
---     Follow ..          so it is in a net that is one
+--     FollowHistories ..          so it is in a net that is one
 use Rattle.std.specs.Prelude.{◌≡◌, ℕ, ◌^◌, ◌<◌, length, List, Option, Some, None, slice_get}
 use Rattle.sl_machine.specs.Machine.{After, Rules}
 use Rattle.sl_machine.specs.Plan.{IsSound}
@@ -9,8 +9,8 @@ use Rattle.sl_net.specs.Wiring.{plan_of}
 use Rattle.sl_net.specs.Wired.{IsNet}
 use Rattle.sl_wire.specs.declared.message.Msg.{Msg}
 use Rattle.sl_net.specs.Net.{link_of, links_into}
-use Rattle.sl_cut.specs.declared.message.Message.{Message}
-use Rattle.sl_cut.specs.declared.message.Step.{Step}
+use Rattle.sl_history.specs.declared.message.Message.{Message}
+use Rattle.sl_history.specs.declared.message.Step.{Step}
 use Rattle.sl_cut.specs.History.{World, Losses, history}
 use Rattle.sl_cut.specs.Setup.{Setup}
 use Rattle.sl_cut.specs.World.{Entry, IsLossTable, next_step, turn, world}
@@ -46,7 +46,7 @@ pub record FollowSteps {S : Type 0} (s : Setup) (lost : Losses) (ring : ℕ) (St
       → Stands (world s lost es) b state → Stands (turn s lost (world s lost es) (a, c)) b state
 
 -- what the laws of schedules ask: the net is one, its wiring sound, its reliable links lose nothing, and the machines follow the steps
-pub record Follow {S : Type 0} (s : Setup) (lost : Losses) (ring : ℕ) (Stands : World → ℕ → S → Type 0) (rules : Rules S Msg) : Type 0 where
+pub record FollowHistories {S : Type 0} (s : Setup) (lost : Losses) (ring : ℕ) (Stands : World → ℕ → S → Type 0) (rules : Rules S Msg) : Type 0 where
   pub net : IsNet s.net
   pub sound : IsSound (plan_of s.net)
   pub table : IsLossTable s.net lost

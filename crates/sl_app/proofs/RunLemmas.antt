@@ -38,10 +38,6 @@ each-map : {A B : Type 0} (P : B → Type 0) (f : A → B) (xs : List A) → ((x
 each-map P f [] all = tt
 each-map P f (x ∷ xs) all = (all x, each-map P f xs all)
 
-each-imp : {A : Type 0} (P Q : A → Type 0) (xs : List A) → ((x : A) → P x → Q x) → Each P xs → Each Q xs
-each-imp P Q [] f all = tt
-each-imp P Q (x ∷ xs) f all = (f x all.0, each-imp P Q xs f all.1)
-
 -- a choice that is spelled is one of the net's wiring
 abbrev pub Spelled : Type 0
 Spelled = (net : Net) (a c : ℕ) → spelling.HasChoice net a c → HasChoice (plan_of net) a c

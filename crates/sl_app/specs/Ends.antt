@@ -20,7 +20,7 @@ use Rattle.sl_cut.specs.Losses.{losses}
 use Rattle.sl_report.specs.FaultText.{fault_text}
 use Rattle.sl_report.specs.RoutesText.{routes_text}
 use Rattle.sl_proto.specs.Nodes.{NodeState}
-use Rattle.sl_app.specs.Served.{IsRun, IsSampleText, states_of}
+use Rattle.sl_app.specs.Served.{IsPrintedRun, IsSampleText, states_of}
 
 -- the words, and the source before and after: the bytes left, where it tells them, and its count of faults
 pub record Reading : Type 0 where
@@ -96,7 +96,7 @@ pub record IsStepped (r : Reading) (book : List Entry) (front : ℕ) (nodes : Li
   pub input : Input
   pub accepted : WasRead r input
   pub small : input_bound input < 2 ^ 27
-  pub run : IsRun input (losses input) book front nodes trace text
+  pub run : IsPrintedRun input (losses input) book front nodes trace text
 
 -- the text of the routes of an input's net
 pub record IsRouted (r : Reading) (text : List ℕ) : Type 0 where

@@ -24,7 +24,7 @@ abbrev pub run_text : Input → Losses → List Entry → Bool → List ℕ
 run_text i lost book trace = report_text i.net i.snapshot.count (findings (setup_of i) lost (schedule_of book)) ++ (if trace then trace_text i.net book else [])
 
 -- the book of a run under a loss table, the nodes that it leads to, and the text
-pub record IsRun (i : Input) (lost : Losses) (book : List Entry) (front : ℕ) (nodes : List NodeState) (trace : Bool) (text : List ℕ) : Type 0 where
+pub record IsPrintedRun (i : Input) (lost : Losses) (book : List Entry) (front : ℕ) (nodes : List NodeState) (trace : Bool) (text : List ℕ) : Type 0 where
   pub run : IsRunBook i lost book front
   pub stand : AreNodesOf i (world (setup_of i) lost (schedule_of book)) nodes
   pub text_is : text ≡ run_text i lost book trace
@@ -35,7 +35,7 @@ states_of nodes = option_map (λ ns. map node_state ns.items) nodes
 
 -- a run, with its book and its nodes
 abbrev pub IsReport : Input → Losses → Option Book → ℕ → Option (List NodeState) → Bool → List ℕ → Type 0
-IsReport i lost (Some book) front (Some nodes) trace text = IsRun i lost book.entries front nodes trace text
+IsReport i lost (Some book) front (Some nodes) trace text = IsPrintedRun i lost book.entries front nodes trace text
 IsReport i lost _ front _ trace text = ⊥
 
 -- the summary of the findings of a run of a sample's input

@@ -5,8 +5,9 @@ ghost use Rattle.sl_flow.specs.Flow.{HasAddresses};
 
 use crate::{rows, speedlight};
 use sl_cut::findings_of;
+use sl_flow::{sample_input, sample_parts};
 use sl_io::{MemorySink, MemorySource};
-use sl_net::{Input, Net, find_choice};
+use sl_net::{Flow, Input, LossSpec, Net, Parts, RawPart, Script1, Snapshot, find_choice};
 use sl_read::read_input;
 use sl_report::report_bytes;
 use std::alloc::{AllocError, Global};
@@ -234,6 +235,72 @@ fn even_samples(rt: HostRuntime) -> Result<(), Fail> {
     for half in 1..33 {
         let summary = summary_of(alloc, 2 * half)?;
         assert!(rt; is_whole(alloc, summary.as_str(), 2 * half)?, "{summary}");
+    }
+    Ok(())
+}
+
+fn told_parts(alloc: Global, parts: &Parts) -> Result<String, AllocError> {
+    format!(in alloc; "{parts:?}")
+}
+
+fn told_tables(alloc: Global, snapshot: Snapshot, loss: &LossSpec) -> Result<String, AllocError> {
+    format!(in alloc; "{snapshot:?} {loss:?}")
+}
+
+fn told_lists(
+    alloc: Global,
+    flows: &[Flow],
+    raws: &[RawPart],
+    script: &[Script1],
+) -> Result<String, AllocError> {
+    format!(in alloc; "{flows:?} {raws:?} {script:?}")
+}
+
+/// All that an input says, written out.
+fn told_input(alloc: Global, input: &Input) -> Result<String, AllocError> {
+    let mut text = told_parts(alloc, input.net.parts())?;
+    text.push_str(told_tables(alloc, input.snapshot, &input.loss)?.as_str())?;
+    let lists = told_lists(
+        alloc,
+        input.flows.as_slice(),
+        input.raws.as_slice(),
+        input.script.as_slice(),
+    )?;
+    text.push_str(lists.as_str())?;
+    Ok(text)
+}
+
+fn told_text(alloc: Global, text: &[u8]) -> Result<String, Fail> {
+    match read_input(alloc, text) {
+        Ok(input) => Ok(told_input(alloc, &input)?),
+        Err(_) => Err("refused".into()),
+    }
+}
+
+fn told_sample(alloc: Global, number: u64) -> Result<String, Fail> {
+    match sample_parts(alloc, number) {
+        Ok(input) => Ok(told_input(alloc, &input)?),
+        Err(_) => Err("no sample".into()),
+    }
+}
+
+/// The text of a sample.
+fn sample_text(alloc: Global, number: u64) -> Result<Vec<u8>, Fail> {
+    match sample_input(alloc, number) {
+        Ok(text) => Ok(text),
+        Err(_) => Err("no text".into()),
+    }
+}
+
+/// The text of each sample is read as the sample's input.
+#[test]
+fn samples_are_read(rt: HostRuntime) -> Result<(), Fail> {
+    let alloc = rt.alloc();
+    for number in 1..65 {
+        let text = sample_text(alloc, number)?;
+        let read = told_text(alloc, text.as_slice())?;
+        let made = told_sample(alloc, number)?;
+        assert_eq!(rt; read.as_str(), made.as_str());
     }
     Ok(())
 }

@@ -1,7 +1,6 @@
 // Making actors: the links of a wiring, and the actors that they join.
-ghost use Rattle.std.specs.Prelude.{◌≡◌, ◌+◌, ◌<◌, ◌≤◌, ◌^◌, ◌∷◌, [], None, ℕ, length, map, slice_index_or, IfOk, OnOk, OnErr};
+ghost use Rattle.std.specs.Prelude.{◌≡◌, ◌<◌, ◌≤◌, ◌^◌, ◌∷◌, [], None, length, map, slice_index_or, IfOk, OnOk, OnErr};
 ghost use Rattle.std.specs.List.{All};
-ghost use Rattle.sl_machine.specs.Plan.{IsSound, link_at};
 ghost use Rattle.std.specs.VecDeque.{deque_len};
 ghost use Rattle.sl_machine.specs.Fit.{Fits, ins_of, outs_of};
 ghost use Rattle.sl_loss.specs.Loss.{IsFresh};

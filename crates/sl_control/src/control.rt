@@ -11,7 +11,6 @@ use sl_saves::Saved;
 use sl_wire::Msg;
 use std::alloc::{AllocError, Global};
 use std::marker::Model;
-use std::mem;
 
 /// The choice by which a control plane takes Begins.
 const BEGIN: u32 = 0;
@@ -31,7 +30,7 @@ pub struct Control {
 }
 
 impl Model for Control {
-    ghost use Rattle.std.specs.Prelude.{◌≡◌, [], Option, Some};
+    ghost use Rattle.std.specs.Prelude.{◌≡◌, Option, Some};
     ghost use Rattle.std.specs.Vec.{vec_capacity};
     ghost use Rattle.sl_control.specs.Control.{ControlView};
     ghost use Rattle.sl_control.specs.Joined.{IsJoined, HasRoom};
@@ -120,15 +119,13 @@ impl Machine for Control {
             Msg::Begin(number) => put_inits(&self.inits, link == BEGIN, number, out),
             Msg::Notice => ask_all(&mut self.units, Some(link), out),
             Msg::Dump(dump) => {
-                let empty = Vec::new(*self.rows.allocator());
-                let rows = mem::replace(&mut self.rows, empty);
                 answer_all(
                     &mut self.units,
                     self.ring,
                     self.done,
                     link,
                     &dump,
-                    rows,
+                    &mut self.rows,
                     out,
                 );
             }

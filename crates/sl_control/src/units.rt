@@ -11,6 +11,7 @@ use crate::known::Known;
 use sl_machine::Outputs;
 use sl_saves::Saved;
 use sl_wire::{Msg, PlainDump};
+use std::mem;
 
 /// What notices by this choice, or without one a sweep, do to the units.
 pub fn ask_all(units: &mut Vec<Known>, notice: Option<u32>, out: &mut Outputs<Msg>)
@@ -56,24 +57,41 @@ fn find_dump(units: &[Known], choice: u32) -> Option<usize>
     None
 }
 
+/// The rows of a buffer, and an empty buffer in its place where there are some.
+fn take_rows(rows: &mut Vec<(u64, Saved)>) -> Vec<(u64, Saved)>
+    ensures rows { result.items ≡ rows.old.items }
+    ensures left { rows.new.items ≡ [] }
+{
+    let empty = Vec::new(*rows.allocator());
+    if rows.is_empty() {
+        empty
+    } else {
+        mem::replace(rows, empty)
+    }
+}
+
 /// What a dump by this choice does to the unit.
 fn answer_one(
     known: &mut Known,
     ring: u16,
     done: u32,
     dump: &PlainDump,
-    mut rows: Vec<(u64, Saved)>,
+    rows: &mut Vec<(u64, Saved)>,
     out: &mut Outputs<Msg>,
 )
-    requires empty { rows.items ≡ [] }
-    requires rows { ring ≤ vec_capacity rows }
+    requires empty { rows.old.items ≡ [] }
+    requires rows { ring ≤ vec_capacity rows.old }
     requires room { length out.old.items + 2 ≤ out.old.room }
     ensures known { known.new ≡ cond (is_read ring dump.now known.old) (answered dump.now known.old) known.old }
     ensures puts { out.new.items ≡ out.old.items ++ cond (is_read ring dump.now known.old) (answer_by done dump.now known.old) [] }
     ensures room { out.new.room ≡ out.old.room }
+    ensures left { rows.new.items ≡ [] }
 {
-    if known.read(ring, dump, &mut rows) {
-        known.answer(done, dump, rows, out);
+    if known.read(ring, dump, rows) {
+        let told = take_rows(rows);
+        known.answer(done, dump, told, out);
+    } else {
+        rows.clear();
     }
 }
 
@@ -84,16 +102,17 @@ pub fn answer_all(
     done: u32,
     choice: u32,
     dump: &PlainDump,
-    rows: Vec<(u64, Saved)>,
+    rows: &mut Vec<(u64, Saved)>,
     out: &mut Outputs<Msg>,
 )
-    requires empty { rows.items ≡ [] }
-    requires rows { ring ≤ vec_capacity rows }
+    requires empty { rows.old.items ≡ [] }
+    requires rows { ring ≤ vec_capacity rows.old }
     requires apart { AreApart (dumps_of units.old.items) }
     requires room { 0 < length units.old.items → length out.old.items + 2 ≤ out.old.room }
     ensures units { units.new.items ≡ map (dump_by ring choice dump.now) units.old.items }
     ensures puts { out.new.items ≡ out.old.items ++ flat_map (dump_puts ring done choice dump.now) units.old.items }
     ensures room { out.new.room ≡ out.old.room }
+    ensures left { rows.new.items ≡ [] }
 {
     if let Some(i) = find_dump(units, choice) {
         answer_one(&mut units[i], ring, done, dump, rows, out);

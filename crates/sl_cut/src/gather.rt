@@ -1,12 +1,12 @@
 // The findings of a run of whole histories.
-ghost use Rattle.std.specs.Prelude.{◌≡◌, ℕ, ◌+◌, ◌≤◌, ◌<◌, ◌^◌, length, map, filter, IfOk, IfSome, is_some};
+ghost use Rattle.std.specs.Prelude.{◌≡◌, ◌+◌, ◌<◌, ◌^◌, length, map, IfOk, IfSome, is_some};
 ghost use Rattle.sl_net.specs.Parts.{numbers_from};
 ghost use Rattle.sl_net.specs.Net.{actor_of, units, hosts};
 ghost use Rattle.sl_history.specs.Words.{weigh};
 ghost use Rattle.sl_history.specs.History.{history};
 ghost use Rattle.sl_history.specs.Counting.{bad, expired, noroute};
 ghost use Rattle.sl_history.specs.Setup.{setup_of};
-ghost use Rattle.sl_cut.specs.Findings.{row, rows_for, finding, is_ingress, device_of, ingress_units, over_ingress, drops_of, sent_by, delivered_to, findings_in, findings};
+ghost use Rattle.sl_cut.specs.Findings.{row, rows_for, finding, is_ingress, device_of, ingress_units, drops_of, sent_by, delivered_to, findings_in, findings};
 ghost use Rattle.std.specs.List.{All};
 ghost use Rattle.sl_step.specs.Losses.{losses};
 ghost use Rattle.sl_history.specs.History.{steps_in};

@@ -1,9 +1,9 @@
 // Verdicts on snapshots, from whole histories.
-ghost use Rattle.std.specs.Prelude.{◌≡◌, ℕ, ◌+◌, ◌≤◌, reverse, IfOk, Some, option_map};
+ghost use Rattle.std.specs.Prelude.{◌≡◌, ◌+◌, reverse, IfOk, Some};
 ghost use Rattle.sl_history.specs.Words.{least, first_told};
 ghost use Rattle.sl_history.specs.History.{history};
 ghost use Rattle.sl_history.specs.Knowledge.{floor, unit_floor};
-ghost use Rattle.sl_cut.specs.Verdict.{skipped_to, is_old_data, miscredits, first_cause, cause, channel_lag, lag, lag_at, judged, issued_verdict, holds_floor, floor_holder, place_or_zero, verdict};
+ghost use Rattle.sl_cut.specs.Verdict.{skipped_to, is_old_data, miscredits, cause, channel_lag, lag, issued_verdict, holds_floor, place_or_zero, verdict};
 
 use crate::verdict::{Cause, Lag, Verdict};
 use sl_history::{

@@ -1,8 +1,8 @@
 // The values of a snapshot: what units counted before their cuts, and what was in flight.
-ghost use Rattle.std.specs.Prelude.{◌≡◌, ℕ, ◌≤◌, ◌<◌, ◌^◌, length, map, reverse, take, drop, IfOk, slice_index_or};
-ghost use Rattle.sl_net.specs.Net.{choice_of, link_at};
+ghost use Rattle.std.specs.Prelude.{◌≡◌, ◌≤◌, ◌<◌, ◌^◌, length, map, reverse, take, drop, IfOk, slice_index_or};
+ghost use Rattle.sl_net.specs.Net.{choice_of};
 ghost use Rattle.sl_history.specs.Words.{weigh};
-ghost use Rattle.sl_cut.specs.Cut.{before, crossing, data_count, data_bytes, channel_value};
+ghost use Rattle.sl_cut.specs.Cut.{before, data_count, data_bytes, channel_value};
 ghost use Rattle.sl_cut.specs.Findings.{channel_links, no_total, eight_totals, row};
 ghost use Rattle.sl_step.specs.Losses.{losses};
 ghost use Rattle.sl_history.specs.History.{steps_in};

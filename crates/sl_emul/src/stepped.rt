@@ -1,5 +1,5 @@
 // The run of an input, one turn after the other.
-ghost use Rattle.std.specs.Prelude.{◌≡◌, ◌<◌, ◌^◌, IfOk, [], map};
+ghost use Rattle.std.specs.Prelude.{◌≡◌, ◌<◌, IfOk, [], map};
 ghost use Rattle.sl_net.specs.Wiring.{plan_of};
 ghost use Rattle.sl_cut.specs.Losses.{losses};
 ghost use Rattle.sl_world.specs.World.{scene};

@@ -1,8 +1,7 @@
 // Tables and their keys.
-ghost use Rattle.std.specs.Prelude.{◌≡◌, ℕ, ◌≤◌, map, option_map, IfOk};
+ghost use Rattle.std.specs.Prelude.{◌≡◌, ◌≤◌, option_map, IfOk};
 ghost use Rattle.toml.specs.Data.{get_member};
 ghost use Rattle.toml.specs.View.{view, table_view};
-ghost use Rattle.sl_form.specs.Paths.{key_text};
 ghost use Rattle.sl_form.specs.Refusals.{Shows};
 ghost use Rattle.sl_form.specs.Fields.{get_key, has_only, only, is_listed, number, in_range, text_at, required_number, optional_number, required_text};
 

@@ -1,5 +1,5 @@
 // Forms of texts: names, ports, bytes in hexadecimal, numbers of passes.
-ghost use Rattle.std.specs.Prelude.{◌≡◌, ℕ, ◌+◌, ◌<◌, ◌≤◌, ◌++◌, ◌∷◌, [], IfOk, OnOk, IfSome, length, drop, option_map};
+ghost use Rattle.std.specs.Prelude.{◌≡◌, ◌+◌, ◌<◌, ◌≤◌, ◌++◌, ◌∷◌, [], IfOk, OnOk, IfSome, length, drop, option_map};
 ghost use Rattle.toml.specs.View.{table_view};
 ghost use Rattle.sl_form.specs.Refusals.{Answers};
 ghost use Rattle.sl_form.specs.Fields.{required_form};

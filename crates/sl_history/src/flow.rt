@@ -1,5 +1,5 @@
 // What a host sends: the packets of its flows, then its raw frames.
-ghost use Rattle.std.specs.Prelude.{◌≡◌, ◌+◌, ◌<◌, ◌≤◌, length, map, filter, slice_get, Some, IfOk, MatchOption, ◌==◌, if◌then◌else◌};
+ghost use Rattle.std.specs.Prelude.{◌≡◌, ◌+◌, ◌<◌, length, map, filter, slice_get, Some, IfOk, MatchOption, ◌==◌, if◌then◌else◌};
 ghost use Rattle.std.specs.List.{All};
 ghost use Rattle.sl_flow.specs.Flow.{packet_in, packets_of};
 ghost use Rattle.sl_history.specs.Setup.{setup_of, frames_of};

@@ -1,5 +1,5 @@
 // Histories of actors, and worlds of histories.
-ghost use Rattle.std.specs.Prelude.{◌≡◌, ◌<◌, ◌≤◌, ℕ, List, [], ◌∷◌, length, replicate, reverse, slice_set, IfOk, OnOk};
+ghost use Rattle.std.specs.Prelude.{◌≡◌, ◌<◌, ◌≤◌, List, [], ◌∷◌, length, replicate, reverse, slice_set, IfOk, OnOk};
 ghost use Rattle.sl_history.specs.History.{history, first};
 ghost use Rattle.sl_history.specs.History.{steps_in};
 

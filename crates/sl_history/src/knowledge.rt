@@ -1,8 +1,8 @@
 // What the observer knows.
-ghost use Rattle.std.specs.Prelude.{◌≡◌, ◌+◌, ◌<◌, ◌^◌, ℕ, length, reverse, map, IfOk, None};
+ghost use Rattle.std.specs.Prelude.{◌≡◌, ◌+◌, ◌<◌, ◌^◌, reverse, map, IfOk, None};
 ghost use Rattle.sl_history.specs.Words.{least_in};
 ghost use Rattle.sl_history.specs.Setup.{setup_of};
-ghost use Rattle.sl_history.specs.Knowledge.{floor_of, unit_floor, floor, observer, issued, resent, can_issue, can_resend};
+ghost use Rattle.sl_history.specs.Knowledge.{floor_of, unit_floor, floor, issued, resent, can_issue, can_resend};
 
 use crate::history::{World, first_steps};
 use crate::message::Step;

@@ -1,5 +1,5 @@
 // What histories tell, over slices of steps, the oldest first.
-ghost use Rattle.std.specs.Prelude.{◌≡◌, ℕ, ◌≤◌, [], ◌∷◌, ◌++◌, length, reverse, map, OnOk, IfOk, cond, ◌==◌, option_and_then};
+ghost use Rattle.std.specs.Prelude.{◌≡◌, ◌≤◌, [], ◌∷◌, ◌++◌, length, reverse, map, OnOk, IfOk, cond, ◌==◌, option_and_then};
 ghost use Rattle.sl_history.specs.History.{stamp_of, stamp_taken, id, last, taken, put, on_link, done_of};
 ghost use Rattle.sl_history.specs.Knowledge.{known, puts_on};
 ghost use Rattle.sl_history.specs.Words.{least_of};

@@ -1,5 +1,5 @@
 // The links and choices of actors, by their numbers.
-ghost use Rattle.std.specs.Prelude.{◌≡◌, ℕ, ◌≤◌, ◌<◌, ◌^◌, slice_get, [], ◌∷◌, ◌++◌, length, slice_index_or, IfOk, OnOk, cond};
+ghost use Rattle.std.specs.Prelude.{◌≡◌, ◌≤◌, ◌<◌, ◌^◌, slice_get, [], length, slice_index_or, IfOk};
 ghost use Rattle.sl_layout.specs.declared.actor.ActorId.{ActorId};
 ghost use Rattle.sl_net.specs.Net.{same_side, same_actor, is_host, actor_of, link_of, links_into, links_from, links_out, choices_of, hosts, unit_place, place_in, data_channels, action_choice};
 ghost use Rattle.sl_net.specs.Serving.{choice_from};

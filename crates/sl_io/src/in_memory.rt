@@ -1,5 +1,5 @@
 // A source and a sink in memory, with calls that fail by their number.
-ghost use Rattle.std.specs.Prelude.{◌≡◌, ℕ, ◌+◌, ◌<◌, ◌≤◌, ◌⊎◌, ◌↔◌, [], length, drop, min, Some, IfOk, OnErr, IsOk, IsErr, IsTrue, is_err, if◌then◌else◌, Contains};
+ghost use Rattle.std.specs.Prelude.{◌≡◌, ◌+◌, ◌<◌, ◌≤◌, ◌⊎◌, ◌↔◌, [], length, drop, min, Some, IfOk, OnErr, IsOk, IsErr, IsTrue, is_err, if◌then◌else◌, Contains};
 ghost use Rattle.std.specs.Io.{ReadsAtMost, WritesAtMost};
 ghost use Rattle.std.specs.Io.KnownBytes.{ReadConsumes, WriteAppends};
 ghost use Rattle.sl_io.specs.Faults.{Rose, raised};

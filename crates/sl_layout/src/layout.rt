@@ -1,5 +1,5 @@
 // Parts that are a net's, with tables to look things up.
-ghost use Rattle.std.specs.Prelude.{◌≡◌, ◌≢◌, ◌<◌, ◌≤◌, ◌||◌, None, Some, OnOk, IfOk, IfErr, IfSome, length, map, is_some, slice_index_or, slice_index};
+ghost use Rattle.std.specs.Prelude.{◌≡◌, ◌≢◌, ◌<◌, ◌≤◌, ◌||◌, None, Some, OnOk, IfOk, IfErr, IfSome, length, map, is_some, slice_index_or};
 ghost use Rattle.std.specs.List.{All};
 ghost use Rattle.sl_parts.specs.Parts.{below, is_used, ports_of, used_ports, other_end, host_at};
 ghost use Rattle.sl_parts.specs.Fault.{fault_of};

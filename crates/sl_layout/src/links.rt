@@ -2,8 +2,8 @@
 ghost use Rattle.std.specs.Prelude.{◌≡◌, ◌<◌, ◌++◌, ◌∷◌, [], OnOk, IfOk, length, map, flat_map};
 ghost use Rattle.sl_layout.specs.declared.actor.Sort.TheVariants.{Notice, Dump, Begin, Init, Poll};
 ghost use Rattle.sl_layout.specs.declared.actor.ActorId.TheVariants.{Observer, Control};
-ghost use Rattle.sl_parts.specs.Parts.{below, used_ports};
-ghost use Rattle.sl_layout.specs.Net.{actors_of, units_of, ingress, egress, incoming, unit_incoming, from_outside, place_of, links_to};
+ghost use Rattle.sl_parts.specs.Parts.{used_ports};
+ghost use Rattle.sl_layout.specs.Net.{actors_of, ingress, egress, incoming, unit_incoming, from_outside, place_of, links_to};
 ghost use Rattle.sl_parts.specs.Valid.{IsValid};
 ghost use Rattle.sl_parts.specs.Ports.{IsNear};
 ghost use Rattle.sl_layout.specs.Roster.{IsFew, IsActor, link_by};

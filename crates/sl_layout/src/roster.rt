@@ -1,8 +1,8 @@
 // The actors of a net, with their numbers.
-ghost use Rattle.std.specs.Prelude.{ℕ, ◌≡◌, ◌+◌, ◌^◌, ◌<◌, ◌≤◌, ◌++◌, ◌∷◌, [], OnOk, IfOk, length, cond, slice_set, slice_index_or, map, flat_map};
+ghost use Rattle.std.specs.Prelude.{ℕ, ◌≡◌, ◌+◌, ◌^◌, ◌<◌, ◌≤◌, ◌++◌, ◌∷◌, [], OnOk, IfOk, length, slice_index_or};
 ghost use Rattle.std.specs.List.{All};
 ghost use Rattle.sl_layout.specs.declared.actor.ActorId.{ActorId};
-ghost use Rattle.sl_parts.specs.Parts.{Parts, below, used_ports};
+ghost use Rattle.sl_parts.specs.Parts.{Parts, used_ports};
 ghost use Rattle.sl_layout.specs.Net.{actors_of, units_of, ingress, egress, place_of};
 ghost use Rattle.sl_parts.specs.Valid.{IsValid};
 ghost use Rattle.sl_layout.specs.Roster.{IsFew, IsActor, seat_of, side_number, HasNumbers};

@@ -1,5 +1,5 @@
 // The list of the messages that a turn puts.
-ghost use Rattle.std.specs.Prelude.{◌≡◌, ◌+◌, ◌<◌, ◌≤◌, ℕ, List, [], ◌∷◌, ◌++◌, length, reverse, IfOk, MatchOption};
+ghost use Rattle.std.specs.Prelude.{◌≡◌, ◌+◌, ◌<◌, ◌≤◌, [], ◌∷◌, ◌++◌, length, reverse, IfOk, MatchOption};
 ghost use Rattle.std.specs.Vec.{vec_capacity};
 
 use crate::Memory;

@@ -1,6 +1,6 @@
 // Whether the pieces of a spelling stand in a text, one after another.
-ghost use Rattle.std.specs.Prelude.{◌≡◌, ◌<◌, ◌≤◌, ◌+◌, ◌++◌, [], ◌∷◌, codes, decimal, length, IfSome, IsTrue, ◌↔◌, ◌&&◌, ◌==◌, nat_lt, slice_index, option_and_then, Option, Some};
-ghost use Rattle.sl_net.specs.Spelling.{skip, link_word, link_rest, port_of, side_text, actor_text, sender_text, link_text, action_text, device_name, host_name};
+ghost use Rattle.std.specs.Prelude.{◌≡◌, ◌<◌, ◌≤◌, ◌+◌, ◌++◌, codes, decimal, length, IfSome, ◌&&◌, ◌==◌, nat_lt, slice_index, Option, Some};
+ghost use Rattle.sl_net.specs.Spelling.{skip, link_word, port_of, side_text, actor_text, sender_text, link_text, action_text, device_name, host_name};
 ghost use Rattle.sl_parts.specs.Valid.{IsValid};
 ghost use Rattle.sl_layout.specs.Roster.{IsActor};
 

@@ -1,5 +1,5 @@
 // Choices spelled out.
-ghost use Rattle.std.specs.Prelude.{◌≡◌, ◌<◌, ◌≤◌, ◌++◌, decimal, codes, OnOk, IfOk, length};
+ghost use Rattle.std.specs.Prelude.{◌≡◌, ◌<◌, ◌++◌, decimal, codes, OnOk, IfOk, length};
 ghost use Rattle.sl_parts.specs.Valid.{IsValid};
 ghost use Rattle.sl_layout.specs.Roster.{IsActor};
 ghost use Rattle.sl_net.specs.Spelling.{port_of, side_text, actor_text, sender_text, link_text, action_text, device_name, host_name, choice_word, choice_text, HasChoice};

@@ -1,5 +1,5 @@
 // What is wrong with parts: the reasons that need no table.
-ghost use Rattle.std.specs.Prelude.{◌≡◌, ◌^◌, ◌<◌, ◌≤◌, None, Some, ◌≢◌, OnOk, IfOk, IfErr, length, vec_len, bytes_eq, []};
+ghost use Rattle.std.specs.Prelude.{◌≡◌, ◌<◌, ◌≤◌, None, Some, ◌≢◌, OnOk, IfOk, IfErr, length, bytes_eq, []};
 ghost use Rattle.std.specs.List.{position};
 ghost use Rattle.sl_parts.specs.Valid.{IsValid};
 ghost use Rattle.sl_parts.specs.Ports.{ShowsPorts};

@@ -1,5 +1,5 @@
 // What each port leads to: the other end of its cable, or a host.
-ghost use Rattle.std.specs.Prelude.{◌≡◌, ◌≢◌, ◌+◌, ◌*◌, ◌<◌, ◌≤◌, ◌&&◌, None, Some, OnOk, IfOk, IfErr, [], length, vec_len, slice_index_or, slice_set, is_none, option_map};
+ghost use Rattle.std.specs.Prelude.{◌≡◌, ◌≢◌, ◌+◌, ◌*◌, ◌<◌, ◌≤◌, ◌&&◌, None, Some, OnOk, IfOk, IfErr, [], length, slice_index_or, slice_set, is_none, option_map};
 ghost use Rattle.std.specs.List.{All};
 ghost use Rattle.sl_parts.specs.Fault.{first_clash, reuses_port, used_host_port};
 ghost use Rattle.sl_parts.specs.Valid.{IsValid};

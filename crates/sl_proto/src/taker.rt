@@ -32,6 +32,15 @@ pub trait Taker {
         ensures plan { (scene self.new).plan ≡ (scene self.old).plan }
         ensures book { length (scene self.new).book ≤ length (scene self.old).book + 1 };
 
+    /// The turns of a whole schedule; after want of memory, those of a front of it.
+    fn run(&mut self, schedule: &[(u32, u32)]) -> Result<(), Memory>
+        requires choices { All (λ e. HasChoice (scene self.old).plan e.0 e.1) schedule.now }
+        requires book { length (scene self.old).book + length schedule.now < 2 ^ 40 }
+        ensures ok { OnOk result (scene self.new ≡ after_all node_rules (scene self.old) schedule.now) }
+        ensures front { IsFront node_rules (scene self.old) schedule.now (scene self.new) }
+        ensures plan { (scene self.new).plan ≡ (scene self.old).plan }
+        ensures book { length (scene self.new).book ≤ length (scene self.old).book + length schedule.now };
+
     /// The observer, where the first node is one.
     fn observer(&self) -> &Observer
         requires { HasObserver (scene self.now) }
@@ -49,6 +58,10 @@ impl Taker for World<Node> {
 
     fn turn(&mut self, actor: u32, choice: u32) -> Result<Turn, Memory> {
         World::turn(self, actor, choice)
+    }
+
+    fn run(&mut self, schedule: &[(u32, u32)]) -> Result<(), Memory> {
+        World::run(self, schedule)
     }
 
     fn observer(&self) -> &Observer {
@@ -80,22 +93,7 @@ pub fn drive<T: Taker>(net: &Net, taker: &mut T, schedule: &[(u32, u32)]) -> Res
     ensures follows_front { (x : Case) → StandsFor net.now x (T.scene taker.old) → FollowsFront x.setup x.lost (run_at x (T.scene taker.old)) schedule.now (run_at x (T.scene taker.new)) }
 {
     nodes_follow_their_books();
-    turns(taker, schedule)
-}
-
-/// The turns of a schedule, one after the other.
-fn turns<T: Taker>(taker: &mut T, schedule: &[(u32, u32)]) -> Result<(), Memory>
-    requires choices { All (λ e. HasChoice (T.scene taker.old).plan e.0 e.1) schedule.now }
-    requires book { length (T.scene taker.old).book + length schedule.now < 2 ^ 40 }
-    ensures ok { OnOk result (T.scene taker.new ≡ after_all node_rules (T.scene taker.old) schedule.now) }
-    ensures front { IsFront node_rules (T.scene taker.old) schedule.now (T.scene taker.new) }
-    ensures plan { (T.scene taker.new).plan ≡ (T.scene taker.old).plan }
-    ensures book { length (T.scene taker.new).book ≤ length (T.scene taker.old).book + length schedule.now }
-{
-    for (actor, choice) in schedule {
-        taker.turn(*actor, *choice)?;
-    }
-    Ok(())
+    taker.run(schedule)
 }
 
 /// Takes the turns of a whole schedule where the book stays below 2^40 entries with them. A longer

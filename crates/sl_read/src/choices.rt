@@ -1,6 +1,6 @@
 // Spellings of links and of script entries, looked up in the net.
 ghost use Rattle.std.specs.Prelude.{◌≡◌, ◌<◌, ◌≤◌, ◌+◌, IfOk, IfSome, length};
-ghost use Rattle.sl_net.specs.Spelling.{HasChoice, choice_count};
+ghost use Rattle.sl_net.specs.Spelling.{HasChoice};
 ghost use Rattle.sl_form.specs.Refusals.{Answers};
 ghost use Rattle.sl_read.specs.Places.{each};
 ghost use Rattle.sl_spell.specs.Spelled.{HasOneSpelling};

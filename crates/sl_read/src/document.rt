@@ -1,5 +1,4 @@
 // The tables of the input, one after the other.
-ghost use Rattle.std.specs.Prelude.{◌≡◌};
 ghost use Rattle.toml.specs.View.{table_view};
 ghost use Rattle.sl_form.specs.Refusals.{Answers};
 ghost use Rattle.sl_read.specs.Sections.{sections_view};

@@ -1,5 +1,5 @@
 // The table of the losses, and the losses listed one by one.
-ghost use Rattle.std.specs.Prelude.{◌≡◌, Option, option_map};
+ghost use Rattle.std.specs.Prelude.{Option, option_map};
 ghost use Rattle.toml.specs.View.{items_view, table_view};
 ghost use Rattle.sl_form.specs.Refusals.{Answers, Shows};
 ghost use Rattle.sl_read.specs.Tables.{loss_of, drops_at, any_loss_of};

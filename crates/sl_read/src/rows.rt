@@ -1,6 +1,6 @@
 // Lists of tables.
 ghost use Rattle.std.specs.Prelude.{◌≡◌, ℕ, Result};
-ghost use Rattle.toml.specs.Data.{Members, no_items};
+ghost use Rattle.toml.specs.Data.{Members};
 ghost use Rattle.toml.specs.View.{view, items_view, table_view};
 ghost use Rattle.sl_form.specs.declared.refusal.Refusal.{Refusal};
 ghost use Rattle.sl_form.specs.Refusals.{Answers, Shows};

@@ -1,5 +1,5 @@
 // The table of the script: the texts of its entries.
-ghost use Rattle.std.specs.Prelude.{◌≡◌, option_map};
+ghost use Rattle.std.specs.Prelude.{option_map};
 ghost use Rattle.toml.specs.View.{view, items_view, table_view};
 ghost use Rattle.sl_form.specs.Refusals.{Answers, Shows};
 ghost use Rattle.sl_form.specs.declared.path.TableName.TheVariants.{Script};

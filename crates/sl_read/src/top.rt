@@ -1,5 +1,5 @@
 // The top table.
-ghost use Rattle.std.specs.Prelude.{◌≡◌, option_map};
+ghost use Rattle.std.specs.Prelude.{option_map};
 ghost use Rattle.toml.specs.View.{table_view};
 ghost use Rattle.sl_form.specs.Refusals.{Shows};
 ghost use Rattle.sl_read.specs.Rows.{optional_table};

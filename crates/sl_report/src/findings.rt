@@ -1,7 +1,6 @@
 // The findings of each snapshot as text.
 ghost use Rattle.std.specs.Prelude.{◌≡◌, ◌++◌, OnOk, string_bytes, flat_map, codes, decimal, length, ◌<◌};
 ghost use Rattle.std.specs.List.{All};
-ghost use Rattle.sl_net.specs.Net.{units};
 ghost use Rattle.sl_cut.specs.Findings.{channel_links};
 ghost use Rattle.sl_report.specs.Report.{unit_text, unit_at, channel_text, channel_at, cause_text, lag_text, verdict_text, verdict_line, totals_text, row_line, rows_text, finding_text};
 

@@ -1,7 +1,6 @@
 // The text of a trace.
 ghost use Rattle.std.specs.Prelude.{◌≡◌, ◌++◌, IfOk, OnOk, flat_map, codes};
 ghost use Rattle.std.specs.List.{All};
-ghost use Rattle.sl_net.specs.Spelling.{HasChoice};
 ghost use Rattle.sl_report.specs.TraceText.{IsEntryOf, count_line, entry_line, trace_text};
 
 use sl_machine::{Book, Entry, Memory};

@@ -1,6 +1,5 @@
 // The neighbours of each device.
 ghost use Rattle.std.specs.Prelude.{ℕ, ◌≡◌, ◌<◌, ◌++◌, ◌∷◌, [], OnOk, IfOk, length, map, slice_index_or, slice_set};
-ghost use Rattle.std.specs.List.{All};
 ghost use Rattle.sl_net.specs.Parts.{below};
 ghost use Rattle.sl_net.specs.Valid.{IsValid};
 ghost use Rattle.sl_route.specs.Route.{turned};

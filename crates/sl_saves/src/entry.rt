@@ -1,5 +1,5 @@
 // Totals, slots, views and answers.
-ghost use Rattle.std.specs.Prelude.{◌≡◌, ℕ, ◌<◌, ◌≤◌, ◌^◌, length, replicate, slice_index_or, slice_set, IfOk};
+ghost use Rattle.std.specs.Prelude.{◌≡◌, ◌<◌, ◌≤◌, ◌^◌, length, replicate, slice_index_or, slice_set, IfOk};
 
 use crate::place::place_above;
 use sl_machine::Memory;
@@ -87,7 +87,6 @@ impl Total {
 }
 
 impl Slot {
-    ghost use Rattle.sl_saves.specs.Calls.{Credit};
     ghost use Rattle.sl_saves.specs.Views.{free_slot};
     ghost use Rattle.sl_saves.specs.Keeping.{new_slot, slot_credited};
 
@@ -124,7 +123,6 @@ impl Slot {
 }
 
 impl Slots {
-    ghost use Rattle.sl_saves.specs.Calls.{Credit};
     ghost use Rattle.sl_saves.specs.Views.{free_slot, no_slot};
     ghost use Rattle.sl_saves.specs.Keeping.{slot_credited};
 
@@ -194,7 +192,6 @@ impl Slots {
 }
 
 impl View {
-    ghost use Rattle.sl_saves.specs.Calls.{Credit};
     ghost use Rattle.sl_saves.specs.Keeping.{view_adopted, view_credited};
 
     /// Moves on to another number, and saves the counters there.

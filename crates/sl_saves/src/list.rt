@@ -1,8 +1,10 @@
 // Saved entries in a list.
-ghost use Rattle.std.specs.Prelude.{◌≡◌, ℕ, ◌+◌, ◌-◌, ◌*◌, ◌<◌, ◌≤◌, ◌^◌, length, drop, [], IfOk, vec_len};
+ghost use Rattle.std.specs.Prelude.{◌≡◌, ◌+◌, ◌-◌, ◌*◌, ◌%◌, ◌^◌, ◌<◌, ◌≤◌, length, replicate, drop, [], IfOk};
+ghost use Rattle.sl_saves.specs.Views.{free_slot};
 
 use crate::entry::{Slot, Slots, View};
 use crate::keep::Saves;
+use crate::place::place_above;
 use sl_machine::Memory;
 use std::alloc::Global;
 
@@ -58,27 +60,46 @@ impl ListSaves {
         &self.entries[old..]
     }
 
-    /// Writes the last entries into a view.
+    /// Writes the last entries into a view in which nothing is saved.
     fn write(&self, view: &mut View)
-        requires { length view.old.slots ≡ self.now.ring }
+        requires { view.old.slots ≡ replicate self.now.ring free_slot }
         ensures { view.new ≡ list_view (list_kept self.now) }
     {
-        view.slots.clear();
-        write_entries(&mut view.slots, self.recent());
         view.at = (self.number % u64::from(self.ring)) as u16;
+        write_entries(&mut view.slots, self.recent());
     }
 }
 
 ghost use Rattle.sl_saves.specs.Keeping.{written};
 
+/// The place of a number in a ring, from that of another number. Nothing is divided where the two
+/// lie near each other, as those of saved entries do.
+fn place_from(size: usize, number: u64, place: usize, to: u64) -> usize
+    requires some { 1 ≤ size }
+    requires small { size < 2 ^ 32 }
+    requires place { place ≡ number % size }
+    ensures { result ≡ to % size }
+{
+    if number <= to && to - number <= size as u64 {
+        place_above(size, place, (to - number) as usize)
+    } else {
+        (to % size as u64) as usize
+    }
+}
+
 /// Writes entries into a ring of slots, later ones over earlier ones.
 fn write_entries(slots: &mut Slots, entries: &[Entry])
     requires some { 1 ≤ length slots.old }
+    requires small { length slots.old < 2 ^ 32 }
     ensures { slots.new ≡ written slots.old entries.now }
 {
-    let size = slots.len() as u64;
+    let size = slots.len();
+    let mut number = 0;
+    let mut place = 0;
     for entry in entries {
-        slots.set((entry.number % size) as usize, entry.slot);
+        place = place_from(size, number, place, entry.number);
+        number = entry.number;
+        slots.set(place, entry.slot);
     }
 }
 
@@ -136,6 +157,7 @@ impl Saves for ListSaves {
     }
 
     fn fill(&self, view: &mut View) {
+        view.slots.clear();
         self.write(view);
     }
 }

@@ -1,6 +1,5 @@
 // What a control plane knows of the units that it serves, and what it puts.
-ghost use Rattle.std.specs.Prelude.{◌≡◌, ℕ, [], ◌∷◌, ◌++◌, ◌&&◌, reverse, map, flat_map, OnOk, IfOk, if◌then◌else◌, ◌==◌, Option};
-ghost use Rattle.std.specs.List.{list_all};
+ghost use Rattle.std.specs.Prelude.{◌≡◌, [], ◌∷◌, ◌++◌, ◌&&◌, reverse, flat_map, OnOk, IfOk, if◌then◌else◌, ◌==◌, Option};
 ghost use Rattle.sl_net.specs.Net.{links_out, action_choice, unit_place};
 ghost use Rattle.sl_net.specs.Serving.{Served, serving, served};
 ghost use Rattle.sl_history.specs.Knowledge.{is_outstanding, is_again, is_swept, asks};

@@ -1,7 +1,6 @@
 // What is lost of the messages that are put on a link.
-ghost use Rattle.std.specs.Prelude.{◌≡◌, ℕ, [], ◌∷◌, ◌++◌, ◌==◌, cond, reverse, length, map, filter, IfOk, OnOk};
-ghost use Rattle.sl_loss.specs.Loss.{loses_next, after_put, IsFresh};
-ghost use Rattle.sl_net.specs.Net.{link_of, same_sort};
+ghost use Rattle.std.specs.Prelude.{◌≡◌, [], ◌∷◌, ◌++◌, ◌==◌, cond, reverse, map, filter, IfOk, OnOk};
+ghost use Rattle.sl_loss.specs.Loss.{loses_next, after_put};
 ghost use Rattle.sl_history.specs.History.{carried_by, without_lost};
 ghost use Rattle.sl_step.specs.Losses.{kind_at, drops_on, loss_on, losses};
 

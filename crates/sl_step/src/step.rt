@@ -1,5 +1,5 @@
 // The step that an entry makes.
-ghost use Rattle.std.specs.Prelude.{◌≡◌, ◌++◌, ℕ, suc, zero, reverse, not, OnOk, IfOk, slice_get, Some, None, flat_map};
+ghost use Rattle.std.specs.Prelude.{◌≡◌, ◌++◌, suc, zero, reverse, not, OnOk, IfOk, slice_get, Some, None, flat_map};
 ghost use Rattle.std.specs.List.{All};
 ghost use Rattle.sl_net.specs.Serving.{served};
 ghost use Rattle.sl_layout.specs.declared.actor.ActorId.{ActorId};

@@ -1,5 +1,5 @@
 // What a unit puts.
-ghost use Rattle.std.specs.Prelude.{◌≡◌, ℕ, ◌++◌, length, reverse, OnOk, IfOk};
+ghost use Rattle.std.specs.Prelude.{◌≡◌, ◌++◌, reverse, OnOk, IfOk};
 ghost use Rattle.sl_net.specs.Net.{links_out};
 ghost use Rattle.sl_history.specs.Frame.{plain_frame};
 ghost use Rattle.sl_step.specs.Puts.{send_all, crossbar_to, onward, route, ingress_puts, egress_puts, notice_puts, dump_puts, unit_puts, is_own_port};

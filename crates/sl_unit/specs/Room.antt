@@ -3,6 +3,7 @@ use Rattle.std.specs.Prelude.{◌≡◌, ℕ, true, List, length}
 use Rattle.std.specs.List.{All}
 use Rattle.sl_layout.specs.declared.actor.Sort.TheVariants.{ToHost, Dump as DumpSort}
 use Rattle.sl_saves.specs.declared.entry.View.{View}
+use Rattle.sl_saves.specs.Keeping.{Listed, list_view}
 use Rattle.sl_saves.specs.Lists.{list_kept, ListHasRoom}
 use Rattle.sl_unit.specs.declared.wires.Way.TheVariants.{All as AllOf}
 use Rattle.sl_unit.specs.declared.registers.Registers.{Registers as Declared}
@@ -31,13 +32,13 @@ pub record HasFrames (w : Wires) (frames : List (List ℕ)) : Type 0 where
   pub many : length frames ≡ length (outs (AllOf ToHost) w.exits)
   pub sized : All (λ frame. length frame ≡ 24) frames
 
--- there are as many views of so many slots as there are links of dumps
-pub record HasViews (w : Wires) (size : ℕ) (views : List View) : Type 0 where
+-- there are as many views of what is saved as there are links of dumps
+pub record HasViews (w : Wires) (saved : Listed) (views : List View) : Type 0 where
   pub many : length views ≡ length (outs (AllOf DumpSort) w.exits)
-  pub sized : All (λ view. length view.slots ≡ size) views
+  pub shown : All (λ view. view ≡ list_view saved) views
 
 -- the room for a turn of the choice c
 pub record HasRoom (w : Wires) (r : Declared) (frames : List (List ℕ)) (views : List View) (c : ℕ) : Type 0 where
   pub saves : ListHasRoom r.saves
   pub frames_are : is_crossbar (entrance_at w c) ≡ true → HasFrames w frames
-  pub views_are : is_poll (entrance_at w c) ≡ true → HasViews w (registers_of r).saved.size views
+  pub views_are : is_poll (entrance_at w c) ≡ true → HasViews w (registers_of r).saved views

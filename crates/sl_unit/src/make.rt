@@ -1,5 +1,5 @@
 // The links of a unit in a net.
-ghost use Rattle.std.specs.Prelude.{◌≡◌, ◌<◌, ◌≤◌, ◌^◌, ◌++◌, [], OnOk, IfOk, IsSome, length};
+ghost use Rattle.std.specs.Prelude.{◌≡◌, ◌<◌, ◌≤◌, ◌^◌, ◌++◌, OnOk, IfOk, IsSome, length};
 ghost use Rattle.std.specs.List.{All};
 ghost use Rattle.sl_net.specs.Net.{actor_of, choices_of, data_channels, place_in};
 ghost use Rattle.sl_route.specs.Routes.{IsRoutesOf};

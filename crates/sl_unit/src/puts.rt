@@ -1,6 +1,7 @@
 // The messages that a unit puts.
 ghost use Rattle.std.specs.Prelude.{◌≡◌, ◌+◌, ◌≤◌, ◌<◌, ◌^◌, ◌++◌, ◌∷◌, [], length, cond, true};
 ghost use Rattle.std.specs.List.{All};
+ghost use Rattle.sl_saves.specs.Keeping.{list_view};
 ghost use Rattle.sl_wire.specs.declared.message.Msg.TheVariants.{Host, Dump};
 ghost use Rattle.sl_wire.specs.Frames.{plain_frame};
 ghost use Rattle.sl_unit.specs.Wires.{outs};
@@ -121,15 +122,15 @@ fn put_dump_if(
 )
     requires room { goes ≡ true → length out.old.items < out.old.room }
     requires some { goes ≡ true → 0 < length views.old.items }
-    requires sized { All (λ view. length view.slots ≡ (registers_of registers.now).saved.size) views.old.items }
+    requires shown { All (λ view. view ≡ list_view (registers_of registers.now).saved) views.old.items }
     ensures items { out.new.items ≡ out.old.items ++ cond goes ((link, Dump (dump_of (registers_of registers.now))) ∷ []) [] }
     ensures room { out.new.room ≡ out.old.room }
     ensures left { length views.new.items + cond goes 1 0 ≡ length views.old.items }
-    ensures still { All (λ view. length view.slots ≡ (registers_of registers.now).saved.size) views.new.items }
+    ensures still { All (λ view. view ≡ list_view (registers_of registers.now).saved) views.new.items }
 {
     if goes {
         if let Some(view) = views.pop() {
-            out.put(link, Msg::Dump(registers.dump_in(view)));
+            out.put(link, Msg::Dump(registers.dump_with(view)));
         }
     }
 }
@@ -144,7 +145,7 @@ pub fn put_dumps(
     requires few { length exits.now < 2 ^ 32 }
     requires room { length out.old.items + length (outs (Way.All Sort.Dump) exits.now) ≤ out.old.room }
     requires views { length views.old.items ≡ length (outs (Way.All Sort.Dump) exits.now) }
-    requires sized { All (λ view. length view.slots ≡ (registers_of registers.now).saved.size) views.old.items }
+    requires shown { All (λ view. view ≡ list_view (registers_of registers.now).saved) views.old.items }
     ensures items { out.new.items ≡ out.old.items ++ send_all (Dump (dump_of (registers_of registers.now))) (outs (Way.All Sort.Dump) exits.now) }
     ensures room { out.new.room ≡ out.old.room }
 {

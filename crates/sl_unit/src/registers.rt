@@ -1,25 +1,14 @@
 // The registers of a unit.
 ghost use Rattle.std.specs.Prelude.{◌≡◌, ◌<◌, ◌≤◌, ◌-◌, ◌^◌, length, IfOk, OnOk};
+ghost use Rattle.sl_saves.specs.Keeping.{list_view};
 ghost use Rattle.sl_saves.specs.Lists.{ListHasRoom, list_window, list_size};
 ghost use Rattle.sl_unit.specs.Registers.{IsChannel, first_registers, last_on, is_near, adopted, credited, seen, counted, after_stamp, after_data, more, dump_of};
 
 use sl_machine::Memory;
 use sl_net::Packet;
-use sl_saves::{ListSaves, Saves, Slot, Slots, Total, View};
+use sl_saves::{ListSaves, Saves, View};
 use sl_wire::PlainDump;
 use std::alloc::Global;
-
-/// A slot in which nothing is saved.
-const BLANK: Slot = Slot {
-    packets: 0,
-    bytes: 0,
-    inflight: [Total {
-        packets: 0,
-        bytes: 0,
-    }; 8],
-    back: 0,
-    reach: 0,
-};
 
 /// The channel by which a stamped message comes.
 #[derive(Clone, Copy)]
@@ -209,12 +198,18 @@ impl Registers {
         self.noroute = self.noroute.saturating_add(1);
     }
 
-    /// The registers as a dump, with the saved entries in this view.
-    pub fn dump_in(&self, mut view: View) -> PlainDump
-        requires { length view.slots ≡ (registers_of self.now).saved.size }
+    /// A view of what is saved.
+    pub fn view(&self) -> Result<View, Memory>
+        ensures { IfOk result (λ view. view ≡ list_view (registers_of self.now).saved) }
+    {
+        self.saves.view()
+    }
+
+    /// The registers as a dump, with a view of what is saved.
+    pub fn dump_with(&self, view: View) -> PlainDump
+        requires { view ≡ list_view (registers_of self.now).saved }
         ensures { result ≡ dump_of (registers_of self.now) }
     {
-        self.saves.fill(&mut view);
         PlainDump {
             id: self.id,
             cpu: self.cpu,
@@ -227,13 +222,7 @@ impl Registers {
     pub fn dump(&self) -> Result<PlainDump, Memory>
         ensures { IfOk result (λ dump. dump ≡ dump_of (registers_of self.now)) }
     {
-        let view = self.saves.view()?;
-        Ok(PlainDump {
-            id: self.id,
-            cpu: self.cpu,
-            last: self.last,
-            view,
-        })
+        Ok(self.dump_with(self.view()?))
     }
 
     /// Takes the room that the next adoption needs.
@@ -243,16 +232,5 @@ impl Registers {
         ensures room { OnOk result (ListHasRoom self.new.saves) }
     {
         self.saves.ready()
-    }
-
-    /// A view for a dump, with nothing in it yet.
-    pub fn blank_view(&self, alloc: Global) -> Result<View, Memory>
-        ensures { IfOk result (λ view. length view.slots ≡ (registers_of self.now).saved.size) }
-    {
-        let items = vec![in alloc; BLANK; self.ring as usize].map_err(|_| Memory)?;
-        Ok(View {
-            at: 0,
-            slots: Slots { items },
-        })
     }
 }

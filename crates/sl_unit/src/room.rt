@@ -49,16 +49,15 @@ pub fn make_frames(wires: &Wires, frames: &mut Vec<Bytes>) -> Result<(), Memory>
     Ok(())
 }
 
-/// Makes views, as many as there are links of dumps.
+/// Makes views of what is saved, as many as there are links of dumps.
 pub fn make_views(wires: &Wires, registers: &Registers, views: &mut Vec<View>) -> Result<(), Memory>
-    ensures { OnOk result (HasViews wires.now (registers_of registers.now).saved.size views.new.items) }
+    ensures { OnOk result (HasViews wires.now (registers_of registers.now).saved views.new.items) }
 {
     let count = count_outs(wires.exits(), Way::All(Sort::Dump));
     views.clear();
-    let alloc = *views.allocator();
     for _i in 0..count {
         views
-            .push(registers.blank_view(alloc)?)
+            .push(registers.view()?)
             .map_err(|_| Memory)?;
     }
     Ok(())

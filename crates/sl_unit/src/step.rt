@@ -285,7 +285,7 @@ pub fn take_poll(
 )
     requires empty { out.old.items ≡ [] }
     requires room { length wires.now.exits ≤ out.old.room }
-    requires views { HasViews wires.now (registers_of registers.now).saved.size views.old.items }
+    requires views { HasViews wires.now (registers_of registers.now).saved views.old.items }
     ensures puts { out.new.items ≡ (take_at Entrance.Poll (state_of wires.now registers.now) Poll).puts }
     ensures room { out.new.room ≡ out.old.room }
 {

@@ -1,5 +1,5 @@
 // Frames as bytes, and bytes as frames.
-ghost use Rattle.std.specs.Prelude.{◌≡◌, ℕ, ◌/◌, ◌%◌, ◌^◌, length, IfOk, Ok, IsTrue};
+ghost use Rattle.std.specs.Prelude.{◌≡◌, ℕ, ◌/◌, ◌%◌, length, IfOk, Ok};
 ghost use Rattle.sl_wire.specs.Frames.{kind_of, kind_byte, channel_fits, id_fits, number, wide_number, all_zero, packet_of, packet_fits, frame, plain_header, plain_frame, decoded, IsCanonical, IsFrame};
 
 use sl_ids::{Wid, Width};

@@ -1,6 +1,7 @@
 pub mod MachineLemmas
 pub mod LinkLemmas
 pub mod PlaceLemmas
+pub mod MarkLemmas
 pub mod RoomLemmas
 pub mod MeshLemmas
 pub mod TurnLemmas

@@ -42,16 +42,12 @@ KeepsRoom-set views k e new low read more j =
           omega arith
     ]
 
--- a write that leaves some room
-pub KeepsSomeRoom-set : {M : Type 0} (views : List (LineView M)) (k : ℕ) (new : LineView M) → k < length views → 0 < new.room → KeepsSomeRoom views (set views k new)
-KeepsSomeRoom-set views k new low some j room =
+-- a change of one link that leaves it some room
+pub some_room_kept : {M : Type 0} (old new : List (LineView M)) (k : ℕ) → 0 < room_at new k → ((j : ℕ) → j ≢ k → room_at new j ≡ room_at old j) → KeepsSomeRoom old new
+some_room_kept old new k some others j room =
     elim (cases_eq j k) [
-      | inl same ↦
-          let here : room_at (set views k new) j ≡ new.room = ap (room_at (set views k new)) same ∙ ap (λ v. v.room) (get_or-set_same views k new no_view low) in
-          omega arith
-      | inr other ↦
-          let there : room_at (set views k new) j ≡ room_at views j = ap (λ v. v.room) (get_or-set_other views k j new no_view other) in
-          omega arith
+      | inl same ↦ subst (λ (i : ℕ). 0 < room_at new i) (sym same) some
+      | inr other ↦ omega (arith, others j other)
     ]
 
 pub room_at-set_same : {M : Type 0} (views : List (LineView M)) (k : ℕ) (new : LineView M) → k < length views → room_at (set views k new) k ≡ new.room
@@ -61,14 +57,11 @@ pub room_at-set_other : {M : Type 0} (views : List (LineView M)) (k j : ℕ) (ne
 room_at-set_other views k j new other = ap (λ v. v.room) (get_or-set_other views k j new no_view other)
 
 -- room on one link more
-pub room_more : {M : Type 0} (place : ℕ → ℕ) (views : List (LineView M)) (n k : ℕ) (e new : LineView M) → k ≡ place n → k < length views → e ≡ get_or views k e → e.room ≤ new.room → 0 < new.room → ((o : ℕ) → o < n → 0 < room_at views (place o)) → (o : ℕ) → o < n + 1 → 0 < room_at (set views k new) (place o)
-room_more place views n k e new at low read more some below o h =
-    let kept = KeepsRoom-set views k e new low read more (place o) in
+pub room_more : {M : Type 0} (place : ℕ → ℕ) (old new : List (LineView M)) (n k : ℕ) → k ≡ place n → KeepsRoom old new → 0 < room_at new k → ((o : ℕ) → o < n → 0 < room_at old (place o)) → (o : ℕ) → o < n + 1 → 0 < room_at new (place o)
+room_more place old new n k at kept some below o h =
     elim (cases_eq o n) [
-      | inl same ↦
-          let there : room_at (set views k new) (place o) ≡ new.room = ap (λ (i : ℕ). room_at (set views k new) (place i)) same ∙ (ap (room_at (set views k new)) (sym at) ∙ room_at-set_same views k new low) in
-          omega arith
-      | inr other ↦ let before : o < n = omega arith in omega (arith, kept, below o before)
+      | inl same ↦ subst (λ (i : ℕ). 0 < room_at new i) (at ∙ ap place (sym same)) some
+      | inr other ↦ let before : o < n = omega arith in omega (arith, kept (place o), below o before)
     ]
 
 pub KeepsRoom-trans : {M : Type 0} (xs ys zs : List (LineView M)) → KeepsRoom xs ys → KeepsRoom ys zs → KeepsRoom xs zs
@@ -128,27 +121,26 @@ put_each_same f g outs (p ∷ ps) ls fits same =
     ap (λ (k : ℕ). put_each f ps (put_at ls k p.1)) (same p.0 (grind (arith, nat_tests)))
     ∙ put_each_same f g outs ps (put_at ls (g p.0) p.1) (grind (arith, nat_tests)) same
 
--- a write at another link leaves the room for the rest
-HasRoomFor-set : {M : Type 0} (place : ℕ → ℕ) (k : ℕ) (views : List (LineView M)) (new : LineView M) (ps : List (ℕ × M)) → IsElsewhere place ps k → HasRoomFor place views ps → HasRoomFor place (set views k new) ps
-HasRoomFor-set place k views new [] apart room = tt
-HasRoomFor-set place k views new (p ∷ ps) apart room =
-    let long : length (set views k new) ≡ length views = length-set views k new in
-    let same : room_at (set views k new) (place p.0) ≡ room_at views (place p.0) = room_at-set_other views k (place p.0) new apart.0 in
-    (omega (arith, room.0), omega (arith, room.1), room.2, HasRoomFor-set place k views new ps apart.1 room.3)
+-- a change of another link leaves the room for the rest
+HasRoomFor-kept : {M : Type 0} (place : ℕ → ℕ) (k : ℕ) (old new : List (LineView M)) (ps : List (ℕ × M)) → length new ≡ length old → ((j : ℕ) → j ≢ k → room_at new j ≡ room_at old j) → IsElsewhere place ps k → HasRoomFor place old ps → HasRoomFor place new ps
+HasRoomFor-kept place k old new [] long others apart room = tt
+HasRoomFor-kept place k old new (p ∷ ps) long others apart room =
+    (omega (arith, room.0), omega (arith, room.1, others (place p.0) apart.0), room.2, HasRoomFor-kept place k old new ps long others apart.1 room.3)
+
+-- as many links after a put
+length_put_at : {M : Type 0} (old new : List (LineView M)) (k : ℕ) (m : M) → lines_of new ≡ put_at (lines_of old) k m → length new ≡ length old
+length_put_at old new k m e = sym (length-map new (λ v. v.line)) ∙ (ap length e ∙ (length-set (lines_of old) k (line_put (line_at (lines_of old) k) m) ∙ length-map old (λ v. v.line)))
 
 -- the first put is done, and the others are left
-pub deliver_step : {M : Type 0} (place : ℕ → ℕ) (views : List (LineView M)) (n k : ℕ) (m : M) (e new : LineView M) (items ps : List (ℕ × M)) → items ≡ (n, m) ∷ ps → k ≡ place n → new.line ≡ line_put (get_or views k e).line m → HasRoomFor place views items → record { rest : put_each place ps (lines_of (set views k new)) ≡ put_each place items (lines_of views); room : HasRoomFor place (set views k new) ps; others : (j : ℕ) → IsElsewhere place items j → (room_at (set views k new) j ≡ room_at views j) × IsElsewhere place ps j; some : 0 < new.room → KeepsSomeRoom views (set views k new) }
-deliver_step place views n k m e new items ps first at put room =
-    let here = subst (HasRoomFor place views) first room in
-    let low : k < length views = omega (arith, here.0) in
-    let put_is : lines_of (set views k new) ≡ put_at (lines_of views) (place n) m = lines_of-put views k e new m low put ∙ ap (λ (i : ℕ). put_at (lines_of views) i m) at in
+pub deliver_step : {M : Type 0} (place : ℕ → ℕ) (old new : List (LineView M)) (n k : ℕ) (m : M) (items ps : List (ℕ × M)) → items ≡ (n, m) ∷ ps → k ≡ place n → lines_of new ≡ put_at (lines_of old) k m → ((j : ℕ) → j ≢ k → room_at new j ≡ room_at old j) → HasRoomFor place old items → record { rest : put_each place ps (lines_of new) ≡ put_each place items (lines_of old); room : HasRoomFor place new ps; others : (j : ℕ) → IsElsewhere place items j → (room_at new j ≡ room_at old j) × IsElsewhere place ps j }
+deliver_step place old new n k m items ps first at put same room =
+    let here = subst (HasRoomFor place old) first room in
     record {
-      rest = ap (put_each place ps) put_is ∙ ap (λ qs. put_each place qs (lines_of views)) (sym first);
-      room = HasRoomFor-set place k views new ps (subst (IsElsewhere place ps) (sym at) here.2) here.3;
+      rest = ap (put_each place ps) (put ∙ ap (λ (i : ℕ). put_at (lines_of old) i m) at) ∙ ap (λ qs. put_each place qs (lines_of old)) (sym first);
+      room = HasRoomFor-kept place k old new ps (length_put_at old new k m put) same (subst (IsElsewhere place ps) (sym at) here.2) here.3;
       others = λ j h.
           let apart = subst (λ qs. IsElsewhere place qs j) first h in
-          (room_at-set_other views k j new (λ f. apart.0 (sym at ∙ sym f)), apart.1);
-      some = KeepsSomeRoom-set views k new low;
+          (same j (λ f. apart.0 (sym at ∙ sym f)), apart.1);
     }
 
 -- an actor more is known to have room

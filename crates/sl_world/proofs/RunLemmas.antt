@@ -1,9 +1,12 @@
 -- What turns keep, and a schedule with one more entry.
-use Rattle.std.proofs.Common.{◌≡◌, ℕ, ◌+◌, ◌<◌, ◌≤◌, List, [], ◌∷◌, ◌++◌, length, take, get_or, refl, ap, sym, ◌∙◌, arith, Option, Some, None, inl, inr}
-use Rattle.std.specs.Prelude.{unwrap_or}
+use Rattle.std.proofs.Common.{◌≡◌, ℕ, ◌+◌, ◌-◌, ◌<◌, ◌≤◌, List, [], ◌∷◌, ◌++◌, length, take, get_or, refl, ap, sym, ◌∙◌, arith, zero, suc, subst, true, slice_get, Option, Some, None, inl, inr}
+use Rattle.std.specs.Prelude.{unwrap_or, nat_lt}
+use Rattle.std.proofs.lemmas.Bool.Decides.{nat_tests}
+use Rattle.std.proofs.lemmas.Option.{get_or_from_slice_get}
 use Rattle.std.proofs.lemmas.List.{length_push, take_more}
 use Rattle.sl_machine.specs.Machine.{Rules}
-use Rattle.sl_world.specs.Scene.{Scene, turn_of, after_turn, after_all, entry_after}
+use Rattle.sl_machine.specs.Plan.{link_in}
+use Rattle.sl_world.specs.Scene.{Scene, Line, empty_line, line_at, take_first, take_turn, turn_of, after_turn, after_all, entry_after, FindsNothing}
 use Rattle.sl_world.specs.Laws.{turn_is}
 use Rattle.sl_world.specs.Legal.{book_after}
 
@@ -34,3 +37,35 @@ after_all-push rules w (f ∷ es) e = after_all-push rules (after_turn rules w f
 pub run_more : {S M : Type 0} (rules : Rules S M) (w v u : Scene S M) (es : List (ℕ × ℕ)) (i : ℕ) (d e : ℕ × ℕ) → i < length es → e ≡ get_or es i d → v ≡ after_all rules w (take i es) → u ≡ after_turn rules v e → u ≡ after_all rules w (take (i + 1) es)
 run_more rules w v u es i d e low is so_far step =
     step ∙ (ap (λ x. after_turn rules x e) so_far ∙ (ap (after_turn rules (after_all rules w (take i es))) is ∙ (sym (after_all-push rules w (take i es) (get_or es i d)) ∙ ap (after_all rules w) (sym (take_more es i d low)))))
+
+module _ {S M : Type 0} (rules : Rules S M) (w : Scene S M) where
+  first_none : (actor choice link : ℕ) (s : S) (line : Line M) → line.queue ≡ [] → take_first rules w actor choice link s line line.queue ≡ None
+  first_none actor choice link s line empty = rw empty refl
+
+  take_none : (actor choice : ℕ) (s : Option S) (line : Option (Line M)) → slice_get w.lines (link_in w.plan.links actor choice) ≡ line → (line_at w.lines (link_in w.plan.links actor choice)).queue ≡ [] → take_turn rules w actor choice (link_in w.plan.links actor choice) s line ≡ None
+  take_none actor choice None line here empty = refl
+  take_none actor choice (Some s) None here empty = refl
+  take_none actor choice (Some s) (Some line) here empty = first_none actor choice _ s line (ap (λ (l : Line M). l.queue) (sym (get_or_from_slice_get w.lines (link_in w.plan.links actor choice) line empty_line here)) ∙ empty)
+
+  -- a choice that finds nothing is idle
+  pub finds_none : (actor choice : ℕ) → FindsNothing w actor choice → turn_of rules w actor choice ≡ None
+  finds_none actor choice nothing =
+      let test : nat_lt (link_in w.plan.links actor choice) (length w.plan.links) ≡ true = grind (arith, nat_tests, nothing.linked) in
+      rw test (take_none actor choice (slice_get w.states actor) _ refl nothing.empty)
+
+  -- choices that find nothing, one after the other, change nothing
+  pub quiet_steps : (old : Scene S M) (es : List (ℕ × ℕ)) (n i : ℕ) → i + n ≤ length es → w ≡ after_all rules old (take i es) → ((k : ℕ) → i ≤ k → k < i + n → let e = get_or es k (0, 0) in FindsNothing w e.0 e.1) → w ≡ after_all rules old (take (i + n) es)
+  quiet_steps old es zero i within so_far nothing = subst (λ (j : ℕ). w ≡ after_all rules old (take j es)) (omega arith) so_far
+  quiet_steps old es (suc n) i within so_far nothing =
+      let e = get_or es i (0, 0) in
+      let idle : turn_of rules w e.0 e.1 ≡ None = finds_none e.0 e.1 (nothing i (omega arith) (omega arith)) in
+      let step : w ≡ after_all rules old (take (i + 1) es) = run_more rules old w w es i (0, 0) e (omega arith) refl so_far (rw idle refl) in
+      subst (λ (j : ℕ). w ≡ after_all rules old (take j es)) (omega arith)
+      (quiet_steps old es n (i + 1) (omega arith) step (λ k from below. nothing k (omega arith) (omega arith)))
+
+  -- the same up to a place
+  pub quiet_until : (old : Scene S M) (es : List (ℕ × ℕ)) (i j : ℕ) → i ≤ j → j ≤ length es → w ≡ after_all rules old (take i es) → ((k : ℕ) → i ≤ k → k < j → let e = get_or es k (0, 0) in FindsNothing w e.0 e.1) → w ≡ after_all rules old (take j es)
+  quiet_until old es i j from within so_far nothing =
+      let same : i + (j - i) ≡ j = omega arith in
+      subst (λ (k : ℕ). w ≡ after_all rules old (take k es)) same
+      (quiet_steps old es (j - i) i (omega arith) so_far (λ k low below. nothing k low (omega arith)))

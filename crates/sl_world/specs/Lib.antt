@@ -1,6 +1,7 @@
 pub mod Scene
 pub mod LineView
 pub mod Mesh
+pub mod Marks
 pub mod Places
 pub mod Laws
 pub mod Counts

@@ -4,6 +4,7 @@
 mod book;
 mod laws;
 mod line;
+mod lines;
 mod links;
 mod machines;
 mod make;

@@ -7,6 +7,7 @@ ghost use Rattle.sl_world.specs.Mesh.{lines_of, room_at, KeepsRoom, KeepsSomeRoo
 ghost use Rattle.sl_world.specs.Places.{place_of};
 
 use crate::line::Line;
+use crate::lines::Lines;
 use crate::make::{copy_wiring, incoming_places, outgoing_places};
 use crate::places::Places;
 use sl_machine::{Memory, Outputs, Wiring};
@@ -19,7 +20,7 @@ pub struct Links<M> {
     wiring: Wiring,
     ins: Places,
     outs: Places,
-    lines: Vec<Line<M>>,
+    lines: Lines<M>,
     // whether each outgoing link of an actor is known to have room for a message
     roomy: Vec<bool>,
 }
@@ -29,9 +30,9 @@ impl<M> Model for Links<M> {
 
     ghost Value = { Mesh M };
 
-    ghost view = { λ a. record { plan = a.wiring; lines = lines_of a.lines.items; roomy = a.roomy.items } };
+    ghost view = { λ a. record { plan = a.wiring; lines = lines_of a.lines; roomy = a.roomy.items } };
 
-    ghost invariant = { λ a. IsMesh a.wiring a.ins a.outs a.lines.items a.roomy.items };
+    ghost invariant = { λ a. IsMesh a.wiring a.ins a.outs a.lines a.roomy.items };
 }
 
 impl<M: Drop> Links<M> {
@@ -45,6 +46,7 @@ impl<M: Drop> Links<M> {
         let ins = incoming_places(alloc, wiring)?;
         let outs = outgoing_places(alloc, wiring)?;
         let wiring = copy_wiring(alloc, wiring)?;
+        let lines = Lines::new(alloc, lines)?;
         let Ok(roomy) = vec![in alloc; false; wiring.in_counts.len()] else {
             return Err(Memory);
         };
@@ -79,7 +81,7 @@ impl<M: Drop> Links<M> {
         requires { link < length self.now.plan.links }
         ensures { IsTrue result ↔ ((line_at self.now.lines link).queue ≡ []) }
     {
-        self.lines[link].is_empty()
+        self.lines.is_empty(link)
     }
 
     /// How many puts a link has lost.
@@ -87,7 +89,7 @@ impl<M: Drop> Links<M> {
         requires { link < length self.now.plan.links }
         ensures { result ≡ (line_at self.now.lines link).lost }
     {
-        self.lines[link].lost()
+        self.lines.lost(link)
     }
 
     /// Makes room for a message on each outgoing link of an actor, unless there is.
@@ -117,7 +119,7 @@ impl<M: Drop> Links<M> {
         ensures plan { self.new.plan ≡ self.old.plan }
         ensures roomy { self.new.roomy ≡ self.old.roomy }
     {
-        self.lines[link].take()
+        self.lines.take(link)
     }
 
     /// Puts an actor's messages on its links.
@@ -140,21 +142,21 @@ impl<M: Drop> Links<M> {
 #[cold]
 #[inline(never)]
 fn make_room_at<M: Drop>(
-    lines: &mut Vec<Line<M>>,
+    lines: &mut Lines<M>,
     outs: &Places,
     actor: usize,
     count: u32,
 ) -> Result<(), Memory>
     requires actor { actor < length outs.now.starts.items }
     requires within { (o : ℕ) → o < count → slice_index outs.now.starts.items actor + o < length outs.now.places.items }
-    requires places { (o : ℕ) → o < count → place_of outs.now actor o < length lines.old.items }
-    ensures lines { lines_of lines.new.items ≡ lines_of lines.old.items }
-    ensures keeps { KeepsRoom lines.old.items lines.new.items }
-    ensures room { OnOk result ((o : ℕ) → o < count → 0 < room_at lines.new.items (place_of outs.now actor o)) }
+    requires places { (o : ℕ) → o < count → place_of outs.now actor o < length lines.old }
+    ensures lines { lines_of lines.new ≡ lines_of lines.old }
+    ensures keeps { KeepsRoom lines.old lines.new }
+    ensures room { OnOk result ((o : ℕ) → o < count → 0 < room_at lines.new (place_of outs.now actor o)) }
 {
     for number in 0..count {
         let place = outs.place(actor, number);
-        lines[place].make_room()?;
+        lines.make_room(place)?;
     }
     Ok(())
 }
@@ -162,17 +164,17 @@ fn make_room_at<M: Drop>(
 /// Puts each message on the link that the table has for its number, and answers whether each of
 /// these links has room for one more.
 fn put_at_places<M: Drop>(
-    lines: &mut Vec<Line<M>>,
+    lines: &mut Lines<M>,
     outs: &Places,
     actor: usize,
     out: &mut Outputs<M>,
 ) -> bool
     requires actor { actor < length outs.now.starts.items }
     requires within { All (λ p. slice_index outs.now.starts.items actor + p.0 < length outs.now.places.items) out.old.items }
-    requires room { HasRoomFor (place_of outs.now actor) lines.old.items out.old.items }
-    ensures lines { lines_of lines.new.items ≡ put_each (place_of outs.now actor) out.old.items (lines_of lines.old.items) }
-    ensures others { (k : ℕ) → IsElsewhere (place_of outs.now actor) out.old.items k → room_at lines.new.items k ≡ room_at lines.old.items k }
-    ensures roomy { IsTrue result → KeepsSomeRoom lines.old.items lines.new.items }
+    requires room { HasRoomFor (place_of outs.now actor) lines.old out.old.items }
+    ensures lines { lines_of lines.new ≡ put_each (place_of outs.now actor) out.old.items (lines_of lines.old) }
+    ensures others { (k : ℕ) → IsElsewhere (place_of outs.now actor) out.old.items k → room_at lines.new k ≡ room_at lines.old k }
+    ensures roomy { IsTrue result → KeepsSomeRoom lines.old lines.new }
     ensures items { out.new.items ≡ [] }
     ensures room { out.new.room ≡ out.old.room }
 {
@@ -180,7 +182,7 @@ fn put_at_places<M: Drop>(
     let mut roomy = true;
     while let Some((number, m)) = out.take_last() {
         let place = outs.place(actor, number);
-        let some = lines[place].put(m);
+        let some = lines.put(place, m);
         roomy &= some;
     }
     roomy

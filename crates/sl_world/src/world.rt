@@ -1,5 +1,5 @@
 // The world: machines, the links between them, and the book of the turns that did something.
-ghost use Rattle.std.specs.Prelude.{◌≡◌, ◌≢◌, ◌+◌, ◌<◌, ◌≤◌, ◌^◌, ℕ, [], Some, None, Ok, length, map, slice_get, slice_index, slice_index_or, IfOk, OnOk, OnErr, All, true, false};
+ghost use Rattle.std.specs.Prelude.{◌≡◌, ◌≢◌, ◌+◌, ◌<◌, ◌≤◌, ◌^◌, ℕ, [], Some, None, Ok, length, map, slice_get, slice_index, slice_index_or, IsTrue, IfOk, OnOk, OnErr, All, true, false};
 ghost use Rattle.sl_machine.specs.Plan.{HasChoice, IsSound, link_in};
 ghost use Rattle.sl_machine.specs.Fit.{ins_of, actions_of, HasCounts, Fits};
 ghost use Rattle.sl_loss.specs.Loss.{IsFresh};
@@ -168,10 +168,44 @@ impl<A: Machine> World<A> {
         ensures plan { (scene self.new).plan ≡ (scene self.old).plan }
         ensures book { length (scene self.new).book ≤ length (scene self.old).book + length schedule.now }
     {
-        for (actor, choice) in schedule {
-            self.turn(*actor, *choice)?;
+        let mut at = self.next_at(schedule, 0);
+        while at < schedule.len() {
+            let (actor, choice) = schedule[at];
+            self.turn(actor, choice)?;
+            at = self.next_at(schedule, at + 1);
         }
         Ok(())
+    }
+
+    /// The first place of a schedule, from this one on, whose choice is an action or finds a
+    /// message. Nothing happens before it.
+    fn next_at(&self, schedule: &[(u32, u32)], from: usize) -> usize
+        requires choices { All (λ e. HasChoice (scene self.now).plan e.0 e.1) schedule.now }
+        requires within { from ≤ length schedule.now }
+        ensures from { from ≤ result }
+        ensures within { result ≤ length schedule.now }
+        ensures nothing { (k : ℕ) → from ≤ k → k < result → let e = slice_index_or schedule.now k (0, 0) in FindsNothing (scene self.now) e.0 e.1 }
+    {
+        let mut at = from;
+        while at < schedule.len() {
+            let (actor, choice) = schedule[at];
+            if !self.finds_nothing(actor, choice) {
+                return at;
+            }
+            at += 1;
+        }
+        at
+    }
+
+    /// Whether a choice is a link with nothing on it.
+    fn finds_nothing(&self, actor: u32, choice: u32) -> bool
+        requires { actor < length (scene self.now).plan.ins }
+        ensures { IsTrue result → FindsNothing (scene self.now) actor choice }
+    {
+        match self.links.incoming(actor, choice) {
+            Some(link) => self.links.is_empty(link),
+            None => false,
+        }
     }
 
     fn take_turn(&mut self, actor: u32, choice: u32, link: usize) -> Result<Turn, Memory>

@@ -37,5 +37,5 @@ loop-i-preserved c =
       room = c.put_dump_if.ensures.room ∙ c.loop-i.invariant.room;
       left = let e = ap (λ b. cond {A = ℕ} b 1 0) c.leads-goes.ensures in
           omega (arith, e, many_more p i, c.put_dump_if.ensures.left, c.loop-i.invariant.left);
-      sized = c.put_dump_if.ensures.still;
+      shown = c.put_dump_if.ensures.still;
     }

@@ -3,6 +3,7 @@ use Rattle.std.specs.Prelude.{filter}
 use Rattle.std.specs.List.{All}
 use Rattle.sl_layout.specs.declared.actor.Sort.TheVariants as sort
 use Rattle.sl_net.specs.Parts.{below}
+use Rattle.sl_saves.specs.Keeping.{list_view}
 use Rattle.sl_wire.specs.declared.message.Msg.TheVariants.{Dump}
 use Rattle.sl_unit.specs.declared.wires.Way.TheVariants.{All as AllOf}
 use Rattle.sl_unit.specs.Wires.{is_out}
@@ -16,5 +17,5 @@ invariant-loop-i l = record {
   items : l.out.items ≡ l.fn.out.items ++ send_all (Dump (dump_of (registers_of l.registers))) (filter (is_out (AllOf sort.Dump) l.exits) (below l.i));
   room : l.out.room ≡ l.fn.out.room;
   left : length l.views.items + length (filter (is_out (AllOf sort.Dump) l.exits) (below l.i)) ≡ length l.fn.views.items;
-  sized : All (λ view. length view.slots ≡ (registers_of l.registers).saved.size) l.views.items;
+  shown : All (λ view. view ≡ list_view (registers_of l.registers).saved) l.views.items;
 }

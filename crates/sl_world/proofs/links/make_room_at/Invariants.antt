@@ -6,7 +6,7 @@ use Rattle.sl_world.proofs.links.make_room_at.Given as goal
 abbrev pub invariant-loop-number : goal.invariant-loop-number
 invariant-loop-number g l =
     record {
-      same : lines_of l.lines.items ≡ lines_of l.initial.lines.items;
-      keeps : KeepsRoom l.initial.lines.items l.lines.items;
-      room : (o : ℕ) → o < l.number → 0 < room_at l.lines.items (place_of l.outs l.actor o);
+      same : lines_of l.lines ≡ lines_of l.initial.lines;
+      keeps : KeepsRoom l.initial.lines l.lines;
+      room : (o : ℕ) → o < l.number → 0 < room_at l.lines (place_of l.outs l.actor o);
     }

@@ -3,9 +3,8 @@ use Rattle.std.specs.Prelude.{slice_index, reverse, All}
 use Rattle.std.proofs.lemmas.Bool.{and_parts}
 use Rattle.std.proofs.lemmas.List.{reverse-append, reverse-reverse}
 use Rattle.std.proofs.lemmas.List.Elements.{All-tail}
-use Rattle.sl_world.specs.Scene.{line_put}
 use Rattle.sl_world.specs.Places.{place_of}
-use Rattle.sl_world.proofs.RoomLemmas.{deliver_step}
+use Rattle.sl_world.proofs.RoomLemmas.{deliver_step, some_room_kept}
 use Rattle.sl_world.proofs.links.put_at_places.Goals as goal
 
 -- the last of a list that was turned round is the first
@@ -23,17 +22,18 @@ place-place-requires-clause-number g c =
 
 pub loop-number-preserved : goal.loop-number-preserved
 loop-number-preserved g c =
-    let step = deliver_step (place_of c.args.outs.now c.args.actor) c.loop-number.lines.items c.in-Some.number c.place-place.result c.in-Some.m c.index_mut.result.now c.put-some.new.self _ _ (turned _ _ _ c.in-Some.ensures.items) c.place-place.ensures (c.put-some.ensures.line ∙ ap (λ v. line_put v.line c.in-Some.m) c.index_mut.ensures.value) c.loop-number.invariant.room in
+    let now = c.put-some.new.self in
+    let step = deliver_step (place_of c.args.outs.now c.args.actor) c.loop-number.lines now c.in-Some.number c.place-place.result c.in-Some.m _ _ (turned _ _ _ c.in-Some.ensures.items) c.place-place.ensures c.put-some.ensures.lines c.put-some.ensures.others c.loop-number.invariant.room in
     record {
       rest = step.rest ∙ c.loop-number.invariant.rest;
       others = λ k h.
           let before = c.loop-number.invariant.others k h in
-          let now = step.others k before.1 in
-          (now.0 ∙ before.0, now.1);
+          let after = step.others k before.1 in
+          (after.0 ∙ before.0, after.1);
       within = All-tail (λ p. slice_index c.args.outs.now.starts.items c.args.actor + p.0 < length c.args.outs.now.places.items) (c.in-Some.number, c.in-Some.m) _ (subst (All (λ p. slice_index c.args.outs.now.starts.items c.args.actor + p.0 < length c.args.outs.now.places.items)) (turned _ _ _ c.in-Some.ensures.items) c.loop-number.invariant.within);
       room = step.room;
       some = λ e k h.
           let both = and_parts c.loop-number.roomy c.put-some.result e in
-          step.some (c.put-some.ensures.room both.1) k (c.loop-number.invariant.some both.0 k h);
+          some_room_kept c.loop-number.lines now c.place-place.result (c.put-some.ensures.room both.1) c.put-some.ensures.others k (c.loop-number.invariant.some both.0 k h);
       space = c.take_last.ensures.room ∙ c.loop-number.invariant.space;
     }

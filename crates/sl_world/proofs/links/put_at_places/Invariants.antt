@@ -8,11 +8,11 @@ use Rattle.sl_world.proofs.links.put_at_places.Given as goal
 abbrev pub invariant-loop-number : goal.invariant-loop-number
 invariant-loop-number g l =
     record {
-      rest : put_each (place_of l.outs l.actor) (reverse l.out.items) (lines_of l.lines.items) ≡ put_each (place_of l.outs l.actor) l.fn.out.items (lines_of l.initial.lines.items);
-      others : (k : ℕ) → IsElsewhere (place_of l.outs l.actor) l.fn.out.items k → (room_at l.lines.items k ≡ room_at l.initial.lines.items k) × IsElsewhere (place_of l.outs l.actor) (reverse l.out.items) k;
+      rest : put_each (place_of l.outs l.actor) (reverse l.out.items) (lines_of l.lines) ≡ put_each (place_of l.outs l.actor) l.fn.out.items (lines_of l.initial.lines);
+      others : (k : ℕ) → IsElsewhere (place_of l.outs l.actor) l.fn.out.items k → (room_at l.lines k ≡ room_at l.initial.lines k) × IsElsewhere (place_of l.outs l.actor) (reverse l.out.items) k;
       within : All (λ p. slice_index l.outs.starts.items l.actor + p.0 < length l.outs.places.items) (reverse l.out.items);
-      room : HasRoomFor (place_of l.outs l.actor) l.lines.items (reverse l.out.items);
-      some : l.roomy ≡ true → KeepsSomeRoom l.initial.lines.items l.lines.items;
+      room : HasRoomFor (place_of l.outs l.actor) l.lines (reverse l.out.items);
+      some : l.roomy ≡ true → KeepsSomeRoom l.initial.lines l.lines;
       space : l.out.room ≡ l.fn.out.room;
     }
 

@@ -42,7 +42,7 @@ invariant_of-self-in-Dump c =
     let s = c.self.inside in (
       subst (λ (rs : List Known). IsJoined s.outs s.inits.items s.done rs) (sym c.answer_all.ensures.units)
           (answered-joined s.outs s.inits.items s.done s.ring c.args.link c.in-Dump.dump s.units.items c.self.invariant.0),
-      record { empty = search rules; room = λ n. search rules },
+      record { empty = c.answer_all.ensures.left; room = λ n. search rules },
     )
 
 pub returns-in-Dump-clause-fitting : goal.returns-in-Dump-clause-fitting

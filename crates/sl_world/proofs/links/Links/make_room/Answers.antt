@@ -9,12 +9,12 @@ make_room_at-requires-clause-within g c o h =
     let low : c.args.actor < length fields.wiring.ins = omega (arith, ap (λ m. length m.plan.ins) c.self.view_is, c.requires) in
     let low_outs : c.args.actor < length fields.wiring.outs = omega (arith, c.self.invariant.sound.outs_each) in
     let count : c.index-count.result.now ≡ slice_index fields.wiring.outs c.args.actor = count_is c.wiring.inside.out_counts.items fields.wiring.outs c.args.actor c.index-count.result.now (ap (λ p. p.outs) c.wiring.view_is) low_outs c.index-count.ensures in
-    out_within fields.wiring fields.ins fields.outs fields.lines.items fields.roomy.items c.args.actor o c.self.invariant low (omega arith)
+    out_within fields.wiring fields.ins fields.outs fields.lines fields.roomy.items c.args.actor o c.self.invariant low (omega arith)
 
 pub invariant_of-self : goal.invariant_of-self
 invariant_of-self g c =
     let fields = c.self.inside in
-    mesh_roomier fields.wiring fields.ins fields.outs fields.lines.items c.make_room_at.new.lines.items fields.roomy.items c.self.invariant c.make_room_at.ensures.lines c.make_room_at.ensures.keeps
+    mesh_roomier fields.wiring fields.ins fields.outs fields.lines c.make_room_at.new.lines fields.roomy.items c.self.invariant c.make_room_at.ensures.lines c.make_room_at.ensures.keeps
 
 pub invariant_of-self-2 : goal.invariant_of-self-2
 invariant_of-self-2 g c =
@@ -22,5 +22,5 @@ invariant_of-self-2 g c =
     let low : c.args.actor < length fields.wiring.ins = omega (arith, ap (λ m. length m.plan.ins) c.self.view_is, c.requires) in
     let low_outs : c.args.actor < length fields.wiring.outs = omega (arith, c.self.invariant.sound.outs_each) in
     let count : c.index-count.result.now ≡ slice_index fields.wiring.outs c.args.actor = count_is c.wiring.inside.out_counts.items fields.wiring.outs c.args.actor c.index-count.result.now (ap (λ p. p.outs) c.wiring.view_is) low_outs c.index-count.ensures in
-    let mesh = mesh_roomier fields.wiring fields.ins fields.outs fields.lines.items c.make_room_at.new.lines.items fields.roomy.items c.self.invariant c.make_room_at.ensures.lines c.make_room_at.ensures.keeps in
-    mesh_roomy fields.wiring fields.ins fields.outs c.make_room_at.new.lines.items fields.roomy.items c.args.actor c.index-count.result.now mesh low count c.in_ok-make_room_at.ensures.room
+    let mesh = mesh_roomier fields.wiring fields.ins fields.outs fields.lines c.make_room_at.new.lines fields.roomy.items c.self.invariant c.make_room_at.ensures.lines c.make_room_at.ensures.keeps in
+    mesh_roomy fields.wiring fields.ins fields.outs c.make_room_at.new.lines fields.roomy.items c.args.actor c.index-count.result.now mesh low count c.in_ok-make_room_at.ensures.room

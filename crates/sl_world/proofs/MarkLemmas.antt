@@ -1,0 +1,66 @@
+-- Marks of the links that have a message.
+use Rattle.std.proofs.Common.{◌≡◌, ◌≢◌, ℕ, ◌+◌, ◌<◌, ◌≤◌, ◌↔◌, ◌++◌, List, [], ◌∷◌, length, get_or, set, refl, ap, sym, ◌∙◌, subst, arith, Bool, true, false, inl, inr}
+use Rattle.std.specs.Prelude.{IsTrue, not}
+use Rattle.std.proofs.lemmas.Bool.{cases_eq}
+use Rattle.std.proofs.lemmas.List.{map-set, length-set, length_push, get_or_push, get_or_append_left, get_or-set_same, get_or-set_other}
+use Rattle.sl_world.specs.Scene.{line_at, empty_line}
+use Rattle.sl_world.specs.LineView.{LineView}
+use Rattle.sl_world.specs.Mesh.{lines_of}
+use Rattle.sl_world.specs.Marks.{MarksFirst, IsMarked}
+use Rattle.sl_world.proofs.RoomLemmas.{line_is, length_same}
+
+-- a mark that tells of a list whether it has elements
+mark : {M : Type 0} (b empty : Bool) (queue : List M) → b ≡ not empty → (IsTrue empty ↔ (queue ≡ [])) → (b ≡ false) ↔ (queue ≡ [])
+mark b true queue is holds = (λ e. holds.0 refl, λ e. is)
+mark b false queue is holds = (λ e. absurd (not-false-is b is e), λ e. absurd (false-is-true (holds.1 e)))
+  where
+    false-is-true : false ≡ true → ⊥
+    false-is-true e = cc
+    not-false-is : (b : Bool) → b ≡ true → b ≡ false → ⊥
+    not-false-is b e f = cc
+
+-- one link is written, and its mark as it is read there
+pub marked-set : {M : Type 0} (views : List (LineView M)) (filled : List Bool) (k : ℕ) (new e : LineView M) (empty : Bool) → IsMarked views filled → k < length views → e ≡ get_or (set views k new) k e → (IsTrue empty ↔ (e.line.queue ≡ [])) → IsMarked (set views k new) (set filled k (not empty))
+marked-set views filled k new e empty marked low read holds =
+    let written : e ≡ new = read ∙ get_or-set_same views k new e low in
+    let b : Bool = not empty in
+    record {
+      each = length-set filled k b ∙ (marked.each ∙ sym (length-set views k new));
+      is = λ j h.
+          let long : length (set views k new) ≡ length views = length-set views k new in
+          let within : j < length views = omega arith in
+          elim (cases_eq j k) [
+            | inl same ↦
+                let here : line_at (lines_of (set views k new)) j ≡ new.line = line_is (set views k new) j new h (sym (ap (λ (i : ℕ). get_or (set views k new) i new) same ∙ get_or-set_same views k new new low)) in
+                let there : get_or (set filled k b) j false ≡ b = ap (λ (i : ℕ). get_or (set filled k b) i false) same ∙ get_or-set_same filled k b false (omega (arith, marked.each)) in
+                rw (here ∙ ap (λ v. v.line) (sym written), there) (mark b empty e.line.queue refl holds)
+            | inr other ↦
+                let here : line_at (lines_of (set views k new)) j ≡ line_at (lines_of views) j = ap (λ ls. line_at ls j) (map-set (λ v. v.line) views k new) ∙ get_or-set_other (lines_of views) k j new.line empty_line other in
+                let there : get_or (set filled k b) j false ≡ get_or filled j false = get_or-set_other filled k j b false other in
+                rw (here, there) (marked.is j within)
+          ];
+    }
+
+-- a change that leaves what is on the links
+pub marked-same : {M : Type 0} (old new : List (LineView M)) (filled : List Bool) → lines_of new ≡ lines_of old → IsMarked old filled → IsMarked new filled
+marked-same old new filled same marked =
+    let long : length new ≡ length old = length_same old new same in
+    record { each = marked.each ∙ sym long; is = λ j h. rw same (marked.is j (omega arith)) }
+
+-- one mark more
+pub marks-push : {M : Type 0} (views : List (LineView M)) (filled : List Bool) (n : ℕ) (e : LineView M) (b empty : Bool) → MarksFirst views n filled → n < length views → e ≡ get_or views n e → b ≡ not empty → (IsTrue empty ↔ (e.line.queue ≡ [])) → MarksFirst views (n + 1) (filled ++ b ∷ [])
+marks-push views filled n e b empty marks low read is holds =
+    record {
+      each = length_push filled b ∙ ap (λ (i : ℕ). i + 1) marks.each;
+      is = λ j h.
+          elim (cases_eq j n) [
+            | inl same ↦
+                let here : line_at (lines_of views) j ≡ e.line = ap (line_at (lines_of views)) same ∙ line_is views n e low read in
+                let there : get_or (filled ++ b ∷ []) j false ≡ b = get_or_push filled b false j (marks.each ∙ sym same) in
+                rw (here, there) (mark b empty e.line.queue is holds)
+            | inr other ↦
+                let before : j < n = omega arith in
+                let there : get_or (filled ++ b ∷ []) j false ≡ get_or filled j false = get_or_append_left filled (b ∷ []) false j (omega (arith, marks.each)) in
+                rw there (marks.is j before)
+          ];
+    }

@@ -1,0 +1,16 @@
+use Rattle.std.proofs.Common.{◌∙◌, ◌<◌, ap, length, arith}
+use Rattle.sl_world.specs.Scene.{line_put, put_at}
+use Rattle.sl_world.specs.Mesh.{lines_of}
+use Rattle.sl_world.proofs.RoomLemmas.{lines_of-put}
+use Rattle.sl_world.proofs.MarkLemmas.{marked-set}
+use Rattle.sl_world.proofs.lines.Lines.put.Goals as goal
+
+pub invariant_of-self : goal.invariant_of-self
+invariant_of-self g c =
+    let low : c.args.link < length c.self.inside.lines.items = omega (arith, ap length c.self.view_is, c.requires.link) in
+    marked-set c.self.inside.lines.items c.self.inside.filled.items c.args.link c.put-has_room.new.self c.index.result.now c.is_empty.result c.self.invariant low c.index.ensures c.is_empty.ensures
+
+pub returns-clause-lines : goal.returns-clause-lines
+returns-clause-lines g c =
+    let low : c.args.link < length c.self.inside.lines.items = omega (arith, ap length c.self.view_is, c.requires.link) in
+    lines_of-put c.self.inside.lines.items c.args.link c.index_mut.result.now c.put-has_room.new.self c.args.m low (c.put-has_room.ensures.line ∙ ap (λ v. line_put v.line c.args.m) c.index_mut.ensures.value) ∙ ap (λ ls. put_at (lines_of ls) c.args.link c.args.m) c.self.view_is

@@ -1,0 +1,15 @@
+use Rattle.std.proofs.Common.{◌<◌, ap, arith, length}
+use Rattle.sl_world.specs.Mesh.{lines_of}
+use Rattle.sl_world.proofs.MeshLemmas.{taken_from}
+use Rattle.sl_world.proofs.MarkLemmas.{marked-set}
+use Rattle.sl_world.proofs.lines.Lines.take.Goals as goal
+
+pub invariant_of-self : goal.invariant_of-self
+invariant_of-self g c =
+    let low : c.args.link < length c.self.inside.lines.items = omega (arith, ap length c.self.view_is, c.requires.link) in
+    marked-set c.self.inside.lines.items c.self.inside.filled.items c.args.link c.take-m.new.self c.index.result.now c.is_empty.result c.self.invariant low c.index.ensures c.is_empty.ensures
+
+pub returns-clause-rest : goal.returns-clause-rest
+returns-clause-rest g c =
+    let low : c.args.link < length c.self.inside.lines.items = omega (arith, ap length c.self.view_is, c.requires.link) in
+    taken_from c.self.inside.lines.items (lines_of c.args.self.now) c.args.link c.index_mut.result.now c.take-m.new.self c.take-m.result (ap lines_of c.self.view_is) low c.index_mut.ensures.value c.take-m.ensures.queue c.take-m.ensures.line

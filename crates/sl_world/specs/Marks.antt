@@ -1,0 +1,14 @@
+-- Which links have a message.
+use Rattle.std.specs.Prelude.{◌≡◌, ◌≤◌, ◌<◌, ◌↔◌, ℕ, List, [], length, Bool, false, slice_index_or}
+use Rattle.sl_world.specs.Scene.{line_at}
+use Rattle.sl_world.specs.LineView.{LineView}
+use Rattle.sl_world.specs.Mesh.{lines_of}
+
+-- of the first links, those with a message are marked
+pub record MarksFirst {M : Type 0} (views : List (LineView M)) (n : ℕ) (filled : List Bool) : Type 0 where
+  pub each : length filled ≡ n
+  pub is : (k : ℕ) → k < n → (slice_index_or filled k false ≡ false) ↔ ((line_at (lines_of views) k).queue ≡ [])
+
+-- the links with a message are marked
+abbrev pub IsMarked : {M : Type 0} → List (LineView M) → List Bool → Type 0
+IsMarked views filled = MarksFirst views (length views) filled

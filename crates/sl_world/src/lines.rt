@@ -1,0 +1,105 @@
+// All links by their numbers, and which of them have a message.
+ghost use Rattle.std.specs.Prelude.{◌≡◌, ◌≢◌, ◌<◌, ◌↔◌, ◌∷◌, ℕ, [], IsTrue, IfOk, OnOk, length, drop, slice_set};
+ghost use Rattle.sl_world.specs.Scene.{line_at, put_at, without_first};
+ghost use Rattle.sl_world.specs.Mesh.{lines_of, room_at, KeepsRoom};
+ghost use Rattle.sl_world.specs.Marks.{IsMarked};
+
+use crate::line::Line;
+use sl_machine::Memory;
+use std::alloc::Global;
+use std::marker::Model;
+
+/// The links. Those with a message are marked in a list of their own, which is small, so that many
+/// links are looked at fast.
+#[derive(Drop)]
+pub struct Lines<M> {
+    lines: Vec<Line<M>>,
+    filled: Vec<bool>,
+}
+
+impl<M> Model for Lines<M> {
+    ghost use Rattle.std.specs.Prelude.{List};
+    ghost use Rattle.sl_world.specs.LineView.{LineView};
+    ghost use Rattle.sl_world.specs.Marks.{IsMarked};
+
+    ghost Value = { List (LineView M) };
+
+    ghost view = { λ a. a.lines.items };
+
+    ghost invariant = { λ a. IsMarked a.lines.items a.filled.items };
+}
+
+impl<M: Drop> Lines<M> {
+    /// The links of a list.
+    pub fn new(alloc: Global, lines: Vec<Line<M>>) -> Result<Lines<M>, Memory>
+        ensures { IfOk result (λ l. l ≡ lines.items) }
+    {
+        let filled = marks(alloc, lines.as_slice())?;
+        Ok(Lines { lines, filled })
+    }
+
+    /// Whether nothing is on a link.
+    pub fn is_empty(&self, link: usize) -> bool
+        requires { link < length self.now }
+        ensures { IsTrue result ↔ ((line_at (lines_of self.now) link).queue ≡ []) }
+    {
+        !self.filled[link]
+    }
+
+    /// How many puts a link has lost.
+    pub fn lost(&self, link: usize) -> u64
+        requires { link < length self.now }
+        ensures { result ≡ (line_at (lines_of self.now) link).lost }
+    {
+        self.lines[link].lost()
+    }
+
+    /// Makes room for one more message on a link.
+    pub fn make_room(&mut self, link: usize) -> Result<(), Memory>
+        requires { link < length self.old }
+        ensures lines { lines_of self.new ≡ lines_of self.old }
+        ensures keeps { KeepsRoom self.old self.new }
+        ensures room { OnOk result (0 < room_at self.new link) }
+    {
+        self.lines[link].make_room()
+    }
+
+    /// Puts a message on a link, and answers whether it has room for one more.
+    pub fn put(&mut self, link: usize, m: M) -> bool
+        requires link { link < length self.old }
+        requires room { 0 < room_at self.old link }
+        ensures lines { lines_of self.new ≡ put_at (lines_of self.old) link m }
+        ensures others { (k : ℕ) → k ≢ link → room_at self.new k ≡ room_at self.old k }
+        ensures room { IsTrue result → 0 < room_at self.new link }
+    {
+        let has_room = self.lines[link].put(m);
+        self.filled[link] = !self.lines[link].is_empty();
+        has_room
+    }
+
+    /// Takes the first message of a link.
+    pub fn take(&mut self, link: usize) -> M
+        requires link { link < length self.old }
+        requires some { (line_at (lines_of self.old) link).queue ≢ [] }
+        ensures first { (line_at (lines_of self.old) link).queue ≡ result ∷ drop 1 (line_at (lines_of self.old) link).queue }
+        ensures rest { let line = line_at (lines_of self.old) link in lines_of self.new ≡ slice_set (lines_of self.old) link (without_first line (drop 1 line.queue)) }
+        ensures keeps { KeepsRoom self.old self.new }
+    {
+        let m = self.lines[link].take();
+        self.filled[link] = !self.lines[link].is_empty();
+        m
+    }
+}
+
+/// For each link, whether it has a message.
+fn marks<M: Drop>(alloc: Global, lines: &[Line<M>]) -> Result<Vec<bool>, Memory>
+    ensures { IfOk result (λ filled. IsMarked lines.now filled.items) }
+{
+    let mut filled = Vec::new(alloc);
+    for line in lines {
+        if filled.push(!line.is_empty()).is_err() {
+            return Err(Memory);
+        }
+    }
+    Ok(filled)
+}

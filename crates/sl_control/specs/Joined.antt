@@ -2,6 +2,7 @@
 use Rattle.std.specs.Prelude.{◌≡◌, ℕ, ◌<◌, ◌≤◌, List, [], ◌∷◌, map, length, slice_get, Option, Some, IsSome}
 use Rattle.std.specs.List.{AllByRecursion}
 use Rattle.sl_saves.specs.declared.entry.Saved.{Saved}
+use Rattle.sl_wire.specs.declared.message.Done.{Done}
 use Rattle.sl_control.specs.declared.known.Known.{Known}
 
 -- no number stands twice
@@ -34,7 +35,8 @@ pub record IsJoined (outs : ℕ) (inits : List ℕ) (done : ℕ) (units : List K
   pub dones_apart : AllByRecursion (λ r. AreOuts outs (done ∷ r.wires.poll ∷ [])) units
   pub dumps_apart : AreApart (dumps_of units)
 
--- there is no row yet, and room for those of a dump, where a turn was prepared
-pub record HasRoom (ring : ℕ) (prepared : Option ℕ) (rows : List (ℕ × Saved)) (capacity : ℕ) : Type 0 where
+-- there is no row yet, and room for those of a dump and a report to be filled in, where a turn was prepared
+pub record HasRoom (ring : ℕ) (prepared : Option ℕ) (rows : List (ℕ × Saved)) (capacity : ℕ) (done : Option Done) : Type 0 where
   pub empty : rows ≡ []
   pub room : IsSome prepared → ring ≤ capacity
+  pub report : IsSome prepared → IsSome done

@@ -2,12 +2,12 @@
 ghost use Rattle.std.specs.Prelude.{◌≡◌, ◌<◌, None, IfOk, length};
 ghost use Rattle.sl_control.specs.Wires.{control_of, first_control, control_counts};
 
+use crate::blanks::Blanks;
 use crate::known::Known;
 use crate::units::{answer_all, ask_all, is_swept, put_inits};
 use crate::wires::{control_of, done_of, inits_of, units_of};
 use sl_machine::{Machine, Memory, Outputs};
 use sl_net::{Net, Snapshot, nets_are_wired};
-use sl_saves::Saved;
 use sl_wire::Msg;
 use std::alloc::{AllocError, Global};
 use std::marker::Model;
@@ -25,7 +25,7 @@ pub struct Control {
     done: u32,
     ring: u16,
     units: Vec<Known>,
-    rows: Vec<(u64, Saved)>,
+    blanks: Blanks,
     prepared: Option<u32>,
 }
 
@@ -43,7 +43,7 @@ impl Model for Control {
       ready = a.prepared;
     } };
 
-    ghost invariant = { λ a. IsJoined a.outs a.inits.items a.done a.units.items × HasRoom a.ring a.prepared a.rows.items (vec_capacity a.rows) };
+    ghost invariant = { λ a. IsJoined a.outs a.inits.items a.done a.units.items × HasRoom a.ring a.prepared a.blanks.rows.items (vec_capacity a.blanks.rows) a.blanks.done };
 }
 
 impl Control {
@@ -82,7 +82,7 @@ impl Control {
             done: done_of(alloc, net, actor)?,
             ring,
             units: units_of(alloc, net, actor)?,
-            rows: Vec::new(alloc),
+            blanks: Blanks::new(alloc),
             prepared: None,
         })
     }
@@ -103,12 +103,10 @@ impl Machine for Control {
 
     ghost ready_for = { λ c. c.ready };
 
-    /// Makes room for the rows of a dump.
+    /// Makes room for the report on a dump.
     fn ready(&mut self, choice: u32) -> Result<(), Memory> {
         self.prepared = None;
-        if self.rows.reserve(self.ring as usize).is_err() {
-            return Err(Memory);
-        }
+        self.blanks.ready(self.ring)?;
         self.prepared = Some(choice);
         Ok(())
     }
@@ -124,8 +122,8 @@ impl Machine for Control {
                     self.ring,
                     self.done,
                     link,
-                    &dump,
-                    &mut self.rows,
+                    dump.get(),
+                    &mut self.blanks,
                     out,
                 );
             }

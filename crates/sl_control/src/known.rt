@@ -7,7 +7,7 @@ ghost use Rattle.sl_control.specs.Control.{asked, poll_by, is_asked, ask_by, ask
 use crate::rows::{is_sized, read_rows, seen_on};
 use sl_machine::Outputs;
 use sl_saves::Saved;
-use sl_wire::{Done, Msg, PlainDump, Rows, reached};
+use sl_wire::{Boxed, Done, Msg, PlainDump, Rows, reached};
 
 /// How a unit is joined to its control plane.
 #[derive(Clone, Copy)]
@@ -156,6 +156,7 @@ impl Known {
         &mut self,
         done: u32,
         dump: &PlainDump,
+        mut told: Boxed<Done>,
         rows: Vec<(u64, Saved)>,
         out: &mut Outputs<Msg>,
     )
@@ -165,7 +166,8 @@ impl Known {
         ensures puts { out.new.items ≡ out.old.items ++ answer_by done dump.now self.old }
         ensures room { out.new.room ≡ out.old.room }
     {
-        out.put(done, Msg::Done(self.done_of(dump, rows)));
+        told.set(self.done_of(dump, rows));
+        out.put(done, Msg::Done(told));
         self.poll_again(out);
         self.learn(dump);
     }

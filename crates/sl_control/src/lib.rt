@@ -2,6 +2,7 @@
 // report to the observer what each unit saved.
 #![tactic(auto)]
 
+mod blanks;
 mod control;
 mod known;
 mod rows;

@@ -1,5 +1,5 @@
 // What a control plane knows of its units, one after the other.
-ghost use Rattle.std.specs.Prelude.{◌≡◌, ◌≤◌, ◌<◌, ◌++◌, ◌+◌, [], Option, MatchOption, length, map, flat_map, cond};
+ghost use Rattle.std.specs.Prelude.{◌≡◌, ◌≤◌, ◌<◌, ◌++◌, ◌+◌, [], Option, MatchOption, IsSome, length, map, flat_map, cond};
 ghost use Rattle.std.specs.Vec.{vec_capacity};
 ghost use Rattle.std.specs.List.{AllByRecursion};
 ghost use Rattle.sl_control.specs.declared.known.Known.{Known};
@@ -7,6 +7,7 @@ ghost use Rattle.sl_machine.specs.Machine.{send_all};
 ghost use Rattle.sl_control.specs.Control.{ask_by, ask_puts, dump_by, dump_puts, answered, answer_by, is_read, is_swept};
 ghost use Rattle.sl_control.specs.Joined.{AreApart, dumps_of, HasDumpChoice};
 
+use crate::blanks::Blanks;
 use crate::known::Known;
 use sl_machine::Outputs;
 use sl_saves::Saved;
@@ -76,22 +77,25 @@ fn answer_one(
     ring: u16,
     done: u32,
     dump: &PlainDump,
-    rows: &mut Vec<(u64, Saved)>,
+    blanks: &mut Blanks,
     out: &mut Outputs<Msg>,
 )
-    requires empty { rows.old.items ≡ [] }
-    requires rows { ring ≤ vec_capacity rows.old }
+    requires empty { blanks.old.rows.items ≡ [] }
+    requires rows { ring ≤ vec_capacity blanks.old.rows }
+    requires report { IsSome blanks.old.done }
     requires room { length out.old.items + 2 ≤ out.old.room }
     ensures known { known.new ≡ cond (is_read ring dump.now known.old) (answered dump.now known.old) known.old }
     ensures puts { out.new.items ≡ out.old.items ++ cond (is_read ring dump.now known.old) (answer_by done dump.now known.old) [] }
     ensures room { out.new.room ≡ out.old.room }
-    ensures left { rows.new.items ≡ [] }
+    ensures left { blanks.new.rows.items ≡ [] }
 {
-    if known.read(ring, dump, rows) {
-        let told = take_rows(rows);
-        known.answer(done, dump, told, out);
+    if known.read(ring, dump, &mut blanks.rows) {
+        if let Some(told) = blanks.done.take() {
+            let rows = take_rows(&mut blanks.rows);
+            known.answer(done, dump, told, rows, out);
+        }
     } else {
-        rows.clear();
+        blanks.rows.clear();
     }
 }
 
@@ -102,19 +106,20 @@ pub fn answer_all(
     done: u32,
     choice: u32,
     dump: &PlainDump,
-    rows: &mut Vec<(u64, Saved)>,
+    blanks: &mut Blanks,
     out: &mut Outputs<Msg>,
 )
-    requires empty { rows.old.items ≡ [] }
-    requires rows { ring ≤ vec_capacity rows.old }
+    requires empty { blanks.old.rows.items ≡ [] }
+    requires rows { ring ≤ vec_capacity blanks.old.rows }
+    requires report { IsSome blanks.old.done }
     requires apart { AreApart (dumps_of units.old.items) }
     requires room { 0 < length units.old.items → length out.old.items + 2 ≤ out.old.room }
     ensures units { units.new.items ≡ map (dump_by ring choice dump.now) units.old.items }
     ensures puts { out.new.items ≡ out.old.items ++ flat_map (dump_puts ring done choice dump.now) units.old.items }
     ensures room { out.new.room ≡ out.old.room }
-    ensures left { rows.new.items ≡ [] }
+    ensures left { blanks.new.rows.items ≡ [] }
 {
     if let Some(i) = find_dump(units, choice) {
-        answer_one(&mut units[i], ring, done, dump, rows, out);
+        answer_one(&mut units[i], ring, done, dump, blanks, out);
     }
 }

@@ -212,7 +212,7 @@ impl Machine for Observer {
                 &mut self.floors,
                 self.snapshot.ring,
                 link,
-                &done,
+                done.get(),
             );
         }
     }

@@ -2,13 +2,12 @@
 use Rattle.std.specs.Prelude.{◌≡◌, ℕ, true, List, length}
 use Rattle.std.specs.List.{All}
 use Rattle.sl_layout.specs.declared.actor.Sort.TheVariants.{ToHost, Dump as DumpSort}
-use Rattle.sl_saves.specs.declared.entry.View.{View}
-use Rattle.sl_saves.specs.Keeping.{Listed, list_view}
 use Rattle.sl_saves.specs.Lists.{list_kept, ListHasRoom}
+use Rattle.sl_wire.specs.declared.message.PlainDump.{PlainDump}
 use Rattle.sl_unit.specs.declared.wires.Way.TheVariants.{All as AllOf}
 use Rattle.sl_unit.specs.declared.registers.Registers.{Registers as Declared}
 use Rattle.sl_unit.specs.Wires.{Wires, outs, entrance_at, is_poll, is_crossbar}
-use Rattle.sl_unit.specs.Registers.{Registers}
+use Rattle.sl_unit.specs.Registers.{Registers, dump_of}
 use Rattle.sl_unit.specs.Step.{UnitState}
 
 abbrev pub registers_of : Declared → Registers
@@ -32,13 +31,13 @@ pub record HasFrames (w : Wires) (frames : List (List ℕ)) : Type 0 where
   pub many : length frames ≡ length (outs (AllOf ToHost) w.exits)
   pub sized : All (λ frame. length frame ≡ 24) frames
 
--- there are as many views of what is saved as there are links of dumps
-pub record HasViews (w : Wires) (saved : Listed) (views : List View) : Type 0 where
-  pub many : length views ≡ length (outs (AllOf DumpSort) w.exits)
-  pub shown : All (λ view. view ≡ list_view saved) views
+-- there are as many dumps of the registers as there are links of dumps
+pub record HasDumps (w : Wires) (r : Registers) (dumps : List PlainDump) : Type 0 where
+  pub many : length dumps ≡ length (outs (AllOf DumpSort) w.exits)
+  pub same : All (λ dump. dump ≡ dump_of r) dumps
 
 -- the room for a turn of the choice c
-pub record HasRoom (w : Wires) (r : Declared) (frames : List (List ℕ)) (views : List View) (c : ℕ) : Type 0 where
+pub record HasRoom (w : Wires) (r : Declared) (frames : List (List ℕ)) (dumps : List PlainDump) (c : ℕ) : Type 0 where
   pub saves : ListHasRoom r.saves
   pub frames_are : is_crossbar (entrance_at w c) ≡ true → HasFrames w frames
-  pub views_are : is_poll (entrance_at w c) ≡ true → HasViews w (registers_of r).saved views
+  pub dumps_are : is_poll (entrance_at w c) ≡ true → HasDumps w (registers_of r) dumps

@@ -1,21 +1,17 @@
 // The messages that a unit puts.
 ghost use Rattle.std.specs.Prelude.{◌≡◌, ◌+◌, ◌≤◌, ◌<◌, ◌^◌, ◌++◌, ◌∷◌, [], length, cond, true};
 ghost use Rattle.std.specs.List.{All};
-ghost use Rattle.sl_saves.specs.Keeping.{list_view};
 ghost use Rattle.sl_wire.specs.declared.message.Msg.TheVariants.{Host, Dump};
 ghost use Rattle.sl_wire.specs.Frames.{plain_frame};
 ghost use Rattle.sl_unit.specs.Wires.{outs};
 ghost use Rattle.sl_machine.specs.Machine.{send_all};
 ghost use Rattle.sl_unit.specs.Notes.{message_of};
-ghost use Rattle.sl_unit.specs.Registers.{dump_of};
-ghost use Rattle.sl_unit.specs.Room.{registers_of};
+ghost use Rattle.sl_wire.specs.declared.message.PlainDump.{PlainDump};
 
-use crate::registers::Registers;
 use crate::wires::{Exit, Way};
 use sl_machine::Outputs;
 use sl_net::{Bytes, Packet, Sort};
-use sl_saves::View;
-use sl_wire::{Msg, plain_frame};
+use sl_wire::{Boxed, Msg, PlainDump, plain_frame};
 
 /// A message that can go on several links.
 #[derive(Clone, Copy)]
@@ -112,45 +108,33 @@ pub fn put_frames(exits: &[Exit], packet: &Packet, frames: &mut Vec<Bytes>, out:
     }
 }
 
-/// Puts a dump of the registers on an outgoing link where it goes there.
-fn put_dump_if(
-    out: &mut Outputs<Msg>,
-    goes: bool,
-    link: u32,
-    registers: &Registers,
-    views: &mut Vec<View>,
-)
+/// Puts the last of some dumps on an outgoing link where it goes there.
+fn put_dump_if(out: &mut Outputs<Msg>, goes: bool, link: u32, dumps: &mut Vec<Boxed<PlainDump>>)
     requires room { goes ≡ true → length out.old.items < out.old.room }
-    requires some { goes ≡ true → 0 < length views.old.items }
-    requires shown { All (λ view. view ≡ list_view (registers_of registers.now).saved) views.old.items }
-    ensures items { out.new.items ≡ out.old.items ++ cond goes ((link, Dump (dump_of (registers_of registers.now))) ∷ []) [] }
+    requires some { goes ≡ true → 0 < length dumps.old.items }
+    ensures items { (dump : PlainDump) → All (λ d. d ≡ dump) dumps.old.items → out.new.items ≡ out.old.items ++ cond goes ((link, Dump dump) ∷ []) [] }
     ensures room { out.new.room ≡ out.old.room }
-    ensures left { length views.new.items + cond goes 1 0 ≡ length views.old.items }
-    ensures still { All (λ view. view ≡ list_view (registers_of registers.now).saved) views.new.items }
+    ensures many { length out.new.items ≡ length out.old.items + cond goes 1 0 }
+    ensures left { length dumps.new.items + cond goes 1 0 ≡ length dumps.old.items }
+    ensures still { (dump : PlainDump) → All (λ d. d ≡ dump) dumps.old.items → All (λ d. d ≡ dump) dumps.new.items }
 {
     if goes {
-        if let Some(view) = views.pop() {
-            out.put(link, Msg::Dump(registers.dump_with(view)));
+        if let Some(dump) = dumps.pop() {
+            out.put(link, Msg::Dump(dump));
         }
     }
 }
 
-/// Puts a dump of the registers on each link of dumps.
-pub fn put_dumps(
-    exits: &[Exit],
-    registers: &Registers,
-    views: &mut Vec<View>,
-    out: &mut Outputs<Msg>,
-)
+/// Puts a dump, of some that are the same, on each link of dumps.
+pub fn put_dumps(exits: &[Exit], dumps: &mut Vec<Boxed<PlainDump>>, out: &mut Outputs<Msg>)
     requires few { length exits.now < 2 ^ 32 }
     requires room { length out.old.items + length (outs (Way.All Sort.Dump) exits.now) ≤ out.old.room }
-    requires views { length views.old.items ≡ length (outs (Way.All Sort.Dump) exits.now) }
-    requires shown { All (λ view. view ≡ list_view (registers_of registers.now).saved) views.old.items }
-    ensures items { out.new.items ≡ out.old.items ++ send_all (Dump (dump_of (registers_of registers.now))) (outs (Way.All Sort.Dump) exits.now) }
+    requires dumps { length dumps.old.items ≡ length (outs (Way.All Sort.Dump) exits.now) }
+    ensures items { (dump : PlainDump) → All (λ d. d ≡ dump) dumps.old.items → out.new.items ≡ out.old.items ++ send_all (Dump dump) (outs (Way.All Sort.Dump) exits.now) }
     ensures room { out.new.room ≡ out.old.room }
 {
     for i in 0..exits.len() {
         let goes = exits[i].leads(Way::All(Sort::Dump));
-        put_dump_if(out, goes, i as u32, registers, views);
+        put_dump_if(out, goes, i as u32, dumps);
     }
 }

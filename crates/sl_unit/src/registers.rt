@@ -1,12 +1,11 @@
 // The registers of a unit.
 ghost use Rattle.std.specs.Prelude.{◌≡◌, ◌<◌, ◌≤◌, ◌-◌, ◌^◌, length, IfOk, OnOk};
-ghost use Rattle.sl_saves.specs.Keeping.{list_view};
 ghost use Rattle.sl_saves.specs.Lists.{ListHasRoom, list_window, list_size};
 ghost use Rattle.sl_unit.specs.Registers.{IsChannel, first_registers, last_on, is_near, adopted, credited, seen, counted, after_stamp, after_data, more, dump_of};
 
 use sl_machine::Memory;
 use sl_net::Packet;
-use sl_saves::{ListSaves, Saves, View};
+use sl_saves::{ListSaves, Saves};
 use sl_wire::PlainDump;
 use std::alloc::Global;
 
@@ -198,31 +197,17 @@ impl Registers {
         self.noroute = self.noroute.saturating_add(1);
     }
 
-    /// A view of what is saved.
-    pub fn view(&self) -> Result<View, Memory>
-        ensures { IfOk result (λ view. view ≡ list_view (registers_of self.now).saved) }
-    {
-        self.saves.view()
-    }
-
-    /// The registers as a dump, with a view of what is saved.
-    pub fn dump_with(&self, view: View) -> PlainDump
-        requires { view ≡ list_view (registers_of self.now).saved }
-        ensures { result ≡ dump_of (registers_of self.now) }
-    {
-        PlainDump {
-            id: self.id,
-            cpu: self.cpu,
-            last: self.last,
-            view,
-        }
-    }
-
     /// The registers as a dump.
     pub fn dump(&self) -> Result<PlainDump, Memory>
         ensures { IfOk result (λ dump. dump ≡ dump_of (registers_of self.now)) }
     {
-        Ok(self.dump_with(self.view()?))
+        let view = self.saves.view()?;
+        Ok(PlainDump {
+            id: self.id,
+            cpu: self.cpu,
+            last: self.last,
+            view,
+        })
     }
 
     /// Takes the room that the next adoption needs.

@@ -2,13 +2,13 @@
 ghost use Rattle.std.specs.Prelude.{◌≡◌, ◌<◌, OnOk, IfOk, length};
 ghost use Rattle.std.specs.List.{All};
 ghost use Rattle.sl_unit.specs.Wires.{outs};
-ghost use Rattle.sl_unit.specs.Room.{registers_of, HasFrames, HasViews};
+ghost use Rattle.sl_unit.specs.Room.{registers_of, HasFrames, HasDumps};
 
 use crate::registers::Registers;
 use crate::wires::{Exit, Way, Wires};
 use sl_machine::Memory;
 use sl_net::{Bytes, Sort};
-use sl_saves::View;
+use sl_wire::{Boxed, PlainDump};
 use std::alloc::Global;
 
 /// How many outgoing links a way has.
@@ -49,16 +49,20 @@ pub fn make_frames(wires: &Wires, frames: &mut Vec<Bytes>) -> Result<(), Memory>
     Ok(())
 }
 
-/// Makes views of what is saved, as many as there are links of dumps.
-pub fn make_views(wires: &Wires, registers: &Registers, views: &mut Vec<View>) -> Result<(), Memory>
-    ensures { OnOk result (HasViews wires.now (registers_of registers.now).saved views.new.items) }
+/// Makes dumps of the registers, as many as there are links of dumps.
+pub fn make_dumps(
+    wires: &Wires,
+    registers: &Registers,
+    dumps: &mut Vec<Boxed<PlainDump>>,
+) -> Result<(), Memory>
+    ensures { OnOk result (HasDumps wires.now (registers_of registers.now) dumps.new.items) }
 {
     let count = count_outs(wires.exits(), Way::All(Sort::Dump));
-    views.clear();
+    dumps.clear();
+    let alloc = *dumps.allocator();
     for _i in 0..count {
-        views
-            .push(registers.view()?)
-            .map_err(|_| Memory)?;
+        let dump = Boxed::new(alloc, registers.dump()?).map_err(|_| Memory)?;
+        dumps.push(dump).map_err(|_| Memory)?;
     }
     Ok(())
 }

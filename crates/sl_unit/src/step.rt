@@ -5,7 +5,7 @@ ghost use Rattle.sl_saves.specs.Lists.{ListHasRoom};
 ghost use Rattle.sl_wire.specs.declared.message.Msg.TheVariants.{Host, Data, Probe, Init, Poll, Notice};
 ghost use Rattle.sl_unit.specs.Wires.{outs};
 ghost use Rattle.sl_unit.specs.Step.{routed, passed, probed, initiated, plain_packet, send, take_at};
-ghost use Rattle.sl_unit.specs.Room.{registers_of, state_of, HasFrames, HasViews};
+ghost use Rattle.sl_unit.specs.Room.{registers_of, state_of, HasFrames, HasDumps};
 
 use crate::puts::{Note, put_dumps, put_frames, put_on};
 use crate::registers::{Channel, Registers};
@@ -13,8 +13,7 @@ use crate::wires::{Entrance, Way, Wires};
 use sl_ids::Width;
 use sl_machine::Outputs;
 use sl_net::{Bytes, Packet, Sort};
-use sl_saves::View;
-use sl_wire::{Kind, Msg, decode};
+use sl_wire::{Boxed, Kind, Msg, PlainDump, decode};
 
 /// Puts a notice where the last-seen number of a channel changes.
 fn put_notice(wires: &Wires, before: u64, stamp: u64, out: &mut Outputs<Msg>)
@@ -280,14 +279,14 @@ pub fn take_init(wires: &Wires, registers: &mut Registers, stamp: u64, out: &mut
 pub fn take_poll(
     wires: &Wires,
     registers: &Registers,
-    views: &mut Vec<View>,
+    dumps: &mut Vec<Boxed<PlainDump>>,
     out: &mut Outputs<Msg>,
 )
     requires empty { out.old.items ≡ [] }
     requires room { length wires.now.exits ≤ out.old.room }
-    requires views { HasViews wires.now (registers_of registers.now).saved views.old.items }
+    requires dumps { HasDumps wires.now (registers_of registers.now) dumps.old.items }
     ensures puts { out.new.items ≡ (take_at Entrance.Poll (state_of wires.now registers.now) Poll).puts }
     ensures room { out.new.room ≡ out.old.room }
 {
-    put_dumps(wires.exits(), registers, views, out);
+    put_dumps(wires.exits(), dumps, out);
 }

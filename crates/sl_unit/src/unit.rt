@@ -5,7 +5,7 @@ ghost use Rattle.sl_unit.specs.Room.{HasRoom};
 
 use crate::make::{device_of, list_ports, make_wires};
 use crate::registers::Registers;
-use crate::room::{make_frames, make_views};
+use crate::room::{make_dumps, make_frames};
 use crate::step::{
     take_cable_data, take_cable_probe, take_crossbar_data, take_crossbar_probe, take_frame,
     take_init, take_poll,
@@ -15,8 +15,7 @@ use sl_ids::Width;
 use sl_machine::{Machine, Memory, Outputs};
 use sl_net::{Bytes, Net, Side, Snapshot};
 use sl_route::Routes;
-use sl_saves::View;
-use sl_wire::{Msg, PlainDump};
+use sl_wire::{Boxed, Msg, PlainDump};
 use std::alloc::Global;
 
 /// A processing unit. An ingress unit handles what comes in from the cable or the host of its
@@ -26,10 +25,10 @@ pub struct Unit {
     wires: Wires,
     registers: Registers,
     frames: Vec<Bytes>,
-    views: Vec<View>,
+    dumps: Vec<Boxed<PlainDump>>,
     prepared: Option<u32>,
     ghost sized: { All (λ frame. length frame ≡ 24) frames.items },
-    ghost ready: { (c : ℕ) → prepared ≡ Some c → HasRoom wires registers frames.items views.items c },
+    ghost ready: { (c : ℕ) → prepared ≡ Some c → HasRoom wires registers frames.items dumps.items c },
 }
 
 /// What a unit counted, as far as 64 bits go.
@@ -65,7 +64,7 @@ impl Unit {
             wires,
             registers,
             frames: Vec::new(alloc),
-            views: Vec::new(alloc),
+            dumps: Vec::new(alloc),
             prepared: None,
         })
     }
@@ -173,7 +172,7 @@ impl Machine for Unit {
         self.registers.make_room()?;
         match self.wires.entrance(choice) {
             Entrance::Crossbar { .. } => make_frames(&self.wires, &mut self.frames)?,
-            Entrance::Poll => make_views(&self.wires, &self.registers, &mut self.views)?,
+            Entrance::Poll => make_dumps(&self.wires, &self.registers, &mut self.dumps)?,
             _ => {}
         }
         self.prepared = Some(choice);
@@ -200,7 +199,7 @@ impl Machine for Unit {
                 take_crossbar_probe(wires, registers, channel, own, stamp, out);
             }
             (Entrance::Init, Msg::Init(stamp)) => take_init(wires, registers, stamp, out),
-            (Entrance::Poll, Msg::Poll) => take_poll(wires, registers, &mut self.views, out),
+            (Entrance::Poll, Msg::Poll) => take_poll(wires, registers, &mut self.dumps, out),
             _ => {}
         }
     }

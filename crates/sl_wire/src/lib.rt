@@ -1,11 +1,13 @@
 // What goes over links: frames of 24 bytes, and messages between actors.
 #![tactic(auto)]
 
+mod boxed;
 mod frame;
 mod laws;
 mod message;
 mod reach;
 
+pub use boxed::Boxed;
 pub use frame::{Frame, Header, Kind, WireFault, decode, encode, plain_frame};
 pub use laws::one_frame;
 pub use message::{Done, Dump, Msg, PlainDump, Rows};

@@ -1,4 +1,5 @@
 // Messages between actors, with whole numbers as stamps, and the registers in a dump.
+use crate::boxed::Boxed;
 use sl_ids::Wid;
 use sl_net::{Bytes, Packet};
 use sl_saves::{Saved, View};
@@ -78,9 +79,9 @@ pub enum Msg {
     /// A notice that a last-seen number of a unit has changed, to its control plane.
     Notice,
     /// A unit's registers, to its control plane.
-    Dump(PlainDump),
+    Dump(Boxed<PlainDump>),
     /// The begin of a snapshot, from the observer to a control plane.
     Begin(u64),
     /// A report on a unit, from its control plane to the observer.
-    Done(Done),
+    Done(Boxed<Done>),
 }

@@ -3,5 +3,5 @@ use Rattle.std.specs.Prelude.{cond}
 use Rattle.sl_control.specs.Control.{answer_by}
 use Rattle.sl_control.proofs.units.answer_one.Goals as goal
 
-pub returns-then-read-clause-puts : goal.returns-then-read-clause-puts
-returns-then-read-clause-puts c = c.answer.ensures.puts ∙ ap (λ b. c.args.out.now.items ++ cond b (answer_by c.args.done c.args.dump.now c.args.known.now) []) c.if-read.ensures.read
+pub returns-in-Some-clause-puts : goal.returns-in-Some-clause-puts
+returns-in-Some-clause-puts c = c.answer.ensures.puts ∙ ap (λ b. c.args.out.now.items ++ cond b (answer_by c.args.done c.args.dump.now c.args.known.now) []) c.if-read.ensures.read

@@ -20,5 +20,5 @@ invariant_of-result c =
           (subst (λ (d : ℕ). IsJoined count (outs_of net a Init) d c.in_ok-units_of.field-0.items) (sym c.in_ok-done_of.ensures)
           (subst (λ (rs : List Known). IsJoined count (outs_of net a Init) done rs) (sym c.in_ok-units_of.ensures)
           (joined net a (c.nets_are_wired.ensures net (record { made = c.parts-parts.ensures.net; right = c.parts-parts.ensures.right })))))),
-      record { empty = c.new.ensures.items; room = λ n. search rules },
+      record { empty = c.new.ensures; room = λ n. search rules; report = λ n. search rules },
     )

@@ -10,7 +10,7 @@ pub invariant_of-self-2 : goal.invariant_of-self-2
 invariant_of-self-2 c =
     let s = c.self.inside in (
       subst (λ (rs : List Known). IsJoined s.outs s.inits.items s.done rs) (sym c.ask_all.ensures.units) (asked-joined s.outs s.inits.items s.done None s.units.items c.self.invariant.0),
-      record { empty = c.self.invariant.1.empty; room = λ n. search rules },
+      record { empty = c.self.invariant.1.empty; room = λ n. search rules; report = λ n. search rules },
     )
 
 pub returns-clause-fitting : goal.returns-clause-fitting

@@ -7,5 +7,5 @@ pub returns-clause-puts : goal.returns-clause-puts
 returns-clause-puts c =
     let before = c.args.out.now.items in
     let again = if c.args.self.now.again then (c.args.self.now.wires.poll, Poll) ∷ [] else [] in
-    c.poll_again.ensures.puts ∙ ap (λ ps. ps ++ again) c.put.ensures.items ∙ append_assoc before ((c.args.done, Done c.done_of.result) ∷ []) again
-    ∙ ap (λ d. before ++ (c.args.done, Done d) ∷ again) c.done_of.ensures
+    c.poll_again.ensures.puts ∙ ap (λ ps. ps ++ again) c.put.ensures.items ∙ append_assoc before ((c.args.done, Done c.set.new.self) ∷ []) again
+    ∙ ap (λ d. before ++ (c.args.done, Done d) ∷ again) (c.set.ensures ∙ c.done_of.ensures)

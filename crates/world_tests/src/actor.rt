@@ -1,0 +1,214 @@
+// Actors in a line: a host, two relays and a host.
+ghost use Rattle.std.specs.Prelude.{◌≡◌, ◌+◌, ◌≤◌, IfOk};
+ghost use Rattle.sl_actor.specs.Held.{held};
+ghost use Rattle.world_tests.specs.Plans.{in_line};
+
+use crate::relay::{Relay, link};
+use sl_actor::{Actor, FreeGate, Moved, Rest, make_actors};
+use sl_loss::Loss;
+use sl_machine::{Memory, Wiring};
+use std::alloc::{AllocError, Global};
+use std::sync::Wait;
+use std::test::Fail;
+use std::thread;
+
+fn line_wiring(alloc: Global) -> Result<Wiring, AllocError>
+    ensures { IfOk result (λ w. w ≡ in_line) }
+{
+    Ok(Wiring {
+        links: vec![in alloc; link(0, 1), link(1, 2), link(2, 3)]?,
+        in_counts: vec![in alloc; 0, 1, 1, 1]?,
+        out_counts: vec![in alloc; 1, 1, 1, 0]?,
+        action_counts: vec![in alloc; 1, 0, 0, 0]?,
+    })
+}
+
+/// The first host has three tokens, and the relays' link loses these puts.
+fn actors_in_line(alloc: Global, drops: &[u64]) -> Result<Vec<Actor<Relay>>, Memory> {
+    let loss = Loss::new(alloc, 1, 1, 0, drops)?;
+    let Ok(wiring) = line_wiring(alloc) else {
+        return Err(Memory);
+    };
+    let Ok(machines) = vec![in alloc;
+        Relay::new(0, 1, 1, 3),
+        Relay::new(1, 1, 0, 0),
+        Relay::new(1, 1, 0, 0),
+        Relay::new(1, 0, 0, 0),
+    ] else {
+        return Err(Memory);
+    };
+    let Ok(losses) = vec![in alloc; None, Some(loss), None] else {
+        return Err(Memory);
+    };
+    make_actors(alloc, machines, &wiring, losses, 1)
+}
+
+/// How many choices an actor has.
+fn choices_of(actor: &Actor<Relay>) -> u32
+    ensures { result ≤ (held actor.now).counts.ins + (held actor.now).counts.actions }
+{
+    actor.machine().choices()
+}
+
+/// One turn by each choice of an actor. Whether anything moved.
+fn turns_of<R: Wait>(rt: &R, actor: &mut Actor<Relay>) -> Result<bool, Memory> {
+    let mut moved = false;
+    let choices = choices_of(actor);
+    for choice in 0..choices {
+        if actor.turn(rt, choice)? != Moved::Idle {
+            moved = true;
+        }
+    }
+    Ok(moved)
+}
+
+/// How often one turn by each choice of the first actor moves something, until it does not.
+fn moves_of_first<R: Wait>(rt: &R, actors: &mut Vec<Actor<Relay>>) -> Result<u32, Memory> {
+    if let Some(host) = actors.first_mut() {
+        for moves in 0..10 {
+            if !turns_of(rt, host)? {
+                return Ok(moves);
+            }
+        }
+    }
+    Ok(10)
+}
+
+/// One turn by each choice of each actor. Whether anything moved.
+fn pass<R: Wait>(rt: &R, actors: &mut Vec<Actor<Relay>>) -> Result<bool, Memory> {
+    let mut moved = false;
+    for i in 0..actors.len() {
+        let actor = &mut actors[i];
+        if turns_of(rt, actor)? {
+            moved = true;
+        }
+    }
+    Ok(moved)
+}
+
+/// Passes until nothing moves any more.
+fn settle<R: Wait>(rt: &R, actors: &mut Vec<Actor<Relay>>) -> Result<(), Memory> {
+    for _ in 0..100 {
+        if !pass(rt, actors)? {
+            break;
+        }
+    }
+    Ok(())
+}
+
+/// Whether just so many tokens came to each actor.
+fn have_seen(actors: &[Actor<Relay>], seen: &[u32]) -> bool {
+    let each = actors.iter().zip(seen).all(|(a, n)| a.machine().seen == *n);
+    each && actors.len() == seen.len()
+}
+
+/// How many puts the links of actors lost; `None` where a message waits in an outbox.
+fn lost_by(actors: Vec<Actor<Relay>>) -> Option<u64> {
+    let mut lost = 0;
+    for actor in actors {
+        for out in actor.into_parts().outs {
+            if !out.outbox.is_empty() {
+                return None;
+            }
+            lost = u64::saturating_add(lost, out.lost);
+        }
+    }
+    Some(lost)
+}
+
+/// Runs an actor over all its choices.
+fn run_all<R: Wait>(
+    rt: &R,
+    alloc: Global,
+    actor: &mut Actor<Relay>,
+    steps: u64,
+) -> Result<Rest, Memory> {
+    let mut plan = Vec::new(alloc);
+    let choices = choices_of(actor);
+    for choice in 0..choices {
+        if plan.push(choice).is_err() {
+            return Err(Memory);
+        }
+    }
+    actor.run(rt, plan.as_slice(), steps, 2, &FreeGate)
+}
+
+/// Runs of the first host: their steps, and how they end.
+static RUNS: [(u64, Rest); 3] = [(2, Rest::Spent), (2, Rest::Rested), (0, Rest::Spent)];
+
+fn runs() -> &'static [(u64, Rest)] {
+    &RUNS
+}
+
+/// The place of the first run that went wrong.
+fn first_wrong<R: Wait>(
+    rt: &R,
+    alloc: Global,
+    actor: &mut Actor<Relay>,
+    runs: &[(u64, Rest)],
+) -> Result<Option<usize>, Memory> {
+    for i in 0..runs.len() {
+        let (steps, rest) = runs[i];
+        if run_all(rt, alloc, actor, steps)? != rest {
+            return Ok(Some(i));
+        }
+    }
+    Ok(None)
+}
+
+#[test]
+fn an_actor_rests(rt: HostRuntime) -> Result<(), Fail> {
+    let alloc = rt.alloc();
+    let mut actors = actors_in_line(alloc, &[])?;
+    let Some(host) = actors.first_mut() else {
+        return Err("no actor".into());
+    };
+    assert_eq!(rt; first_wrong(&rt, alloc, host, runs())?, None);
+    assert_eq!(rt; host.log(), [(1, 0), (2, 0), (3, 0)].as_slice());
+    Ok(())
+}
+
+fn run_one<R: Wait>(rt: &R, alloc: Global, mut actor: Actor<Relay>) -> Actor<Relay> {
+    let _ = run_all(rt, alloc, &mut actor, 1000);
+    actor
+}
+
+/// Each actor runs in a thread of its own; what is then still on its way is delivered by turns.
+#[test]
+fn a_thread_for_each(rt: HostRuntime) -> Result<(), Fail> {
+    let alloc = rt.alloc();
+    let actors = actors_in_line(alloc, &[])?;
+    let mut actors = thread::map_vec(&rt, actors, &|actor| run_one(&rt, alloc, actor))?;
+    settle(&rt, &mut actors)?;
+    assert!(rt; have_seen(actors.as_slice(), &[0, 3, 3, 3]));
+    Ok(())
+}
+
+/// The puts that the relays' link loses, and how many tokens come to each actor.
+static CASES: [(&[u64], [u32; 4]); 3] = [
+    (&[], [0, 3, 3, 3]),
+    (&[2], [0, 3, 2, 2]),
+    (&[1, 2, 3], [0, 3, 0, 0]),
+];
+
+fn cases() -> &'static [(&'static [u64], [u32; 4])] {
+    &CASES
+}
+
+/// Whether the first actor makes three moves, these many tokens come to each actor, and each put
+/// that is to be lost is lost.
+fn delivers<R: Wait>(rt: &R, alloc: Global, drops: &[u64], seen: &[u32]) -> Result<bool, Memory> {
+    let mut actors = actors_in_line(alloc, drops)?;
+    let moves = moves_of_first(rt, &mut actors)?;
+    settle(rt, &mut actors)?;
+    let came = have_seen(actors.as_slice(), seen);
+    Ok(moves == 3 && came && lost_by(actors) == Some(drops.len() as u64))
+}
+
+#[test]
+fn packets_are_delivered(rt: HostRuntime) -> Result<(), Fail> {
+    for (drops, seen) in cases() {
+        assert!(rt; delivers(&rt, rt.alloc(), drops, seen.as_slice())?);
+    }
+    Ok(())
+}

@@ -1,0 +1,11 @@
+// Tests of links, actors and worlds, by what their crates make public.
+#![tactic(auto)]
+
+#[cfg(test)]
+mod actor;
+#[cfg(test)]
+mod link;
+#[cfg(test)]
+mod relay;
+#[cfg(test)]
+mod world;

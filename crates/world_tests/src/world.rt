@@ -105,6 +105,17 @@ fn lost(world: &World<Relay>) -> (u64, u64)
     (world.lost(0), world.lost(1))
 }
 
+/// The places of the first turns that went wrong, before the run of a schedule and after it.
+fn play(world: &mut World<Relay>) -> Result<(Option<usize>, Option<usize>), Fail>
+    requires { (scene world.old).plan ≡ ring }
+    ensures { (scene world.new).plan ≡ ring }
+{
+    let before = first_wrong(world, turns_before())?;
+    run_three(world)?;
+    let after = first_wrong(world, turns_after())?;
+    Ok((before, after))
+}
+
 /// Whether the entries of a book have just these numbers.
 fn has_numbers(book: &Book, numbers: &[u64]) -> bool {
     let each = book
@@ -115,18 +126,22 @@ fn has_numbers(book: &Book, numbers: &[u64]) -> bool {
     each && book.entries.len() == numbers.len()
 }
 
+/// Whether both machines saw a token with one hop last, and five turns are in the book.
+fn ends_right(world: World<Relay>) -> bool {
+    let (machines, book) = world.into_book();
+    let each = machines.iter().all(|m| m.last == 1);
+    each && machines.len() == 2 && has_numbers(&book, &[1, 2, 3, 4, 5])
+}
+
 #[test]
 fn tokens_go_round(rt: HostRuntime) -> Result<(), Fail> {
     let mut world = ring_world(rt.alloc())?;
-    assert_eq!(rt; first_wrong(&mut world, turns_before())?, None);
-    run_three(&mut world)?;
-    assert_eq!(rt; first_wrong(&mut world, turns_after())?, None);
-    assert_eq!(rt; lost(&world), (1, 0));
-    assert_eq!(rt; world.book().entries.len(), 5);
-    let (machines, book) = world.into_book();
-    let last: Vec<u32> = machines.iter().map(|m| m.last).collect(rt.alloc())?;
-    assert_eq!(rt; last.as_slice(), [1, 1].as_slice());
-    assert!(rt; has_numbers(&book, &[1, 2, 3, 4, 5]));
+    let wrong = play(&mut world)?;
+    let lost = lost(&world);
+    let noted = world.book().entries.len();
+    let right = ends_right(world);
+    assert_eq!(rt; wrong, (None, None));
+    assert_eq!(rt; (lost, noted, right), ((1, 0), 5, true));
     Ok(())
 }
 
@@ -185,12 +200,21 @@ fn last_after_take(world: &mut World<Relay>) -> Result<Option<u32>, Fail>
     }
 }
 
+/// Whether the lost puts are known, actor 0 takes the first message, and the book goes on.
+fn goes_on(world: &mut World<Relay>) -> Result<bool, Fail>
+    requires plan { (scene world.old).plan ≡ ring }
+    requires states { length (scene world.old).states ≡ 2 }
+{
+    let lost = lost(world);
+    let last = last_after_take(world)?;
+    Ok(lost == (7, 0) && last == Some(4) && has_numbers(world.book(), &[1, 2]))
+}
+
 #[test]
 fn a_world_goes_on(rt: HostRuntime) -> Result<(), Fail> {
-    let alloc = rt.alloc();
-    let mut world = ring_later(alloc, vec![in alloc; 4, 3]?)?;
-    assert_eq!(rt; lost(&world), (7, 0));
-    assert_eq!(rt; last_after_take(&mut world)?, Some(4));
-    assert!(rt; has_numbers(world.book(), &[1, 2]));
+    let rest = vec![in rt.alloc(); 4, 3]?;
+    let mut world = ring_later(rt.alloc(), rest)?;
+    let right = goes_on(&mut world)?;
+    assert!(rt; right);
     Ok(())
 }

@@ -16,6 +16,3 @@ pub use make::make_actors;
 pub use moved::Moved;
 pub use part::OutPart;
 pub use run::{FreeGate, Gate, Rest};
-
-#[cfg(test)]
-mod tests;

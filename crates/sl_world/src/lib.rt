@@ -13,6 +13,3 @@ mod world;
 
 pub use laws::every_schedule;
 pub use world::{Turn, World};
-
-#[cfg(test)]
-mod tests;

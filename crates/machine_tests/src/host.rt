@@ -1,0 +1,141 @@
+// The host of a device with one port.
+ghost use Rattle.std.specs.Prelude.{IfOk};
+ghost use Rattle.std.specs.List.{All};
+ghost use Rattle.sl_flow.specs.Flow.{HasAddresses};
+
+use crate::bench::Bench;
+use crate::nets::{net, sent};
+use sl_host::Host;
+use sl_net::{Bytes, Flow, Input, LossSpec, RawPart, Snapshot};
+use sl_wire::Msg;
+use std::alloc::{AllocError, Global};
+use std::test::Fail;
+
+fn raw(alloc: Global, from: u32, byte: u8) -> Result<RawPart, AllocError> {
+    let items = Vec::from_slice(alloc, &[byte, 7])?;
+    Ok(RawPart {
+        from,
+        bytes: Bytes { items },
+    })
+}
+
+/// Raw frames of the host and of another.
+fn raws(alloc: Global) -> Result<Vec<RawPart>, AllocError> {
+    let mut raws = Vec::new(alloc);
+    for (from, byte) in [(0, 1), (1, 2), (0, 3)] {
+        raws.push(raw(alloc, from, byte)?)?;
+    }
+    Ok(raws)
+}
+
+/// Two packets of the host to itself, and raw frames.
+fn input(alloc: Global) -> Result<Input, Fail>
+    ensures { IfOk result (λ i. All HasAddresses i.flows) }
+{
+    let flow = Flow {
+        from: 0,
+        to: 0,
+        count: 2,
+        bytes: 100,
+        hops: 8,
+    };
+    let flows = Vec::from_slice(alloc, &[flow])?;
+    let raws = raws(alloc)?;
+    let net = net(alloc, 1)?;
+    Ok(Input {
+        net,
+        snapshot: Snapshot {
+            width: 2,
+            window: 3,
+            ring: 3,
+            count: 1,
+            retries: 0,
+        },
+        loss: LossSpec {
+            seed: 0,
+            cable: 0,
+            crossbar: 0,
+            init: 0,
+            notice: 0,
+            drops: Vec::new(alloc),
+        },
+        flows,
+        raws,
+        script: Vec::new(alloc),
+    })
+}
+
+/// The first host of an input.
+fn host_of(alloc: Global, input: &Input) -> Result<Bench<Host>, Fail>
+    requires { All HasAddresses input.now.flows }
+{
+    Ok(Bench {
+        machine: sent(Host::new(alloc, 0, input)?),
+        ins: 1,
+        outs: 1,
+        actions: 1,
+    })
+}
+
+fn host(alloc: Global) -> Result<Bench<Host>, Fail> {
+    let input = input(alloc)?;
+    host_of(alloc, &input)
+}
+
+/// The frame that the host sends next, where it sends one.
+fn next_frame(alloc: Global, host: &mut Bench<Host>) -> Result<Option<Bytes>, Fail> {
+    match host.act(alloc, 1)? {
+        None => Ok(None),
+        Some(mut out) => match out.take_first() {
+            Some((0, Msg::Host(frame))) => Ok(Some(frame)),
+            _ => Err("no frame".into()),
+        },
+    }
+}
+
+static FRAMES: [&[u8]; 4] = [
+    b"\0\0\0\0\0\0\0\0\0\0\0\0\0d\x08\x01\0\0\0\0\0\0\0\0",
+    b"\0\0\0\0\0\0\0\0\0\0\0\x01\0d\x08\x01\0\0\0\0\0\0\0\0",
+    b"\x01\x07",
+    b"\x03\x07",
+];
+
+fn frames() -> &'static [&'static [u8]] {
+    &FRAMES
+}
+
+/// The place of the first frame that is sent otherwise, or the number of frames.
+fn first_wrong(alloc: Global, host: &mut Bench<Host>, frames: &[&[u8]]) -> Result<usize, Fail> {
+    for place in 0..frames.len() {
+        match next_frame(alloc, host)? {
+            Some(frame) if frame.items.as_slice() == frames[place] => {}
+            _ => return Ok(place),
+        }
+    }
+    Ok(frames.len())
+}
+
+#[test]
+fn packets_then_raw_frames(rt: HostRuntime) -> Result<(), Fail> {
+    let mut host = host(rt.alloc())?;
+    assert_eq!(rt; first_wrong(rt.alloc(), &mut host, frames())?, 4);
+    assert!(rt; next_frame(rt.alloc(), &mut host)?.is_none());
+    assert_eq!(rt; host.machine.sent(), 4);
+    Ok(())
+}
+
+/// How many frames the host has taken after this message.
+fn taken(alloc: Global, host: &mut Bench<Host>, m: Msg) -> Result<u64, Fail> {
+    host.take(alloc, 0, m)?;
+    Ok(host.machine.delivered())
+}
+
+#[test]
+fn frames_are_counted(rt: HostRuntime) -> Result<(), Fail> {
+    let mut host = host(rt.alloc())?;
+    let frame = raw(rt.alloc(), 0, 5)?.bytes;
+    let first = taken(rt.alloc(), &mut host, Msg::Host(frame))?;
+    let second = taken(rt.alloc(), &mut host, Msg::Poll)?;
+    assert_eq!(rt; (first, second), (1, 1));
+    Ok(())
+}

@@ -1,0 +1,139 @@
+// The messages that turns take and put.
+use sl_machine::{Memory, Outputs};
+use sl_net::{Bytes, Packet};
+use sl_saves::{ListSaves, Saved, Saves, View};
+use sl_wire::{Done, Msg, PlainDump, Rows, plain_frame};
+use std::alloc::{AllocError, Global};
+use std::test::Fail;
+
+/// What happens in a turn: an action, or a message comes.
+#[derive(Clone, Copy)]
+pub enum Event {
+    /// The action of the choice.
+    Act,
+    Begin(u64),
+    Notice,
+    Poll,
+    Probe(u64),
+    /// A packet to the host 1 with this stamp.
+    Data(u64),
+    /// The plain frame of a packet with this destination and hop limit, its byte at a place
+    /// changed by so much.
+    Frame(u16, u8, usize, u8),
+    /// A dump of this id, with the last-seen id of the control plane and those of the channels.
+    Dump(u64, u64, u64),
+    /// A report on a unit, with rows from one number to another, the number that it has reached.
+    Done(u32, u64, u64),
+}
+
+/// A packet of 100 bytes.
+fn packet(dst: u16, hops: u8) -> Packet {
+    Packet {
+        src: 0,
+        dst,
+        seq: 0,
+        len: 100,
+        hops,
+    }
+}
+
+fn frame(alloc: Global, packet: &Packet, place: usize, more: u8) -> Result<Bytes, AllocError> {
+    let mut bytes = plain_frame(packet).bytes;
+    if place < 24 {
+        bytes[place] = bytes[place].wrapping_add(more);
+    }
+    Ok(Bytes {
+        items: Vec::from_slice(alloc, &bytes)?,
+    })
+}
+
+/// A view of three slots of a unit that went from 0 to a number in one step.
+fn view_at(alloc: Global, id: u64) -> Result<View, Memory> {
+    let mut saves = ListSaves::new(alloc, 3, 3)?;
+    saves.ready()?;
+    if id >= 1 && id <= 3 {
+        saves.adopt(id as u16, 5, 500);
+    }
+    saves.view()
+}
+
+fn dump(alloc: Global, id: u64, cpu: u64, seen: u64) -> Result<PlainDump, Memory> {
+    Ok(PlainDump {
+        id,
+        cpu,
+        last: [seen; 8],
+        view: view_at(alloc, id)?,
+    })
+}
+
+/// A report that a unit has reached a number, with rows up to it.
+pub fn report(alloc: Global, unit: u32, first: u64, reached: u64) -> Result<Done, AllocError> {
+    let mut items = Vec::new(alloc);
+    for number in first..reached.saturating_add(1) {
+        items.push((number, Saved::Skipped { to: number }))?;
+    }
+    let mut last = [0; 8];
+    last[0] = reached;
+    Ok(Done {
+        unit,
+        id: reached,
+        last,
+        floor: reached,
+        rows: Rows { items },
+    })
+}
+
+/// The message that comes, where one does.
+pub fn message(alloc: Global, event: Event) -> Result<Option<Msg>, Fail> {
+    Ok(match event {
+        Event::Act => None,
+        Event::Begin(number) => Some(Msg::Begin(number)),
+        Event::Notice => Some(Msg::Notice),
+        Event::Poll => Some(Msg::Poll),
+        Event::Probe(stamp) => Some(Msg::Probe(stamp)),
+        Event::Data(stamp) => Some(Msg::Data(stamp, packet(1, 8))),
+        Event::Frame(dst, hops, place, more) => {
+            Some(Msg::Host(frame(alloc, &packet(dst, hops), place, more)?))
+        }
+        Event::Dump(id, cpu, seen) => Some(Msg::Dump(dump(alloc, id, cpu, seen)?)),
+        Event::Done(unit, first, reached) => {
+            Some(Msg::Done(report(alloc, unit, first, reached)?))
+        }
+    })
+}
+
+/// A report as a number from 1000 on: 1000 times the unit and 1, 100 times its rows, ten times its
+/// floor, and its first last-seen id.
+fn coded_report(done: &Done) -> u64 {
+    u64::from(done.unit)
+        .wrapping_add(1)
+        .wrapping_mul(1000)
+        .wrapping_add((done.rows.items.len() as u64).wrapping_mul(100))
+        .wrapping_add(done.floor.wrapping_mul(10))
+        .wrapping_add(done.last[0])
+}
+
+/// A message as a number below 10,000: its number or stamp, after a digit for its kind.
+fn coded(m: &Msg) -> u64 {
+    match m {
+        Msg::Poll => 1,
+        Msg::Notice => 2,
+        Msg::Host(_) => 3,
+        Msg::Dump(_) => 4,
+        Msg::Init(number) => number.wrapping_add(100),
+        Msg::Begin(number) => number.wrapping_add(200),
+        Msg::Probe(stamp) => stamp.wrapping_add(300),
+        Msg::Data(stamp, _) => stamp.wrapping_add(400),
+        Msg::Done(done) => coded_report(done),
+    }
+}
+
+/// The puts of a turn, five digits each: the link, and the message.
+pub fn all_coded(out: &Outputs<Msg>) -> u64 {
+    let mut code: u64 = 0;
+    for (link, m) in out.items() {
+        let put = u64::from(*link).wrapping_mul(10_000).wrapping_add(coded(m));
+        code = code.wrapping_mul(100_000).wrapping_add(put);
+    }
+    code
+}

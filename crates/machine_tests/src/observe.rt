@@ -1,0 +1,141 @@
+// The observer of a device with one port, which has two units.
+ghost use Rattle.std.specs.Prelude.{◌≡◌, length};
+
+use crate::bench::{Bench, IDLE, Turn, first_wrong};
+use crate::messages::Event::{Act, Done};
+use crate::messages::report;
+use crate::nets::{net, sent};
+use sl_net::{Net, Snapshot};
+use sl_observe::Observer;
+use sl_saves::Saved;
+use sl_wire::Msg;
+use std::alloc::Global;
+use std::test::Fail;
+
+/// An observer, with the number of its units.
+#[derive(Drop)]
+struct Collector {
+    bench: Bench<Observer>,
+    units: usize,
+    ghost units_are: { length bench.machine.state.units ≡ units },
+}
+
+impl Collector {
+    /// Takes a report on a unit with rows from one number to another.
+    fn hear(&mut self, alloc: Global, unit: u32, first: u64, reached: u64) -> Result<(), Fail> {
+        let done = report(alloc, unit, first, reached)?;
+        self.bench.take(alloc, 0, Msg::Done(done))?;
+        Ok(())
+    }
+
+    fn saved(&self, unit: u32, k: u64) -> Option<Saved> {
+        if (unit as usize) < self.units {
+            self.bench.machine.saved(unit, k).copied()
+        } else {
+            None
+        }
+    }
+
+    /// The id of a unit by the last report on it.
+    fn id(&self, unit: u32) -> Option<u64> {
+        if (unit as usize) < self.units {
+            Some(self.bench.machine.seen(unit).id)
+        } else {
+            None
+        }
+    }
+}
+
+/// The observer of a net, for three snapshots in a window of two, with one retry.
+fn collector_of(alloc: Global, net: &Net) -> Result<Collector, Fail> {
+    if net.actors().is_empty() {
+        return Err("no actor".into());
+    }
+    let snapshot = Snapshot {
+        width: 2,
+        window: 2,
+        ring: 3,
+        count: 3,
+        retries: 1,
+    };
+    let ins = net.links_into(0).len() as u32;
+    let outs = net.links_from(0).len() as u32;
+    let units = net.units().len();
+    let bench = Bench {
+        machine: sent(Observer::new(alloc, net, &snapshot)?),
+        ins,
+        outs,
+        actions: 2,
+    };
+    Ok(Collector { bench, units })
+}
+
+fn make_collector(alloc: Global) -> Result<Collector, Fail> {
+    let net = net(alloc, 1)?;
+    collector_of(alloc, &net)
+}
+
+/// The choice by which the observer issues the next snapshot.
+const ISSUE: u32 = 1;
+
+/// The choice by which it begins the last one again.
+const RESEND: u32 = 2;
+
+static TURNS: [Turn; 9] = [
+    (ISSUE, Act, 00201),
+    (ISSUE, Act, 00202),
+    (ISSUE, Act, IDLE),
+    (RESEND, Act, 00202),
+    (RESEND, Act, IDLE),
+    (0, Done(0, 1, 1), 0),
+    (ISSUE, Act, IDLE),
+    (0, Done(1, 1, 1), 0),
+    (ISSUE, Act, 00203),
+];
+
+fn turns() -> &'static [Turn] {
+    &TURNS
+}
+
+#[test]
+fn window_and_retries(rt: HostRuntime) -> Result<(), Fail> {
+    let mut bench = make_collector(rt.alloc())?.bench;
+    assert_eq!(rt; first_wrong(rt.alloc(), &mut bench, turns())?, None);
+    let observer = bench.machine;
+    assert_eq!(rt;
+        (observer.floor(), observer.issued(), observer.resent()),
+        (1, 3, 1)
+    );
+    Ok(())
+}
+
+/// The place of the first report on the unit 1, by its first row and its last, after which the id
+/// of the unit is not the one wanted.
+fn first_wrong_id(
+    alloc: Global,
+    collector: &mut Collector,
+    reports: &[(u64, u64, u64)],
+) -> Result<Option<usize>, Fail> {
+    for place in 0..reports.len() {
+        let (first, reached, id) = reports[place];
+        collector.hear(alloc, 1, first, reached)?;
+        if collector.id(1) != Some(id) {
+            return Ok(Some(place));
+        }
+    }
+    Ok(None)
+}
+
+#[test]
+fn rows_without_a_gap(rt: HostRuntime) -> Result<(), Fail> {
+    let mut collector = make_collector(rt.alloc())?;
+    let reports = [(1, 2, 2), (4, 4, 2), (3, 3, 3)];
+    assert_eq!(rt; first_wrong_id(rt.alloc(), &mut collector, &reports)?, None);
+    let saved = (
+        collector.saved(1, 0),
+        collector.saved(1, 3),
+        collector.saved(1, 4),
+    );
+    assert_eq!(rt; saved, (None, Some(Saved::Skipped { to: 3 }), None));
+    Ok(())
+}

@@ -1,0 +1,177 @@
+// Units of a device with two ports.
+ghost use Rattle.std.specs.Prelude.{◌≡◌, ◌<◌, IfOk, length, slice_index};
+ghost use Rattle.sl_net.specs.Net.{units, links_into, links_from};
+ghost use Rattle.sl_unit.specs.Made.{IsRanged};
+ghost use Rattle.sl_unit.specs.Units.{unit_counts};
+
+use crate::bench::{Bench, Turn, first_wrong};
+use crate::messages::Event::{Data, Frame, Probe};
+use crate::nets::net;
+use sl_machine::Memory;
+use sl_net::{Net, Side, Snapshot};
+use sl_route::Routes;
+use sl_saves::{Saved, View, read_saved, try_read_saved};
+use sl_unit::{Unit, UnitCounts, unit_side};
+use sl_wire::{Msg, PlainDump};
+use std::alloc::Global;
+use std::test::Fail;
+
+/// A window of two and a ring of two slots.
+fn snapshot() -> Snapshot
+    ensures { IsRanged result }
+{
+    Snapshot {
+        width: 2,
+        window: 2,
+        ring: 2,
+        count: 2,
+        retries: 0,
+    }
+}
+
+/// The unit at a place of a net.
+fn unit_of(alloc: Global, net: &Net, place: u32) -> Result<Unit, Memory>
+    requires { place < length (units net.now) }
+    ensures { IfOk result (λ unit. let a = slice_index (units net.now) place in
+        unit_counts unit ≡ record { ins = length (links_into net.now a); outs = length (links_from net.now a); actions = 0 }) }
+{
+    match unit_side(net, place) {
+        Side::Ingress => {
+            let routes = Routes::make(alloc, net)?;
+            Unit::ingress(alloc, net, &routes, place, &snapshot())
+        }
+        Side::Egress => Unit::egress(alloc, net, place, &snapshot()),
+    }
+}
+
+/// The unit at a place of a net, with its links.
+fn joined(alloc: Global, net: &Net, place: u32) -> Result<Bench<Unit>, Fail> {
+    if place as usize >= net.units().len() {
+        return Err("no such unit".into());
+    }
+    let actor = net.unit_actor(place);
+    let ins = net.links_into(actor).len() as u32;
+    let outs = net.links_from(actor).len() as u32;
+    Ok(Bench {
+        machine: unit_of(alloc, net, place)?,
+        ins,
+        outs,
+        actions: 0,
+    })
+}
+
+/// The unit at a place: `in a.0`, `out a.0`, `in a.1`, `out a.1`.
+fn unit(alloc: Global, place: u32) -> Result<Bench<Unit>, Fail> {
+    let net = net(alloc, 2)?;
+    joined(alloc, &net, place)
+}
+
+/// The dump with which a unit answers a poll by its last choice.
+fn polled(alloc: Global, unit: &mut Bench<Unit>) -> Result<PlainDump, Fail> {
+    let mut out = unit.take(alloc, 2, Msg::Poll)?;
+    match out.take_first() {
+        Some((_, Msg::Dump(dump))) => Ok(dump),
+        _ => Err("no dump".into()),
+    }
+}
+
+/// What a view at the number `id` says of `k`.
+fn saved(view: &View, id: u64, k: u64) -> Option<Saved> {
+    let slots = view.slots.items.len() as u64;
+    if k < 1 || k > id || id - k >= slots || u64::from(view.at) >= slots {
+        return None;
+    }
+    let tried = try_read_saved(view, id, k);
+    if tried.is_some() {
+        return Some(read_saved(view, id, k));
+    }
+    None
+}
+
+/// Turns of `out a.1`: a packet comes after its id has passed on.
+static LATE: [Turn; 3] = [
+    (1, Probe(1), 00002),
+    (1, Probe(2), 00002),
+    (0, Data(0), 20003),
+];
+
+fn late() -> &'static [Turn] {
+    &LATE
+}
+
+#[test]
+fn late_packet(rt: HostRuntime) -> Result<(), Fail> {
+    let alloc = rt.alloc();
+    let mut unit = unit(alloc, 3)?;
+    assert_eq!(rt; first_wrong(alloc, &mut unit, late())?, None);
+    let dump = polled(alloc, &mut unit)?;
+    let first = saved(&dump.view, 2, 1);
+    let late = Saved::Miscredited { by: 2, reach: 2 };
+    assert_eq!(rt;
+        (dump.id, dump.last[0], dump.last[1], first),
+        (2, 0, 2, Some(late))
+    );
+    Ok(())
+}
+
+/// Whether the registers of a unit are zeros, with a view of two slots in which nothing is saved.
+fn is_blank(dump: &PlainDump) -> bool {
+    dump.id == 0
+        && dump.cpu == 0
+        && dump.view.at == 0
+        && dump.last.iter().all(|last| *last == 0)
+        && dump.view.slots.items.len() == 2
+        && dump.view.slots.items.iter().all(|slot| slot.back == 0)
+}
+
+/// Whether a new unit has blank registers.
+fn is_new(alloc: Global, place: u32) -> Result<bool, Fail> {
+    let none = UnitCounts {
+        packets: 0,
+        bytes: 0,
+        bad: 0,
+        expired: 0,
+        noroute: 0,
+    };
+    let unit = unit(alloc, place)?.machine;
+    Ok(is_blank(&unit.dump()?) && unit.counts() == none)
+}
+
+#[test]
+fn new_registers(rt: HostRuntime) -> Result<(), Fail> {
+    for place in 0..4 {
+        assert!(rt; is_new(rt.alloc(), place)?);
+    }
+    Ok(())
+}
+
+/// Turns of `in a.0`, to whose host frames come.
+static FRAMES: [Turn; 7] = [
+    (0, Frame(1, 8, 0, 0), 30400),
+    (0, Frame(0, 1, 0, 0), 20400),
+    (0, Frame(1, 0, 0, 0), 0),
+    (0, Frame(9, 8, 0, 0), 0),
+    (0, Frame(1, 8, 16, 1), 0),
+    (0, Frame(1, 8, 0, 2), 0),
+    (0, Frame(9, 0, 0, 0), 0),
+];
+
+fn frames() -> &'static [Turn] {
+    &FRAMES
+}
+
+#[test]
+fn frames_of_the_host(rt: HostRuntime) -> Result<(), Fail> {
+    let alloc = rt.alloc();
+    let mut unit = unit(alloc, 0)?;
+    assert_eq!(rt; first_wrong(alloc, &mut unit, frames())?, None);
+    let counts = UnitCounts {
+        packets: 5,
+        bytes: 500,
+        bad: 2,
+        expired: 2,
+        noroute: 1,
+    };
+    assert_eq!(rt; unit.machine.counts(), counts);
+    Ok(())
+}

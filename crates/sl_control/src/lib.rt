@@ -6,8 +6,6 @@ mod blanks;
 mod control;
 mod known;
 mod rows;
-#[cfg(test)]
-mod tests;
 mod units;
 mod wires;
 

@@ -7,6 +7,3 @@ mod laws;
 
 pub use host::Host;
 pub use laws::frames_are_sent_in_order;
-
-#[cfg(test)]
-mod tests;

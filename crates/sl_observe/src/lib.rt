@@ -11,6 +11,3 @@ mod units;
 pub use laws::{begins_take_all_links, issues_are_bounded, rows_come_in_reports, rows_stay};
 pub use observer::Observer;
 pub use unit::Seen;
-
-#[cfg(test)]
-mod tests;

@@ -13,6 +13,3 @@ mod wires;
 
 pub use laws::{unit_side, ways_are_links};
 pub use unit::{Unit, UnitCounts};
-
-#[cfg(test)]
-mod tests;

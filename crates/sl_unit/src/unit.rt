@@ -132,25 +132,6 @@ impl Unit {
     }
 }
 
-#[cfg(test)]
-impl Unit {
-    ghost use Rattle.sl_unit.specs.Units.{unit_counts};
-
-    /// How many incoming links it has.
-    pub fn ins(&self) -> usize
-        ensures { result ≡ (unit_counts self.now).ins }
-    {
-        self.wires.entrance_count()
-    }
-
-    /// How many outgoing links it has.
-    pub fn outs(&self) -> u32
-        ensures { result ≡ (unit_counts self.now).outs }
-    {
-        self.wires.exits().len() as u32
-    }
-}
-
 impl Machine for Unit {
     ghost use Rattle.sl_unit.specs.Step.{UnitState, unit_rules};
     ghost use Rattle.sl_unit.specs.Units.{unit_state, unit_counts, unit_ready};

@@ -108,14 +108,6 @@ impl Wires {
         }
     }
 
-    /// How many choices there are.
-    #[cfg(test)]
-    pub fn entrance_count(&self) -> usize
-        ensures { result ≡ length self.now.entrances }
-    {
-        self.entrances.len()
-    }
-
     /// The outgoing links.
     pub fn exits(&self) -> &[Exit]
         ensures now { result.now ≡ self.now.exits }

@@ -2,7 +2,7 @@
 use sl_machine::{Memory, Outputs};
 use sl_net::{Bytes, Packet};
 use sl_saves::{ListSaves, Saved, Saves, View};
-use sl_wire::{Done, Msg, PlainDump, Rows, plain_frame};
+use sl_wire::{Boxed, Done, Msg, PlainDump, Rows, plain_frame};
 use std::alloc::{AllocError, Global};
 use std::test::Fail;
 
@@ -57,30 +57,37 @@ fn view_at(alloc: Global, id: u64) -> Result<View, Memory> {
     saves.view()
 }
 
-fn dump(alloc: Global, id: u64, cpu: u64, seen: u64) -> Result<PlainDump, Memory> {
-    Ok(PlainDump {
+fn dump(alloc: Global, id: u64, cpu: u64, seen: u64) -> Result<Boxed<PlainDump>, Memory> {
+    let dump = PlainDump {
         id,
         cpu,
         last: [seen; 8],
         view: view_at(alloc, id)?,
-    })
+    };
+    Boxed::new(alloc, dump).map_err(|_| Memory)
 }
 
 /// A report that a unit has reached a number, with rows up to it.
-pub fn report(alloc: Global, unit: u32, first: u64, reached: u64) -> Result<Done, AllocError> {
+pub fn report(
+    alloc: Global,
+    unit: u32,
+    first: u64,
+    reached: u64,
+) -> Result<Boxed<Done>, AllocError> {
     let mut items = Vec::new(alloc);
     for number in first..reached.saturating_add(1) {
         items.push((number, Saved::Skipped { to: number }))?;
     }
     let mut last = [0; 8];
     last[0] = reached;
-    Ok(Done {
+    let done = Done {
         unit,
         id: reached,
         last,
         floor: reached,
         rows: Rows { items },
-    })
+    };
+    Boxed::new(alloc, done)
 }
 
 /// The message that comes, where one does.
@@ -124,7 +131,7 @@ fn coded(m: &Msg) -> u64 {
         Msg::Begin(number) => number.wrapping_add(200),
         Msg::Probe(stamp) => stamp.wrapping_add(300),
         Msg::Data(stamp, _) => stamp.wrapping_add(400),
-        Msg::Done(done) => coded_report(done),
+        Msg::Done(done) => coded_report(done.get()),
     }
 }
 

@@ -12,7 +12,7 @@ use sl_net::{Net, Side, Snapshot};
 use sl_route::Routes;
 use sl_saves::{Saved, View, read_saved, try_read_saved};
 use sl_unit::{Unit, UnitCounts, unit_side};
-use sl_wire::{Msg, PlainDump};
+use sl_wire::{Boxed, Msg, PlainDump};
 use std::alloc::Global;
 use std::test::Fail;
 
@@ -67,7 +67,7 @@ fn unit(alloc: Global, place: u32) -> Result<Bench<Unit>, Fail> {
 }
 
 /// The dump with which a unit answers a poll by its last choice.
-fn polled(alloc: Global, unit: &mut Bench<Unit>) -> Result<PlainDump, Fail> {
+fn polled(alloc: Global, unit: &mut Bench<Unit>) -> Result<Boxed<PlainDump>, Fail> {
     let mut out = unit.take(alloc, 2, Msg::Poll)?;
     match out.take_first() {
         Some((_, Msg::Dump(dump))) => Ok(dump),
@@ -105,6 +105,7 @@ fn late_packet(rt: HostRuntime) -> Result<(), Fail> {
     let mut unit = unit(alloc, 3)?;
     assert_eq!(rt; first_wrong(alloc, &mut unit, late())?, None);
     let dump = polled(alloc, &mut unit)?;
+    let dump = dump.get();
     let first = saved(&dump.view, 2, 1);
     let late = Saved::Miscredited { by: 2, reach: 2 };
     assert_eq!(rt;

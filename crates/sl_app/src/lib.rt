@@ -2,12 +2,8 @@
 #![tactic(auto)]
 
 mod ended;
-#[cfg(test)]
-mod rows;
 mod run;
 mod sample;
-#[cfg(test)]
-mod tests;
 mod top;
 
 pub use ended::{Ended, Refusal};

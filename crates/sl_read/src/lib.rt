@@ -16,8 +16,6 @@ mod read;
 mod rows;
 mod script;
 mod snapshot;
-#[cfg(test)]
-mod tests;
 mod top;
 
 pub use fault::InputFault;

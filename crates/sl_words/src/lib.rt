@@ -4,7 +4,5 @@
 mod command;
 mod flags;
 mod sample;
-#[cfg(test)]
-mod tests;
 
 pub use command::{Command, words_of};

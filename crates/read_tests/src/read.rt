@@ -1,6 +1,6 @@
 // Inputs that are accepted, and inputs that are refused.
-use crate::{InputFault, read_input};
 use sl_net::{Flow, Input, Line, Snapshot};
+use sl_read::{InputFault, read_input};
 use std::alloc::Global;
 use std::test::Fail;
 

@@ -1,5 +1,5 @@
 // Lists of words, and what they ask for.
-use crate::{Command, words_of};
+use sl_words::{Command, words_of};
 use std::alloc::{AllocError, Global};
 use std::test::Fail;
 

@@ -3,7 +3,8 @@
 ghost use Rattle.std.specs.List.{All};
 ghost use Rattle.sl_flow.specs.Flow.{HasAddresses};
 
-use crate::{rows, speedlight};
+use crate::rows;
+use sl_app::speedlight;
 use sl_cut::findings_of;
 use sl_flow::{sample_input, sample_parts};
 use sl_io::{MemorySink, MemorySource};
@@ -329,7 +330,7 @@ fn told_of(alloc: Global, input: &Input, lines: &str) -> Result<Vec<u8>, Fail>
 }
 
 /// The same for the text of an input.
-#[tactic(auto, using(crate::proofs::RunLemmas::addressed))]
+#[tactic(auto, using(sl_app::proofs::RunLemmas::addressed))]
 fn report_of(alloc: Global, text: &str, lines: &str) -> Result<Vec<u8>, Fail> {
     match read_input(alloc, text.as_bytes()) {
         Ok(input) => told_of(alloc, &input, lines),

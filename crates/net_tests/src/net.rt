@@ -1,0 +1,516 @@
+// Worked nets, and parts that are refused.
+use crate::plan::{Plan, built, parts};
+use sl_net::{
+    ActorId, Line, LinkKind, LinkPart, Net, NetFault, Place, Side, Sort, UnitId, choice_text,
+    find_choice,
+};
+use std::alloc::Global;
+use std::test::Fail;
+
+/// One device with two ports and a host at each.
+const PAIR: Plan = Plan {
+    devices: &[("a", 2)],
+    cables: &[],
+    hosts: &[("h0", (0, 0)), ("h1", (0, 1))],
+};
+
+/// A cable with both ends on one device.
+const LOOP: Plan = Plan {
+    devices: &[("a", 3)],
+    cables: &[((0, 2), (0, 0))],
+    hosts: &[],
+};
+
+/// A link: the choice that takes it, spelled, its receiver, that choice, its sender and its sort.
+type Row = (&'static str, u32, u32, u32, Sort);
+
+static PAIR_LINKS: [Row; 24] = [
+    ("observer done:a", 0, 0, 1, Sort::Done),
+    ("control a begin", 1, 0, 0, Sort::Begin),
+    ("control a notice:in.0", 1, 1, 2, Sort::Notice),
+    ("control a dump:in.0", 1, 2, 2, Sort::Dump),
+    ("control a notice:out.0", 1, 3, 3, Sort::Notice),
+    ("control a dump:out.0", 1, 4, 3, Sort::Dump),
+    ("control a notice:in.1", 1, 5, 4, Sort::Notice),
+    ("control a dump:in.1", 1, 6, 4, Sort::Dump),
+    ("control a notice:out.1", 1, 7, 5, Sort::Notice),
+    ("control a dump:out.1", 1, 8, 5, Sort::Dump),
+    ("in a.0 host", 2, 0, 6, Sort::FromHost),
+    ("in a.0 init", 2, 1, 1, Sort::Init),
+    ("in a.0 poll", 2, 2, 1, Sort::Poll),
+    ("out a.0 x0", 3, 0, 2, Sort::Crossbar),
+    ("out a.0 x1", 3, 1, 4, Sort::Crossbar),
+    ("out a.0 poll", 3, 2, 1, Sort::Poll),
+    ("in a.1 host", 4, 0, 7, Sort::FromHost),
+    ("in a.1 init", 4, 1, 1, Sort::Init),
+    ("in a.1 poll", 4, 2, 1, Sort::Poll),
+    ("out a.1 x0", 5, 0, 2, Sort::Crossbar),
+    ("out a.1 x1", 5, 1, 4, Sort::Crossbar),
+    ("out a.1 poll", 5, 2, 1, Sort::Poll),
+    ("host h0 net", 6, 0, 3, Sort::ToHost),
+    ("host h1 net", 7, 0, 5, Sort::ToHost),
+];
+
+fn pair_links() -> &'static [Row] {
+    &PAIR_LINKS
+}
+
+static LOOP_LINKS: [Row; 22] = [
+    ("observer done:a", 0, 0, 1, Sort::Done),
+    ("control a begin", 1, 0, 0, Sort::Begin),
+    ("control a notice:in.0", 1, 1, 2, Sort::Notice),
+    ("control a dump:in.0", 1, 2, 2, Sort::Dump),
+    ("control a notice:out.0", 1, 3, 3, Sort::Notice),
+    ("control a dump:out.0", 1, 4, 3, Sort::Dump),
+    ("control a notice:in.2", 1, 5, 4, Sort::Notice),
+    ("control a dump:in.2", 1, 6, 4, Sort::Dump),
+    ("control a notice:out.2", 1, 7, 5, Sort::Notice),
+    ("control a dump:out.2", 1, 8, 5, Sort::Dump),
+    ("in a.0 cable", 2, 0, 5, Sort::Cable),
+    ("in a.0 init", 2, 1, 1, Sort::Init),
+    ("in a.0 poll", 2, 2, 1, Sort::Poll),
+    ("out a.0 x0", 3, 0, 2, Sort::Crossbar),
+    ("out a.0 x2", 3, 1, 4, Sort::Crossbar),
+    ("out a.0 poll", 3, 2, 1, Sort::Poll),
+    ("in a.2 cable", 4, 0, 3, Sort::Cable),
+    ("in a.2 init", 4, 1, 1, Sort::Init),
+    ("in a.2 poll", 4, 2, 1, Sort::Poll),
+    ("out a.2 x0", 5, 0, 2, Sort::Crossbar),
+    ("out a.2 x2", 5, 1, 4, Sort::Crossbar),
+    ("out a.2 poll", 5, 2, 1, Sort::Poll),
+];
+
+fn loop_links() -> &'static [Row] {
+    &LOOP_LINKS
+}
+
+/// The choices of the pair that are no links.
+static ACTIONS: [(&str, u32, u32); 5] = [
+    ("observer issue", 0, 1),
+    ("observer resend", 0, 2),
+    ("control a sweep", 1, 9),
+    ("host h0 inject", 6, 1),
+    ("host h1 inject", 7, 1),
+];
+
+fn actions() -> &'static [(&'static str, u32, u32)] {
+    &ACTIONS
+}
+
+/// Texts that spell no choice of the pair.
+static NO_CHOICES: [&str; 24] = [
+    "",
+    " ",
+    "observer",
+    "observer ",
+    "observer done:b",
+    "observer done:a ",
+    "observer  issue",
+    "Observer issue",
+    "control b begin",
+    "control a notice:in.2",
+    "control a dump:in.00",
+    "in a.00 host",
+    "in a.0 host ",
+    " in a.0 host",
+    "in  a.0 host",
+    "in a.0  host",
+    "in a.0 cable",
+    "in a.2 host",
+    "out a.0 x2",
+    "out a.0 x01",
+    "host h1",
+    "host h2 net",
+    "host h1 net x",
+    "pass 1",
+];
+
+fn no_choices() -> &'static [&'static str] {
+    &NO_CHOICES
+}
+
+fn unit(port: u32, side: Side) -> ActorId {
+    ActorId::Unit(UnitId {
+        device: 0,
+        port,
+        side,
+    })
+}
+
+fn pair_actors() -> [ActorId; 8] {
+    [
+        ActorId::Observer,
+        ActorId::Control(0),
+        unit(0, Side::Ingress),
+        unit(0, Side::Egress),
+        unit(1, Side::Ingress),
+        unit(1, Side::Egress),
+        ActorId::Host(0),
+        ActorId::Host(1),
+    ]
+}
+
+fn has_actors(net: &Net, actors: &[ActorId]) -> bool {
+    net.actors() == actors
+}
+
+/// The actors of the pair, in order.
+#[test]
+fn actors(rt: HostRuntime) -> Result<(), Fail> {
+    let net = built(rt.alloc(), &PAIR)?;
+    assert!(rt; has_actors(&net, &pair_actors()));
+    Ok(())
+}
+
+fn spelled(alloc: Global, net: &Net, actor: u32, choice: u32) -> Result<Line, Fail> {
+    if (actor as usize) < net.actors().len() && choice < net.choice_count(actor) {
+        Ok(choice_text(alloc, net, actor, choice).map_err(|_| "no memory")?)
+    } else {
+        Err("no choice")?
+    }
+}
+
+/// Whether a choice has this spelling, and is found by it.
+fn has_spelling(
+    alloc: Global,
+    net: &Net,
+    text: &str,
+    actor: u32,
+    choice: u32,
+) -> Result<bool, Fail> {
+    let line = spelled(alloc, net, actor, choice)?;
+    let found = find_choice(net, text);
+    Ok(found == Some((actor, choice)) && line.items.as_slice() == text.as_bytes())
+}
+
+fn is_link(part: &LinkPart, (_, to, _, from, sort): &Row) -> bool {
+    part.to == *to && part.from == *from && part.sort.is(*sort)
+}
+
+/// The place of the first row that differs from the net's link, or from its spelling.
+fn first_wrong_link(alloc: Global, net: &Net, rows: &[Row]) -> Result<Option<usize>, Fail> {
+    for (place, (part, row)) in net.links().iter().zip(rows).enumerate() {
+        let (text, to, choice, _, _) = row;
+        if !is_link(part, row) || !has_spelling(alloc, net, text, *to, *choice)? {
+            return Ok(Some(place));
+        }
+    }
+    Ok(None)
+}
+
+/// How many links the net of a plan has, and the place of the first row that is wrong there.
+fn compared(alloc: Global, plan: &Plan, rows: &[Row]) -> Result<(usize, Option<usize>), Fail> {
+    let net = built(alloc, plan)?;
+    Ok((net.links().len(), first_wrong_link(alloc, &net, rows)?))
+}
+
+/// The links of both nets, in order, each with its spelling.
+#[test]
+fn links(rt: HostRuntime) -> Result<(), Fail> {
+    assert_eq!(rt; compared(rt.alloc(), &PAIR, pair_links())?, (24, None));
+    assert_eq!(rt; compared(rt.alloc(), &LOOP, loop_links())?, (22, None));
+    Ok(())
+}
+
+fn first_wrong_action(
+    alloc: Global,
+    net: &Net,
+    rows: &[(&str, u32, u32)],
+) -> Result<Option<usize>, Fail> {
+    for (place, (text, actor, choice)) in rows.iter().enumerate() {
+        if !has_spelling(alloc, net, text, *actor, *choice)? {
+            return Ok(Some(place));
+        }
+    }
+    Ok(None)
+}
+
+fn first_spelling(net: &Net, texts: &[&str]) -> Option<usize> {
+    texts
+        .iter()
+        .position(|text| find_choice(net, text).is_some())
+}
+
+/// The places of the first action that is wrong, and of the first other text that is a spelling.
+fn wrong_texts(alloc: Global) -> Result<(Option<usize>, Option<usize>), Fail> {
+    let net = built(alloc, &PAIR)?;
+    let action = first_wrong_action(alloc, &net, actions())?;
+    Ok((action, first_spelling(&net, no_choices())))
+}
+
+/// The own actions of the pair, and texts that are no spelling.
+#[test]
+fn other_texts(rt: HostRuntime) -> Result<(), Fail> {
+    assert_eq!(rt; wrong_texts(rt.alloc())?, (None, None));
+    Ok(())
+}
+
+/// The actor of each unit of the loop, and the units upstream of it.
+static LOOP_UNITS: [(u32, &[u32]); 4] = [(2, &[3]), (3, &[0, 2]), (4, &[1]), (5, &[0, 2])];
+
+fn loop_units() -> &'static [(u32, &'static [u32])] {
+    &LOOP_UNITS
+}
+
+fn is_unit(net: &Net, unit: u32, (actor, upstream): &(u32, &[u32])) -> bool {
+    if unit as usize >= net.units().len() {
+        return false;
+    }
+    let found = net.unit_actor(unit);
+    found == *actor && net.unit_place(found) == unit && net.upstream(unit) == *upstream
+}
+
+fn first_wrong_unit(net: &Net, rows: &[(u32, &[u32])]) -> Option<u32> {
+    for (unit, row) in (0..).zip(rows) {
+        if !is_unit(net, unit, row) {
+            return Some(unit);
+        }
+    }
+    None
+}
+
+/// How many units, actors and links a net has.
+fn sizes(net: &Net) -> [usize; 3] {
+    [net.units().len(), net.actors().len(), net.links().len()]
+}
+
+/// How many links the wiring of a net has.
+fn wired(net: &Net) -> usize {
+    net.wiring().links.len()
+}
+
+fn sort_and_kind(net: &Net, link: u32) -> Option<(Sort, LinkKind)> {
+    if (link as usize) < net.links().len() {
+        Some((net.link(link).sort, net.kind(link)))
+    } else {
+        None
+    }
+}
+
+/// The sizes of a net with the links of its wiring, and the place of the first row that is wrong.
+fn measured(
+    alloc: Global,
+    plan: &Plan,
+    rows: &[(u32, &[u32])],
+) -> Result<([usize; 3], usize, Option<u32>), Fail> {
+    let net = built(alloc, plan)?;
+    Ok((sizes(&net), wired(&net), first_wrong_unit(&net, rows)))
+}
+
+/// The sorts and kinds of two links of the loop.
+fn two_links(alloc: Global) -> Result<[Option<(Sort, LinkKind)>; 2], Fail> {
+    let net = built(alloc, &LOOP)?;
+    Ok([sort_and_kind(&net, 0), sort_and_kind(&net, 10)])
+}
+
+/// A cable with both ends on one device, and the units upstream of each unit.
+#[test]
+fn loop_cable(rt: HostRuntime) -> Result<(), Fail> {
+    let found = measured(rt.alloc(), &LOOP, loop_units())?;
+    assert_eq!(rt; found, ([4, 6, 22], 22, None));
+    let done = Some((Sort::Done, LinkKind::Reliable));
+    let cable = Some((Sort::Cable, LinkKind::Cable));
+    assert_eq!(rt; two_links(rt.alloc())?, [done, cable]);
+    Ok(())
+}
+
+const SOME: &[(&str, u32)] = &[("a", 2), ("b", 2)];
+
+const MANY: &[(&str, u32)] = &[("d", 1); 65];
+
+const CROWD: &[(&str, (u32, u32))] = &[("h", (0, 0)); 129];
+
+/// The first fault of each kind, the last place where it can stand, and two faults at once.
+static CASES: [(Plan, NetFault); 21] = [
+    (
+        Plan {
+            devices: &[],
+            cables: &[],
+            hosts: &[],
+        },
+        NetFault::N1,
+    ),
+    (
+        Plan {
+            devices: MANY,
+            cables: &[],
+            hosts: &[],
+        },
+        NetFault::N2(65),
+    ),
+    (
+        Plan {
+            devices: &[("a", 0), ("b", 9)],
+            cables: &[],
+            hosts: &[],
+        },
+        NetFault::N3(0),
+    ),
+    (
+        Plan {
+            devices: &[("a", 8), ("b", 9)],
+            cables: &[],
+            hosts: &[],
+        },
+        NetFault::N3(1),
+    ),
+    (
+        Plan {
+            devices: SOME,
+            cables: &[((0, 0), (2, 0))],
+            hosts: &[],
+        },
+        NetFault::N4(Place::Cable(0)),
+    ),
+    (
+        Plan {
+            devices: SOME,
+            cables: &[((0, 0), (1, 0)), ((1, 2), (0, 1))],
+            hosts: &[],
+        },
+        NetFault::N4(Place::Cable(1)),
+    ),
+    (
+        Plan {
+            devices: SOME,
+            cables: &[],
+            hosts: &[("h", (0, 2))],
+        },
+        NetFault::N4(Place::Host(0)),
+    ),
+    (
+        Plan {
+            devices: SOME,
+            cables: &[((0, 0), (0, 0))],
+            hosts: &[],
+        },
+        NetFault::N5(0),
+    ),
+    (
+        Plan {
+            devices: SOME,
+            cables: &[((0, 0), (0, 1)), ((1, 0), (0, 1))],
+            hosts: &[],
+        },
+        NetFault::N5(1),
+    ),
+    (
+        Plan {
+            devices: SOME,
+            cables: &[],
+            hosts: CROWD,
+        },
+        NetFault::N6(129),
+    ),
+    (
+        Plan {
+            devices: SOME,
+            cables: &[((0, 0), (1, 1))],
+            hosts: &[("g", (0, 1)), ("h", (1, 1))],
+        },
+        NetFault::N7(1),
+    ),
+    (
+        Plan {
+            devices: SOME,
+            cables: &[],
+            hosts: &[("g", (0, 1)), ("h", (0, 1))],
+        },
+        NetFault::N7(1),
+    ),
+    (
+        Plan {
+            devices: &[("a", 1), ("a", 1)],
+            cables: &[],
+            hosts: &[],
+        },
+        NetFault::N8(Place::Device(1)),
+    ),
+    (
+        Plan {
+            devices: SOME,
+            cables: &[],
+            hosts: &[("a", (0, 1)), ("h", (0, 0)), ("h", (1, 0))],
+        },
+        NetFault::N8(Place::Host(2)),
+    ),
+    (
+        Plan {
+            devices: SOME,
+            cables: &[((2, 0), (0, 0))],
+            hosts: &[],
+        },
+        NetFault::N4(Place::Cable(0)),
+    ),
+    (
+        Plan {
+            devices: SOME,
+            cables: &[((0, 0), (1, 0))],
+            hosts: &[("g", (0, 1)), ("h", (2, 0))],
+        },
+        NetFault::N4(Place::Host(1)),
+    ),
+    (
+        Plan {
+            devices: SOME,
+            cables: &[((0, 0), (1, 1))],
+            hosts: &[("g", (0, 0)), ("h", (1, 0))],
+        },
+        NetFault::N7(0),
+    ),
+    (
+        Plan {
+            devices: &[("a", 1), ("b", 1), ("a", 1), ("b", 1)],
+            cables: &[],
+            hosts: &[],
+        },
+        NetFault::N8(Place::Device(2)),
+    ),
+    (
+        Plan {
+            devices: MANY,
+            cables: &[((0, 0), (0, 1))],
+            hosts: CROWD,
+        },
+        NetFault::N2(65),
+    ),
+    (
+        Plan {
+            devices: &[("a", 1), ("a", 9)],
+            cables: &[((0, 0), (0, 1))],
+            hosts: &[],
+        },
+        NetFault::N3(1),
+    ),
+    (
+        Plan {
+            devices: &[("a", 2), ("a", 2)],
+            cables: &[((0, 0), (0, 0))],
+            hosts: &[("h", (0, 2))],
+        },
+        NetFault::N4(Place::Host(0)),
+    ),
+];
+
+fn cases() -> &'static [(Plan, NetFault)] {
+    &CASES
+}
+
+fn fault(alloc: Global, plan: &Plan) -> Result<Option<NetFault>, Fail> {
+    Ok(Net::build(alloc, parts(alloc, plan)?).err())
+}
+
+fn first_wrong_fault(alloc: Global, cases: &[(Plan, NetFault)]) -> Result<Option<usize>, Fail> {
+    for (place, (plan, wanted)) in cases.iter().enumerate() {
+        if fault(alloc, plan)? != Some(*wanted) {
+            return Ok(Some(place));
+        }
+    }
+    Ok(None)
+}
+
+#[test]
+fn faults(rt: HostRuntime) -> Result<(), Fail> {
+    assert_eq!(rt; first_wrong_fault(rt.alloc(), cases())?, None);
+    Ok(())
+}

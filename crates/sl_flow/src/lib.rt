@@ -11,6 +11,3 @@ pub use fault::SampleFault;
 pub use packets::packets_of;
 pub use sample::sample_parts;
 pub use text::sample_input;
-
-#[cfg(test)]
-mod tests;

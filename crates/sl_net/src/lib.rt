@@ -6,8 +6,6 @@ mod laws;
 mod matching;
 mod net;
 mod spelling;
-#[cfg(test)]
-mod tests;
 mod wording;
 
 pub use input::{Drop1, Flow, Input, LossSpec, Packet, RawPart, Script1, Snapshot};

@@ -5,8 +5,6 @@ mod laws;
 mod neighbours;
 mod routes;
 mod search;
-#[cfg(test)]
-mod tests;
 mod ways;
 
 pub use laws::{hops_are_least, routes_lead_nearer};

@@ -1,7 +1,8 @@
 ghost use Rattle.std.specs.Prelude.{◌<◌};
 
 use crate::{
-    Done, Header, Kind, Msg, PlainDump, Rows, WireFault, decode, encode, plain_frame, reached,
+    Boxed, Done, Header, Kind, Msg, PlainDump, Rows, WireFault, decode, encode, plain_frame,
+    reached,
 };
 use sl_ids::{Wid, Width};
 use sl_net::Packet;
@@ -145,7 +146,8 @@ fn messages_go_to_other_threads(rt: HostRuntime) -> Result<(), Fail> {
         last: [0; 8],
         view: View { at: 0, slots },
     };
-    assert!(rt; matches!(sent(Msg::Dump(dump)), Msg::Dump(_)));
+    let dump = Msg::Dump(Boxed::new(rt.alloc(), dump)?);
+    assert!(rt; matches!(sent(dump), Msg::Dump(_)));
     let rows = Rows {
         items: Vec::new(rt.alloc()),
     };
@@ -156,6 +158,10 @@ fn messages_go_to_other_threads(rt: HostRuntime) -> Result<(), Fail> {
         floor: 0,
         rows,
     };
-    assert!(rt; matches!(sent(Msg::Done(done)), Msg::Done(Done { unit: 3, .. })));
+    let done = Msg::Done(Boxed::new(rt.alloc(), done)?);
+    let Msg::Done(done) = sent(done) else {
+        return Err("no report".into());
+    };
+    assert_eq!(rt; done.get().unit, 3);
     Ok(())
 }

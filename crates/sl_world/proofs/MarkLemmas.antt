@@ -1,5 +1,5 @@
 -- Marks of the links that have a message.
-use Rattle.std.proofs.Common.{◌≡◌, ◌≢◌, ℕ, ◌+◌, ◌<◌, ◌≤◌, ◌↔◌, ◌++◌, List, [], ◌∷◌, length, get_or, set, refl, ap, sym, ◌∙◌, subst, arith, Bool, true, false, inl, inr}
+use Rattle.std.proofs.Common.{◌≡◌, ℕ, ◌+◌, ◌<◌, ◌↔◌, ◌++◌, List, [], ◌∷◌, length, get_or, set, refl, ap, sym, ◌∙◌, arith, Bool, true, false, inl, inr}
 use Rattle.std.specs.Prelude.{IsTrue, not}
 use Rattle.std.proofs.lemmas.Bool.{cases_eq}
 use Rattle.std.proofs.lemmas.List.{map-set, length-set, length_push, get_or_push, get_or_append_left, get_or-set_same, get_or-set_other}
@@ -16,6 +16,7 @@ mark b false queue is holds = (λ e. absurd (not-false-is b is e), λ e. absurd 
   where
     false-is-true : false ≡ true → ⊥
     false-is-true e = cc
+
     not-false-is : (b : Bool) → b ≡ true → b ≡ false → ⊥
     not-false-is b e f = cc
 

@@ -1,4 +1,4 @@
-use Rattle.std.proofs.Common.{◌+◌, ◌-◌, ◌%◌, ◌∙◌, ap, arith}
+use Rattle.std.proofs.Common.{◌-◌, ◌%◌, ◌∙◌, ap, arith}
 use Rattle.sl_saves.specs.Keeping.{place_above}
 use Rattle.sl_saves.proofs.Places.{above-mod}
 use Rattle.sl_saves.proofs.list.place_from.Goals as goal

@@ -1,16 +1,43 @@
 // What is made ready for a report.
-ghost use Rattle.std.specs.Prelude.{◌≡◌, ◌≤◌, [], OnOk, IsSome, IfOk};
+ghost use Rattle.std.specs.Prelude.{◌≡◌, ◌≤◌, [], ◌∷◌, OnOk, IsSome, IfOk, IfSome, IfNone};
 ghost use Rattle.std.specs.Vec.{vec_capacity};
 
 use sl_machine::Memory;
 use sl_saves::Saved;
 use sl_wire::{Boxed, Done, Rows};
-use std::alloc::Global;
+use std::alloc::{AllocError, Global};
+use std::mem;
 
-/// Room for the rows of a report, and the report to be filled in.
+/// Room for one row.
+#[derive(Drop)]
+struct OneRow {
+    rows: Vec<(u64, Saved)>,
+    ghost empty: { rows.items ≡ [] },
+    ghost room: { 1 ≤ vec_capacity rows },
+}
+
+impl OneRow {
+    fn new(alloc: Global) -> Result<OneRow, AllocError> {
+        Ok(OneRow {
+            rows: Vec::with_capacity(alloc, 1)?,
+        })
+    }
+
+    fn holding(self, row: (u64, Saved)) -> Vec<(u64, Saved)>
+        ensures { result.items ≡ row ∷ [] }
+    {
+        let mut rows = self.rows;
+        rows.push_reserved(row);
+        rows
+    }
+}
+
+/// Room for the rows of a report, and the report to be filled in. A report of one row, as nearly
+/// all are, takes along no more room than that.
 #[derive(Drop)]
 pub struct Blanks {
     pub rows: Vec<(u64, Saved)>,
+    one: Option<OneRow>,
     pub done: Option<Boxed<Done>>,
 }
 
@@ -36,6 +63,7 @@ impl Blanks {
     {
         Blanks {
             rows: Vec::new(alloc),
+            one: None,
             done: None,
         }
     }
@@ -51,9 +79,41 @@ impl Blanks {
         if self.rows.reserve(ring as usize).is_err() {
             return Err(Memory);
         }
+        if self.one.is_none() {
+            self.one = Some(OneRow::new(alloc).map_err(|_| Memory)?);
+        }
         if self.done.is_none() {
             self.done = Some(blank_done(alloc)?);
         }
         Ok(())
+    }
+
+    /// The one row that was read, in room of its size where that is ready.
+    fn take_one(&mut self) -> Option<Vec<(u64, Saved)>>
+        ensures taken { IfSome result (λ rows. rows.items ≡ self.old.rows.items) }
+        ensures left { IfSome result (λ rows. self.new.rows.items ≡ []) }
+        ensures kept { IfNone result (self.new.rows ≡ self.old.rows) }
+    {
+        if self.rows.len() != 1 {
+            return None;
+        }
+        let one = self.one.take()?;
+        let row = self.rows.pop()?;
+        Some(one.holding(row))
+    }
+
+    /// The rows that were read.
+    pub fn take_rows(&mut self) -> Vec<(u64, Saved)>
+        ensures rows { result.items ≡ self.old.rows.items }
+        ensures left { self.new.rows.items ≡ [] }
+    {
+        let empty = Vec::new(*self.rows.allocator());
+        if self.rows.is_empty() {
+            return empty;
+        }
+        match self.take_one() {
+            Some(rows) => rows,
+            None => mem::replace(&mut self.rows, empty),
+        }
     }
 }

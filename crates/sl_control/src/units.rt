@@ -10,9 +10,7 @@ ghost use Rattle.sl_control.specs.Joined.{AreApart, dumps_of, HasDumpChoice};
 use crate::blanks::Blanks;
 use crate::known::Known;
 use sl_machine::Outputs;
-use sl_saves::Saved;
 use sl_wire::{Msg, PlainDump};
-use std::mem;
 
 /// What notices by this choice, or without one a sweep, do to the units.
 pub fn ask_all(units: &mut Vec<Known>, notice: Option<u32>, out: &mut Outputs<Msg>)
@@ -58,19 +56,6 @@ fn find_dump(units: &[Known], choice: u32) -> Option<usize>
     None
 }
 
-/// The rows of a buffer, and an empty buffer in its place where there are some.
-fn take_rows(rows: &mut Vec<(u64, Saved)>) -> Vec<(u64, Saved)>
-    ensures rows { result.items ≡ rows.old.items }
-    ensures left { rows.new.items ≡ [] }
-{
-    let empty = Vec::new(*rows.allocator());
-    if rows.is_empty() {
-        empty
-    } else {
-        mem::replace(rows, empty)
-    }
-}
-
 /// What a dump by this choice does to the unit.
 fn answer_one(
     known: &mut Known,
@@ -91,7 +76,7 @@ fn answer_one(
 {
     if known.read(ring, dump, &mut blanks.rows) {
         if let Some(told) = blanks.done.take() {
-            let rows = take_rows(&mut blanks.rows);
+            let rows = blanks.take_rows();
             known.answer(done, dump, told, rows, out);
         }
     } else {

@@ -6,7 +6,7 @@ use Rattle.std.proofs.lemmas.List.{length-set, length-replicate, length-append, 
 use Rattle.std.proofs.lemmas.Nat.{mod_below}
 use Rattle.std.proofs.Math.Seq.{drop-append_seam, set-append_seam, get_or-append_seam}
 use Rattle.sl_saves.specs.declared.entry.Slot.{Slot}
-use Rattle.sl_saves.specs.declared.list.Entry.{Entry}
+use Rattle.sl_saves.specs.declared.entries.Entry.{Entry}
 use Rattle.sl_saves.specs.Calls.{Save, Call, Adopt, Credited, Credit, saves, number, with_credit, IsRising}
 use Rattle.sl_saves.specs.Views.{slot_of, free_slot, no_slot, IsShown}
 use Rattle.sl_saves.specs.Keeping.{slot_credited, entry_of, written, Listed, IsListed, list_adopted, list_credited, list_view, last_credited, no_entry, new_slot}
@@ -125,16 +125,17 @@ list-adopt by packets bytes l calls one s =
     }
 
 -- A credit grows the last entry.
+pub credit-end : (c : Credit) (e : Entry) (front : List Entry) → last_credited c (front ++ e ∷ []) ≡ front ++ record e { slot = slot_credited c e.slot } ∷ []
+credit-end c e front =
+    let l : length (front ++ e ∷ []) - 1 ≡ length front = omega (arith, length-append front (e ∷ [])) in
+    let last : slice_index_or (front ++ e ∷ []) (length front) no_entry ≡ e = get_or-append_seam front e [] no_entry in
+    (λ i. slice_set (front ++ e ∷ []) (l i) (record { number = (slice_index_or (front ++ e ∷ []) (l i) no_entry).number; slot = slot_credited c (slice_index_or (front ++ e ∷ []) (l i) no_entry).slot }))
+    ∙ (λ i. slice_set (front ++ e ∷ []) (length front) (record { number = (last i).number; slot = slot_credited c (last i).slot }))
+    ∙ set-append_seam front e [] (record e { slot = slot_credited c e.slot })
+
 credit-front : (c : Credit) (s : Save) (front : List Entry) → c.channel < 8
     → last_credited c (front ++ entry_of s ∷ []) ≡ front ++ entry_of (record s { credits = c ∷ s.credits }) ∷ []
-credit-front c s front b =
-    let l : length (front ++ entry_of s ∷ []) - 1 ≡ length front = omega (arith, length-append front (entry_of s ∷ [])) in
-    let last : slice_index_or (front ++ entry_of s ∷ []) (length front) no_entry ≡ entry_of s = get_or-append_seam front (entry_of s) [] no_entry in
-    let grown = slot-credited c s b in
-    (λ i. slice_set (front ++ entry_of s ∷ []) (l i) (record { number = (slice_index_or (front ++ entry_of s ∷ []) (l i) no_entry).number; slot = slot_credited c (slice_index_or (front ++ entry_of s ∷ []) (l i) no_entry).slot }))
-    ∙ (λ i. slice_set (front ++ entry_of s ∷ []) (length front) (record { number = (last i).number; slot = slot_credited c (last i).slot }))
-    ∙ set-append_seam front (entry_of s) [] (record { number = s.number; slot = slot_credited c (slot_of s) })
-    ∙ (λ i. front ++ record { number = s.number; slot = grown i } ∷ [])
+credit-front c s front b = let grown = slot-credited c s b in credit-end c (entry_of s) front ∙ (λ i. front ++ record { number = s.number; slot = grown i } ∷ [])
 
 credit-last : (c : Credit) (ss : List Save) → c.channel < 8 → last_credited c (reverse (map entry_of ss)) ≡ reverse (map entry_of (with_credit c ss))
 credit-last c [] b = refl

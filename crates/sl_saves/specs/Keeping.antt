@@ -3,7 +3,7 @@ use Rattle.std.specs.Prelude.{◌≡◌, ℕ, ◌+◌, ◌-◌, ◌%◌, ◌≤�
 use Rattle.sl_saves.specs.declared.entry.Total.{Total}
 use Rattle.sl_saves.specs.declared.entry.Slot.{Slot}
 use Rattle.sl_saves.specs.declared.entry.View.{View}
-use Rattle.sl_saves.specs.declared.list.Entry.{Entry}
+use Rattle.sl_saves.specs.declared.entries.Entry.{Entry}
 use Rattle.sl_saves.specs.Calls.{Call, Credit, Save, number, saves, IsRising, totals}
 use Rattle.sl_saves.specs.Views.{last_count, slot_of, free_slot, no_slot}
 

@@ -1,4 +1,5 @@
 pub mod Calls
+pub mod Entries
 pub mod Keeping
 pub mod Lists
 pub mod Rings

@@ -80,7 +80,7 @@ pub struct View {
 
 impl Total {
     /// No packet.
-    const NONE: Total = Total {
+    pub(crate) const NONE: Total = Total {
         packets: 0,
         bytes: 0,
     };

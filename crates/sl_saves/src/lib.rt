@@ -2,6 +2,7 @@
 // ring of slots, and the walk back over a ring that reads what was saved for a number.
 #![tactic(auto)]
 
+mod entries;
 mod entry;
 mod keep;
 mod laws;

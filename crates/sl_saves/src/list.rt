@@ -2,18 +2,12 @@
 ghost use Rattle.std.specs.Prelude.{◌≡◌, ◌+◌, ◌-◌, ◌*◌, ◌%◌, ◌^◌, ◌<◌, ◌≤◌, length, replicate, drop, [], IfOk};
 ghost use Rattle.sl_saves.specs.Views.{free_slot};
 
+use crate::entries::{Entries, Entry};
 use crate::entry::{Slot, Slots, View};
 use crate::keep::Saves;
 use crate::place::place_above;
 use sl_machine::Memory;
 use std::alloc::Global;
-
-/// A slot with its number.
-#[derive(Clone, Copy)]
-pub struct Entry {
-    number: u64,
-    slot: Slot,
-}
 
 /// More entries than fit any memory.
 const MOST_ENTRIES: usize = 140_737_488_355_328;
@@ -24,11 +18,11 @@ pub struct ListSaves {
     window: u16,
     ring: u16,
     number: u64,
-    entries: Vec<Entry>,
+    entries: Entries,
     ghost least: { 1 ≤ window },
     ghost most: { window ≤ ring },
-    ghost low: { number ≤ 65535 * length entries.items },
-    ghost few: { length entries.items ≤ 140737488355328 },
+    ghost low: { number ≤ 65535 * length entries.list },
+    ghost few: { length entries.list ≤ 140737488355328 },
 }
 
 impl ListSaves {
@@ -48,16 +42,8 @@ impl ListSaves {
             window,
             ring,
             number: 0,
-            entries: Vec::new(alloc),
+            entries: Entries::new(alloc),
         })
-    }
-
-    /// The last entries, as many as a view has slots.
-    fn recent(&self) -> &[Entry]
-        ensures { result.now ≡ drop (length self.now.entries.items - self.now.ring) self.now.entries.items }
-    {
-        let old = self.entries.len().saturating_sub(self.ring as usize);
-        &self.entries[old..]
     }
 
     /// Writes the last entries into a view in which nothing is saved.
@@ -66,7 +52,8 @@ impl ListSaves {
         ensures { view.new ≡ list_view (list_kept self.now) }
     {
         view.at = (self.number % u64::from(self.ring)) as u16;
-        write_entries(&mut view.slots, self.recent());
+        let old = self.entries.len().saturating_sub(self.ring as usize);
+        write_entries(&mut view.slots, &self.entries, old);
     }
 }
 
@@ -87,16 +74,17 @@ fn place_from(size: usize, number: u64, place: usize, to: u64) -> usize
     }
 }
 
-/// Writes entries into a ring of slots, later ones over earlier ones.
-fn write_entries(slots: &mut Slots, entries: &[Entry])
+/// Writes the entries from a place on into a ring of slots, later ones over earlier ones.
+fn write_entries(slots: &mut Slots, entries: &Entries, from: usize)
     requires some { 1 ≤ length slots.old }
     requires small { length slots.old < 2 ^ 32 }
-    ensures { slots.new ≡ written slots.old entries.now }
+    ensures { slots.new ≡ written slots.old (drop from entries.now.list) }
 {
     let size = slots.len();
     let mut number = 0;
     let mut place = 0;
-    for entry in entries {
+    for i in from..entries.len() {
+        let entry = entries.get(i);
         place = place_from(size, number, place, entry.number);
         number = entry.number;
         slots.set(place, entry.slot);
@@ -129,28 +117,23 @@ impl Saves for ListSaves {
         if self.entries.len() >= MOST_ENTRIES {
             return Err(Memory);
         }
-        match self.entries.reserve(1) {
-            Ok(()) => Ok(()),
-            Err(_) => Err(Memory),
-        }
+        self.entries.make_room()
     }
 
     fn adopt(&mut self, by: u16, packets: u64, bytes: u64) {
         self.number += u64::from(by);
-        let _ = self.entries.push(Entry {
+        self.entries.push(Entry {
             number: self.number,
             slot: Slot::adopted(by, packets, bytes),
         });
     }
 
     fn credit(&mut self, channel: u32, age: u16, bytes: u64) {
-        if let Some(entry) = self.entries.last_mut() {
-            entry.slot.credit(channel, age, bytes);
-        }
+        self.entries.credit(channel, age, bytes);
     }
 
     fn view(&self) -> Result<View, Memory> {
-        let slots = Slots::free(*self.entries.allocator(), self.ring)?;
+        let slots = Slots::free(self.entries.allocator(), self.ring)?;
         let mut view = View { at: 0, slots };
         self.write(&mut view);
         Ok(view)

@@ -2,13 +2,13 @@ use Rattle.sl_saves.proofs.Lists.{list-shown, length-view}
 use Rattle.sl_saves.proofs.list.ListSavesSaves.view.Goals as goal
 
 pub returns-clause-slots : goal.returns-clause-slots
-returns-clause-slots c = length-view c.args.self.now.ring c.args.self.now.entries.items
+returns-clause-slots c = length-view c.args.self.now.ring c.args.self.now.entries.list
 
 pub returns-clause-shows : goal.returns-clause-shows
 returns-clause-shows c = list-shown _
 
 pub returns-in_err-slots-clause-slots : goal.returns-in_err-slots-clause-slots
-returns-in_err-slots-clause-slots c = length-view c.args.self.now.ring c.args.self.now.entries.items
+returns-in_err-slots-clause-slots c = length-view c.args.self.now.ring c.args.self.now.entries.list
 
 pub returns-in_err-slots-clause-shows : goal.returns-in_err-slots-clause-shows
 returns-in_err-slots-clause-shows c = list-shown _

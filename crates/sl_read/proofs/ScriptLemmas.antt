@@ -4,7 +4,7 @@ use Rattle.sl_net.specs.Net.{Net}
 use Rattle.sl_net.specs.declared.input.Script1.{Script1}
 use Rattle.sl_form.specs.declared.refusal.Refusal.{Refusal}
 use Rattle.sl_read.specs.Choices.{fitting, passes, entries_of}
-use Rattle.sl_read.proofs.RowLemmas.{with_front, with_front_none, with_front_all, with_front_more}
+use Rattle.sl_read.proofs.RowLemmas.{with_front, with_front_more}
 
 module _ (net : Net) where
   unrolled : (xs : List (List ℕ)) (i used : ℕ) (d : List ℕ) → i < length xs → entries_of net i used (drop i xs) ≡ entries_of net i used (get_or xs i d ∷ drop (i + 1) xs)
@@ -17,5 +17,3 @@ module _ (net : Net) where
   pub entries_refused : (xs : List (List ℕ)) (i used : ℕ) (d : List ℕ) (front : List Script1) (x : Refusal) → i < length xs → fitting net i used (get_or xs i d) ≡ Err x
       → with_front front (entries_of net i used (drop i xs)) ≡ Err x
   entries_refused xs i used d front x h e = rw (unrolled xs i used d h, e) refl
-
-pub ruleset entry_steps = (with_front_none, with_front_all, entries_more, entries_refused)

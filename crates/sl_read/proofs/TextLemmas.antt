@@ -9,7 +9,7 @@ use Rattle.sl_form.specs.declared.refusal.Refusal.{Refusal}
 use Rattle.sl_form.specs.Paths.{element}
 use Rattle.sl_form.specs.Fields.{text_at}
 use Rattle.sl_read.specs.Tables.{texts_of, count_items}
-use Rattle.sl_read.proofs.RowLemmas.{with_front, with_front_none, with_front_all, with_front_more}
+use Rattle.sl_read.proofs.RowLemmas.{with_front, with_front_more}
 
 pub texts_more : (vs : List Value) (i : ℕ) (d : Value) (front : List (List ℕ)) (x : List ℕ) → i < length vs → text_at (element Script Entries i) (view (get_or vs i d)) ≡ Ok x
     → with_front front (texts_of i (items_view (drop i vs))) ≡ with_front (front ++ x ∷ []) (texts_of (i + 1) (items_view (drop (i + 1) vs)))
@@ -22,5 +22,3 @@ texts_refused vs i d front x h e = rw (items_view-drop vs i d h, e) refl
 pub count_view : (vs : List Value) → count_items (items_view vs) ≡ length vs
 count_view [] = refl
 count_view (v ∷ vs) = ap suc (count_view vs)
-
-pub ruleset text_steps = (with_front_none, with_front_all, texts_more, texts_refused)

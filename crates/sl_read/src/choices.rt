@@ -64,7 +64,6 @@ fn drop_part(net: &Net, index: u64, drop: &DropRow) -> Result<Drop1, Refusal>
 }
 
 /// The listed losses, with links by their numbers.
-#[tactic(auto, using(crate::proofs::EachLemmas::each_steps))]
 pub fn place_drops(alloc: Global, net: &Net, drops: &[DropRow]) -> Result<Listed<Drop1>, ReadError>
     requires { HasOneSpelling net.now }
     ensures { Answers result (each (drop_part net.now) 0 drops.now) }
@@ -116,7 +115,6 @@ fn fitting(net: &Net, index: u64, used: u64, text: &str) -> Result<Script1, Refu
 }
 
 /// The entries of a script.
-#[tactic(auto, using(crate::proofs::ScriptLemmas::entry_steps))]
 pub fn read_entries(alloc: Global, net: &Net, texts: &[Text]) -> Result<Listed<Script1>, ReadError>
     requires { HasOneSpelling net.now }
     ensures { Answers result (entries_of net.now 0 0 texts.now) }

@@ -88,7 +88,6 @@ fn host_part(
     Ok(HostPart { name, at })
 }
 
-#[tactic(auto, using(crate::proofs::EachLemmas::each_steps))]
 fn cable_parts(
     alloc: Global,
     devices: &[DevicePart],

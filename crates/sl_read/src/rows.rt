@@ -43,7 +43,6 @@ fn read_row<R: Row>(
 }
 
 /// Reads each table of the list at a key.
-#[tactic(auto, using(crate::proofs::RowLemmas::row_steps))]
 pub fn rows<R: Row>(
     alloc: Global,
     at: TableName,
@@ -69,7 +68,6 @@ pub fn items_at(path: Path, value: &Value) -> Result<&[Value], Refusal>
     }
 }
 
-#[tactic(auto, using(crate::proofs::RowLemmas::table_steps))]
 fn all_tables(at: TableName, key: Key, values: &[Value]) -> Result<(), Refusal>
     ensures { result ≡ all_tables at key 0 (items_view values.now) }
 {

@@ -30,7 +30,6 @@ fn text_of(alloc: Global, index: u64, value: &Value) -> Result<Text, ReadError>
     Ok(Text::new(alloc, text)?)
 }
 
-#[tactic(auto, using(crate::proofs::TextLemmas::text_steps))]
 fn texts_of(alloc: Global, values: &[Value]) -> Result<Listed<Text>, ReadError>
     ensures { Answers result (texts_of 0 (items_view values.now)) }
 {

@@ -41,3 +41,6 @@ acted rules w actor choice s a high state act =
 -- the parts of a scene after a turn
 pub done_is : {S M : Type 0} (w : Scene S M) (actor choice : ℕ) (before : List (Line M)) (a : After S M) (plan : Plan) (states : List S) (lines : List (Line M)) (book : List Entry) → plan ≡ w.plan → states ≡ set w.states actor a.state → lines ≡ put_all w.plan.links actor a.puts before → book ≡ w.book ++ entry_after w.book actor choice ∷ [] → done w actor choice before a ≡ record { plan = plan; states = states; lines = lines; book = book }
 done_is w actor choice before a plan states lines book d e f g = rw (d, e, f, g) refl
+
+pub same_is : {S M : Type 0} (w : Scene S M) (plan : Plan) (states : List S) (lines : List (Line M)) (book : List Entry) → plan ≡ w.plan → states ≡ w.states → lines ≡ w.lines → book ≡ w.book → record { plan = plan; states = states; lines = lines; book = book } ≡ w
+same_is w plan states lines book d e f g = rw (d, e, f, g) refl

@@ -1,7 +1,7 @@
 -- A list of machines where one has changed.
-use Rattle.std.proofs.Common.{◌≡◌, ℕ, ◌<◌, List, length, get_or, set, map, ap, ◌∙◌, Some, slice_get}
+use Rattle.std.proofs.Common.{◌≡◌, ℕ, ◌<◌, List, length, get_or, set, map, ap, sym, ◌∙◌, Some, slice_get}
 use Rattle.std.specs.Prelude.{option_map}
-use Rattle.std.proofs.lemmas.List.{length-set, get_or-set_same, map-set}
+use Rattle.std.proofs.lemmas.List.{length-set, get_or-set_same, get_or-map, map-set}
 use Rattle.std.proofs.lemmas.Option.{slice_get-map, slice_get-get_or}
 use Rattle.std.proofs.Math.Seq.{map-set_same}
 use Rattle.sl_machine.specs.Machine.{Counts}
@@ -34,3 +34,11 @@ meaning_is f xs k e s low read here = ap f read ∙ meaning_at f xs k e s low he
 pub meaning_changed : {A S : Type 0} (f : A → S) (xs : List A) (k : ℕ) (e v : A) (s : S) (change : S → S) → k < length xs → e ≡ get_or xs k e → slice_get (map f xs) k ≡ Some s → f v ≡ change (f e) → map f (set xs k v) ≡ set (map f xs) k (change s)
 meaning_changed f xs k e v s change low read here changed =
     map-set f xs k v ∙ ap (set (map f xs) k) (changed ∙ ap change (meaning_is f xs k e s low read here))
+
+-- the meaning of the element that was read at a place
+pub meaning_read : {A S : Type 0} (f : A → S) (xs : List A) (k : ℕ) (e : A) → k < length xs → e ≡ get_or xs k e → slice_get (map f xs) k ≡ Some (f e)
+meaning_read f xs k e low read = slice_get-map f xs k ∙ ap (option_map f) (slice_get-get_or xs k e low ∙ ap Some (sym read))
+
+-- and its number
+pub count_read : {A : Type 0} (f : A → ℕ) (xs : List A) (k : ℕ) (e : A) → k < length xs → e ≡ get_or xs k e → get_or (map f xs) k 0 ≡ f e
+count_read f xs k e low read = get_or-map f xs k e 0 low ∙ ap f (sym read)

@@ -1,6 +1,6 @@
 -- What turns keep, and a schedule with one more entry.
-use Rattle.std.proofs.Common.{◌≡◌, ℕ, ◌+◌, ◌-◌, ◌<◌, ◌≤◌, List, [], ◌∷◌, ◌++◌, length, take, get_or, refl, ap, sym, ◌∙◌, arith, zero, suc, subst, true, slice_get, Option, Some, None, inl, inr}
-use Rattle.std.specs.Prelude.{unwrap_or, nat_lt}
+use Rattle.std.proofs.Common.{◌≡◌, ℕ, ◌+◌, ◌-◌, ◌<◌, ◌≤◌, List, [], ◌∷◌, ◌++◌, length, take, get_or, refl, ap, sym, ◌∙◌, arith, zero, suc, subst, true, slice_get, Option, Some, None, Result, Ok, Err, inl, inr}
+use Rattle.std.specs.Prelude.{unwrap_or, nat_lt, OnOk, OnErr}
 use Rattle.std.proofs.lemmas.Bool.Decides.{nat_tests}
 use Rattle.std.proofs.lemmas.Option.{get_or_from_slice_get}
 use Rattle.std.proofs.lemmas.List.{length_push, take_more}
@@ -28,6 +28,11 @@ after_keeps rules w e (Some v) did = did_keeps rules w v e.0 e.1 did
 
 pub turn_keeps : {S M : Type 0} (rules : Rules S M) (w : Scene S M) (e : ℕ × ℕ) → Keeps w (after_turn rules w e)
 turn_keeps rules w e = after_keeps rules w e (turn_of rules w e.0 e.1) refl
+
+-- and so does a turn that may have been refused
+pub either_keeps : {S M T E : Type 0} (rules : Rules S M) (w v : Scene S M) (e : ℕ × ℕ) (r : Result T E) → OnOk r (v ≡ after_turn rules w e) → OnErr r (v ≡ w) → Keeps w v
+either_keeps rules w v e (Ok t) after same = subst (Keeps w) (sym after) (turn_keeps rules w e)
+either_keeps rules w v e (Err x) after same = rw same (record { plan = refl; book = omega arith })
 
 -- one more entry
 pub after_all-push : {S M : Type 0} (rules : Rules S M) (w : Scene S M) (es : List (ℕ × ℕ)) (e : ℕ × ℕ) → after_all rules w (es ++ e ∷ []) ≡ after_turn rules (after_all rules w es) e

@@ -5,7 +5,7 @@ use Rattle.std.proofs.lemmas.Bool.Decides.{nat_tests}
 use Rattle.sl_machine.specs.Machine.{Rules, After}
 use Rattle.sl_machine.specs.Plan.{Plan, link_in}
 use Rattle.sl_machine.specs.declared.wiring.Entry.{Entry}
-use Rattle.sl_world.specs.Scene.{Scene, Line, line_at, turn_of, done, without_first, put_all, entry_after}
+use Rattle.sl_world.specs.Scene.{Scene, Line, line_at, take_turn, turn_of, done, without_first, put_all, entry_after}
 
 pub some_at : {X : Type 0} (xs : List X) (k : ℕ) → k < length xs → (x : X) × (slice_get xs k ≡ Some x)
 some_at [] k h = absurd (omega arith)
@@ -26,11 +26,15 @@ took rules w actor choice link s line m rest place low state here queue =
     rw (test, state, here2, queue) (ap (λ (k : ℕ). Some (done w actor choice (set w.lines k (without_first line rest)) (rules.take s choice m))) (sym place))
 
 -- an empty link
-pub empty : {S M : Type 0} (rules : Rules S M) (w : Scene S M) (actor choice link : ℕ) (s : S) (line : Line M) → link ≡ link_in w.plan.links actor choice → link < length w.plan.links → slice_get w.states actor ≡ Some s → slice_get w.lines link ≡ Some line → line.queue ≡ [] → turn_of rules w actor choice ≡ None
-empty rules w actor choice link s line place low state here queue =
+none_first : {S M : Type 0} (rules : Rules S M) (w : Scene S M) (actor choice link : ℕ) (s : S) (lines : List (Line M)) (k : ℕ) → (line_at lines k).queue ≡ [] → take_turn rules w actor choice link (Some s) (slice_get lines k) ≡ None
+none_first rules w actor choice link s [] k queue = refl
+none_first rules w actor choice link s (l ∷ ls) zero queue = rw queue refl
+none_first rules w actor choice link s (l ∷ ls) (suc k) queue = none_first rules w actor choice link s ls k queue
+
+pub idle_on : {S M : Type 0} (rules : Rules S M) (w : Scene S M) (actor choice link : ℕ) (s : S) → link ≡ link_in w.plan.links actor choice → link < length w.plan.links → slice_get w.states actor ≡ Some s → (line_at w.lines link).queue ≡ [] → turn_of rules w actor choice ≡ None
+idle_on rules w actor choice link s place low state queue =
     let test : nat_lt (link_in w.plan.links actor choice) (length w.plan.links) ≡ true = grind (arith, nat_tests) in
-    let here2 : slice_get w.lines (link_in w.plan.links actor choice) ≡ Some line = ap (slice_get w.lines) (sym place) ∙ here in
-    rw (test, state, here2, queue) refl
+    rw (test, state) (none_first rules w actor choice (link_in w.plan.links actor choice) s w.lines (link_in w.plan.links actor choice) (ap (λ k. (line_at w.lines k).queue) (sym place) ∙ queue))
 
 -- an action
 pub acted : {S M : Type 0} (rules : Rules S M) (w : Scene S M) (actor choice : ℕ) (s : S) (a : Option (After S M)) → length w.plan.links ≤ link_in w.plan.links actor choice → slice_get w.states actor ≡ Some s → rules.act s choice ≡ a → turn_of rules w actor choice ≡ option_map (done w actor choice w.lines) a

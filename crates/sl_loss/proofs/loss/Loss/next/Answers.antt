@@ -24,4 +24,3 @@ returns-in-Some-clause-after c = search (tests, rules)
 
 pub returns-in_default-clause-after : goal.returns-in_default-clause-after
 returns-in_default-clause-after c = search (tests, rules)
-

@@ -1,4 +1,4 @@
-use Rattle.std.proofs.Common.{◌<◌, length, subst}
+use Rattle.std.proofs.Common.{◌<◌, subst}
 use Rattle.std.proofs.lemmas.List.{length-map}
 use Rattle.sl_world.proofs.MachineLemmas.{meaning_read}
 use Rattle.sl_world.proofs.world.World.machine.Goals as goal

@@ -1,7 +1,6 @@
-use Rattle.std.proofs.Common.{◌≡◌, ◌<◌, ap, arith, length, map, refl, sym, None}
+use Rattle.std.proofs.Common.{ap, arith, length, map, refl, sym}
 use Rattle.std.specs.Prelude.{unwrap_or}
 use Rattle.std.proofs.lemmas.List.{length-map}
-use Rattle.sl_world.specs.Scene.{turn_of}
 use Rattle.sl_world.specs.World.{scene}
 use Rattle.sl_world.proofs.TurnLemmas.{some_at, idle_on}
 use Rattle.sl_world.proofs.world.World.take_turn.Goals as goal

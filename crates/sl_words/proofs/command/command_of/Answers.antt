@@ -1,0 +1,14 @@
+use Rattle.std.proofs.Common.{sym}
+use Rattle.sl_words.proofs.command.command_of.Goals as goal
+
+pub returns-then-eq : goal.returns-then-eq
+returns-then-eq c = record { command = rw (sym c.if-eq.ensures) c.step_words.ensures.command; number = c.step_words.ensures.number }
+
+pub returns-then-eq-2 : goal.returns-then-eq-2
+returns-then-eq-2 c = record { command = rw (sym c.if-eq.ensures, sym c.if-eq-2.ensures) c.run_words.ensures.command; number = c.run_words.ensures.number }
+
+pub returns-then-eq-3 : goal.returns-then-eq-3
+returns-then-eq-3 c = record { command = rw (sym c.if-eq.ensures, sym c.if-eq-2.ensures, sym c.if-eq-3.ensures) c.routes_words.ensures.command; number = c.routes_words.ensures.number }
+
+pub returns-then-eq-4 : goal.returns-then-eq-4
+returns-then-eq-4 c = record { command = rw (sym c.if-eq.ensures, sym c.if-eq-2.ensures, sym c.if-eq-3.ensures, sym c.if-eq-4.ensures) c.sample_command.ensures.command; number = c.sample_command.ensures.number }

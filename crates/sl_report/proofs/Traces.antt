@@ -1,5 +1,5 @@
 -- Traces read back as scripts, and the entries of legal books.
-use Rattle.std.proofs.Common.{◌≡◌, ℕ, zero, suc, ◌+◌, ◌-◌, ◌<◌, ◌≤◌, List, [], ◌∷◌, ◌++◌, length, map, refl, sym, ap, subst, ◌∙◌, Bool, true, false, arith, codes, decimal}
+use Rattle.std.proofs.Common.{◌≡◌, ℕ, zero, suc, ◌+◌, ◌-◌, ◌<◌, List, [], ◌∷◌, ◌++◌, map, refl, sym, ap, subst, ◌∙◌, arith, codes, decimal}
 use Rattle.std.specs.Prelude.{Option, None, Some, Ok, slice_get, option_map, option_and_then}
 use Rattle.std.specs.Option.{IsSome}
 use Rattle.std.specs.List.{All}
@@ -11,7 +11,6 @@ use Rattle.sl_layout.specs.declared.actor.Side.TheVariants.{Ingress, Egress}
 use Rattle.sl_layout.specs.declared.actor.ActorId.{ActorId}
 use Rattle.sl_layout.specs.declared.actor.ActorId.TheVariants.{Observer, Control, Unit as OfUnit, Host as OfHost}
 use Rattle.sl_net.specs.declared.input.Script1.TheVariants.{Choice}
-use Rattle.sl_net.specs.Parts.{Parts}
 use Rattle.sl_net.specs.Net.{Net, nobody, actor_of, links_into, action_choice}
 use Rattle.sl_net.specs.Wiring.{actions_of}
 use Rattle.sl_net.specs.Spelling.{side_text, device_name, actor_text, choice_word, choice_text, choice_count, HasChoice}

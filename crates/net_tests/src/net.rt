@@ -154,11 +154,15 @@ fn has_actors(net: &Net, actors: &[ActorId]) -> bool {
     net.actors() == actors
 }
 
+fn pair_has_its_actors(alloc: Global) -> Result<bool, Fail> {
+    let net = built(alloc, &PAIR)?;
+    Ok(has_actors(&net, &pair_actors()))
+}
+
 /// The actors of the pair, in order.
 #[test]
 fn actors(rt: HostRuntime) -> Result<(), Fail> {
-    let net = built(rt.alloc(), &PAIR)?;
-    assert!(rt; has_actors(&net, &pair_actors()));
+    assert!(rt; pair_has_its_actors(rt.alloc())?);
     Ok(())
 }
 
@@ -198,10 +202,14 @@ fn first_wrong_link(alloc: Global, net: &Net, rows: &[Row]) -> Result<Option<usi
     Ok(None)
 }
 
-/// How many links the net of a plan has, and the place of the first row that is wrong there.
+/// How many links a net has, and the place of the first row that is wrong there.
+fn compared_in(alloc: Global, net: &Net, rows: &[Row]) -> Result<(usize, Option<usize>), Fail> {
+    Ok((net.links().len(), first_wrong_link(alloc, net, rows)?))
+}
+
 fn compared(alloc: Global, plan: &Plan, rows: &[Row]) -> Result<(usize, Option<usize>), Fail> {
     let net = built(alloc, plan)?;
-    Ok((net.links().len(), first_wrong_link(alloc, &net, rows)?))
+    compared_in(alloc, &net, rows)
 }
 
 /// The links of both nets, in order, each with its spelling.
@@ -232,10 +240,14 @@ fn first_spelling(net: &Net, texts: &[&str]) -> Option<usize> {
 }
 
 /// The places of the first action that is wrong, and of the first other text that is a spelling.
+fn wrong_texts_of(alloc: Global, net: &Net) -> Result<(Option<usize>, Option<usize>), Fail> {
+    let action = first_wrong_action(alloc, net, actions())?;
+    Ok((action, first_spelling(net, no_choices())))
+}
+
 fn wrong_texts(alloc: Global) -> Result<(Option<usize>, Option<usize>), Fail> {
     let net = built(alloc, &PAIR)?;
-    let action = first_wrong_action(alloc, &net, actions())?;
-    Ok((action, first_spelling(&net, no_choices())))
+    wrong_texts_of(alloc, &net)
 }
 
 /// The own actions of the pair, and texts that are no spelling.

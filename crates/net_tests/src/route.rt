@@ -1,5 +1,6 @@
 // Routes of worked nets.
 use crate::plan::{Plan, built};
+use sl_net::Net;
 use sl_route::Routes;
 use std::alloc::Global;
 use std::test::Fail;
@@ -82,10 +83,14 @@ fn is_route(routes: &Routes, (device, host, port, hops): &Row) -> bool {
 }
 
 /// The place of the first row that is no route of the net.
+fn first_wrong_route(alloc: Global, net: &Net, rows: &[Row]) -> Result<Option<usize>, Fail> {
+    let routes = Routes::make(alloc, net)?;
+    Ok(rows.iter().position(|row| !is_route(&routes, row)))
+}
+
 fn first_wrong_row(alloc: Global, plan: &Plan, rows: &[Row]) -> Result<Option<usize>, Fail> {
     let net = built(alloc, plan)?;
-    let routes = Routes::make(alloc, &net)?;
-    Ok(rows.iter().position(|row| !is_route(&routes, row)))
+    first_wrong_route(alloc, &net, rows)
 }
 
 /// The place of the first case with a wrong row, and that row's place.

@@ -9,6 +9,3 @@ mod width;
 pub use laws::{distances_are_differences, distances_lead_back};
 pub use wid::{Wid, distance, newer, unwrap_from, wrap};
 pub use width::Width;
-
-#[cfg(test)]
-mod tests;

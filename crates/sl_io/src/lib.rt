@@ -4,8 +4,6 @@
 mod in_memory;
 mod standard;
 mod streams;
-#[cfg(test)]
-mod tests;
 mod transfer;
 
 pub use in_memory::{MemorySink, MemorySource};

@@ -17,6 +17,3 @@ pub use laws::{calls_are_listed, calls_are_shown, shown_is_live, shown_is_read};
 pub use list::ListSaves;
 pub use read::{read_saved, try_read_saved};
 pub use ring::RingSaves;
-
-#[cfg(test)]
-mod tests;

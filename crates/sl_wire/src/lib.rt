@@ -12,6 +12,3 @@ pub use frame::{Frame, Header, Kind, WireFault, decode, encode, plain_frame};
 pub use laws::one_frame;
 pub use message::{Done, Dump, Msg, PlainDump, Rows};
 pub use reach::reached;
-
-#[cfg(test)]
-mod tests;

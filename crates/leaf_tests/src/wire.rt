@@ -1,12 +1,13 @@
+// Frames and the bytes that are refused, the least last-seen id, and messages between threads.
 ghost use Rattle.std.specs.Prelude.{◌<◌};
 
-use crate::{
-    Boxed, Done, Header, Kind, Msg, PlainDump, Rows, WireFault, decode, encode, plain_frame,
-    reached,
-};
 use sl_ids::{Wid, Width};
 use sl_net::Packet;
 use sl_saves::{Slots, View};
+use sl_wire::{
+    Boxed, Done, Header, Kind, Msg, PlainDump, Rows, WireFault, decode, encode, plain_frame,
+    reached,
+};
 use std::test::Fail;
 
 const CARRIED: [u8; 24] = [

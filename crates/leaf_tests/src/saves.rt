@@ -1,7 +1,8 @@
+// Saved entries, kept as a list and in a ring, and what their views say of a number.
 ghost use Rattle.std.specs.Prelude.{◌≡◌, ◌+◌, ◌<◌, ◌≤◌, length};
 
-use crate::{ListSaves, RingSaves, Saved, Saves, Total, View, read_saved, try_read_saved};
 use sl_machine::Memory;
+use sl_saves::{ListSaves, RingSaves, Saved, Saves, Total, View, read_saved, try_read_saved};
 use std::process::Abort;
 use std::test::Fail;
 

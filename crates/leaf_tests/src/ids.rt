@@ -1,4 +1,5 @@
-use crate::{Wid, Width, distance, newer, unwrap_from, wrap};
+// Wrapped ids: widths, wrapping and reading back, which of two is newer.
+use sl_ids::{Wid, Width, distance, newer, unwrap_from, wrap};
 use std::test::Fail;
 
 #[test]

@@ -1,5 +1,5 @@
-// Faults at each call in turn, and each constructor once.
-use crate::{MemorySink, MemorySource, ReadFault, StdSink, StdSource, read_all, write_all};
+// Sources and sinks: faults at each call in turn, and each constructor once.
+use sl_io::{MemorySink, MemorySource, ReadFault, StdSink, StdSource, read_all, write_all};
 use std::test::Fail;
 
 /// More bytes than two reads give.

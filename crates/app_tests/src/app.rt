@@ -121,7 +121,10 @@ fn padded(alloc: Global, length: usize) -> Result<String, AllocError> {
 fn status_of_length(alloc: Global, length: usize) -> Result<(u8, bool), Fail> {
     let text = padded(alloc, length)?;
     let left = call(alloc, &["step"], text.as_str(), (0, 0, 0))?;
-    Ok((left.status, left.err.as_slice() == b"speedlight: I1\n".as_slice()))
+    Ok((
+        left.status,
+        left.err.as_slice() == b"speedlight: I1\n".as_slice(),
+    ))
 }
 
 /// An input may have 1,048,576 bytes.

@@ -1,9 +1,35 @@
 // Sources and sinks: faults at each call in turn, and each constructor once.
 use sl_io::{MemorySink, MemorySource, ReadFault, StdSink, StdSource, read_all, write_all};
+use std::alloc::Global;
 use std::test::Fail;
 
 /// More bytes than two reads give.
 const LENGTH: usize = 10_000;
+
+/// Whether a source gives these bytes where it is read to its end.
+fn is_left(alloc: Global, source: &mut MemorySource, rest: &[u8]) -> bool {
+    match read_all(alloc, source, LENGTH) {
+        Ok(left) => left.as_slice() == rest,
+        Err(_) => true,
+    }
+}
+
+/// Whether reading a text up to a limit, where this call fails, takes so many bytes, and whether
+/// that is the answer.
+fn is_read(
+    alloc: Global,
+    text: &[u8],
+    (call, limit, taken, whole): (u64, usize, usize, bool),
+) -> Result<bool, Fail> {
+    let fail = Vec::from_slice(alloc, &[call])?;
+    let mut source = MemorySource::new(Vec::from_slice(alloc, text)?, fail);
+    let (front, rest) = text.split_at(taken.min(text.len()));
+    let right = match read_all(alloc, &mut source, limit) {
+        Ok(bytes) => whole && bytes.as_slice() == front,
+        Err(fault) => !whole && fault == ReadFault::Failed,
+    };
+    Ok(right && is_left(alloc, &mut source, rest))
+}
 
 #[test]
 fn read_faults(rt: HostRuntime) -> Result<(), Fail> {
@@ -23,26 +49,32 @@ fn read_faults(rt: HostRuntime) -> Result<(), Fail> {
         (3, 5000, 5000, true),
         (1, 0, 0, true),
     ];
-    for (call, limit, taken, whole) in rows {
-        let fail = Vec::from_slice(rt.alloc(), &[call])?;
-        let mut source = MemorySource::new(text.clone()?, fail);
-        let answer = read_all(rt.alloc(), &mut source, limit);
-        let (front, rest) = text.split_at(taken.min(text.len()));
-        match answer {
-            Ok(bytes) => {
-                assert!(rt; whole, "call {call}, limit {limit}");
-                assert_eq!(rt; bytes.as_slice(), front, "call {call}, limit {limit}");
-            }
-            Err(fault) => {
-                assert!(rt; !whole, "call {call}, limit {limit}");
-                assert_eq!(rt; fault, ReadFault::Failed, "call {call}, limit {limit}");
-            }
-        }
-        if let Ok(left) = read_all(rt.alloc(), &mut source, LENGTH) {
-            assert_eq!(rt; left.as_slice(), rest, "call {call}, limit {limit}");
-        }
+    for row in rows {
+        assert!(rt; is_read(rt.alloc(), text.as_slice(), row)?, "{row:?}");
     }
     Ok(())
+}
+
+/// Whether each of three pieces is written.
+fn writes(sink: &mut MemorySink) -> bool {
+    for piece in ["ab", "cd", "ef"] {
+        if write_all(sink, piece.as_bytes()).is_err() {
+            return false;
+        }
+    }
+    true
+}
+
+/// Whether three pieces leave this in a sink of some room where this call fails, and whether they
+/// are all written.
+fn is_written(
+    alloc: Global,
+    (call, room, written, whole): (u64, usize, &str, bool),
+) -> Result<bool, Fail> {
+    let fail = Vec::from_slice(alloc, &[call])?;
+    let mut sink = MemorySink::new(alloc, room, fail).ok().ok_or("memory")?;
+    let right = writes(&mut sink) == whole;
+    Ok(right && sink.bytes() == written.as_bytes())
 }
 
 #[test]
@@ -59,24 +91,8 @@ fn write_faults(rt: HostRuntime) -> Result<(), Fail> {
         (0, 2, "ab", false),
         (0, 0, "", false),
     ];
-    for (call, room, written, whole) in rows {
-        let fail = Vec::from_slice(rt.alloc(), &[call])?;
-        let mut sink = MemorySink::new(rt.alloc(), room, fail)
-            .ok()
-            .ok_or("memory")?;
-        let mut failed = false;
-        for piece in ["ab", "cd", "ef"] {
-            if write_all(&mut sink, piece.as_bytes()).is_err() {
-                failed = true;
-                break;
-            }
-        }
-        assert_eq!(rt;
-            sink.bytes(),
-            written.as_bytes(),
-            "call {call}, room {room}"
-        );
-        assert_eq!(rt; !failed, whole, "call {call}, room {room}");
+    for row in rows {
+        assert!(rt; is_written(rt.alloc(), row)?, "{row:?}");
     }
     Ok(())
 }

@@ -1,10 +1,11 @@
-use Rattle.std.proofs.Common.{sym, subst, ap}
+use Rattle.std.proofs.Common.{sym, subst, ap, rules}
 use Rattle.std.specs.List.{All}
 use Rattle.sl_net.specs.Input.{Input}
 use Rattle.sl_net.specs.Net.{Net}
 use Rattle.sl_cut.specs.Losses.{losses}
 use Rattle.sl_cut.specs.Setup.{setup_of}
 use Rattle.sl_report.specs.TraceText.{IsEntryOf}
+use borrow.Author.Tests.{tests}
 use Rattle.sl_app.proofs.run.serve_run.Goals as goal
 
 pub add_trace_if-requires : goal.add_trace_if-requires
@@ -13,3 +14,6 @@ add_trace_if-requires c =
     let book = c.in_ok-run.run'.book.entries in
     subst (λ (net : Net). All (IsEntryOf net) book) (sym (ap (λ (i : Input). i.net) c.input.view_is))
     (c.legal_books_are_choices.ensures (setup_of i) (losses i) book c.in_ok-run.ensures.run.run.legal)
+
+pub returns : goal.returns
+returns c = search (tests, rules)

@@ -5,6 +5,7 @@ use Rattle.sl_proto.specs.Rounds.{EndsAt}
 use Rattle.sl_proto.specs.Standing.{world_of}
 use Rattle.sl_proto.proofs.Endings.{settles-to}
 use Rattle.sl_proto.proofs.Fronts.{settled-towards, settled-nothing}
+use borrow.Author.Tests.{tests}
 use Rattle.sl_proto.proofs.finishing.settle_with.Goals as goal
 
 pub returns-then-branch-clause-settles : goal.returns-then-branch-clause-settles
@@ -25,3 +26,6 @@ returns-then-branch-clause-front g c x h = settled-towards c.finishing_ends.ensu
 
 pub returns-clause-front : goal.returns-clause-front
 returns-clause-front g c x h = settled-towards c.finishing_ends.ensures c.args.net.now x (g.T.Taker.scene c.args.taker.now) (g.T.Taker.scene c.settle_within.new.taker) h (c.settle_within.ensures.front x h)
+
+pub settle_within-requires-clause-pass : goal.settle_within-requires-clause-pass
+settle_within-requires-clause-pass c = search (tests, rules)

@@ -1,8 +1,10 @@
-use Rattle.std.proofs.Common.{arith}
+use Rattle.std.proofs.Common.{arith, rules}
+use Rattle.std.proofs.lemmas.Grind.{common_steps}
 use Rattle.sl_proto.proofs.Trails.{follows-passes}
 use Rattle.sl_proto.specs.Standing.{run_at}
 use Rattle.sl_proto.proofs.Standing.{follows-none}
 use Rattle.sl_proto.proofs.Fronts.{front-passes}
+use borrow.Author.Tests.{tests}
 use Rattle.sl_proto.proofs.script.drive_passes.Goals as goal
 
 pub loop-done-init : goal.loop-done-init
@@ -25,3 +27,9 @@ pub returns-in_err-drive_within-clause-front : goal.returns-in_err-drive_within-
 returns-in_err-drive_within-clause-front g c x st = let so_far = c.loop-done.invariant in let scene = g.T.Taker.scene in
     front-passes x.setup x.lost (run_at x (scene c.args.taker.now)) (run_at x (scene c.loop-done.taker)) (run_at x (scene c.drive_within.new.taker)) c.args.once.now c.loop-done._done c.args.count (omega arith)
     (so_far.follows x st) (c.drive_within.ensures.follows_front x (so_far.stands x st))
+
+pub returns-clause-follows : goal.returns-clause-follows
+returns-clause-follows c = grind (arith, common_steps)
+
+pub returns-clause-front : goal.returns-clause-front
+returns-clause-front c = search (tests, rules)

@@ -32,8 +32,8 @@ impl OneRow {
     }
 }
 
-/// Room for the rows of a report, and the report to be filled in. A report of one row, as nearly
-/// all are, takes along no more room than that.
+/// Room for the rows of a report, and the report to be filled in. A report of one row takes along
+/// no more room than that.
 #[derive(Drop)]
 pub struct Blanks {
     pub rows: Vec<(u64, Saved)>,

@@ -1,6 +1,6 @@
 pub mod Chains
 pub mod Held
-pub mod Kept
+pub mod PastEntries
 pub mod Places
 pub mod Rings
 pub mod Walks

@@ -28,12 +28,12 @@ abbrev pub entry_credited : Credit → Entry → Entry
 entry_credited c e = record e { slot = slot_credited c e.slot }
 
 -- a list of entries, with how many more entries and credits it has room for
-pub record Kept : Type 0 where
+pub record EntryList : Type 0 where
   pub list : List Entry
   pub room : ℕ
   pub credit_room : ℕ
 
--- each place is one of the credits, and only the last entry is whole
-pub record IsKept (credits : List (List Total)) (past : List Past) (last : Option Entry) : Type 0 where
+-- each place is one of the credits, and without a last entry there is none before it
+pub record IsEntryList (credits : List (List Total)) (past : List Past) (last : Option Entry) : Type 0 where
   pub places : AllByRecursion (λ p. p.place ≤ length credits) past
   pub whole : last ≡ None → past ≡ []

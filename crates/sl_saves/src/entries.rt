@@ -18,7 +18,7 @@ pub struct Entry {
 }
 
 /// An entry to which nothing is credited any more. `place` is that of its credits among those of
-/// such entries, from 1 on, and 0 where nothing was credited to it, as mostly.
+/// such entries, from 1 on, and 0 where nothing was credited to it.
 #[derive(Clone, Copy)]
 pub struct Past {
     pub number: u64,
@@ -39,9 +39,9 @@ pub struct Entries {
 
 impl Model for Entries {
     ghost use Rattle.std.specs.Prelude.{◌-◌, vec_len, vec_capacity};
-    ghost use Rattle.sl_saves.specs.Entries.{Kept, IsKept, all_entries};
+    ghost use Rattle.sl_saves.specs.Entries.{EntryList, IsEntryList, all_entries};
 
-    ghost Value = { Kept };
+    ghost Value = { EntryList };
 
     ghost view = { λ a. record {
       list = all_entries a.credits.items a.past.items a.last;
@@ -49,7 +49,7 @@ impl Model for Entries {
       credit_room = vec_capacity a.credits - vec_len a.credits;
     } };
 
-    ghost invariant = { λ a. IsKept a.credits.items a.past.items a.last };
+    ghost invariant = { λ a. IsEntryList a.credits.items a.past.items a.last };
 }
 
 /// Whether nothing was credited.

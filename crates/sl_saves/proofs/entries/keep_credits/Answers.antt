@@ -1,5 +1,5 @@
 use Rattle.std.proofs.Common.{sym, ◌∙◌}
-use Rattle.sl_saves.proofs.Kept.{eight-none}
+use Rattle.sl_saves.proofs.PastEntries.{eight-none}
 use Rattle.sl_saves.proofs.entries.keep_credits.Goals as goal
 
 pub returns-then-is_none-clause-at : goal.returns-then-is_none-clause-at

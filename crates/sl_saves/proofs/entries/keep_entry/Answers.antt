@@ -2,7 +2,7 @@ use Rattle.std.proofs.Common.{◌∙◌, ◌≤◌, sym, ap, subst, length, List
 use Rattle.std.specs.List.{AllByRecursion}
 use Rattle.sl_saves.specs.declared.entries.Past.{Past}
 use Rattle.sl_saves.specs.Entries.{entry_at}
-use Rattle.sl_saves.proofs.Kept.{kept-entries, kept-places}
+use Rattle.sl_saves.proofs.PastEntries.{kept-entries, kept-places}
 use Rattle.sl_saves.proofs.entries.keep_entry.Goals as goal
 
 pub returns-clause-entries : goal.returns-clause-entries

@@ -35,14 +35,14 @@ pub struct Registers {
     pub packets: u64,
     /// The bytes of these.
     pub bytes: u64,
+    /// What was saved.
+    pub saves: ListSaves,
     /// The frames dropped that were no plain frames.
     pub bad: u64,
     /// The packets dropped that had no hop left.
     pub expired: u64,
     /// The packets dropped that had no route.
     pub noroute: u64,
-    /// What was saved.
-    pub saves: ListSaves,
     pub ghost window_is: { list_window saves ≡ window },
     pub ghost ring_is: { list_size saves ≡ ring },
     pub ghost window_fits: { window < 2 ^ 16 },
@@ -67,10 +67,10 @@ impl Registers {
             last: [0; 8],
             packets: 0,
             bytes: 0,
+            saves,
             bad: 0,
             expired: 0,
             noroute: 0,
-            saves,
         })
     }
 

@@ -22,11 +22,11 @@ use std::alloc::Global;
 /// port, an egress unit what goes out to it.
 #[derive(Drop)]
 pub struct Unit {
-    wires: Wires,
-    registers: Registers,
+    prepared: Option<u32>,
     frames: Vec<Bytes>,
     dumps: Vec<Boxed<PlainDump>>,
-    prepared: Option<u32>,
+    wires: Wires,
+    registers: Registers,
     ghost sized: { All (λ frame. length frame ≡ 24) frames.items },
     ghost ready: { (c : ℕ) → prepared ≡ Some c → HasRoom wires registers frames.items dumps.items c },
 }
@@ -61,11 +61,11 @@ impl Unit {
     {
         let registers = Registers::new(alloc, snapshot.window, snapshot.ring)?;
         Ok(Unit {
-            wires,
-            registers,
+            prepared: None,
             frames: Vec::new(alloc),
             dumps: Vec::new(alloc),
-            prepared: None,
+            wires,
+            registers,
         })
     }
 

@@ -101,7 +101,13 @@ impl<M: Drop> Line<M> {
         ensures line { self.new.line ≡ without_first self.old.line self.new.line.queue }
         ensures room { self.old.room ≤ self.new.room }
     {
-        match self.queue.pop_front() {
+        // The only message leaves at the back, so that the next one gets its place.
+        let taken = if self.queue.len() == 1 {
+            self.queue.pop_back()
+        } else {
+            self.queue.pop_front()
+        };
+        match taken {
             Some(m) => m,
             None => unreachable!(),
         }

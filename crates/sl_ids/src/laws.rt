@@ -1,3 +1,4 @@
+// What wrapped ids tell, as functions that do nothing and whose contracts say it.
 ghost use Rattle.std.specs.Prelude.{◌≡◌, ℕ, ◌+◌, ◌-◌, ◌<◌, ◌≤◌};
 ghost use Rattle.sl_ids.specs.Ids.{modulus, wrapped, distance};
 

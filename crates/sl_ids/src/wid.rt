@@ -1,3 +1,4 @@
+// Wrapped ids, and what one tells beside another.
 ghost use Rattle.std.specs.Prelude.{◌≡◌, ℕ, ◌+◌, ◌-◌, ◌<◌, ◌≤◌, ◌^◌, ◌↔◌, IsTrue};
 ghost use Rattle.sl_ids.specs.Ids.{modulus, wrapped, distance};
 

@@ -1,3 +1,4 @@
+// How many bits a wrapped id has.
 ghost use Rattle.std.specs.Prelude.{◌≡◌, ◌≤◌, ◌↔◌, IsSome, IfSome};
 ghost use Rattle.sl_ids.specs.Ids.{modulus};
 

@@ -1,14 +1,21 @@
-# Completion of speedlight's words for bash.
+# Completion of speedlight's words for bash. After < or >, and where no word fits, file names are completed.
 _speedlight() {
-    local word=${COMP_WORDS[COMP_CWORD]}
+    local option words word=${COMP_WORDS[COMP_CWORD]}
+    COMPREPLY=()
+    case ${COMP_WORDS[COMP_CWORD - 1]} in
+    *[\<\>]*) return ;;
+    esac
     if [ "$COMP_CWORD" -eq 1 ]; then
         mapfile -t COMPREPLY < <(compgen -W "step run routes sample" -- "$word")
         return
     fi
     case ${COMP_WORDS[1]} in
-    step | run) mapfile -t COMPREPLY < <(compgen -W "--trace" -- "$word") ;;
-    sample) mapfile -t COMPREPLY < <(compgen -W "--input $(seq 1 64)" -- "$word") ;;
-    *) COMPREPLY=() ;;
+    step | run) option=--trace ;;
+    sample) option=--input words=$(seq 1 64) ;;
+    *) return ;;
     esac
+    # The option stands at most once.
+    if [[ " ${COMP_WORDS[*]:2:COMP_CWORD-2} " == *" $option "* ]]; then option=; fi
+    mapfile -t COMPREPLY < <(compgen -W "$option $words" -- "$word")
 }
-complete -F _speedlight speedlight
+complete -o default -F _speedlight speedlight

@@ -1,0 +1,38 @@
+"""What the tests share: where things stand, how a tool is run, and the table of mistakes."""
+
+import re
+import subprocess
+import sys
+import tomllib
+from pathlib import Path
+
+TOP = Path(__file__).resolve().parent.parent.parent
+TOOLS = TOP / "tools"
+DATA = TOOLS / "tests" / "data"
+EXAMPLES = TOP / "examples"
+sys.path.insert(0, str(TOOLS))
+
+
+def run(tool, *words, data=""):
+    """Status, standard output and standard error of a tool."""
+    done = subprocess.run(
+        [str(TOOLS / tool), *map(str, words)], input=data.encode(), stdout=subprocess.PIPE, stderr=subprocess.PIPE
+    )
+    return done.returncode, done.stdout.decode(), done.stderr.decode()
+
+
+def expand(text):
+    """The text with `<<N*ROW>>` written out."""
+
+    def rows(found):
+        made = []
+        for i in range(int(found[1])):
+            made.append(found[2].replace("#/8", str(i // 8)).replace("#%8", str(i % 8)).replace("#", str(i)))
+        return ", ".join(made)
+
+    return re.sub(r"<<(\d+)\*(.*?)>>", rows, text)
+
+
+def mistakes():
+    with open(TOOLS / "tests" / "mistakes.toml", "rb") as file:
+        return tomllib.load(file)["mistake"]

@@ -39,7 +39,7 @@ MEANINGS = {
     "flow.to": "the host that the packets are for",
     "flow.count": "the number of packets",
     "flow.bytes": "the bytes of each packet",
-    "flow.hops": "the cables that a packet may go over",
+    "flow.hops": "the switches that a packet may go through",
     "raw.from": "the host that sends the frame",
     "raw.hex": "the bytes of the frame in hexadecimal",
     "script.entries": "the list of the entries",

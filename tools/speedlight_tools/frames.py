@@ -24,7 +24,7 @@ MEANINGS = {
     "dst": "the place of the host that it is for, from 0",
     "seq": "the packet's number at its host, from 0",
     "len": "the packet's bytes",
-    "hops": "the cables that it may still go over",
+    "hops": "the switches that it may still go through",
     "version": "the version of the layout",
     "reserved": "nothing",
 }

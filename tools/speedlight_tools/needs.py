@@ -19,9 +19,9 @@ MARK = "SPEEDLIGHT_TOOLS_PYTHON"
 
 
 def pythons():
-    """Each Python 3 that the path leads to, then the system's own."""
+    """The system's own Python 3, which sees Debian's packages, then each that the path leads to."""
     found = []
-    for folder in [*os.environ.get("PATH", "").split(os.pathsep), "/usr/bin", "/usr/local/bin"]:
+    for folder in ["/usr/bin", *os.environ.get("PATH", "").split(os.pathsep), "/usr/local/bin"]:
         path = os.path.join(folder, "python3")
         if os.access(path, os.X_OK) and path not in found:
             found.append(path)
@@ -52,20 +52,26 @@ def how_to_get(names):
     return f"run tools/setup, or: apt-get install {' '.join(packages)}"
 
 
+def imports(names):
+    """This Python imports the names, and the programs that they call are there."""
+    try:
+        for name in ("tomllib", *names):
+            __import__(name)
+    except ImportError:
+        return False
+    return all(not LIBRARIES[n][1] or shutil.which(LIBRARIES[n][1]) for n in names if n in LIBRARIES)
+
+
 def need(*names):
     """Goes on in a Python that imports the names. Where there is none, says so and ends with status 1."""
+    tried = [path for path in os.environ.pop(MARK, "").split(os.pathsep) if path]
+    if imports(names):
+        return
+    for python in pythons():
+        if python not in tried:
+            os.environ[MARK] = os.pathsep.join([*tried, python])
+            os.execv(python, [python, *sys.argv])
     tool = os.path.basename(sys.argv[0])
-    try:
-        if all(not LIBRARIES[n][1] or shutil.which(LIBRARIES[n][1]) for n in names if n in LIBRARIES):
-            for name in ("tomllib", *names):
-                __import__(name)
-            return
-    except ImportError:
-        pass
-    python = None if os.environ.get(MARK) else python_with(*names)
-    if python is not None:
-        os.environ[MARK] = python
-        os.execv(python, [python, *sys.argv])
     if not names:
         print(f"{tool}: needs Python 3.11 or later, and found none", file=sys.stderr)
     else:

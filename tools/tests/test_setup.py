@@ -14,9 +14,11 @@ from speedlight_tools import needs
 
 def with_need(name, **environment):
     """What a script that needs the library says, and its status."""
-    code = f"import sys; sys.argv[0] = 'tools/example'; from speedlight_tools import needs; needs.need('{name}'); print('there')"
-    environment = {**os.environ, "PYTHONPATH": str(TOOLS), **environment}
-    return subprocess.run([sys.executable, "-c", code], env=environment, capture_output=True, text=True)
+    with tempfile.TemporaryDirectory() as folder:
+        script = Path(folder) / "example"
+        script.write_text(f"from speedlight_tools import needs\nneeds.need('{name}')\nprint('there')\n")
+        environment = {**os.environ, "PYTHONPATH": str(TOOLS), **environment}
+        return subprocess.run([sys.executable, str(script)], env=environment, capture_output=True, text=True)
 
 
 class Setup(unittest.TestCase):

@@ -338,7 +338,8 @@ class Explanation:
                 "Cables, crossbar links (`x0`, `x1`, ..), initiations (`init`) and notices can lose messages.",
             )
             return
-        self.say(f"There is no link `{value}`. A link is spelled as the choice that takes from it, such as `{lossy[0]}`.")
+        such = lossy[0] if lossy else "in a.0 init"
+        self.say(f"There is no link `{value}`. A link is spelled as the choice that takes from it, such as `{such}`.")
         self.say(*wrong_word(value, net))
         guess = near(value, lossy, 1)
         if guess:

@@ -33,6 +33,20 @@ def expand(text):
     return re.sub(r"<<(\d+)\*(.*?)>>", rows, text)
 
 
+def accepted():
+    """The examples that the program takes."""
+    from speedlight_tools.inputs import Refusal, read_input
+
+    found = []
+    for path in sorted(EXAMPLES.glob("*.toml")):
+        try:
+            read_input(path)
+            found.append(path)
+        except Refusal:
+            pass
+    return found
+
+
 def mistakes():
     with open(TOOLS / "tests" / "mistakes.toml", "rb") as file:
         return tomllib.load(file)["mistake"]

@@ -4,10 +4,10 @@ import subprocess
 import unittest
 import xml.etree.ElementTree as tree
 
-from table import DATA, EXAMPLES, TOP, run
+from table import DATA, EXAMPLES, TOP, accepted, run
 
 from speedlight_tools import needs, program
-from speedlight_tools.inputs import check, parse
+from speedlight_tools.inputs import check, parse, read_input
 
 HAS_LIBRARIES = needs.python_with("networkx", "graphviz") is not None
 LOSSY_NET = "leaf-spine --hosts 2 --count 40 --snapshots 12 --every 3 --bits 3 --window 3 --loss-cable 20 --loss-init 60 --seed 3"
@@ -100,9 +100,8 @@ class Pictures(unittest.TestCase):
         return svg
 
     def test_each_example(self):
-        for path in EXAMPLES.glob("*.toml"):
-            if path.stem != "refused":
-                self.assertIn(">a<" if "leaf" not in path.stem else ">s0<", self.draw(path).replace("leaf", ""), path.stem)
+        for path in accepted():
+            self.assertIn(f">{read_input(path).net.devices[0]}<", self.draw(path), path.stem)
 
     def test_the_verdicts_colour_the_units(self):
         net, report = DATA / "lossy_net.toml", DATA / "lossy_net.report"

@@ -57,4 +57,6 @@ def check(report, net):
     """Raises NoReport where the report can't be of this net."""
     shape = (report.devices, report.units, report.hosts)
     if shape != (len(net.devices), len(net.units), len(net.hosts)):
-        raise NoReport(f"the report has {shape[0]} devices, {shape[1]} units and {shape[2]} hosts: is it of this input?")
+        raise NoReport(
+            f"the report has {shape[0]} devices, {shape[1]} units and {shape[2]} hosts: is it of this input?"
+        )

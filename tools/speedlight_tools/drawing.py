@@ -67,8 +67,11 @@ class Drawing:
     def in_flight(self, message):
         """A data packet between units that was put before the sender's cut and taken after the receiver's."""
         return (
-            message.kind == "data" and message.take is not None and message.link.sort in ("cable", "crossbar")
-            and self.is_before(message.put) and not self.is_before(message.take)
+            message.kind == "data"
+            and message.take is not None
+            and message.link.sort in ("cable", "crossbar")
+            and self.is_before(message.put)
+            and not self.is_before(message.take)
         )
 
     def is_late(self, message):
@@ -186,11 +189,23 @@ class Drawing:
             if is_at_fault:
                 wide = 8 * len(actor) + 14
                 self.add(
-                    "rect", x=x - wide / 2, y=TOP - 40, width=wide, height=22, rx=4, fill=PAPER, stroke=self.colour,
+                    "rect",
+                    x=x - wide / 2,
+                    y=TOP - 40,
+                    width=wide,
+                    height=22,
+                    rx=4,
+                    fill=PAPER,
+                    stroke=self.colour,
                     stroke_width=2,
                 )
             self.text(
-                actor, x, TOP - 24, self.colour if is_at_fault else INK, 13, text_anchor="middle",
+                actor,
+                x,
+                TOP - 24,
+                self.colour if is_at_fault else INK,
+                13,
+                text_anchor="middle",
                 font_weight="bold" if is_unit else "normal",
             )
 
@@ -320,11 +335,15 @@ class Drawing:
         entries = [(self.cut_sample, f"where each unit reaches {k}; shaded: its turns before")]
         if verdict == "consistent":
             entries[0] = (self.cut_sample, f"cut {k}; shaded: the units' turns before it")
-            entries.append((lambda x, y: self.box(x + 13, y - 8, "n"), "n: the packets that the unit counted before the cut"))
+            entries.append(
+                (lambda x, y: self.box(x + 13, y - 8, "n"), "n: the packets that the unit counted before the cut")
+            )
         entries.append((lambda x, y: self.sample_dot(x, y, True), f"a unit's turn before it reaches {k}"))
         stops = [t for t in self.cuts.values() if t is not None and t not in self.skips]
         if stops:
-            entries.append((lambda x, y: self.diamond_sample(x, y, self.cut_colour), f"the turn in which it reaches {k}"))
+            entries.append(
+                (lambda x, y: self.diamond_sample(x, y, self.cut_colour), f"the turn in which it reaches {k}")
+            )
         if self.skips:
             entries.append((lambda x, y: self.diamond_sample(x, y, FAULT), f"the turn in which it goes over {k}"))
         entries.append((lambda x, y: self.sample_dot(x, y, False), "a unit's turn after that (grey: of another actor)"))

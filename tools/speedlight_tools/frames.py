@@ -76,7 +76,9 @@ def check(name, value, kind, bits):
     _, start, size, rules = next(f for f in FIELDS if f[0] == name)
     if not allowed(rules[kind], value, bits):
         place = f"byte {start}" if size == 1 else f"bytes {start} to {start + size - 1}"
-        raise NoFrame(f"{place}, {name}, is {value}: in a frame of the kind {KINDS[kind]} it is {words(rules[kind], bits)}")
+        raise NoFrame(
+            f"{place}, {name}, is {value}: in a frame of the kind {KINDS[kind]} it is {words(rules[kind], bits)}"
+        )
 
 
 def make(fields, bits):

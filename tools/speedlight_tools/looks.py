@@ -14,10 +14,17 @@ def pyplot():
     import matplotlib
 
     matplotlib.use("Agg")
-    matplotlib.rcParams.update({
-        "svg.hashsalt": "speedlight", "svg.fonttype": "none", "font.family": "DejaVu Sans", "font.size": 10,
-        "axes.spines.top": False, "axes.spines.right": False, "figure.facecolor": "white",
-    })
+    matplotlib.rcParams.update(
+        {
+            "svg.hashsalt": "speedlight",
+            "svg.fonttype": "none",
+            "font.family": "DejaVu Sans",
+            "font.size": 10,
+            "axes.spines.top": False,
+            "axes.spines.right": False,
+            "figure.facecolor": "white",
+        }
+    )
     from matplotlib import pyplot as plot
 
     return plot

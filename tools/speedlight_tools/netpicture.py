@@ -55,12 +55,24 @@ class Picture:
 
     def draw(self):
         layers = self.layers()
-        is_round = layers is None and len(self.net.devices) > 2 and all(
-            sum(d in (a[0], b[0]) for a, b in self.net.cables) == 2 for d in self.net.devices
+        is_round = (
+            layers is None
+            and len(self.net.devices) > 2
+            and all(sum(d in (a[0], b[0]) for a, b in self.net.cables) == 2 for d in self.net.devices)
         )
         dot = graphviz.Graph(engine="dot" if layers else "circo" if is_round else "neato")
-        dot.attr(overlap="false", splines="true" if layers else "line", nodesep="0.35", ranksep="0.9", sep="+8", mindist="0.4",
-                 label=self.title(), labelloc="t", fontname="DejaVu Sans", fontsize="13")
+        dot.attr(
+            overlap="false",
+            splines="true" if layers else "line",
+            nodesep="0.35",
+            ranksep="0.9",
+            sep="+8",
+            mindist="0.4",
+            label=self.title(),
+            labelloc="t",
+            fontname="DejaVu Sans",
+            fontsize="13",
+        )
         dot.attr("node", fontname="DejaVu Sans", fontsize="10", shape="plain")
         dot.attr("edge", fontname="DejaVu Sans", fontsize="9", color="#555555", len="1.7")
         for far in sorted(layers or {0: None}, reverse=True):
@@ -134,13 +146,20 @@ class Picture:
             words, colour = [], "#555555"
             for name, end in ((f"{d}.{p} to {e}.{q}", e), (f"{e}.{q} to {d}.{p}", d)):
                 row = flight.get(name)
-                told = [f"{v} {what}" for v, what in ((row.flight[0], "in flight"), (row.missing[0], "missing")) if v] if row else []
+                told = (
+                    [f"{v} {what}" for v, what in ((row.flight[0], "in flight"), (row.missing[0], "missing")) if v]
+                    if row
+                    else []
+                )
                 if told:
                     words.append(f"to {end}: " + ", ".join(told))
                 if row and row.missing[0]:
                     colour = COLOURS["skipped"]
             look = {
-                "label": "\n".join(words), "color": colour, "fontcolor": colour, "penwidth": "1" if colour == "#555555" else "2",
+                "label": "\n".join(words),
+                "color": colour,
+                "fontcolor": colour,
+                "penwidth": "1" if colour == "#555555" else "2",
             }
             if not layer:
                 dot.edge(d, e, **look, **self.port_labels(p, q))

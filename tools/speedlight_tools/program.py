@@ -42,6 +42,12 @@ def run(program, words, data=b""):
     return done.returncode, done.stdout, done.stderr.decode("utf-8", "replace")
 
 
+def fault(program, status, errors):
+    """A sentence on a run that gave no answer."""
+    lines = errors.strip().splitlines()
+    return f"{program} ended with status {status}" + (f": {lines[-1]}" if lines else "")
+
+
 def refusal_line(errors):
     """The program's own line among what it wrote to standard error, or an empty text."""
     lines = [line for line in errors.splitlines() if line.startswith("speedlight: ")]

@@ -218,8 +218,11 @@ class World:
     def late(self, k):
         """The turns that take a data packet from before k when their unit is above k."""
         return [
-            t for t in self.turns
-            if t.took is not None and t.took.kind == "data" and t.took.link.sort in ("cable", "crossbar")
+            t
+            for t in self.turns
+            if t.took is not None
+            and t.took.kind == "data"
+            and t.took.link.sort in ("cable", "crossbar")
             and t.took.stamp < k < t.id
         ]
 

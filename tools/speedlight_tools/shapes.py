@@ -83,7 +83,12 @@ def numbered(graph):
 
 
 SHAPES = {
-    "line": line, "ring": ring, "star": star, "leaf-spine": leaf_spine, "fat-tree": fat_tree, "random": random_net,
+    "line": line,
+    "ring": ring,
+    "star": star,
+    "leaf-spine": leaf_spine,
+    "fat-tree": fat_tree,
+    "random": random_net,
 }
 
 
@@ -92,7 +97,9 @@ def document(shape, options):
     graph, edges = SHAPES[shape](options)
     hosts_each = options.arity // 2 if shape == "fat-tree" else options.hosts
     next_port = {node: hosts_each if node in edges else 0 for node in graph}
-    hosts = [{"name": f"h{i}", "at": f"{edges[i // hosts_each]}.{i % hosts_each}"} for i in range(len(edges) * hosts_each)]
+    hosts = [
+        {"name": f"h{i}", "at": f"{edges[i // hosts_each]}.{i % hosts_each}"} for i in range(len(edges) * hosts_each)
+    ]
     cables = []
     for a, b in graph.edges:
         ends = []
@@ -112,7 +119,11 @@ def document(shape, options):
     window = options.window
     ring_size = options.ring if options.ring is not None else window
     doc["snapshot"] = {
-        "bits": options.bits, "window": window, "ring": ring_size, "count": options.snapshots, "retries": options.retries,
+        "bits": options.bits,
+        "window": window,
+        "ring": ring_size,
+        "count": options.snapshots,
+        "retries": options.retries,
     }
     losses = {sort: getattr(options, f"loss_{sort}") for sort in ("cable", "crossbar", "init", "notice")}
     losses = {sort: rate for sort, rate in losses.items() if rate}

@@ -111,11 +111,15 @@ def values_of(name, values):
     if isinstance(values, str) and name != "command":
         found = re.fullmatch(r"(\d+)-(\d+)", values)
         if not found or int(found[1]) > int(found[2]):
-            raise NoPlan(f"[grid] {name}: a range is written such as \"1-10\"")
+            raise NoPlan(f'[grid] {name}: a range is written such as "1-10"')
         return list(range(int(found[1]), int(found[2]) + 1))
     values = values if isinstance(values, list) else [values]
     kind = str if name == "command" else int
-    if not values or any(not isinstance(v, kind) or isinstance(v, bool) for v in values) or len(set(values)) != len(values):
+    if (
+        not values
+        or any(not isinstance(v, kind) or isinstance(v, bool) for v in values)
+        or len(set(values)) != len(values)
+    ):
         raise NoPlan(f"[grid] {name}: a list of different {'words' if kind is str else 'whole numbers'}")
     return values
 
@@ -125,8 +129,13 @@ def row_of(report):
     verdicts = {v: sum(s.verdict == v for s in report.snapshots) for v in VERDICTS}
     hosts = list(report.host_counts.values())
     return {
-        **verdicts, "issued": report.issued, "collected": report.collected, "resent": report.resent,
-        "sent": sum(h[0] for h in hosts), "delivered": sum(h[1] for h in hosts), "lost": sum(report.lost.values()),
+        **verdicts,
+        "issued": report.issued,
+        "collected": report.collected,
+        "resent": report.resent,
+        "sent": sum(h[0] for h in hosts),
+        "delivered": sum(h[1] for h in hosts),
+        "lost": sum(report.lost.values()),
     }
 
 
@@ -172,7 +181,15 @@ def write_picture(title, picture, table, path):
         for j, row in enumerate(grid):
             for i, value in enumerate(row):
                 if value == value:
-                    axis.text(i, j, f"{value:.0f}", ha="center", va="center", fontsize=8, color="white" if value > 60 else "black")
+                    axis.text(
+                        i,
+                        j,
+                        f"{value:.0f}",
+                        ha="center",
+                        va="center",
+                        fontsize=8,
+                        color="white" if value > 60 else "black",
+                    )
         axis.set_xticks(range(len(xs)), xs)
         axis.set_yticks(range(len(ys)), ys)
         axis.set_xlabel(axis_name(picture["across"]))

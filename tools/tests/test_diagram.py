@@ -20,7 +20,16 @@ raw = [{from = "h0", hex = ""}, {from = "h0", hex = "000000000000000100000000006
 snapshot = {bits = 2, window = 1, ring = 1, count = 1, retries = 0}
 """
 RAW_TURNS = ["host h0 inject", "host h0 inject", "in a.0 host", "in a.0 host", "out a.1 x0", "host h1 net"]
-START = ["observer issue", "control a begin", "in a.0 init", "in a.1 init", "out a.0 x0", "out a.0 x1", "out a.1 x0", "out a.1 x1"]
+START = [
+    "observer issue",
+    "control a begin",
+    "in a.0 init",
+    "in a.1 init",
+    "out a.0 x0",
+    "out a.0 x1",
+    "out a.1 x0",
+    "out a.1 x1",
+]
 
 
 def draw(name, *words):
@@ -65,7 +74,8 @@ class Diagram(unittest.TestCase):
 
     def test_a_cut_that_is_not_there(self):
         for name, number, why in (
-            ("two_in_flight", 9, "there is no snapshot 9"), ("two_in_flight", 0, "numbered from 1"),
+            ("two_in_flight", 9, "there is no snapshot 9"),
+            ("two_in_flight", 0, "numbered from 1"),
             ("dead_cable", 2, "snapshot 2 not issued in a.1 0"),
         ):
             status, out, err = draw(name, "--snapshot", number)
@@ -77,8 +87,10 @@ class Diagram(unittest.TestCase):
         self.assertIn("observer issue", words)
         self.assertNotIn("host h0 inject", words)
         words = self.words(draw("two_in_flight", "--actors", "h0,in a.0,a.1")[1])
-        self.assertEqual([w for w in words if w in ("host h0", "in a.0", "out a.1", "in a.1", "out a.0", "observer")],
-                         ["host h0", "in a.0", "out a.1", "in a.1"])
+        self.assertEqual(
+            [w for w in words if w in ("host h0", "in a.0", "out a.1", "in a.1", "out a.0", "observer")],
+            ["host h0", "in a.0", "out a.1", "in a.1"],
+        )
         words = self.words(draw("two_in_flight", "--no-control")[1])
         self.assertNotIn("control a", words)
         self.assertNotIn("observer issue", words)

@@ -5,7 +5,7 @@ import tempfile
 import unittest
 from pathlib import Path
 
-from table import EXAMPLES, expand, mistakes, run
+from table import EXAMPLES, TOP, expand, mistakes, run
 
 from speedlight_tools import program
 from speedlight_tools.explaining import explain
@@ -25,6 +25,7 @@ def refused(data):
 class Explaining(unittest.TestCase):
     def test_there_are_enough(self):
         self.assertGreaterEqual(len(mistakes()), 60)
+        self.assertIn(f"has {len(mistakes())} mistakes", (TOP / "docs" / "TOOLS.md").read_text())
         self.assertEqual(len({m["name"] for m in mistakes()}), len(mistakes()))
         kinds = {m["says"].split(" ")[1] for m in mistakes()}
         self.assertEqual(kinds, {f"I{i}" for i in range(2, 11)})

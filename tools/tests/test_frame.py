@@ -49,11 +49,16 @@ class Frame(unittest.TestCase):
 
     def test_what_is_no_frame(self):
         wrong = [
-            (CARRIED[:-2], "these are 23"), (changed(CARRIED, 0, "04"), "byte 0, the kind"),
-            (changed(CARRIED, 15, "02"), "byte 15, the version"), (changed(CARRIED, 2, "0004"), "bytes 2 to 3, id, is 4"),
-            (changed(PLAIN, 2, "0001"), "bytes 2 to 3, id, is 1"), (changed(PLAIN, 16, "01"), "reserved"),
-            (changed(PROBE, 14, "01"), "byte 14, hops"), (changed(CARRIED, 1, "08"), "byte 1, channel"),
-            (changed(INITIATION, 1, "00"), "byte 1, channel"), (changed(CARRIED, 0, "0408"), "byte 0, the kind"),
+            (CARRIED[:-2], "these are 23"),
+            (changed(CARRIED, 0, "04"), "byte 0, the kind"),
+            (changed(CARRIED, 15, "02"), "byte 15, the version"),
+            (changed(CARRIED, 2, "0004"), "bytes 2 to 3, id, is 4"),
+            (changed(PLAIN, 2, "0001"), "bytes 2 to 3, id, is 1"),
+            (changed(PLAIN, 16, "01"), "reserved"),
+            (changed(PROBE, 14, "01"), "byte 14, hops"),
+            (changed(CARRIED, 1, "08"), "byte 1, channel"),
+            (changed(INITIATION, 1, "00"), "byte 1, channel"),
+            (changed(CARRIED, 0, "0408"), "byte 0, the kind"),
         ]
         for frame, why in wrong:
             status, _, err = run("frame", "read", frame)
@@ -62,8 +67,15 @@ class Frame(unittest.TestCase):
         self.assertEqual(run("frame", "read", changed(CARRIED, 2, "0004"), "--bits", 3)[0], 0)
 
     def test_errors_are_plain(self):
-        for words in (["read", "zz"], ["read", "000"], ["make", "plain", "--hops", "256"], ["make", "plain", "--id", "1"],
-                      ["make", "probe"], ["make", "probe", "--channel", "8"], ["make", "plain", "--len", "-1"]):
+        for words in (
+            ["read", "zz"],
+            ["read", "000"],
+            ["make", "plain", "--hops", "256"],
+            ["make", "plain", "--id", "1"],
+            ["make", "probe"],
+            ["make", "probe", "--channel", "8"],
+            ["make", "plain", "--len", "-1"],
+        ):
             status, out, err = run("frame", *words)
             self.assertEqual((status, out, err.count("\n")), (1, "", 1), words)
         self.assertEqual(run("frame")[0], 2)

@@ -58,10 +58,21 @@ class Inputs(unittest.TestCase):
     def test_order_of_links(self):
         net = read_input(EXAMPLES / "three_packets.toml").net
         self.assertEqual(len(net.links), 24)
-        self.assertEqual(list(net.links)[9:16], [
-            "control a dump:out.1", "in a.0 host", "in a.0 init", "in a.0 poll", "out a.0 x0", "out a.0 x1", "out a.0 poll",
-        ])
-        self.assertEqual(net.actors, ["observer", "control a", "in a.0", "out a.0", "in a.1", "out a.1", "host h0", "host h1"])
+        self.assertEqual(
+            list(net.links)[9:16],
+            [
+                "control a dump:out.1",
+                "in a.0 host",
+                "in a.0 init",
+                "in a.0 poll",
+                "out a.0 x0",
+                "out a.0 x1",
+                "out a.0 poll",
+            ],
+        )
+        self.assertEqual(
+            net.actors, ["observer", "control a", "in a.0", "out a.0", "in a.1", "out a.1", "host h0", "host h1"]
+        )
 
     def test_ways(self):
         net = read_input(EXAMPLES / "leaf_spine.toml").net
@@ -82,10 +93,13 @@ class Inputs(unittest.TestCase):
 class Reports(unittest.TestCase):
     def test_each_line(self):
         report = read_report(REPORT)
-        self.assertEqual([s.verdict for s in report.snapshots],
-                         ["consistent", "skipped", "miscredited", "pending", "not issued"])
+        self.assertEqual(
+            [s.verdict for s in report.snapshots], ["consistent", "skipped", "miscredited", "pending", "not issued"]
+        )
         self.assertEqual(report.snapshots[0].of("out a.0").channels, {"x0": (3, 300)})
-        self.assertEqual((report.snapshots[3].unit, report.snapshots[3].channel, report.snapshots[3].other), ("out a.0", "x0", 3))
+        self.assertEqual(
+            (report.snapshots[3].unit, report.snapshots[3].channel, report.snapshots[3].other), ("out a.0", "x0", 3)
+        )
         self.assertEqual((report.issued, report.collected, report.resent), (4, 3, 1))
         self.assertEqual(report.host_counts, {"h0": (4, 5)})
         self.assertEqual((report.drops["noroute"], report.lost["notice"]), (3, 7))
@@ -96,9 +110,20 @@ class Reports(unittest.TestCase):
 
     def test_what_is_no_report(self):
         lines = REPORT.splitlines(keepends=True)
-        wrong = [REPORT[:200], "", "speedlight 2\n", REPORT + "x\n", REPORT + "trace 2\na\n", REPORT + "trace 1\na\nb\n"]
+        wrong = [
+            REPORT[:200],
+            "",
+            "speedlight 2\n",
+            REPORT + "x\n",
+            REPORT + "trace 2\na\n",
+            REPORT + "trace 1\na\nb\n",
+        ]
         wrong += ["".join(lines[:i] + lines[i + 1 :]) for i in range(len(lines)) if not lines[i].startswith("host")]
-        wrong += [REPORT.replace("skipped to", "skipped"), REPORT.replace("x0 3 300", "x0 3"), REPORT.replace("sent 4", "sent -4")]
+        wrong += [
+            REPORT.replace("skipped to", "skipped"),
+            REPORT.replace("x0 3 300", "x0 3"),
+            REPORT.replace("sent 4", "sent -4"),
+        ]
         for text in wrong:
             with self.assertRaises(NoReport, msg=text):
                 read_report(text)

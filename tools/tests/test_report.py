@@ -33,32 +33,49 @@ class Forms(unittest.TestCase):
         whole = json.loads(run("report", "json", REPORT)[1])
         self.assertEqual(whole["observer"], {"count": 12, "issued": 12, "collected": 12, "resent": 0})
         first, fourth = whole["snapshots"][0], whole["snapshots"][3]
-        self.assertEqual(first["units"][0], {
-            "unit": "in s0.0", "packets": 2, "bytes": 200, "channels": {"cable": {"packets": 0, "bytes": 0}},
-        })
-        self.assertEqual(fourth, {"snapshot": 4, "verdict": "miscredited", "unit": "out s0.0", "channel": None, "number": 5})
+        self.assertEqual(
+            first["units"][0],
+            {
+                "unit": "in s0.0",
+                "packets": 2,
+                "bytes": 200,
+                "channels": {"cable": {"packets": 0, "bytes": 0}},
+            },
+        )
+        self.assertEqual(
+            fourth, {"snapshot": 4, "verdict": "miscredited", "unit": "out s0.0", "channel": None, "number": 5}
+        )
         self.assertEqual(whole["hosts"]["h0"], {"sent": 40, "delivered": 38})
         pending = json.loads(run("report", "json", data=cut_report("dead_cable"))[1])["snapshots"]
-        self.assertEqual([(s["verdict"], s["unit"], s["channel"], s["number"]) for s in pending],
-                         [("pending", "in a.1", "cable", 0), ("not issued", "in a.1", None, 0)])
+        self.assertEqual(
+            [(s["verdict"], s["unit"], s["channel"], s["number"]) for s in pending],
+            [("pending", "in a.1", "cable", 0), ("not issued", "in a.1", None, 0)],
+        )
 
     def test_csv(self):
         rows = list(csv.DictReader(io.StringIO(run("report", "csv", REPORT)[1])))
         report = read_report(REPORT.read_text())
         self.assertEqual(len(rows), sum(len(s.counts) or 1 for s in report.snapshots))
         row = next(r for r in rows if r["snapshot"] == "1" and r["unit"] == "out s0.0")
-        self.assertEqual((row["packets"], row["x2_packets"], row["x2_bytes"], row["cable_packets"]), ("0", "2", "200", ""))
+        self.assertEqual(
+            (row["packets"], row["x2_packets"], row["x2_bytes"], row["cable_packets"]), ("0", "2", "200", "")
+        )
         row = next(r for r in rows if r["snapshot"] == "4")
-        self.assertEqual((row["verdict"], row["unit"], row["packets"], row["fault_number"]), ("miscredited", "out s0.0", "", "5"))
+        self.assertEqual(
+            (row["verdict"], row["unit"], row["packets"], row["fault_number"]), ("miscredited", "out s0.0", "", "5")
+        )
 
     def test_the_balance_finds_the_lossy_cables(self):
         told = run("report", "balance", REPORT, "--input", INPUT)[1]
         lines = [line for line in told.splitlines() if "does not add up" in line]
-        self.assertEqual(lines, [
-            "cable s0.0 to l0.2 does not add up: 2 of 40 packets (50 of a thousand) lost",
-            "cable l0.2 to s0.0 does not add up: 1 of 40 packets (25 of a thousand) lost",
-            "cable l1.2 to s0.1 does not add up: 2 of 40 packets (50 of a thousand) lost",
-        ])
+        self.assertEqual(
+            lines,
+            [
+                "cable s0.0 to l0.2 does not add up: 2 of 40 packets (50 of a thousand) lost",
+                "cable l0.2 to s0.0 does not add up: 1 of 40 packets (25 of a thousand) lost",
+                "cable l1.2 to s0.1 does not add up: 2 of 40 packets (50 of a thousand) lost",
+            ],
+        )
         self.assertIn(told, (TOP / "docs" / "TOOLS.md").read_text())
         rows = json.loads(run("report", "balance", REPORT, "--input", INPUT, "--json", "--snapshot", 1)[1])
         self.assertEqual(rows["snapshot"], 1)
@@ -76,11 +93,16 @@ class Forms(unittest.TestCase):
     def test_errors_are_plain(self):
         trace = TOP / "docs" / "two_in_flight.trace"
         cases = [
-            (["json", EXAMPLES / "one_port.toml"], "line 1"), (["json", "nothing"], "No such file"),
-            (["balance", REPORT], "--input"), (["balance", REPORT, "--input", EXAMPLES / "one_port.toml"], "of this input?"),
+            (["json", EXAMPLES / "one_port.toml"], "line 1"),
+            (["json", "nothing"], "No such file"),
+            (["balance", REPORT], "--input"),
+            (["balance", REPORT, "--input", EXAMPLES / "one_port.toml"], "of this input?"),
             (["balance", REPORT, "--input", INPUT, "--snapshot", "4"], "miscredited"),
             (["balance", REPORT, "--input", INPUT, "--snapshot", "40"], "no snapshot 40"),
-            (["balance", TOP / "docs" / "dead_cable.trace", "--input", EXAMPLES / "dead_cable.toml"], "no snapshot is consistent"),
+            (
+                ["balance", TOP / "docs" / "dead_cable.trace", "--input", EXAMPLES / "dead_cable.toml"],
+                "no snapshot is consistent",
+            ),
         ]
         for words, why in cases:
             status, out, err = run("report", *words)

@@ -45,7 +45,9 @@ class Setup(unittest.TestCase):
             python.write_text(f'#!/bin/bash\nPYTHONPATH={library}:{TOOLS} exec "{sys.executable}" "$@"\n')
             python.chmod(0o755)
             script = Path(folder) / "script"
-            script.write_text("from speedlight_tools import needs\nneeds.need('only_there')\nimport only_there\nprint('there')\n")
+            script.write_text(
+                "from speedlight_tools import needs\nneeds.need('only_there')\nimport only_there\nprint('there')\n"
+            )
             environment = {**os.environ, "PYTHONPATH": str(TOOLS), "PATH": f"{os.environ['PATH']}:{folder}"}
             done = subprocess.run([sys.executable, str(script)], env=environment, capture_output=True, text=True)
             self.assertEqual((done.returncode, done.stdout, done.stderr), (0, "there\n", ""))

@@ -51,7 +51,10 @@ class Folder(unittest.TestCase):
 class Plans(Folder):
     def test_the_points_of_the_grid(self):
         runs, refused = Plan(self.folder / "plan.toml").runs()
-        self.assertEqual(list(runs), [f"window-{w}_ring-{r}_seed-{s}_command-step" for w, r in ((1, 1), (1, 3), (3, 3)) for s in (1, 2)])
+        self.assertEqual(
+            list(runs),
+            [f"window-{w}_ring-{r}_seed-{s}_command-step" for w, r in ((1, 1), (1, 3), (3, 3)) for s in (1, 2)],
+        )
         self.assertEqual({reason: len(points) for reason, points in refused.items()}, {"I6 snapshot.ring": 2})
 
     def test_the_plan_of_the_documents(self):
@@ -64,12 +67,19 @@ class Plans(Folder):
 
     def test_what_is_no_plan(self):
         for text, why in (
-            ("x = ", "no TOML document"), ("colour = 1\n", "`colour`"), (PLAN.replace("[grid]", "[gird]"), "`gird`"),
-            (PLAN.replace('input = "net.toml"', ""), "one of `input`"), (PLAN.replace("window = [1, 3]", "window = []"), "window: a list"),
-            (PLAN.replace('"1-2"', '"2-1"'), "a range"), (PLAN.replace("[1, 3]", "[9]"), "no point of the grid"),
-            (PLAN.replace('across = "ring"', 'across = "bits"'), "`across`"), (PLAN + "where = {seed = 7}\n", "no seed = 7"),
-            (PLAN.replace("window = [1, 3]", 'window = [1, "3"]'), "whole numbers"), ('command = "jump"\n' + PLAN, "command is step or run"),
-            (PLAN.replace('name = "both"', 'name = "a/b"'), "letters"), (PLAN.replace("seed =", "seeds ="), "`seeds`"),
+            ("x = ", "no TOML document"),
+            ("colour = 1\n", "`colour`"),
+            (PLAN.replace("[grid]", "[gird]"), "`gird`"),
+            (PLAN.replace('input = "net.toml"', ""), "one of `input`"),
+            (PLAN.replace("window = [1, 3]", "window = []"), "window: a list"),
+            (PLAN.replace('"1-2"', '"2-1"'), "a range"),
+            (PLAN.replace("[1, 3]", "[9]"), "no point of the grid"),
+            (PLAN.replace('across = "ring"', 'across = "bits"'), "`across`"),
+            (PLAN + "where = {seed = 7}\n", "no seed = 7"),
+            (PLAN.replace("window = [1, 3]", 'window = [1, "3"]'), "whole numbers"),
+            ('command = "jump"\n' + PLAN, "command is step or run"),
+            (PLAN.replace('name = "both"', 'name = "a/b"'), "letters"),
+            (PLAN.replace("seed =", "seeds ="), "`seeds`"),
         ):
             with self.assertRaises(NoPlan, msg=text) as caught:
                 Plan(self.plan(text)).runs()
@@ -77,8 +87,20 @@ class Plans(Folder):
 
     def test_shares(self):
         rows = [
-            {"a": "1", "b": "1", "seed": "1", **dict.fromkeys(("skipped", "miscredited", "pending", "not_issued"), "0"), "consistent": "2"},
-            {"a": "1", "b": "1", "seed": "2", **dict.fromkeys(("consistent", "miscredited", "pending", "not_issued"), "0"), "skipped": "2"},
+            {
+                "a": "1",
+                "b": "1",
+                "seed": "1",
+                **dict.fromkeys(("skipped", "miscredited", "pending", "not_issued"), "0"),
+                "consistent": "2",
+            },
+            {
+                "a": "1",
+                "b": "1",
+                "seed": "2",
+                **dict.fromkeys(("consistent", "miscredited", "pending", "not_issued"), "0"),
+                "skipped": "2",
+            },
         ]
         cells = shares(rows, {"across": "a", "up": "b", "where": {}})
         self.assertEqual(cells["1", "1"]["consistent"], 2)
@@ -95,7 +117,17 @@ class Studies(Folder):
         self.program.chmod(0o755)
 
     def study(self, *words):
-        return run("study", self.folder / "plan.toml", "--out", self.folder / "out", "--program", self.program, "--cores", "2", *words)
+        return run(
+            "study",
+            self.folder / "plan.toml",
+            "--out",
+            self.folder / "out",
+            "--program",
+            self.program,
+            "--cores",
+            "2",
+            *words,
+        )
 
     def table(self):
         return list(csv.DictReader((self.folder / "out" / "table.csv").read_text().splitlines()))
@@ -113,8 +145,9 @@ class Studies(Folder):
         self.assertIn("left out 2", err)
         self.assertEqual(self.calls(), 6)
         rows = self.table()
-        self.assertEqual([(r["window"], r["skipped"], r["lost"]) for r in rows],
-                         [("1", "0", "3")] * 4 + [("3", "1", "3")] * 2)
+        self.assertEqual(
+            [(r["window"], r["skipped"], r["lost"]) for r in rows], [("1", "0", "3")] * 4 + [("3", "1", "3")] * 2
+        )
         svg = (self.folder / "out" / "both.svg").read_text()
         words = [e.text for e in tree.fromstring(svg).iter("{http://www.w3.org/2000/svg}text")]
         for word in ("consistent", "skipped", "100", "50", "A test: % of the snapshots"):

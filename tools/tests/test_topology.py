@@ -38,7 +38,12 @@ class Shapes(unittest.TestCase):
         self.assertEqual(self.sizes("star", "--switches", 1), (1, 0, 1))
 
     def test_each_packet_has_hops_enough(self):
-        for words in (["line", "--switches", 9], ["ring", "--switches", 8], ["fat-tree"], ["random", "--switches", 20, "--net-seed", 7]):
+        for words in (
+            ["line", "--switches", 9],
+            ["ring", "--switches", 8],
+            ["fat-tree"],
+            ["random", "--switches", 20, "--net-seed", 7],
+        ):
             source = made(*words, "--flows", "all" if words[0] == "line" else "far")
             for flow in source.flows:
                 home, far = source.net.host_port[flow["to"]][0], source.net.host_port[flow["from"]][0]
@@ -55,7 +60,25 @@ class Shapes(unittest.TestCase):
         self.assertEqual(flows("none"), [])
 
     def test_parameters(self):
-        source = made("ring", "--bits", 3, "--window", 4, "--ring", 6, "--snapshots", 5, "--loss-init", 7, "--seed", 9, "--passes", 2, "--every", 3)
+        source = made(
+            "ring",
+            "--bits",
+            3,
+            "--window",
+            4,
+            "--ring",
+            6,
+            "--snapshots",
+            5,
+            "--loss-init",
+            7,
+            "--seed",
+            9,
+            "--passes",
+            2,
+            "--every",
+            3,
+        )
         self.assertEqual(source.snapshot, {"bits": 3, "window": 4, "ring": 6, "count": 5, "retries": 3})
         self.assertEqual((source.loss["seed"], source.loss["init"], source.loss["cable"]), (9, 7, 0))
         self.assertEqual(source.entries[:3], ["pass 2", "pass 3", "observer issue"])
@@ -78,11 +101,16 @@ class Shapes(unittest.TestCase):
 
     def test_nets_that_are_too_large(self):
         for words, why in (
-            (["line", "--switches", 65], "65 switches"), (["star", "--switches", 10], "`middle` would have 9 ports"),
-            (["leaf-spine", "--hosts", 7], "`l0` would have 9 ports"), (["fat-tree", "--arity", 5], "even"),
-            (["fat-tree", "--arity", 8], "80 switches"), (["ring", "--switches", 2], "at least 3"),
-            (["random", "--switches", 5, "--cables", 3], "at least 4"), (["random", "--switches", 3, "--cables", 9], "no more than 3"),
-            (["line", "--switches", 40, "--hosts", 4], "160 hosts"), (["line", "--window", 9], "I6 snapshot.window 9"),
+            (["line", "--switches", 65], "65 switches"),
+            (["star", "--switches", 10], "`middle` would have 9 ports"),
+            (["leaf-spine", "--hosts", 7], "`l0` would have 9 ports"),
+            (["fat-tree", "--arity", 5], "even"),
+            (["fat-tree", "--arity", 8], "80 switches"),
+            (["ring", "--switches", 2], "at least 3"),
+            (["random", "--switches", 5, "--cables", 3], "at least 4"),
+            (["random", "--switches", 3, "--cables", 9], "no more than 3"),
+            (["line", "--switches", 40, "--hosts", 4], "160 hosts"),
+            (["line", "--window", 9], "I6 snapshot.window 9"),
         ):
             status, out, err = run("topology", *words)
             self.assertEqual((status, out, err.count("\n")), (1, "", 1), words)
@@ -117,8 +145,11 @@ class Pictures(unittest.TestCase):
     def test_what_does_not_fit(self):
         net, report = DATA / "lossy_net.toml", DATA / "lossy_net.report"
         for words, status in (
-            ([net, "--report", TOP / "docs" / "dead_cable.trace"], 1), ([net, "--snapshot", 1], 1),
-            ([net, "--report", report, "--snapshot", 13], 1), (["nothing.toml"], 1), ([EXAMPLES / "refused.toml"], 3),
+            ([net, "--report", TOP / "docs" / "dead_cable.trace"], 1),
+            ([net, "--snapshot", 1], 1),
+            ([net, "--report", report, "--snapshot", 13], 1),
+            (["nothing.toml"], 1),
+            ([EXAMPLES / "refused.toml"], 3),
         ):
             found, out, err = run("topology", "draw", *words)
             self.assertEqual((found, out, err.count("\n")), (status, "", 1), words)

@@ -6,6 +6,7 @@ import sys
 import tomllib
 from dataclasses import dataclass, field
 
+from .documents import load
 from .nets import LOSSY, Net, net_fault, port_of
 
 LIMIT = 1_048_576
@@ -191,9 +192,9 @@ def parse(data):
         place = (before.count(b"\n") + 1, column)
         raise Refusal("I2", hint=f"Byte {data[error.start]} is no UTF-8", place=place) from None
     try:
-        doc = tomllib.loads(text, parse_float=float_of)
+        doc = load(text, float_of)
     except tomllib.TOMLDecodeError as error:
-        raise Refusal("I2", hint=str(error), place=place_in(str(error), text)) from None
+        raise Refusal("I2", hint=str(error), place=error.place) from None
     except (RecursionError, ValueError) as error:
         raise Refusal("I2", hint=str(error)) from None
     check_numbers(doc, "")
@@ -204,15 +205,6 @@ def float_of(text):
     if math.isinf(float(text)) and "inf" not in text:
         raise Refusal("I2", hint=f"The number {text} is too large for 64 bits", value=text)
     return float(text)
-
-
-def place_in(message, text):
-    """Line and column in a message of the parser; the end of the text where it names the end."""
-    found = re.search(r"\(at line (\d+), column (\d+)\)", message)
-    if found:
-        return int(found[1]), int(found[2])
-    lines = text.split("\n")
-    return len(lines), len(lines[-1]) + 1
 
 
 def check_numbers(value, path):

@@ -34,12 +34,8 @@ def syntax_advice(hint, text, place):
         return ["A key is followed by `=` and its value. A key without quotes has letters, digits, `_` and `-` alone."]
     if "Unclosed array" in hint:
         return ["The elements of a list are parted by commas, and the list ends with `]`."]
-    if "Unclosed inline table" in hint:
-        return ["The keys in braces are parted by commas and end with `}`, all on one line."]
     if "inline table" in hint or (here == "" and "{" in line):
-        return [
-            "A table in braces stands on one line, without a comma at its end. For more lines use a heading, such as `[snapshot]`."
-        ]
+        return ["The keys in braces are parted by commas and end with `}`."]
     if "Expected newline" in hint:
         return ["One key and its value stand on a line. After a value the line ends, or a comment with `#` follows."]
     if "Unescaped" in hint:

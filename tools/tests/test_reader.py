@@ -1,5 +1,6 @@
 """The reader of inputs, reports and traces, and the way to the program."""
 
+import datetime
 import subprocess
 import tempfile
 import unittest
@@ -54,6 +55,26 @@ class Inputs(unittest.TestCase):
         for path in accepted():
             doc = parse(path.read_bytes())
             self.assertEqual(parse(text_of(doc).encode()), doc)
+
+    def test_toml_of_version_1_1(self):
+        # Tables in braces over several lines, a comma after the last key, the escapes \\e and \\x, times without seconds.
+        text = "a = { # }\n  \"k\\x61\" = [1,\n 2,], # c\n  t = 07:32,\n}\nb = \"\\e\"\nc = '''{\n,}'''\n"
+        doc = parse(text.encode())
+        self.assertEqual(doc, {"a": {"ka": [1, 2], "t": datetime.time(7, 32)}, "b": "\x1b", "c": "{\n,}"})
+        self.assertEqual(positions(text)[0]["a", "t"], (4, 3))
+        wrong = {
+            "a = {,}": (1, 6),
+            "a = {x = 1,,}": (1, 12),
+            "a = {x\n= 1}": (1, 7),
+            "a = {x =\n 1}": (1, 9),
+            "a = {\n x = 1\n y = 2\n}": (3, 2),
+            "a = {\n x = 1,\n y = \n}": (3, 6),
+            "a = {\n x = 1": (2, 7),
+        }
+        for text, place in wrong.items():
+            with self.assertRaises(Refusal, msg=text) as caught:
+                parse(text.encode())
+            self.assertEqual((caught.exception.kind, caught.exception.place), ("I2", place), text)
 
     def test_order_of_links(self):
         net = read_input(EXAMPLES / "three_packets.toml").net

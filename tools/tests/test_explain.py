@@ -67,6 +67,10 @@ class Explaining(unittest.TestCase):
         self.assertEqual(status, 3)
         self.assertIn("reads the input otherwise", out)
 
+    def test_the_example_of_the_documents(self):
+        out = run("explain", EXAMPLES / "refused.toml", "--refusal", "speedlight: I7 flow.0.to")[1]
+        self.assertTrue(f"```text\n{out}```" in (TOP / "docs" / "TOOLS.md").read_text())
+
     def test_errors_are_plain(self):
         for words in (["nothing.toml"], [str(EXAMPLES)], [EXAMPLES / "refused.toml", "--program", "/nothing"]):
             status, out, err = run("explain", *words)

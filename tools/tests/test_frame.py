@@ -36,6 +36,11 @@ class Frame(unittest.TestCase):
         self.assertEqual(made("probe", "--id", 1, "--channel", 0), PROBE)
         self.assertEqual(made("initiation", "--id", 1), INITIATION)
 
+    def test_the_example_of_the_documents(self):
+        made = run("frame", "make", *"plain --src 0 --dst 1 --len 100 --hops 8".split())[1]
+        told = run("frame", "read", PLAIN, "--input", EXAMPLES / "two_in_flight.toml")[1]
+        self.assertTrue(f"```text\n{made}{told}```" in (TOP / "docs" / "TOOLS.md").read_text())
+
     def test_there_and_back(self):
         words = random.Random(1)
         for _ in range(500):

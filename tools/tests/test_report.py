@@ -65,6 +65,11 @@ class Forms(unittest.TestCase):
             (row["verdict"], row["unit"], row["packets"], row["fault_number"]), ("miscredited", "out s0.0", "", "5")
         )
 
+    def test_the_example_of_the_documents(self):
+        lines = [line.split(",") for line in run("report", "csv", REPORT)[1].splitlines()]
+        shown = [",".join(words[:5] + words[15:17]) for words in (*lines[:3], *lines[108:111])]
+        self.assertTrue("```text\n" + "\n".join(shown) + "\n```" in (TOP / "docs" / "TOOLS.md").read_text())
+
     def test_the_balance_finds_the_lossy_cables(self):
         told = run("report", "balance", REPORT, "--input", INPUT)[1]
         lines = [line for line in told.splitlines() if "does not add up" in line]

@@ -11,10 +11,6 @@ COLOURS = {
 
 def pyplot():
     """matplotlib's pyplot, set to write the same SVG for the same values. It must be there: see needs."""
-    import logging
-
-    # A first run says that it builds its list of fonts, or that the home folder can't be written.
-    logging.getLogger("matplotlib").setLevel(logging.ERROR)
     import matplotlib
 
     matplotlib.use("Agg")

@@ -1,5 +1,6 @@
 """Finds a Python that has the libraries a tool stands on, and says which is missing where there is none."""
 
+import logging
 import os
 import shutil
 import subprocess
@@ -54,6 +55,8 @@ def how_to_get(names):
 
 def imports(names):
     """This Python imports the names, and the programs that they call are there."""
+    # At its first run it says that it lists the fonts, or that the home folder can't be written.
+    logging.getLogger("matplotlib").setLevel(logging.ERROR)
     try:
         for name in ("tomllib", *names):
             __import__(name)

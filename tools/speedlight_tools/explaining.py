@@ -359,3 +359,23 @@ class Explanation:
 
 def explain(data, doc, refusal):
     return Explanation(data, doc, refusal).whole()
+
+
+def notes(source):
+    """What an accepted input may ask for without meaning to."""
+    found = []
+    for i, flow in enumerate(source.flows):
+        start, end = (source.net.host_port[flow[key]][0] for key in ("from", "to"))
+        far = source.net.distances(end).get(start)
+        if far is None:
+            found.append(
+                f"flow.{i}: no cables lead from `{flow['from']}` to `{flow['to']}`; its packets are dropped (noroute)."
+            )
+        elif flow["hops"] <= far:
+            way = f"{far + 1} switches" if far else "1 switch"
+            found.append(
+                f"flow.{i}: its way goes through {way}, and `hops` is {flow['hops']}; its packets are dropped (expired)."
+            )
+    if source.snapshot["count"] == 0:
+        found.append("snapshot.count is 0: no snapshot is taken.")
+    return found

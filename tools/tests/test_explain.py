@@ -58,6 +58,17 @@ class Explaining(unittest.TestCase):
         self.assertEqual(status, 0)
         self.assertIn("1 devices, 4 units, 2 hosts, 3 packets", out)
 
+    def test_notes_on_what_is_accepted(self):
+        text = (EXAMPLES / "two_switches.toml").read_text()
+        self.assertNotIn("flow.0", run("explain", "-", data=text)[1])
+        self.assertIn(
+            "goes through 2 switches, and `hops` is 1",
+            run("explain", "-", data=text.replace("hops = 8", "hops = 1"))[1],
+        )
+        apart = "".join(line + "\n" for line in text.splitlines() if not line.startswith(("cable", "script")))
+        self.assertIn("no cables lead from `h0` to `h1`", run("explain", "-", data=apart)[1])
+        self.assertIn("no snapshot is taken", run("explain", "-", data=text.replace("count = 2", "count = 0"))[1])
+
     def test_the_given_line_decides(self):
         name = EXAMPLES / "refused.toml"
         status, out, _ = run("explain", name, "--refusal", "-", data="speedlight: I7 flow.0.to\n")

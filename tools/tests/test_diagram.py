@@ -86,6 +86,9 @@ class Diagram(unittest.TestCase):
         words = self.words(draw("two_in_flight", "--turns", "5-9")[1])
         self.assertIn("observer issue", words)
         self.assertNotIn("host h0 inject", words)
+        self.assertIn("cut 1", words)
+        self.assertIn("cut 1, later", self.words(draw("two_in_flight", "--turns", "1-4")[1]))
+        self.assertIn("cut 1, earlier", self.words(draw("two_in_flight", "--turns", "20-30")[1]))
         words = self.words(draw("two_in_flight", "--actors", "h0,in a.0,a.1")[1])
         self.assertEqual(
             [w for w in words if w in ("host h0", "in a.0", "out a.1", "in a.1", "out a.0", "observer")],

@@ -240,8 +240,8 @@ class Drawing:
         words = f"cut {self.snapshot}" if self.verdict.verdict == "consistent" else f"no cut {self.snapshot}"
         if self.verdict.verdict == "pending":
             words = f"cut {self.snapshot}?"
-        places = [len(self.world.turns) if self.cuts[u] is None else self.cuts[u].place for u in self.units]
-        if min(places) > self.last or max(places) < self.first:
+        places = [self.cuts[u].place for u in self.units if self.cuts[u] is not None]
+        if places and (min(places) > self.last or max(places) < self.first):
             words += ", later" if min(places) > self.last else ", earlier"
         self.text(words, x - 6, y + 4, self.cut_colour, 12, font_weight="bold", text_anchor="end")
         for message in messages:

@@ -5,7 +5,7 @@ import unittest
 import xml.etree.ElementTree as tree
 from pathlib import Path
 
-from table import EXAMPLES, TOP, run
+from shared import EXAMPLES, TOP, run
 
 # The drawings in docs, with the options that they are drawn with.
 DRAWINGS = {

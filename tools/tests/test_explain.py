@@ -5,7 +5,7 @@ import tempfile
 import unittest
 from pathlib import Path
 
-from table import EXAMPLES, TOP, expand, mistakes, run
+from shared import EXAMPLES, TOP, expand, mistakes, run
 
 from speedlight_tools import program
 from speedlight_tools.explaining import explain

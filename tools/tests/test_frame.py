@@ -4,7 +4,7 @@ import json
 import random
 import unittest
 
-from table import EXAMPLES, TOP, run
+from shared import EXAMPLES, TOP, run
 
 from speedlight_tools import frames
 

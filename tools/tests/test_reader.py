@@ -6,7 +6,7 @@ import tempfile
 import unittest
 from pathlib import Path
 
-from table import EXAMPLES, TOP, accepted
+from shared import EXAMPLES, TOP, accepted
 
 from speedlight_tools import program
 from speedlight_tools.inputs import Refusal, check, parse, read_input, text_of

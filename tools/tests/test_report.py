@@ -7,7 +7,7 @@ import subprocess
 import unittest
 import xml.etree.ElementTree as tree
 
-from table import DATA, EXAMPLES, TOP, run
+from shared import DATA, EXAMPLES, TOP, run
 
 from speedlight_tools import balance, needs, program
 from speedlight_tools.inputs import read_input

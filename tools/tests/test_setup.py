@@ -7,7 +7,7 @@ import tempfile
 import unittest
 from pathlib import Path
 
-from table import TOOLS, run
+from shared import TOOLS, run
 
 from speedlight_tools import needs
 

@@ -6,7 +6,7 @@ import unittest
 import xml.etree.ElementTree as tree
 from pathlib import Path
 
-from table import EXAMPLES, TOOLS, TOP, run
+from shared import EXAMPLES, TOOLS, TOP, run
 
 from speedlight_tools import needs
 from speedlight_tools.studies import NoPlan, Plan, shares

@@ -4,7 +4,7 @@ import subprocess
 import unittest
 import xml.etree.ElementTree as tree
 
-from table import DATA, EXAMPLES, TOP, accepted, run
+from shared import DATA, EXAMPLES, TOP, accepted, run
 
 from speedlight_tools import needs, program
 from speedlight_tools.inputs import check, parse, read_input

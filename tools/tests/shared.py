@@ -1,4 +1,4 @@
-"""What the tests share: where things stand, how a tool is run, and the table of mistakes."""
+"""What the tests share: where things stand, how a tool is run, the examples and the table of mistakes."""
 
 import re
 import subprocess

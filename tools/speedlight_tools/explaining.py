@@ -31,7 +31,7 @@ class Explanation:
 
     def __init__(self, data, doc, refusal):
         self.doc, self.refusal, self.lines = doc, refusal, []
-        self.text = data.decode("utf-8", "replace")
+        self.text = data.decode("utf-8", "replace").removeprefix("\ufeff")
         self.place = refusal.place
         self.keys, self.values = positions(self.text) if doc is not None else ({}, {})
 

@@ -8,8 +8,10 @@ from dataclasses import dataclass, field
 
 from .documents import load
 from .nets import LOSSY, Net, net_fault, port_of
+from .positions import MOST_DEEP, is_too_deep
 
 LIMIT = 1_048_576
+TOO_DEEP = "More than 80 lists and tables are within one another, or a key has more than 80 parts"
 MOST_DROPS, MOST_PASSES, MOST_PACKETS = 1000, 10_000, 200_000
 SEEDS = 9223372036854775807
 
@@ -185,7 +187,7 @@ def parse(data):
     if len(data) > LIMIT:
         raise Refusal("I1", value=len(data))
     try:
-        text = data.decode("utf-8")
+        text = data.decode("utf-8").removeprefix("\ufeff")
     except UnicodeDecodeError as error:
         before = data[: error.start]
         column = error.start - (before.rfind(b"\n") + 1) + 1
@@ -195,10 +197,26 @@ def parse(data):
         doc = load(text, float_of)
     except tomllib.TOMLDecodeError as error:
         raise Refusal("I2", hint=str(error), place=error.place) from None
-    except (RecursionError, ValueError) as error:
+    except ValueError as error:
         raise Refusal("I2", hint=str(error)) from None
+    except RecursionError:
+        raise Refusal("I2", hint=TOO_DEEP) from None
+    check_depth(doc, text)
     check_numbers(doc, "")
     return doc
+
+
+def check_depth(doc, text):
+    """The program's reader takes 80 lists and tables in braces within one another, and 80 parts of a key."""
+    level, values = 0, [doc]
+    while values and level <= MOST_DEEP:
+        inner = [v.values() if isinstance(v, dict) else v for v in values if isinstance(v, (dict, list))]
+        level, values = level + 1, [v for part in inner for v in part]
+    try:
+        if level > MOST_DEEP and is_too_deep(text):
+            raise Refusal("I2", hint=TOO_DEEP)
+    except RecursionError:
+        raise Refusal("I2", hint=TOO_DEEP) from None
 
 
 def float_of(text):

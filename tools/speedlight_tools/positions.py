@@ -3,12 +3,15 @@
 It is read after `tomllib` has accepted the text, so it looks for structure alone and checks nothing.
 """
 
+MOST_DEEP = 80
+
 
 class Scanner:
     def __init__(self, text):
         self.text, self.at = text.replace("\r\n", "\n"), 0
         self.keys, self.values = {}, {}
         self.lists = {}
+        self.depth, self.deepest, self.most_parts = 0, 0, 0
 
     def place(self, at):
         return self.text.count("\n", 0, at) + 1, at - (self.text.rfind("\n", 0, at) + 1) + 1
@@ -54,12 +57,19 @@ class Scanner:
                 parts.append(self.text[begin : self.at])
             self.blanks(" \t")
             if self.peek() != ".":
+                self.most_parts = max(self.most_parts, len(parts))
                 return parts, start
             self.at += 1
 
     def value(self, path):
         self.values.setdefault(path, self.place(self.at))
         first = self.peek()
+        self.depth += first in ("[", "{")
+        self.deepest = max(self.deepest, self.depth)
+        self.inner(first, path)
+        self.depth -= first in ("[", "{")
+
+    def inner(self, first, path):
         if first in ('"', "'"):
             self.string()
         elif first == "[":
@@ -137,6 +147,12 @@ def positions(text):
     """The places of the keys and of the values, by their paths, such as ("device", 0, "ports")."""
     scanner = Scanner(text).run()
     return scanner.keys, scanner.values
+
+
+def is_too_deep(text):
+    """Lists and tables in braces are more than 80 deep, or a key has more than 80 parts."""
+    scanner = Scanner(text).run()
+    return max(scanner.deepest, scanner.most_parts) > MOST_DEEP
 
 
 def path_of(text):

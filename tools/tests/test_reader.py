@@ -76,6 +76,18 @@ class Inputs(unittest.TestCase):
                 parse(text.encode())
             self.assertEqual((caught.exception.kind, caught.exception.place), ("I2", place), text)
 
+    def test_marks_and_depths(self):
+        self.assertEqual(parse(b"\xef\xbb\xbfa = 1\n"), {"a": 1})
+        for deep in ("a = " + "[" * 80 + "]" * 80, ".".join("k" * 80) + " = 1", "[" + ".".join("k" * 80) + "]"):
+            parse(deep.encode())
+        for deep in ("a = " + "[" * 81 + "]" * 81, "a = " + "{a = " * 81 + "1" + "}" * 81, ".".join("k" * 81) + " = 1"):
+            with self.assertRaises(Refusal):
+                parse(deep.encode())
+        for text in ("a = 9223372036854775808", "a = -9223372036854775809", "a = 1e400"):
+            with self.assertRaises(Refusal):
+                parse(text.encode())
+        parse(b"a = [9223372036854775807, -9223372036854775808, inf, nan]")
+
     def test_order_of_links(self):
         net = read_input(EXAMPLES / "three_packets.toml").net
         self.assertEqual(len(net.links), 24)

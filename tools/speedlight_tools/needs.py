@@ -74,7 +74,7 @@ def need(*names):
         if python not in tried:
             os.environ[MARK] = os.pathsep.join([*tried, python])
             os.execv(python, [python, *sys.argv])
-    tool = os.path.basename(sys.argv[0])
+    tool = f"tools/{os.path.basename(sys.argv[0])}"
     if not names:
         print(f"{tool}: needs Python 3.11 or later, and found none", file=sys.stderr)
     else:

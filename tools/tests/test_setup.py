@@ -29,7 +29,7 @@ class Setup(unittest.TestCase):
     def test_what_is_lacking(self):
         done = with_need("no_such_library")
         self.assertEqual((done.returncode, done.stdout), (1, ""))
-        self.assertIn("example: needs no_such_library, which no Python here has", done.stderr)
+        self.assertIn("tools/example: needs no_such_library, which no Python here has", done.stderr)
         self.assertEqual(done.stderr.count("\n"), 1)
 
     def test_how_to_get_it(self):

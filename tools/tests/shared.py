@@ -1,5 +1,6 @@
 """What the tests share: where things stand, how a tool is run, the examples and the table of mistakes."""
 
+import os
 import re
 import subprocess
 import sys
@@ -13,10 +14,18 @@ EXAMPLES = TOP / "examples"
 sys.path.insert(0, str(TOOLS))
 
 
+# The system's Python first: it sees the libraries, so that no tool has to look for another.
+ENVIRONMENT = {**os.environ, "PATH": f"/usr/bin{os.pathsep}{os.environ['PATH']}"}
+
+
 def run(tool, *words, data=""):
     """Status, standard output and standard error of a tool."""
     done = subprocess.run(
-        [str(TOOLS / tool), *map(str, words)], input=data.encode(), stdout=subprocess.PIPE, stderr=subprocess.PIPE
+        [str(TOOLS / tool), *map(str, words)],
+        input=data.encode(),
+        stdout=subprocess.PIPE,
+        stderr=subprocess.PIPE,
+        env=ENVIRONMENT,
     )
     return done.returncode, done.stdout.decode(), done.stderr.decode()
 

@@ -158,6 +158,11 @@ class Studies(Folder):
         self.assertEqual(self.study()[0], 0)
         self.assertEqual(self.calls(), 4)
         self.assertEqual(len(self.table()), 9)
+        # A picture that is asked for otherwise is made again, though the table stays the same.
+        self.plan(PLAN.replace('"1-2"', '"1-3"').replace("A test", "Another"))
+        self.assertEqual(self.study()[0], 0)
+        self.assertEqual(self.calls(), 0)
+        self.assertIn("Another: % of the snapshots", (self.folder / "out" / "both.svg").read_text())
 
     def test_a_program_that_refuses(self):
         (self.folder / "broken").touch()

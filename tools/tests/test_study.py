@@ -163,6 +163,11 @@ class Studies(Folder):
         self.assertEqual(self.study()[0], 0)
         self.assertEqual(self.calls(), 0)
         self.assertIn("Another: % of the snapshots", (self.folder / "out" / "both.svg").read_text())
+        # Another input is run anew.
+        net = self.folder / "net.toml"
+        net.write_text(net.read_text().replace("count = 1", "count = 2"))
+        self.assertEqual(self.study()[0], 0)
+        self.assertEqual(self.calls(), 9)
 
     def test_a_program_that_refuses(self):
         (self.folder / "broken").touch()

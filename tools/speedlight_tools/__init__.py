@@ -1,0 +1,1 @@
+"""What the companions of speedlight share: readers of inputs, reports and traces, and the way to the program."""

@@ -1,0 +1,408 @@
+"""Draws a run as a space-time diagram (Lamport 1978) with the cut of one snapshot, as SVG.
+
+Time goes down, a row for each turn; each actor has a column.
+"""
+
+from bisect import bisect_left
+from html import escape
+
+ROW, TOP = 17, 104
+INK, FAINT, GREY, PAPER = "#222222", "#c4c4c4", "#8a8a8a", "#ffffff"
+DATA, FLIGHT, SPREAD, COLLECT, FAULT = "#1f5fbf", "#7a2ec2", "#e08a00", "#b9b9b9", "#d01c1c"
+COLOURS = {"data": DATA, "frame": DATA, "begin": SPREAD, "init": SPREAD, "probe": SPREAD}
+# The colour of the cut and the shade above it, by the verdict.
+LOOKS = {
+    "consistent": ("#1b7f3b", "#eef6ee"),
+    "skipped": (FAULT, "#fbeeee"),
+    "miscredited": (FAULT, "#fbeeee"),
+    "pending": ("#9a6a00", "#f9f4e6"),
+}
+MONO = "DejaVu Sans Mono, Consolas, monospace"
+
+
+class Drawing:
+    """The picture of a world's turns with the cut of one snapshot.
+
+    `actors` are those that have a column, `turns` the first and the last place that has a row.
+    """
+
+    def __init__(self, world, verdict, actors, turns):
+        self.world, self.verdict, self.snapshot = world, verdict, verdict.number
+        net = world.net
+        self.first, self.last = turns
+        self.columns = [a for a in ordered(world) if a in actors]
+        self.units = [a for a in self.columns if a in world.ids]
+        self.shown = [t.place for t in world.turns if t.actor in self.columns and self.first <= t.place <= self.last]
+        self.colour, self.shade_colour = LOOKS[verdict.verdict]
+        self.cut_colour = self.colour if verdict.verdict == "consistent" else "#6a6a6a"
+        self.cuts = {u: world.crossing(u, self.snapshot) for u in net.units}
+        self.skips, self.late = world.skips(self.snapshot), world.late(self.snapshot)
+        names = [f"{world.turns[p].actor} {world.turns[p].choice}" for p in self.shown]
+        left = 52 + 7 * max(map(len, names), default=0)
+        # Room for the name of the cut beside the first unit.
+        left += 60 if self.columns[0] in world.ids else 0
+        column = max(100, 10 * max(map(len, self.columns)))
+        self.xs = {a: left + column // 2 + i * column for i, a in enumerate(self.columns)}
+        self.width = max(left + column * len(self.columns) + 8, 900)
+        self.bottom = TOP + ROW * (len(self.shown) + 1)
+        self.parts = []
+
+    def y(self, place):
+        """The height of a turn: that of its row, or between two rows where it has none."""
+        row = bisect_left(self.shown, place)
+        has_row = row < len(self.shown) and self.shown[row] == place
+        return TOP + ROW * (row + (1 if has_row else 0.5))
+
+    def cut_y(self, unit):
+        turn = self.cuts[unit]
+        if turn is None:
+            return self.bottom
+        y = self.y(turn.place)
+        return y - ROW / 2 if turn.place in self.shown else y
+
+    def is_before(self, turn):
+        cut = self.cuts[turn.actor]
+        return cut is None or turn.place < cut.place
+
+    def in_flight(self, message):
+        """A data packet between units that was put before the sender's cut and taken after the receiver's."""
+        return (
+            message.kind == "data"
+            and message.take is not None
+            and message.link.sort in ("cable", "crossbar")
+            and self.is_before(message.put)
+            and not self.is_before(message.take)
+        )
+
+    def is_late(self, message):
+        return message.take is not None and message.take in self.late and message.take.took is message
+
+    def is_missed(self, message):
+        """A message that was lost on the channel for which the snapshot is pending."""
+        if self.verdict.verdict != "pending" or not message.lost:
+            return False
+        if self.verdict.channel == "id":
+            return message.link.target == self.verdict.unit and message.link.sort in ("init", "cable", "crossbar")
+        return message.link.spelling == f"{self.verdict.unit} {self.verdict.channel}"
+
+    def is_drawn(self, message):
+        if message.link.source not in self.xs or message.link.target not in self.xs:
+            return False
+        took = message.put.place if message.take is None else message.take.place
+        return message.put.place <= self.last and took >= self.first
+
+    def add(self, name, text=None, **attributes):
+        words = "".join(f' {k.replace("_", "-")}="{number(v)}"' for k, v in attributes.items())
+        end = "/>" if text is None else f">{escape(text)}</{name}>"
+        self.parts.append(f"<{name}{words}{end}")
+
+    def text(self, words, x, y, colour=INK, size=12, **more):
+        self.add("text", words, x=x, y=y, fill=colour, font_size=size, **more)
+
+    def line(self, x1, y1, x2, y2, **attributes):
+        self.add("line", x1=x1, y1=y1, x2=x2, y2=y2, **attributes)
+
+    def arrow(self, x1, y1, x2, y2, colour, width, stop=5):
+        """An arrow that ends a little before its end, where a dot stands."""
+        far = max(((x2 - x1) ** 2 + (y2 - y1) ** 2) ** 0.5, 1)
+        ux, uy = (x2 - x1) / far, (y2 - y1) / far
+        tx, ty = x2 - ux * stop, y2 - uy * stop
+        bx, by = tx - ux * 7, ty - uy * 7
+        self.line(x1, y1, bx, by, stroke=colour, stroke_width=width)
+        corners = [(tx, ty), (bx - uy * 3, by + ux * 3), (bx + uy * 3, by - ux * 3)]
+        self.add("polygon", points=points_text(corners), fill=colour)
+
+    def cross(self, x, y, colour, width=2):
+        for sign in (1, -1):
+            self.line(x - 4, y - 4 * sign, x + 4, y + 4 * sign, stroke=colour, stroke_width=width)
+
+    def draw(self):
+        self.title()
+        if self.units:
+            self.shade()
+        self.rows()
+        self.lives()
+        messages = [m for m in self.world.messages if self.is_drawn(m)]
+        for message in sorted(messages, key=lambda m: (self.weight(m), m.put.place)):
+            self.message(message)
+        if self.units:
+            self.cut_line(messages)
+        for place in self.shown:
+            self.dot(self.world.turns[place])
+        self.marks()
+        height = self.legend(messages) + 22
+        head = (
+            f'<svg xmlns="http://www.w3.org/2000/svg" width="{self.width}" height="{number(height)}" '
+            f'viewBox="0 0 {self.width} {number(height)}" font-family="DejaVu Sans, Verdana, Arial, sans-serif">\n'
+            f'<rect width="{self.width}" height="{number(height)}" fill="{PAPER}"/>\n'
+        )
+        return head + "\n".join(self.parts) + "\n</svg>\n"
+
+    def title(self):
+        self.text(self.verdict.line, 40, 26, self.colour, 16, font_weight="bold")
+        self.text(self.sentence(), 40, 46, INK, 12)
+
+    def sentence(self):
+        """The verdict in a sentence."""
+        v, k = self.verdict, self.snapshot
+        if v.verdict == "skipped":
+            turn = next(t for t in self.skips if t.actor == v.unit)
+            return f"At turn {turn.place + 1} {v.unit} goes from {turn.before} to {turn.id}: it saves nothing for {k}."
+        if v.verdict == "miscredited":
+            turn = next(t for t in self.late if t.actor == v.unit and t.id == v.other)
+            sent = f"a packet that {turn.took.link.source} sent when it was at {turn.took.stamp}"
+            return f"At turn {turn.place + 1} {v.unit}, at {turn.id} already, takes {sent}: it is missing from {k}."
+        if v.verdict == "pending" and v.channel == "id":
+            return f"At the end {v.unit} is still at {v.other}: the snapshot has not reached it."
+        if v.verdict == "pending":
+            sender = self.world.net.sender(v.unit, v.channel)
+            last = f"the last number that came from {sender}" if v.other else f"no number came from {sender}"
+            last += f" is {v.other}" if v.other else ""
+            return f"To {v.unit} {last} ({v.channel}): what is still on its way from before the cut is not known."
+        return "No unit took before the cut what was sent after it."
+
+    def shade(self):
+        points = self.cut_points()
+        points = [(points[0][0], TOP - 4), *points, (points[-1][0], TOP - 4)]
+        self.add("polygon", points=points_text(points), fill=self.shade_colour)
+
+    def cut_points(self):
+        """The cut as a line through the columns of the units, straight on each of them."""
+        points = []
+        for unit in self.units:
+            points += [(self.xs[unit] - 24, self.cut_y(unit)), (self.xs[unit] + 24, self.cut_y(unit))]
+        return points
+
+    def rows(self):
+        self.text("turn", 30, TOP - 24, GREY, 11, text_anchor="end")
+        for place in self.shown:
+            turn, y = self.world.turns[place], self.y(place)
+            self.text(str(place + 1), 30, y + 4, GREY, 11, text_anchor="end")
+            self.text(f"{turn.actor} {turn.choice}", 40, y + 4, INK, 11, font_family=MONO)
+
+    def lives(self):
+        for actor in self.columns:
+            x = self.xs[actor]
+            is_unit, is_at_fault = actor in self.cuts, actor == self.verdict.unit
+            look = {"stroke": INK, "stroke_width": 1.4} if is_unit else {"stroke": FAINT, "stroke_width": 1}
+            self.line(x, TOP - 4, x, self.bottom, **look)
+            if is_at_fault:
+                wide = 8 * len(actor) + 14
+                self.add(
+                    "rect",
+                    x=x - wide / 2,
+                    y=TOP - 40,
+                    width=wide,
+                    height=22,
+                    rx=4,
+                    fill=PAPER,
+                    stroke=self.colour,
+                    stroke_width=2,
+                )
+            self.text(
+                actor,
+                x,
+                TOP - 24,
+                self.colour if is_at_fault else INK,
+                13,
+                text_anchor="middle",
+                font_weight="bold" if is_unit else "normal",
+            )
+
+    def weight(self, message):
+        """What is drawn later lies above."""
+        if self.is_late(message) or self.is_missed(message):
+            return 4
+        if self.in_flight(message):
+            return 3
+        return 2 if message.kind in ("data", "frame") else 1 if message.kind in COLOURS else 0
+
+    def message(self, message):
+        colour, width = COLOURS.get(message.kind, COLLECT), 1.5 if message.kind in COLOURS else 1
+        if self.is_late(message) or self.is_missed(message):
+            colour, width = self.colour, 2.8
+        elif self.in_flight(message):
+            colour, width = FLIGHT, 2.6
+        x1, y1 = self.xs[message.put.actor], self.y(message.put.place)
+        x2 = self.xs[message.link.target]
+        if message.take is not None:
+            self.arrow(x1, y1, x2, self.y(message.take.place), colour, width)
+            return
+        x, y = x1 + (x2 - x1) * 0.3, y1 + ROW * 0.6
+        self.line(x1, y1, x, y, stroke=colour, stroke_width=width)
+        if message.lost:
+            self.cross(x, y, colour, width + 0.5)
+
+    def cut_line(self, messages):
+        look = {"stroke": self.cut_colour, "stroke_width": 2.4, "stroke_dasharray": "7 4"}
+        self.add("polyline", points=points_text(self.cut_points()), fill="none", **look)
+        x, y = self.cut_points()[0]
+        words = f"cut {self.snapshot}" if self.verdict.verdict == "consistent" else f"no cut {self.snapshot}"
+        if self.verdict.verdict == "pending":
+            words = f"cut {self.snapshot}?"
+        places = [self.cuts[u].place for u in self.units if self.cuts[u] is not None]
+        if places and (min(places) > self.last or max(places) < self.first):
+            words += ", later" if min(places) > self.last else ", earlier"
+        self.text(words, x - 6, y + 4, self.cut_colour, 12, font_weight="bold", text_anchor="end")
+        for message in messages:
+            if self.in_flight(message) and not self.is_late(message):
+                self.crossing(message)
+
+    def crossing(self, message):
+        """A ring where the packet crosses the cut."""
+        a = (self.xs[message.put.actor], self.y(message.put.place))
+        b = (self.xs[message.take.actor], self.y(message.take.place))
+        points = self.cut_points()
+        for p, q in zip(points, points[1:]):
+            place = meeting(a, b, p, q)
+            if place is not None:
+                self.add("circle", cx=place[0], cy=place[1], r=5.5, fill=PAPER, stroke=FLIGHT, stroke_width=2.2)
+                return
+
+    def dot(self, turn):
+        x, y = self.xs[turn.actor], self.y(turn.place)
+        if turn.actor not in self.cuts:
+            self.add("circle", cx=x, cy=y, r=3, fill=GREY)
+        elif turn in self.late:
+            self.add("circle", cx=x, cy=y, r=5, fill=self.colour)
+        elif turn is self.cuts[turn.actor]:
+            self.add("polygon", points=diamond(x, y), fill=FAULT if turn in self.skips else self.cut_colour)
+        elif self.is_before(turn):
+            self.add("circle", cx=x, cy=y, r=4, fill=PAPER, stroke=INK, stroke_width=1.6)
+        else:
+            self.add("circle", cx=x, cy=y, r=4, fill=INK)
+
+    def marks(self):
+        """At each unit's cut what it had counted, where the snapshot is consistent; else what went wrong."""
+        for turn in self.skips:
+            if turn.place in self.shown:
+                self.label(turn, f"{turn.before} to {turn.id}")
+        for turn in self.late:
+            if turn.place in self.shown:
+                self.label(turn, f"late, at {turn.id}")
+        v = self.verdict
+        if v.verdict == "pending" and v.unit in self.xs:
+            words = f"id {v.other}" if v.channel == "id" else f"{v.channel} {v.other}"
+            self.box(self.xs[v.unit] - 3.5 * len(words) - 5, self.bottom - 6, words)
+        if v.verdict == "consistent":
+            for unit in self.units:
+                count = sum(self.is_before(t) for t in self.world.counted[unit])
+                self.box(self.xs[unit] + 27, self.cut_y(unit) - 8, str(count))
+
+    def label(self, turn, words):
+        self.box(self.xs[turn.actor] + 11, self.y(turn.place) - 8, words)
+
+    def box(self, x, y, text):
+        wide = 10 + 7 * len(text) + (1 if len(text) == 1 else 0)
+        self.add("rect", x=x, y=y, width=wide, height=16, rx=3, fill=PAPER, stroke=self.colour, stroke_width=1.4)
+        self.text(text, x + wide / 2, y + 12, self.colour, 11, font_weight="bold", text_anchor="middle")
+
+    # The legend names what is there.
+
+    def legend(self, messages):
+        """The legend below the columns; where its last line stands."""
+        y = self.bottom + 34
+        left, right = self.legend_of_messages(messages), self.legend_of_turns()
+        for column, entries in ((40, left), (max(460, self.width // 2), right)):
+            for i, (sample, words) in enumerate(entries):
+                sample(column, y + 22 * i)
+                self.text(words, column + 56, y + 22 * i + 4)
+        return y + 22 * (max(len(left), len(right)) - 1)
+
+    def legend_of_messages(self, messages):
+        k, kinds = self.snapshot, {m.kind for m in messages}
+        arrow = lambda colour, width: lambda x, y: self.arrow(x, y, x + 44, y, colour, width, 0)
+        entries = []
+        if kinds & {"data", "frame"}:
+            words = "a data packet" + (" or other bytes of a host" if "frame" in kinds else "")
+            entries.append((arrow(DATA, 1.5), f"{words}, from its put to its take"))
+        if any(self.in_flight(m) and not self.is_late(m) for m in messages):
+            entries.append((self.flight_sample, f"a packet in flight across cut {k}: put before, taken after"))
+        if any(self.is_late(m) for m in messages):
+            words = f"a packet from before {k} that a unit above {k} takes"
+            entries.append((arrow(self.colour, 2.8), words))
+        if kinds & {"begin", "init", "probe"}:
+            entries.append((arrow(SPREAD, 1.5), "a Begin, an initiation or a probe"))
+        if kinds & {"notice", "poll", "dump", "done"}:
+            entries.append((arrow(COLLECT, 1), "a notice, a poll, a dump or a Done"))
+        if any(m.lost and not self.is_missed(m) for m in messages):
+            entries.append((lambda x, y: self.lost_sample(x, y, SPREAD, 1.5), "a message that is lost"))
+        if any(self.is_missed(m) for m in messages):
+            entries.append((lambda x, y: self.lost_sample(x, y, self.colour, 2.8), "lost where the snapshot waits"))
+        return entries
+
+    def legend_of_turns(self):
+        k, verdict = self.snapshot, self.verdict.verdict
+        if not self.units:
+            return []
+        entries = [(self.cut_sample, f"where each unit reaches {k}; shaded: its turns before")]
+        if verdict == "consistent":
+            entries[0] = (self.cut_sample, f"cut {k}; shaded: the units' turns before it")
+            entries.append(
+                (lambda x, y: self.box(x + 13, y - 8, "n"), "n: the packets that the unit counted before the cut")
+            )
+        entries.append((lambda x, y: self.sample_dot(x, y, True), f"a unit's turn before it reaches {k}"))
+        stops = [t for t in self.cuts.values() if t is not None and t not in self.skips]
+        if stops:
+            entries.append(
+                (lambda x, y: self.diamond_sample(x, y, self.cut_colour), f"the turn in which it reaches {k}")
+            )
+        if self.skips:
+            entries.append((lambda x, y: self.diamond_sample(x, y, FAULT), f"the turn in which it goes over {k}"))
+        entries.append((lambda x, y: self.sample_dot(x, y, False), "a unit's turn after that (grey: of another actor)"))
+        return entries
+
+    def flight_sample(self, x, y):
+        self.arrow(x, y, x + 44, y, FLIGHT, 2.6, 0)
+        self.add("circle", cx=x + 17, cy=y, r=5.5, fill=PAPER, stroke=FLIGHT, stroke_width=2.2)
+
+    def lost_sample(self, x, y, colour, width):
+        self.line(x + 8, y, x + 30, y, stroke=colour, stroke_width=width)
+        self.cross(x + 30, y, colour, width + 0.5)
+
+    def cut_sample(self, x, y):
+        self.add("rect", x=x, y=y - 9, width=44, height=9, fill=self.shade_colour)
+        self.line(x, y, x + 44, y, stroke=self.cut_colour, stroke_width=2.4, stroke_dasharray="7 4")
+
+    def diamond_sample(self, x, y, colour):
+        self.add("polygon", points=diamond(x + 22, y), fill=colour)
+
+    def sample_dot(self, x, y, is_before):
+        look = {"fill": PAPER, "stroke": INK, "stroke_width": 1.6} if is_before else {"fill": INK}
+        self.add("circle", cx=x + 22, cy=y, r=4, **look)
+
+
+def ordered(world):
+    """The actors as columns: hosts that send, units, other hosts, control planes, the observer."""
+    net = world.net
+    putting = {m.put.actor for m in world.messages}
+    hosts = [f"host {h}" for h in net.hosts]
+    senders = [h for h in hosts if h in putting]
+    # The egress unit before the ingress unit, so that a packet to the next port goes to the next column.
+    units = [u for i in range(0, len(net.units), 2) for u in (net.units[i + 1], net.units[i])]
+    others = [h for h in hosts if h not in putting]
+    return [*senders, *units, *others, *(f"control {d}" for d in net.devices), "observer"]
+
+
+def number(value):
+    """A number with at most one digit after the point; other values as they stand."""
+    return f"{value:.1f}".removesuffix(".0") if isinstance(value, float) else str(value)
+
+
+def points_text(points):
+    return " ".join(f"{number(x)},{number(y)}" for x, y in points)
+
+
+def diamond(x, y):
+    return points_text([(x, y - 7), (x + 7, y), (x, y + 7), (x - 7, y)])
+
+
+def meeting(a, b, p, q):
+    """Where the segment from a to b meets that from p to q, if they do."""
+    ux, uy, vx, vy = b[0] - a[0], b[1] - a[1], q[0] - p[0], q[1] - p[1]
+    area = ux * vy - uy * vx
+    if area == 0:
+        return None
+    s = ((p[0] - a[0]) * vy - (p[1] - a[1]) * vx) / area
+    t = ((p[0] - a[0]) * uy - (p[1] - a[1]) * ux) / area
+    return (a[0] + s * ux, a[1] + s * uy) if 0 <= s <= 1 and 0 <= t <= 1 else None

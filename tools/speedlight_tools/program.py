@@ -1,0 +1,54 @@
+"""Finds the program and runs it."""
+
+import os
+import shutil
+import subprocess
+from pathlib import Path
+
+TOP = Path(__file__).resolve().parent.parent.parent
+
+
+class NoProgram(Exception):
+    pass
+
+
+def compiled():
+    """The compiled program: the one that the gate or bin/build made, else `speedlight` on the path; or None."""
+    built = TOP / "crates" / "speedlight" / "out" / "speedlight"
+    if os.access(built, os.X_OK):
+        return str(built)
+    return shutil.which("speedlight")
+
+
+def find(given=None):
+    """The program: the given one, else the compiled one, else bin/speedlight, which may interpret it."""
+    if given:
+        path = shutil.which(given) or (given if os.access(given, os.X_OK) and os.path.isfile(given) else None)
+        if path is None:
+            raise NoProgram(f"no program at {given}")
+        return os.path.abspath(path)
+    found = compiled() or shutil.which(str(TOP / "bin" / "speedlight"))
+    if found is None:
+        raise NoProgram("no program found: give --program PATH, or make it with bin/build")
+    return found
+
+
+def run(program, words, data=b""):
+    """Status, standard output and standard error of a run."""
+    try:
+        done = subprocess.run([program, *words], input=data, stdout=subprocess.PIPE, stderr=subprocess.PIPE)
+    except OSError as error:
+        raise NoProgram(f"{program}: {error.strerror}") from None
+    return done.returncode, done.stdout, done.stderr.decode("utf-8", "replace")
+
+
+def fault(program, status, errors):
+    """A sentence on a run that gave no answer."""
+    lines = errors.strip().splitlines()
+    return f"{program} ended with status {status}" + (f": {lines[-1]}" if lines else "")
+
+
+def refusal_line(errors):
+    """The program's own line among what it wrote to standard error, or an empty text."""
+    lines = [line for line in errors.splitlines() if line.startswith("speedlight: ")]
+    return lines[-1] if lines else ""

@@ -1,0 +1,210 @@
+"""Plans of studies: the grid of runs, their inputs, and what their reports add up to."""
+
+import copy
+import csv
+import itertools
+import re
+import subprocess
+import tomllib
+from pathlib import Path
+
+from .inputs import Refusal, check, parse, text_of
+from .looks import COLOURS, pyplot, svg_of
+from .reports import VERDICTS, read_report
+
+# What a grid may vary: the key of the input that each name stands for.
+KEYS = {name: ("snapshot", name) for name in ("bits", "window", "ring", "count", "retries")}
+KEYS |= {name: ("loss", name) for name in ("seed", "cable", "crossbar", "init", "notice")}
+COMMANDS = ("step", "run")
+LOSSES = ("cable", "crossbar", "init", "notice")
+COUNTS = (*VERDICTS, "issued", "collected", "resent", "sent", "delivered", "lost")
+
+
+class NoPlan(Exception):
+    """The plan can't be followed; the message says why."""
+
+
+class Plan:
+    """A plan: the document of its input, the values of its grid, and its pictures."""
+
+    def __init__(self, path):
+        self.path = Path(path)
+        with open(path, "rb") as file:
+            try:
+                doc = tomllib.load(file)
+            except (tomllib.TOMLDecodeError, UnicodeDecodeError) as error:
+                raise NoPlan(f"{path}: this is no TOML document: {error}") from None
+        allowed = {"title", "input", "topology", "command", "grid", "picture"}
+        only(doc, allowed, "the plan")
+        self.title = doc.get("title", self.path.stem)
+        self.grid = self.read_grid(doc.get("grid"))
+        if "command" in doc:
+            self.grid.setdefault("command", [doc["command"]])
+        self.grid.setdefault("command", ["step"])
+        if not set(self.grid["command"]) <= set(COMMANDS):
+            raise NoPlan(f"command is {' or '.join(COMMANDS)}, not {self.grid['command']}")
+        self.base = self.read_base(doc)
+        self.pictures = [self.read_picture(i, row) for i, row in enumerate(doc.get("picture", []))]
+        if len({p["name"] for p in self.pictures}) != len(self.pictures):
+            raise NoPlan("two pictures have one name")
+
+    def read_grid(self, grid):
+        if not isinstance(grid, dict) or not grid:
+            raise NoPlan("a plan has a table [grid], such as window = [1, 2, 3]")
+        only(grid, {*KEYS, "command"}, "[grid]")
+        return {name: values_of(name, values) for name, values in grid.items()}
+
+    def read_base(self, doc):
+        if ("input" in doc) == ("topology" in doc):
+            raise NoPlan("a plan has one of `input`, a file beside it, and `topology`, parameters of tools/topology")
+        if "input" in doc:
+            return parse((self.path.parent / doc["input"]).read_bytes())
+        tool = Path(__file__).resolve().parent.parent / "topology"
+        done = subprocess.run([str(tool), *doc["topology"].split()], capture_output=True)
+        if done.returncode:
+            raise NoPlan(f"topology: {done.stderr.decode().strip().splitlines()[-1]}")
+        return parse(done.stdout)
+
+    def read_picture(self, number, row):
+        only(row, {"name", "across", "up", "where"}, f"picture {number}")
+        for key in ("across", "up"):
+            if row.get(key) not in self.grid:
+                raise NoPlan(f"picture {number}: `{key}` is one of the grid's {', '.join(self.grid)}")
+        where = row.get("where", {})
+        for name, value in where.items():
+            if value not in self.grid.get(name, []):
+                raise NoPlan(f"picture {number}: the grid has no {name} = {value}")
+        name = row.get("name", f"picture{number}")
+        if not re.fullmatch(r"[A-Za-z0-9_-]+", name):
+            raise NoPlan(f"picture {number}: a name has letters, digits, `_` and `-`")
+        return {"name": name, "across": row["across"], "up": row["up"], "where": where}
+
+    def runs(self):
+        """The runs of the grid, by name, each with its values and its input; and how many points are no input."""
+        runs, refused = {}, {}
+        for point in itertools.product(*self.grid.values()):
+            values = dict(zip(self.grid, point))
+            doc = copy.deepcopy(self.base)
+            for name, value in values.items():
+                if name != "command":
+                    table, key = KEYS[name]
+                    doc.setdefault(table, {})[key] = value
+            try:
+                check(parse(text_of(doc).encode()))
+            except Refusal as refusal:
+                refused.setdefault(refusal.line.removeprefix("speedlight: ").rsplit(" ", 1)[0], []).append(values)
+                continue
+            runs["_".join(f"{name}-{value}" for name, value in values.items())] = (values, text_of(doc))
+        if not runs:
+            raise NoPlan(f"no point of the grid is an input that the program takes: {', '.join(refused)}")
+        return runs, refused
+
+
+def only(table, allowed, where):
+    wrong = [key for key in table if key not in allowed]
+    if wrong:
+        raise NoPlan(f"{where} has `{wrong[0]}`; it may have {', '.join(sorted(allowed))}")
+
+
+def values_of(name, values):
+    """The values of a name in the grid: a list, one value, or a text such as `1-10`."""
+    if isinstance(values, str) and name != "command":
+        found = re.fullmatch(r"(\d+)-(\d+)", values)
+        if not found or int(found[1]) > int(found[2]):
+            raise NoPlan(f'[grid] {name}: a range is written such as "1-10"')
+        return list(range(int(found[1]), int(found[2]) + 1))
+    values = values if isinstance(values, list) else [values]
+    kind = str if name == "command" else int
+    if (
+        not values
+        or any(not isinstance(v, kind) or isinstance(v, bool) for v in values)
+        or len(set(values)) != len(values)
+    ):
+        raise NoPlan(f"[grid] {name}: a list of different {'words' if kind is str else 'whole numbers'}")
+    return values
+
+
+def row_of(report):
+    """What a report adds to the table."""
+    verdicts = {v: sum(s.verdict == v for s in report.snapshots) for v in VERDICTS}
+    hosts = list(report.host_counts.values())
+    return {
+        **verdicts,
+        "issued": report.issued,
+        "collected": report.collected,
+        "resent": report.resent,
+        "sent": sum(h[0] for h in hosts),
+        "delivered": sum(h[1] for h in hosts),
+        "lost": sum(report.lost.values()),
+    }
+
+
+def write_table(values, reports, path):
+    """The table of all runs as CSV: the values of each, then what its report says."""
+    with open(path, "w", newline="") as file:
+        table = csv.writer(file, lineterminator="\n")
+        names = list(next(iter(values.values())))
+        table.writerow([*names, *(c.replace(" ", "_") for c in COUNTS)])
+        for name, point in values.items():
+            row = row_of(read_report(Path(reports, f"{name}.report").read_text()))
+            table.writerow([*point.values(), *(row[c] for c in COUNTS)])
+
+
+def shares(rows, picture):
+    """For each pair of values of the two axes, the snapshots of each verdict."""
+    cells = {}
+    for row in rows:
+        if all(row[name] == str(value) for name, value in picture["where"].items()):
+            cell = cells.setdefault((row[picture["across"]], row[picture["up"]]), dict.fromkeys(VERDICTS, 0))
+            for verdict in VERDICTS:
+                cell[verdict] += int(row[verdict.replace(" ", "_")])
+    return cells
+
+
+def write_picture(title, picture, table, path):
+    """The share of each verdict over the two axes, a panel for each verdict, as SVG."""
+    from matplotlib.colors import LinearSegmentedColormap
+
+    with open(table, newline="") as file:
+        rows = list(csv.DictReader(file))
+    cells = shares(rows, picture)
+    order = lambda place: sorted({cell[place] for cell in cells}, key=lambda v: (int(v) if v.isdecimal() else 0, v))
+    xs, ys = order(0), order(1)
+    shown = [v for v in VERDICTS if v != "not issued" or any(cell[v] for cell in cells.values())]
+    plot = pyplot()
+    wide, high = 1.2 + 0.52 * len(xs), 1.4 + 0.42 * len(ys)
+    figure, axes = plot.subplots(1, len(shown), figsize=(wide * len(shown), high), squeeze=False, sharey=True)
+    for axis, verdict in zip(axes[0], shown):
+        colours = LinearSegmentedColormap.from_list(verdict, ["#ffffff", COLOURS[verdict]])
+        grid = [[share(cells.get((x, y)), verdict) for x in xs] for y in ys]
+        axis.imshow(grid, origin="lower", cmap=colours, vmin=0, vmax=100, aspect="auto")
+        for j, row in enumerate(grid):
+            for i, value in enumerate(row):
+                if value == value:
+                    axis.text(
+                        i,
+                        j,
+                        f"{value:.0f}",
+                        ha="center",
+                        va="center",
+                        fontsize=8,
+                        color="white" if value > 60 else "black",
+                    )
+        axis.set_xticks(range(len(xs)), xs)
+        axis.set_yticks(range(len(ys)), ys)
+        axis.set_xlabel(axis_name(picture["across"]))
+        axis.set_title(verdict, fontsize=10, color=COLOURS[verdict])
+    axes[0][0].set_ylabel(axis_name(picture["up"]))
+    where = "".join(f", {name} = {value}" for name, value in picture["where"].items())
+    figure.suptitle(f"{title}: % of the snapshots{where}", fontsize=11, x=0.02, ha="left")
+    figure.tight_layout()
+    Path(path).write_text(svg_of(figure))
+
+
+def axis_name(name):
+    return f"{name}: lost of a thousand" if name in LOSSES else name
+
+
+def share(cell, verdict):
+    total = sum(cell.values()) if cell else 0
+    return 100 * cell[verdict] / total if total else float("nan")

@@ -1,0 +1,139 @@
+"""The drawings of the tour, what a drawing marks by the verdict, and what is refused."""
+
+import tempfile
+import unittest
+import xml.etree.ElementTree as tree
+from pathlib import Path
+
+from shared import EXAMPLES, TOP, run
+
+# The drawings in docs, with the options that they are drawn with.
+DRAWINGS = {
+    "two_in_flight": [],
+    "lost_initiation": [],
+    "too_late_packet": ["--no-control", "--turns", "1-34"],
+    "dead_cable": ["--no-control", "--turns", "1-31"],
+}
+RAW = """device = [{name = "a", ports = 2}]
+host = [{name = "h0", at = "a.0"}, {name = "h1", at = "a.1"}]
+raw = [{from = "h0", hex = ""}, {from = "h0", hex = "000000000000000100000000006408010000000000000000"}]
+snapshot = {bits = 2, window = 1, ring = 1, count = 1, retries = 0}
+"""
+RAW_TURNS = ["host h0 inject", "host h0 inject", "in a.0 host", "in a.0 host", "out a.1 x0", "host h1 net"]
+START = [
+    "observer issue",
+    "control a begin",
+    "in a.0 init",
+    "in a.1 init",
+    "out a.0 x0",
+    "out a.0 x1",
+    "out a.1 x0",
+    "out a.1 x1",
+]
+
+
+def draw(name, *words):
+    return run("diagram", EXAMPLES / f"{name}.toml", TOP / "docs" / f"{name}.trace", *words)
+
+
+def trace(turns):
+    return f"trace {len(turns)}\n" + "".join(f"{t}\n" for t in turns)
+
+
+class Diagram(unittest.TestCase):
+    def words(self, svg):
+        return [e.text for e in tree.fromstring(svg).iter("{http://www.w3.org/2000/svg}text")]
+
+    def test_the_drawings_of_the_tour(self):
+        tour = (TOP / "docs" / "TOUR.md").read_text()
+        for name, options in DRAWINGS.items():
+            status, svg, err = draw(name, *options)
+            self.assertEqual((status, err), (0, ""))
+            self.assertEqual(svg, (TOP / "docs" / f"{name}.svg").read_text(), name)
+            self.assertIn(f"]({name}.svg)", tour)
+            report = (TOP / "docs" / f"{name}.trace").read_text().split("trace ")[0]
+            self.assertIn(report, tour)
+
+    def test_each_verdict_is_said_and_marked(self):
+        marks = {
+            "two_in_flight": ["snapshot 1 consistent", "cut 1", "2"],
+            "lost_initiation": ["snapshot 1 inconsistent in a.0 skipped to 2", "no cut 1", "0 to 2"],
+            "too_late_packet": ["snapshot 1 inconsistent out a.1 miscredited by 2", "no cut 1", "late, at 2"],
+            "dead_cable": ["snapshot 1 pending in a.1 cable 0", "cut 1?", "cable 0", "lost where the snapshot waits"],
+        }
+        for name, wanted in marks.items():
+            words = self.words(draw(name)[1])
+            for word in wanted:
+                self.assertIn(word, words, name)
+            self.assertEqual("n" in words, name == "two_in_flight")
+
+    def test_the_other_snapshot_of_a_run(self):
+        words = self.words(draw("too_late_packet", "--snapshot", "2")[1])
+        self.assertIn("snapshot 2 consistent", words)
+        self.assertIn("a packet in flight across cut 2: put before, taken after", words)
+
+    def test_a_cut_that_is_not_there(self):
+        for name, number, why in (
+            ("two_in_flight", 9, "there is no snapshot 9"),
+            ("two_in_flight", 0, "numbered from 1"),
+            ("dead_cable", 2, "snapshot 2 not issued in a.1 0"),
+        ):
+            status, out, err = draw(name, "--snapshot", number)
+            self.assertEqual((status, out), (1, ""))
+            self.assertIn(why, err)
+
+    def test_rows_and_columns(self):
+        words = self.words(draw("two_in_flight", "--turns", "5-9")[1])
+        self.assertIn("observer issue", words)
+        self.assertNotIn("host h0 inject", words)
+        self.assertIn("cut 1", words)
+        self.assertIn("cut 1, later", self.words(draw("two_in_flight", "--turns", "1-4")[1]))
+        self.assertIn("cut 1, earlier", self.words(draw("two_in_flight", "--turns", "20-30")[1]))
+        words = self.words(draw("two_in_flight", "--actors", "h0,in a.0,a.1")[1])
+        self.assertEqual(
+            [w for w in words if w in ("host h0", "in a.0", "out a.1", "in a.1", "out a.0", "observer")],
+            ["host h0", "in a.0", "out a.1", "in a.1"],
+        )
+        words = self.words(draw("two_in_flight", "--no-control")[1])
+        self.assertNotIn("control a", words)
+        self.assertNotIn("observer issue", words)
+        for options in (["--turns", "9-5"], ["--turns", "x"], ["--turns", "99-100"], ["--actors", "zz"]):
+            status, out, err = draw("two_in_flight", *options)
+            self.assertEqual((status, out, err.count("\n")), (1, "", 1))
+
+    def test_raw_frames(self):
+        with tempfile.TemporaryDirectory() as folder:
+            path = Path(folder) / "raw.toml"
+            path.write_text(RAW)
+            status, svg, err = run("diagram", path, data=trace(RAW_TURNS + START))
+            self.assertEqual((status, err), (0, ""))
+            self.assertIn("a data packet or other bytes of a host, from its put to its take", self.words(svg))
+            self.assertIn("1", self.words(svg))
+
+    def test_a_trace_alone(self):
+        text = (TOP / "docs" / "two_in_flight.trace").read_text()
+        alone = text[text.index("trace ") :]
+        self.assertEqual(run("diagram", EXAMPLES / "two_in_flight.toml", data=alone)[1], draw("two_in_flight")[1])
+
+    def test_what_does_not_fit(self):
+        trace_of = lambda name: TOP / "docs" / f"{name}.trace"
+        cases = [
+            ([EXAMPLES / "refused.toml", trace_of("dead_cable")], 3, "I7 flow.0.to"),
+            ([EXAMPLES / "nothing.toml", trace_of("dead_cable")], 1, "No such file"),
+            ([EXAMPLES / "dead_cable.toml", TOP / "nothing.trace"], 1, "No such file"),
+            ([EXAMPLES / "dead_cable.toml", EXAMPLES / "dead_cable.toml"], 1, "neither a report"),
+            ([EXAMPLES / "one_port.toml", trace_of("dead_cable")], 1, "the trace is not one of this input"),
+            ([EXAMPLES / "dead_cable.toml", TOP / "docs"], 1, "directory"),
+        ]
+        for words, wanted, why in cases:
+            status, out, err = run("diagram", *words)
+            self.assertEqual((status, out, err.count("\n")), (wanted, "", 1), err)
+            self.assertIn(why, err)
+        report = trace_of("two_in_flight").read_text().split("trace ")[0]
+        self.assertIn("without a trace", run("diagram", EXAMPLES / "two_in_flight.toml", data=report)[2])
+        wrong = trace_of("lost_initiation").read_text().replace("skipped to 2", "skipped to 3")
+        self.assertIn("where the turns show", run("diagram", EXAMPLES / "lost_initiation.toml", data=wrong)[2])
+
+
+if __name__ == "__main__":
+    unittest.main()

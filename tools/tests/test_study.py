@@ -1,0 +1,190 @@
+"""A study runs each point of its grid once, goes on where it was, and adds up the verdicts."""
+
+import csv
+import tempfile
+import unittest
+import xml.etree.ElementTree as tree
+from pathlib import Path
+
+from shared import EXAMPLES, TOOLS, TOP, run
+
+from speedlight_tools import needs
+from speedlight_tools.studies import NoPlan, Plan, shares
+
+HAS_LIBRARIES = needs.python_with("snakemake", "matplotlib") is not None
+PLAN = """title = "A test"
+input = "net.toml"
+[grid]
+window = [1, 3]
+ring = [1, 3]
+seed = "1-2"
+[[picture]]
+name = "both"
+across = "ring"
+up = "window"
+"""
+# A stand-in for the program: it takes 2 snapshots, and with a window above 1 the first is skipped.
+PROGRAM = """#!/bin/bash
+echo "$1" >> {folder}/calls
+input=$(cat)
+[ -e {folder}/broken ] && {{ echo "speedlight: not built" >&2; exit 3; }}
+echo "speedlight 1"; echo "network devices 1 units 0 hosts 0"; echo "observer count 2 issued 2 collected 2 resent 0"
+[[ "$input" == *"window = 1"* ]] && echo "snapshot 1 consistent" || echo "snapshot 1 inconsistent in a.0 skipped to 2"
+echo "snapshot 2 consistent"
+echo "drops bad 0 expired 0 noroute 0"; echo "lost cable 0 crossbar 0 init 1 notice 2"; echo end
+"""
+
+
+class Folder(unittest.TestCase):
+    def setUp(self):
+        self.held = tempfile.TemporaryDirectory()
+        self.addCleanup(self.held.cleanup)
+        self.folder = Path(self.held.name)
+        (self.folder / "net.toml").write_text((EXAMPLES / "one_port.toml").read_text())
+        self.plan(PLAN)
+
+    def plan(self, text):
+        (self.folder / "plan.toml").write_text(text)
+        return self.folder / "plan.toml"
+
+
+class Plans(Folder):
+    def test_the_points_of_the_grid(self):
+        runs, refused = Plan(self.folder / "plan.toml").runs()
+        self.assertEqual(
+            list(runs),
+            [f"window-{w}_ring-{r}_seed-{s}_command-step" for w, r in ((1, 1), (1, 3), (3, 3)) for s in (1, 2)],
+        )
+        self.assertEqual({reason: len(points) for reason, points in refused.items()}, {"I6 snapshot.ring": 2})
+
+    def test_the_plan_of_the_documents(self):
+        if needs.python_with("networkx", "graphviz") is None:
+            self.skipTest("no networkx or no graphviz")
+        path = TOOLS / "plans" / "lossy_leaf_spine.toml"
+        runs, _ = Plan(path).runs()
+        self.assertEqual(len(runs), 400)
+        self.assertTrue(path.read_text() in (TOP / "docs" / "TOOLS.md").read_text())
+
+    def test_what_is_no_plan(self):
+        for text, why in (
+            ("x = ", "no TOML document"),
+            ("colour = 1\n", "`colour`"),
+            (PLAN.replace("[grid]", "[gird]"), "`gird`"),
+            (PLAN.replace('input = "net.toml"', ""), "one of `input`"),
+            (PLAN.replace("window = [1, 3]", "window = []"), "window: a list"),
+            (PLAN.replace('"1-2"', '"2-1"'), "a range"),
+            (PLAN.replace("[1, 3]", "[9]"), "no point of the grid"),
+            (PLAN.replace('across = "ring"', 'across = "bits"'), "`across`"),
+            (PLAN + "where = {seed = 7}\n", "no seed = 7"),
+            (PLAN.replace("window = [1, 3]", 'window = [1, "3"]'), "whole numbers"),
+            ('command = "jump"\n' + PLAN, "command is step or run"),
+            (PLAN.replace('name = "both"', 'name = "a/b"'), "letters"),
+            (PLAN.replace("seed =", "seeds ="), "`seeds`"),
+        ):
+            with self.assertRaises(NoPlan, msg=text) as caught:
+                Plan(self.plan(text)).runs()
+            self.assertIn(why, str(caught.exception))
+
+    def test_shares(self):
+        rows = [
+            {
+                "a": "1",
+                "b": "1",
+                "seed": "1",
+                **dict.fromkeys(("skipped", "miscredited", "pending", "not_issued"), "0"),
+                "consistent": "2",
+            },
+            {
+                "a": "1",
+                "b": "1",
+                "seed": "2",
+                **dict.fromkeys(("consistent", "miscredited", "pending", "not_issued"), "0"),
+                "skipped": "2",
+            },
+        ]
+        cells = shares(rows, {"across": "a", "up": "b", "where": {}})
+        self.assertEqual(cells["1", "1"]["consistent"], 2)
+        self.assertEqual(cells["1", "1"]["skipped"], 2)
+        self.assertEqual(shares(rows, {"across": "a", "up": "b", "where": {"seed": 2}})["1", "1"]["consistent"], 0)
+
+
+@unittest.skipUnless(HAS_LIBRARIES, "no snakemake or no matplotlib")
+class Studies(Folder):
+    def setUp(self):
+        super().setUp()
+        self.program = self.folder / "program"
+        self.program.write_text(PROGRAM.format(folder=self.folder))
+        self.program.chmod(0o755)
+
+    def study(self, *words):
+        return run(
+            "study",
+            self.folder / "plan.toml",
+            "--out",
+            self.folder / "out",
+            "--program",
+            self.program,
+            "--cores",
+            "2",
+            *words,
+        )
+
+    def table(self):
+        return list(csv.DictReader((self.folder / "out" / "table.csv").read_text().splitlines()))
+
+    def calls(self):
+        path = self.folder / "calls"
+        count = len(path.read_text().split()) if path.exists() else 0
+        path.unlink(missing_ok=True)
+        return count
+
+    def test_a_study(self):
+        status, out, err = self.study()
+        self.assertEqual(status, 0, err)
+        self.assertIn("table.csv, both.svg", out)
+        self.assertIn("left out 2", err)
+        self.assertEqual(self.calls(), 6)
+        rows = self.table()
+        self.assertEqual(
+            [(r["window"], r["skipped"], r["lost"]) for r in rows], [("1", "0", "3")] * 4 + [("3", "1", "3")] * 2
+        )
+        svg = (self.folder / "out" / "both.svg").read_text()
+        words = [e.text for e in tree.fromstring(svg).iter("{http://www.w3.org/2000/svg}text")]
+        for word in ("consistent", "skipped", "100", "50", "A test: % of the snapshots"):
+            self.assertIn(word, words)
+        # What is done stays; what is missing, and what the grid has gained, is run.
+        next((self.folder / "out" / "reports").iterdir()).unlink()
+        self.plan(PLAN.replace('"1-2"', '"1-3"'))
+        self.assertEqual(self.study()[0], 0)
+        self.assertEqual(self.calls(), 4)
+        self.assertEqual(len(self.table()), 9)
+        # A picture that is asked for otherwise is made again, though the table stays the same.
+        self.plan(PLAN.replace('"1-2"', '"1-3"').replace("A test", "Another"))
+        self.assertEqual(self.study()[0], 0)
+        self.assertEqual(self.calls(), 0)
+        self.assertIn("Another: % of the snapshots", (self.folder / "out" / "both.svg").read_text())
+        # Another input is run anew.
+        net = self.folder / "net.toml"
+        net.write_text(net.read_text().replace("count = 1", "count = 2"))
+        self.assertEqual(self.study()[0], 0)
+        self.assertEqual(self.calls(), 9)
+
+    def test_a_program_that_refuses(self):
+        (self.folder / "broken").touch()
+        status, out, err = self.study()
+        self.assertEqual((status, out), (1, ""))
+        self.assertIn("6 of 6 runs failed", err)
+        self.assertIn("speedlight: not built", err)
+        (self.folder / "broken").unlink()
+        self.assertEqual(self.study()[0], 0)
+
+    def test_words(self):
+        status, out, err = self.study("--dry-run")
+        self.assertEqual((status, out, err), (0, "", "6 runs; left out 2 that are no input (I6 snapshot.ring)\n"))
+        self.assertFalse((self.folder / "out").exists())
+        self.assertEqual(run("study", "nothing.toml")[0], 1)
+        self.assertEqual(run("study")[0], 2)
+
+
+if __name__ == "__main__":
+    unittest.main()

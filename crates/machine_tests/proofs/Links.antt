@@ -4,10 +4,10 @@ use Rattle.std.specs.Prelude.{Option, Result, Ok, Err, IfOk, flat_map}
 use Rattle.std.proofs.lemmas.List.{length-map}
 use Rattle.sl_machine.specs.Machine.{Counts}
 use Rattle.sl_parts.specs.Parts.{Parts, below}
-use Rattle.sl_parts.proofs.Counting.{length_below}
+use Rattle.sl_parts.proofs.Lists.{length_below}
 use Rattle.sl_layout.specs.declared.actor.ActorId.TheVariants.{Observer, Control, Host}
 use Rattle.sl_net.specs.declared.input.Snapshot.{Snapshot}
-use Rattle.sl_net.specs.Net.{Net, net_of, actor_of, units_of, place_of, links_into, links_from}
+use Rattle.sl_layout.specs.Net.{Net, net_of, actor_of, units_of, place_of, links_into, links_from}
 use Rattle.sl_unit.specs.declared.unit.Unit.{Unit as Declared}
 use Rattle.sl_unit.specs.Made.{device_of, entrance_by, exit_by, exits_of, ports_of, wires_of, ingress_state, egress_state}
 use Rattle.sl_unit.specs.Step.{UnitState, counts_of}

@@ -1,6 +1,6 @@
 // The control plane of a device with two ports.
 ghost use Rattle.std.specs.Prelude.{◌≡◌, ◌<◌, IfOk, length};
-ghost use Rattle.sl_net.specs.Net.{links_into, links_from};
+ghost use Rattle.sl_layout.specs.Net.{links_into, links_from};
 
 use crate::bench::{Bench, IDLE, Turn, first_wrong};
 use crate::messages::Event::{Act, Begin, Dump, Notice};

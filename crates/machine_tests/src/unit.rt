@@ -1,6 +1,6 @@
 // Units of a device with two ports.
 ghost use Rattle.std.specs.Prelude.{◌≡◌, ◌<◌, IfOk, length, slice_index};
-ghost use Rattle.sl_net.specs.Net.{units, links_into, links_from};
+ghost use Rattle.sl_layout.specs.Net.{units, links_into, links_from};
 ghost use Rattle.sl_unit.specs.Made.{IsRanged};
 ghost use Rattle.sl_unit.specs.Units.{unit_counts};
 

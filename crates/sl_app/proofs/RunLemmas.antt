@@ -10,18 +10,18 @@ use Rattle.sl_machine.specs.Book.{Book}
 use Rattle.sl_net.specs.Wired.{IsNet}
 use Rattle.sl_machine.specs.Plan.{HasChoice}
 use Rattle.sl_net.specs.Spelling as spelling
-use Rattle.sl_net.specs.Wiring.{plan_of}
-use Rattle.sl_net.specs.Net.{Net}
-use Rattle.sl_net.specs.Parts.{below}
+use Rattle.sl_layout.specs.Wiring.{plan_of}
+use Rattle.sl_layout.specs.Net.{Net}
+use Rattle.sl_parts.specs.Parts.{below}
 use Rattle.sl_net.specs.Input.{Input}
-use Rattle.sl_net.proofs.Checked.{few_hosts}
+use Rattle.sl_parts.proofs.Checked.{few_hosts}
 use Rattle.sl_net.proofs.NetWired.{no-reason}
 use Rattle.sl_read.specs.Accepted.{IsEntry, IsAccepted}
 use Rattle.sl_flow.specs.Flow.{HasAddresses}
 use Rattle.sl_flow.specs.Sample.{IsSample, flow, host_count, sample_parts}
-use Rattle.sl_cut.specs.Words.{Each}
-use Rattle.sl_cut.specs.Losses.{losses}
-use Rattle.sl_cut.specs.Bound.{input_bound}
+use Rattle.sl_parts.specs.Lists.{Each}
+use Rattle.sl_model.specs.Losses.{losses}
+use Rattle.sl_model.specs.Bound.{input_bound}
 use Rattle.sl_proto.specs.Nodes.{NodeState}
 use Rattle.sl_proto.specs.Script.{IsScriptEntry}
 use Rattle.sl_emul.specs.Run.{CanRun}

@@ -15,8 +15,8 @@ use Rattle.sl_app.specs.Texts.{status_of, refusal_text, write_fault_text}
 use Rattle.sl_net.specs.Input.{Input}
 use Rattle.sl_read.specs.declared.fault.InputFault.{InputFault}
 use Rattle.sl_read.specs.Inputs.{input_of}
-use Rattle.sl_cut.specs.Bound.{input_bound}
-use Rattle.sl_cut.specs.Losses.{losses}
+use Rattle.sl_model.specs.Bound.{input_bound}
+use Rattle.sl_model.specs.Losses.{losses}
 use Rattle.sl_report.specs.FaultText.{fault_text}
 use Rattle.sl_report.specs.RoutesText.{routes_text}
 use Rattle.sl_proto.specs.Nodes.{NodeState}

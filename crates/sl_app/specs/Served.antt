@@ -6,12 +6,12 @@ use Rattle.sl_machine.specs.declared.wiring.Entry.{Entry}
 use Rattle.sl_net.specs.Input.{Input}
 use Rattle.sl_flow.specs.Sample.{sample_parts}
 use Rattle.sl_flow.specs.InputText.{sample_text}
-use Rattle.sl_cut.specs.History.{Losses}
-use Rattle.sl_cut.specs.Losses.{losses}
-use Rattle.sl_cut.specs.Setup.{setup_of}
-use Rattle.sl_cut.specs.World.{world}
-use Rattle.sl_cut.specs.Books.{schedule_of}
-use Rattle.sl_cut.specs.Findings.{findings}
+use Rattle.sl_model.specs.History.{Losses}
+use Rattle.sl_model.specs.Losses.{losses}
+use Rattle.sl_model.specs.Setup.{setup_of}
+use Rattle.sl_model.specs.World.{world}
+use Rattle.sl_model.specs.Books.{schedule_of}
+use Rattle.sl_model.specs.Findings.{findings}
 use Rattle.sl_proto.specs.declared.node.Node.{Node}
 use Rattle.sl_proto.specs.Nodes.{NodeState, node_state}
 use Rattle.sl_emul.specs.Run.{IsRunBook, AreNodesOf}

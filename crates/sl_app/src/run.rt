@@ -1,7 +1,7 @@
 // What is served for an input: the report of a run with its trace, and routes.
 ghost use Rattle.std.specs.Prelude.{◌≡◌, None, IfOk, OnOk, if◌then◌else◌, [], ◌++◌};
 ghost use Rattle.std.specs.List.{All};
-ghost use Rattle.sl_cut.specs.Losses.{losses};
+ghost use Rattle.sl_model.specs.Losses.{losses};
 ghost use Rattle.sl_report.specs.RoutesText.{routes_text};
 ghost use Rattle.sl_report.specs.TraceText.{IsEntryOf, trace_text};
 ghost use Rattle.sl_emul.specs.Run.{CanRun};

@@ -6,20 +6,20 @@ use Rattle.std.proofs.lemmas.Bool.{cases_lt}
 use Rattle.sl_layout.specs.declared.actor.Sort.{Sort}
 use Rattle.sl_layout.specs.declared.actor.Sort.TheVariants.{Init, Poll, Dump, Done}
 use Rattle.sl_layout.specs.declared.actor.ActorId.TheVariants.{Control}
-use Rattle.sl_net.specs.Net.{Net, net_of, actors_of, place_of, place_in, actor_of, link_of, links_into, links_from, links_out, choice_of, same_sort, link_numbers}
-use Rattle.sl_net.specs.Serving.{choice_from, serving, served}
+use Rattle.sl_layout.specs.Net.{Net, net_of, actors_of, place_of, place_in, actor_of, link_of, links_into, links_from, links_out, choice_of, same_sort, link_numbers}
+use Rattle.sl_layout.specs.Serving.{choice_from, serving, served}
 use Rattle.sl_net.specs.Wired.{IsWired, Reports}
-use Rattle.sl_net.specs.Wires.{out_of}
-use Rattle.sl_net.proofs.Lists.{Each, each-map, each-imp, each-at, each-of, Member, Distinct, distinct-filter, distinct-from, kept-member}
-use Rattle.sl_net.proofs.Filters.{distinct-map}
-use Rattle.sl_net.proofs.Sizes.{length_filter_le, length_map-is}
+use Rattle.sl_layout.specs.Wires.{out_of}
+use Rattle.sl_parts.specs.Lists.{Each, Member, Distinct}
+use Rattle.sl_parts.proofs.Lists.{each-map, each-imp, each-at, each-of, distinct-filter, distinct-from, kept-member, distinct-map, length_filter_le}
+use Rattle.std.proofs.lemmas.List.{length-map}
 use Rattle.sl_net.proofs.Sorts.{IsOut, each-out, out-member}
-use Rattle.sl_net.proofs.Sound.{rank_low}
+use Rattle.sl_layout.proofs.Sound.{rank_low}
 use Rattle.sl_net.proofs.EndKinds.{poll-to}
 use Rattle.sl_net.proofs.ReportWays.{place-same, only-is-out, taken-at, choice-from-is}
-use Rattle.sl_net.proofs.NetWired.{map-map}
-use Rattle.sl_net.proofs.Actors.{actor-member, actor-at}
-use Rattle.sl_net.proofs.Ends.{place_low}
+use Rattle.std.proofs.lemmas.Simd.{map-map}
+use Rattle.sl_layout.proofs.Actors.{actor-member, actor-at}
+use Rattle.sl_layout.proofs.Ends.{place_low}
 use Rattle.sl_control.specs.declared.known.Known.{Known}
 use Rattle.sl_control.specs.Wires.{control_of, outs_of, unit_wires, unheard}
 use Rattle.sl_control.specs.Joined.{AreApart, AreOuts, IsJoined}
@@ -60,7 +60,7 @@ outs-apart net a s = record {
   below = all-each (λ x. x < length (links_from net a)) (outs_of net a s)
       (each-map (λ x. x < length (links_from net a)) (out_of net) (links_out net a s) (each-imp (IsOut net a s) (λ l. out_of net l < length (links_from net a)) (links_out net a s) (λ l o. out-low net a s l o) (each-out net a s)));
   apart = apart (outs_of net a s) (distinct-map (out_of net) (links_out net a s) (λ l k m n q. one-out net a s s l k (is-out net a s l m) (is-out net a s k n) q) (outs-distinct net a s));
-  few = subst (λ n. n ≤ length (links_from net a)) (sym (length_map-is (out_of net) (links_out net a s))) (length_filter_le (λ l. same_sort (link_of net l).sort s) (links_from net a));
+  few = subst (λ n. n ≤ length (links_from net a)) (sym (length-map (links_out net a s) (out_of net))) (length_filter_le (λ l. same_sort (link_of net l).sort s) (links_from net a));
 }
 
 -- Units.

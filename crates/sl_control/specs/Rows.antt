@@ -1,7 +1,7 @@
 -- What a dump tells of a unit: the last-seen ids of its data channels, and its rows.
 use Rattle.std.specs.Prelude.{ℕ, suc, ◌+◌, ◌-◌, Bool, ◌&&◌, List, map, length, nat_lt, nat_le, ◌==◌, if◌then◌else◌, slice_index_or}
 use Rattle.std.specs.List.{list_all}
-use Rattle.sl_net.specs.Parts.{numbers_from}
+use Rattle.sl_parts.specs.Parts.{numbers_from}
 use Rattle.sl_saves.specs.declared.entry.View.{View}
 use Rattle.sl_saves.specs.declared.entry.Saved.{Saved}
 use Rattle.sl_saves.specs.Calls.{channels}

@@ -4,9 +4,9 @@ use Rattle.sl_machine.specs.Machine.{Counts}
 use Rattle.sl_layout.specs.declared.actor.Sort.{Sort}
 use Rattle.sl_layout.specs.declared.actor.Sort.TheVariants.{Init, Done}
 use Rattle.sl_layout.specs.declared.actor.ActorId.TheVariants.{Control}
-use Rattle.sl_net.specs.Net.{Net, place_of, links_into, links_from, links_out, choices_of, data_channels, action_choice, unit_place}
-use Rattle.sl_net.specs.Serving.{Served, served}
-use Rattle.sl_net.specs.Wires.{out_of}
+use Rattle.sl_layout.specs.Net.{Net, place_of, links_into, links_from, links_out, choices_of, data_channels, action_choice, unit_place}
+use Rattle.sl_layout.specs.Serving.{Served, served}
+use Rattle.sl_layout.specs.Wires.{out_of}
 use Rattle.sl_control.specs.declared.known.UnitWires.{UnitWires}
 use Rattle.sl_control.specs.declared.known.Known.{Known}
 use Rattle.sl_control.specs.Control.{ControlWires, ControlState}

@@ -2,9 +2,9 @@
 ghost use Rattle.std.specs.Prelude.{◌≡◌, ◌<◌, ◌≤◌, ◌++◌, ◌∷◌, [], IfOk, OnOk, cond, length, map, slice_index_or};
 ghost use Rattle.std.specs.List.{All};
 ghost use Rattle.sl_layout.specs.declared.actor.ActorId.{ActorId};
-ghost use Rattle.sl_net.specs.Net.{same_actor, place_of, actor_of, links_into, choices_of};
-ghost use Rattle.sl_net.specs.Serving.{choice_from, serving, served};
-ghost use Rattle.sl_net.specs.Wires.{out_of};
+ghost use Rattle.sl_layout.specs.Net.{same_actor, place_of, actor_of, links_into, choices_of};
+ghost use Rattle.sl_layout.specs.Serving.{choice_from, serving, served};
+ghost use Rattle.sl_layout.specs.Wires.{out_of};
 ghost use Rattle.sl_control.specs.Wires.{control_of, outs_of, unit_wires, unheard};
 
 use crate::known::{Known, UnitWires};

@@ -1,28 +1,26 @@
 // The findings of a run of whole histories.
 ghost use Rattle.std.specs.Prelude.{◌≡◌, ◌+◌, ◌<◌, ◌^◌, length, map, IfOk, IfSome, is_some};
-ghost use Rattle.sl_net.specs.Parts.{numbers_from};
-ghost use Rattle.sl_net.specs.Net.{actor_of, units, hosts};
-ghost use Rattle.sl_history.specs.Words.{weigh};
-ghost use Rattle.sl_history.specs.History.{history};
-ghost use Rattle.sl_history.specs.Counting.{bad, expired, noroute};
-ghost use Rattle.sl_history.specs.Setup.{setup_of};
-ghost use Rattle.sl_cut.specs.Findings.{row, rows_for, finding, is_ingress, device_of, ingress_units, drops_of, sent_by, delivered_to, findings_in, findings};
+ghost use Rattle.sl_parts.specs.Parts.{numbers_from};
+ghost use Rattle.sl_layout.specs.Net.{actor_of, units, hosts};
+ghost use Rattle.sl_model.specs.Words.{weigh};
+ghost use Rattle.sl_model.specs.History.{history};
+ghost use Rattle.sl_model.specs.Counting.{bad, expired, noroute};
+ghost use Rattle.sl_model.specs.Setup.{setup_of};
+ghost use Rattle.sl_model.specs.Findings.{row, rows_for, finding, is_ingress, device_of, ingress_units, drops_of, sent_by, delivered_to, findings_in, findings};
 ghost use Rattle.std.specs.List.{All};
-ghost use Rattle.sl_step.specs.Losses.{losses};
-ghost use Rattle.sl_history.specs.History.{steps_in};
+ghost use Rattle.sl_model.specs.Losses.{losses};
+ghost use Rattle.sl_model.specs.History.{steps_in};
 ghost use Rattle.sl_flow.specs.Flow.{HasAddresses};
 
-use crate::findings::{Counts, Drops, Finding, FindingList, Findings, Rows1};
 use crate::judge::verdict;
 use crate::lost::losses_of;
 use crate::values::row;
-use crate::verdict::Verdict;
-use sl_history::{
-    World, action_choice, bad, expired, floor, hosts, issued, noroute, resent, taken,
-};
 use sl_machine::Memory;
+use sl_model::{Counts, Drops, Finding, FindingList, Findings, Rows1, Verdict};
 use sl_net::{ActorId, Input, Net, Parts, Side, push_if};
-use sl_step::follow;
+use sl_replay::{
+    World, action_choice, bad, expired, floor, follow, hosts, issued, noroute, resent, taken,
+};
 use std::alloc::{AllocError, Global};
 
 fn rows(
@@ -231,16 +229,19 @@ fn findings_after(
 }
 
 /// The findings of the world that a schedule reaches, from whole histories. Idle entries change
-/// nothing.
+/// nothing. A schedule of 2^40 entries is answered as want of memory.
 pub fn findings_of(
     alloc: Global,
     input: &Input,
     schedule: &[(u32, u32)],
 ) -> Result<Findings, Memory>
     requires addresses { All HasAddresses input.now.flows }
-    requires small { length schedule.now < 2 ^ 40 }
     ensures findings { IfOk result (λ all. all ≡ findings (setup_of input.now) (losses input.now) schedule.now) }
 {
+    // A schedule of 2^40 entries would fill any memory.
+    if schedule.len() >= 1 << 40 {
+        return Err(Memory);
+    }
     match findings_after(alloc, input, schedule) {
         Ok(findings) => Ok(findings),
         Err(_) => Err(Memory),

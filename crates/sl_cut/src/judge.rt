@@ -1,20 +1,20 @@
 // Verdicts on snapshots, from whole histories.
 ghost use Rattle.std.specs.Prelude.{◌≡◌, ◌+◌, reverse, IfOk, Some};
-ghost use Rattle.sl_history.specs.Words.{least, first_told};
-ghost use Rattle.sl_history.specs.History.{history};
-ghost use Rattle.sl_history.specs.Knowledge.{floor, unit_floor};
-ghost use Rattle.sl_cut.specs.Verdict.{skipped_to, is_old_data, miscredits, cause, channel_lag, lag, issued_verdict, holds_floor, place_or_zero, verdict};
+ghost use Rattle.sl_model.specs.Words.{first_told};
+ghost use Rattle.sl_route.specs.Least.{least};
+ghost use Rattle.sl_model.specs.History.{history};
+ghost use Rattle.sl_model.specs.Knowledge.{floor, unit_floor};
+ghost use Rattle.sl_model.specs.Verdict.{skipped_to, is_old_data, miscredits, cause, channel_lag, lag, issued_verdict, holds_floor, place_or_zero, verdict};
 
-use crate::verdict::{Cause, Lag, Verdict};
-use sl_history::{
-    Message, Step, World, data_channels, floor, id, issued, last, number_of, stamp_taken,
-    unit_floor,
-};
+use sl_model::{Cause, Lag, Message, Step, Verdict};
 use sl_net::Net;
+use sl_replay::{
+    World, data_channels, floor, id, issued, last, number_of, stamp_taken, unit_floor,
+};
 use std::alloc::{AllocError, Global};
 
 /// The number to which a unit skipped a snapshot, if it did.
-#[tactic(auto, using(sl_history::proofs::ForwardSteps::reverse_more))]
+#[tactic(auto, using(sl_replay::proofs::ForwardSteps::reverse_more))]
 fn skipped_to(snapshot: u64, steps: &[Step]) -> Option<u64>
     ensures { result ≡ skipped_to snapshot (reverse steps.now) }
 {
@@ -40,7 +40,7 @@ fn is_old_data(snapshot: u64, step: &Step) -> bool
 }
 
 /// The least number by which a unit miscredited a snapshot, if it did.
-#[tactic(auto, using(sl_history::proofs::ForwardSteps::reverse_more, crate::proofs::ForwardFindings::least_cons))]
+#[tactic(auto, using(sl_replay::proofs::ForwardSteps::reverse_more, crate::proofs::ForwardFindings::least_cons))]
 fn miscredited_by(snapshot: u64, steps: &[Step]) -> Option<u64>
     ensures { result ≡ least (miscredits snapshot (reverse steps.now)) }
 {

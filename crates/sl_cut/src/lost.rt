@@ -1,18 +1,17 @@
 // How many messages are lost, by kinds of links.
 ghost use Rattle.std.specs.Prelude.{◌≡◌, [], ◌∷◌, cond, IfOk};
-ghost use Rattle.sl_net.specs.Net.{link_of, same_sort};
-ghost use Rattle.sl_cut.specs.Findings.{lost_on, lost_of, losses_of};
-ghost use Rattle.sl_step.specs.Losses.{losses};
-ghost use Rattle.sl_history.specs.Words.{weigh};
+ghost use Rattle.sl_layout.specs.Net.{link_of, same_sort};
+ghost use Rattle.sl_model.specs.Findings.{lost_on, lost_of, losses_of};
+ghost use Rattle.sl_model.specs.Losses.{losses};
+ghost use Rattle.sl_model.specs.Words.{weigh};
 
-use crate::findings::Lost;
-use sl_history::{World, link_of, put};
+use sl_model::Lost;
 use sl_net::{Input, Sort};
-use sl_step::without_lost;
+use sl_replay::{World, link_of, put, without_lost};
 use std::alloc::{AllocError, Global};
 
 /// How many puts on a link are lost.
-#[tactic(auto, using(sl_step::proofs::ForwardLosses::lost_and_kept))]
+#[tactic(auto, using(sl_replay::proofs::ForwardLosses::lost_and_kept))]
 fn lost_on(alloc: Global, input: &Input, world: &World, link: u32) -> Result<u64, AllocError>
     ensures { IfOk result (λ count. count ≡ lost_on input.now.net (losses input.now) world.now link) }
 {

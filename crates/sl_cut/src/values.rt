@@ -1,24 +1,23 @@
 // The values of a snapshot: what units counted before their cuts, and what was in flight.
 ghost use Rattle.std.specs.Prelude.{◌≡◌, ◌≤◌, ◌<◌, ◌^◌, length, map, reverse, take, drop, IfOk, slice_index_or};
-ghost use Rattle.sl_net.specs.Net.{choice_of};
-ghost use Rattle.sl_history.specs.Words.{weigh};
-ghost use Rattle.sl_cut.specs.Cut.{before, data_count, data_bytes, channel_value};
-ghost use Rattle.sl_cut.specs.Findings.{channel_links, no_total, eight_totals, row};
-ghost use Rattle.sl_step.specs.Losses.{losses};
-ghost use Rattle.sl_history.specs.History.{steps_in};
+ghost use Rattle.sl_layout.specs.Net.{choice_of};
+ghost use Rattle.sl_model.specs.Words.{weigh};
+ghost use Rattle.sl_model.specs.Cut.{before, data_count, data_bytes, channel_value};
+ghost use Rattle.sl_model.specs.Findings.{channel_links, no_total, eight_totals, row};
+ghost use Rattle.sl_model.specs.Losses.{losses};
+ghost use Rattle.sl_model.specs.History.{steps_in};
 
-use crate::findings::Row;
-use sl_history::{
-    Message, Step, World, bytes, data_channels, link_of, links_into, number_at, packets, place_in,
+use sl_model::{Message, Row, Step};
+use sl_net::{Input, Net};
+use sl_replay::{
+    World, bytes, carried, data_channels, link_of, links_into, number_at, packets, place_in,
     stamp_taken, taken,
 };
-use sl_net::{Input, Net};
 use sl_saves::Total;
-use sl_step::carried;
 use std::alloc::{AllocError, Global};
 
 /// The steps after which the id of a unit is below a snapshot.
-#[tactic(auto, using(sl_history::proofs::ForwardSteps::reverse_more))]
+#[tactic(auto, using(sl_replay::proofs::ForwardSteps::reverse_more))]
 fn before(snapshot: u64, steps: &[Step]) -> &[Step]
     ensures value { reverse result.now ≡ before snapshot (reverse steps.now) }
     ensures bound { length result.now ≤ length steps.now }

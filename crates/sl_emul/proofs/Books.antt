@@ -4,24 +4,24 @@ use Rattle.std.proofs.lemmas.List.{length-map}
 use Rattle.std.proofs.Math.Seq.{take-append_seam, drop-append_seam}
 use Rattle.sl_machine.specs.declared.wiring.Entry.{Entry as BookEntry}
 use Rattle.sl_machine.specs.Plan.{IsSound}
-use Rattle.sl_net.specs.Net.{Net}
+use Rattle.sl_layout.specs.Net.{Net}
 use Rattle.sl_net.specs.Input.{Input}
 use Rattle.sl_net.specs.Wired.{IsNet}
-use Rattle.sl_net.specs.Wiring.{plan_of}
+use Rattle.sl_layout.specs.Wiring.{plan_of}
 use Rattle.sl_wire.specs.declared.message.Msg.{Msg}
-use Rattle.sl_cut.specs.History.{World, Losses}
-use Rattle.sl_cut.specs.Setup.{Setup, setup_of}
-use Rattle.sl_cut.specs.World.{Entry, IsLossTable, start, world, kept, kept_from}
-use Rattle.sl_cut.specs.Schedule.{expand}
-use Rattle.sl_cut.specs.End.{IsFin}
-use Rattle.sl_cut.specs.Books.{schedule_of}
-use Rattle.sl_cut.specs.Finished.{IsBookOfRun}
-use Rattle.sl_cut.specs.Bound.{input_bound}
-use Rattle.sl_cut.specs.declared.findings.Findings.{Findings}
-use Rattle.sl_cut.specs.Findings.{findings}
-use Rattle.sl_cut.specs.Cut.{cuts}
-use Rattle.sl_cut.specs.Matching.{IsConsistentCut}
-use Rattle.sl_cut.proofs.Trails.{run-kept}
+use Rattle.sl_model.specs.History.{World, Losses}
+use Rattle.sl_model.specs.Setup.{Setup, setup_of}
+use Rattle.sl_model.specs.World.{Entry, IsLossTable, start, world, kept, kept_from}
+use Rattle.sl_model.specs.Schedule.{expand}
+use Rattle.sl_model.specs.End.{IsFin}
+use Rattle.sl_model.specs.Books.{schedule_of}
+use Rattle.sl_model.specs.Finished.{IsBookOfRun}
+use Rattle.sl_model.specs.Bound.{input_bound}
+use Rattle.sl_model.specs.declared.findings.Findings.{Findings}
+use Rattle.sl_model.specs.Findings.{findings}
+use Rattle.sl_model.specs.Cut.{cuts}
+use Rattle.sl_model.specs.Matching.{IsConsistentCut}
+use Rattle.sl_model.proofs.Trails.{run-kept}
 use Rattle.sl_world.specs.Scene.{Scene}
 use Rattle.sl_proto.specs.Nodes.{NodeState}
 use Rattle.sl_proto.specs.Meaning.{IsRunnable}

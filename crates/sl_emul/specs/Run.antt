@@ -10,18 +10,18 @@ use Rattle.sl_net.specs.Wired.{IsNet}
 use Rattle.sl_net.specs.Input.{Input}
 use Rattle.sl_flow.specs.Flow.{HasAddresses}
 use Rattle.sl_unit.specs.Made.{IsRanged}
-use Rattle.sl_cut.specs.declared.findings.Findings.{Findings}
-use Rattle.sl_cut.specs.History.{World, Losses}
-use Rattle.sl_cut.specs.Setup.{setup_of}
-use Rattle.sl_cut.specs.World.{world}
-use Rattle.sl_cut.specs.End.{IsFinished}
-use Rattle.sl_cut.specs.Books.{schedule_of}
-use Rattle.sl_cut.specs.Finished.{IsBookOfRun}
-use Rattle.sl_cut.specs.Bound.{input_bound}
-use Rattle.sl_cut.specs.Cut.{cuts}
-use Rattle.sl_cut.specs.Matching.{IsConsistentCut}
-use Rattle.sl_cut.specs.Findings.{findings}
-use Rattle.sl_image.specs.Short.{SendsShort}
+use Rattle.sl_model.specs.declared.findings.Findings.{Findings}
+use Rattle.sl_model.specs.History.{World, Losses}
+use Rattle.sl_model.specs.Setup.{setup_of}
+use Rattle.sl_model.specs.World.{world}
+use Rattle.sl_model.specs.End.{IsFinished}
+use Rattle.sl_model.specs.Books.{schedule_of}
+use Rattle.sl_model.specs.Finished.{IsBookOfRun}
+use Rattle.sl_model.specs.Bound.{input_bound}
+use Rattle.sl_model.specs.Cut.{cuts}
+use Rattle.sl_model.specs.Matching.{IsConsistentCut}
+use Rattle.sl_model.specs.Findings.{findings}
+use Rattle.sl_model.specs.Short.{SendsShort}
 use Rattle.sl_proto.specs.Nodes.{NodeState}
 use Rattle.sl_proto.specs.Meaning.{NodeStands}
 use Rattle.sl_proto.specs.Script.{IsScriptEntry}

@@ -1,14 +1,13 @@
 // The run of an input, one turn after the other.
 ghost use Rattle.std.specs.Prelude.{◌≡◌, ◌<◌, IfOk, [], map};
-ghost use Rattle.sl_net.specs.Wiring.{plan_of};
-ghost use Rattle.sl_cut.specs.Losses.{losses};
+ghost use Rattle.sl_layout.specs.Wiring.{plan_of};
+ghost use Rattle.sl_model.specs.Losses.{losses};
 ghost use Rattle.sl_world.specs.World.{scene};
 ghost use Rattle.sl_proto.specs.Nodes.{node_state};
 ghost use Rattle.sl_proto.specs.Standing.{case_of, StandsFor, HasObserver};
 ghost use Rattle.sl_emul.specs.Run.{CanRun, IsOutcome};
 
-use sl_cut::{Findings, cuts_are_consistent, inputs_spare_reliable_links};
-use sl_finish::inputs_are_bounded;
+use sl_model::{Findings, cuts_are_consistent, inputs_spare_reliable_links, inputs_are_bounded};
 use sl_machine::{Book, Memory};
 use sl_net::Input;
 use sl_proto::{

@@ -9,10 +9,10 @@ use Rattle.std.proofs.lemmas.List.Sums.{AllPass-from_list_all, sum_by-le}
 use Rattle.std.proofs.lemmas.List.Elements.{All-get_or, All-from_get_or}
 use Rattle.sl_parts.specs.declared.fault.NetFault.{NetFault}
 use Rattle.sl_net.specs.declared.input.Flow.{Flow}
-use Rattle.sl_net.specs.Text.{IsName, is_name_byte}
-use Rattle.sl_net.specs.Parts.{below}
-use Rattle.sl_net.specs.Fault.{fault_of}
-use Rattle.sl_net.proofs.Counting.{number_at, length_numbers, length_below, at_below}
+use Rattle.sl_parts.specs.Text.{IsName, is_name_byte}
+use Rattle.sl_parts.specs.Parts.{below}
+use Rattle.sl_parts.specs.Fault.{fault_of}
+use Rattle.sl_parts.proofs.Lists.{number_at, length_numbers, length_below, at_below}
 use Rattle.sl_flow.specs.Sample.{IsSampleFlow, IsSample, leaf_count, leaf_spine, host_count, host, flow, by_parity, sample_parts}
 
 -- a test that the numbers below some number pass

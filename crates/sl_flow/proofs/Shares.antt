@@ -5,7 +5,7 @@ use Rattle.std.proofs.lemmas.Grind.{flat_map-append}
 use Rattle.std.proofs.lemmas.List.{take_more}
 use Rattle.sl_net.specs.declared.input.Flow.{Flow}
 use Rattle.sl_net.specs.declared.input.Packet.{Packet}
-use Rattle.sl_net.proofs.Counting.{filter-push}
+use Rattle.sl_parts.proofs.Lists.{filter-push}
 use Rattle.sl_flow.specs.Flow.{flow_packets, packets_of}
 
 -- what a host sends of a flow

@@ -2,7 +2,7 @@
 use Rattle.std.specs.Prelude.{ℕ, ◌^◌, ◌<◌, List, map, filter, flat_map, ◌==◌}
 use Rattle.sl_net.specs.declared.input.Flow.{Flow}
 use Rattle.sl_net.specs.declared.input.Packet.{Packet}
-use Rattle.sl_net.specs.Parts.{below}
+use Rattle.sl_parts.specs.Parts.{below}
 
 abbrev pub packet_in : Flow → ℕ → Packet
 packet_in f n = record { src = f.from; dst = f.to; seq = n; len = f.bytes; hops = f.hops }

@@ -7,7 +7,7 @@ use Rattle.sl_parts.specs.declared.parts.DevicePart.{DevicePart}
 use Rattle.sl_parts.specs.declared.parts.HostPart.{HostPart}
 use Rattle.sl_net.specs.declared.input.Snapshot.{Snapshot}
 use Rattle.sl_net.specs.declared.input.Flow.{Flow}
-use Rattle.sl_net.specs.Parts.{Parts}
+use Rattle.sl_parts.specs.Parts.{Parts}
 use Rattle.sl_net.specs.Input.{Input, LossSpec}
 use Rattle.sl_net.specs.Spelling.{device_name, host_name}
 use Rattle.sl_flow.specs.Sample.{sample_parts}

@@ -8,9 +8,9 @@ use Rattle.sl_parts.specs.declared.parts.DevicePart.{DevicePart}
 use Rattle.sl_parts.specs.declared.parts.HostPart.{HostPart}
 use Rattle.sl_net.specs.declared.input.Snapshot.{Snapshot}
 use Rattle.sl_net.specs.declared.input.Flow.{Flow}
-use Rattle.sl_net.specs.Parts.{Parts, below}
-use Rattle.sl_net.specs.Net.{net_of}
-use Rattle.sl_net.specs.Fault.{fault_of}
+use Rattle.sl_parts.specs.Parts.{Parts, below}
+use Rattle.sl_layout.specs.Net.{net_of}
+use Rattle.sl_parts.specs.Fault.{fault_of}
 use Rattle.sl_net.specs.Input.{Input, LossSpec}
 
 pub record IsSampleNumber (n : ℕ) : Type 0 where

@@ -1,9 +1,9 @@
 // A leaf-spine net: two spines, and two hosts at each leaf.
 ghost use Rattle.std.specs.Prelude.{◌≡◌, ◌<◌, ◌≤◌, ◌+◌, ◌*◌, ◌++◌, IfOk, map, None, decimal};
-ghost use Rattle.sl_net.specs.Text.{IsName};
-ghost use Rattle.sl_net.specs.Parts.{below};
-ghost use Rattle.sl_net.specs.Fault.{fault_of};
-ghost use Rattle.sl_net.specs.Net.{net_of};
+ghost use Rattle.sl_parts.specs.Text.{IsName};
+ghost use Rattle.sl_parts.specs.Parts.{below};
+ghost use Rattle.sl_parts.specs.Fault.{fault_of};
+ghost use Rattle.sl_layout.specs.Net.{net_of};
 ghost use Rattle.sl_flow.specs.Sample.{spine, leaf, devices, spine_port, leaf_port, cable, host, leaf_spine};
 
 use sl_net::{CablePart, DevicePart, HostPart, Name, Net, NetFault, Parts, PortRef};
@@ -42,7 +42,7 @@ fn leaf(alloc: Global, i: u32) -> Result<DevicePart, AllocError>
 }
 
 /// Two spines, and so many leaves.
-#[tactic(auto, using(sl_parts::proofs::Counting::map_below_more))]
+#[tactic(auto, using(sl_parts::proofs::Lists::map_below_more))]
 fn devices(alloc: Global, leaves: u32) -> Result<Vec<DevicePart>, AllocError>
     requires { leaves ≤ 8 }
     ensures { IfOk result (λ parts. parts.items ≡ devices leaves) }
@@ -83,7 +83,7 @@ fn cable(c: u32) -> CablePart
 }
 
 /// Two cables a leaf, one to each spine.
-#[tactic(auto, using(sl_parts::proofs::Counting::map_below_more))]
+#[tactic(auto, using(sl_parts::proofs::Lists::map_below_more))]
 fn cables(alloc: Global, count: u32) -> Result<Vec<CablePart>, AllocError>
     requires { count ≤ 16 }
     ensures { IfOk result (λ parts. parts.items ≡ map cable (below count)) }
@@ -107,7 +107,7 @@ fn host(alloc: Global, h: u32) -> Result<HostPart, AllocError>
 }
 
 /// Two hosts a leaf.
-#[tactic(auto, using(sl_parts::proofs::Counting::map_below_more))]
+#[tactic(auto, using(sl_parts::proofs::Lists::map_below_more))]
 fn hosts(alloc: Global, count: u32) -> Result<Vec<HostPart>, AllocError>
     requires { count ≤ 16 }
     ensures { IfOk result (λ parts. parts.items ≡ map host (below count)) }

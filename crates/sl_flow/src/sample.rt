@@ -1,6 +1,6 @@
 // The sample inputs as data.
 ghost use Rattle.std.specs.Prelude.{◌≡◌, ◌<◌, ◌≤◌, ◌*◌, ◌↔◌, IfOk, OnOk, IfErr, IsTrue, map};
-ghost use Rattle.sl_net.specs.Parts.{below};
+ghost use Rattle.sl_parts.specs.Parts.{below};
 ghost use Rattle.sl_flow.specs.Sample.{IsSampleNumber, IsSample, leaf_count, leaf_spine, host_count, flow, by_parity, snapshot, loss, sample_parts};
 
 use crate::fault::SampleFault;
@@ -53,7 +53,7 @@ fn flow(n: u64, h: u32) -> Flow
 }
 
 /// A flow from each host to the next.
-#[tactic(auto, using(sl_parts::proofs::Counting::map_below_more))]
+#[tactic(auto, using(sl_parts::proofs::Lists::map_below_more))]
 pub fn flows(alloc: Global, n: u64) -> Result<Vec<Flow>, AllocError>
     requires { n ≤ 64 }
     ensures { IfOk result (λ flows. flows.items ≡ map (flow n) (below (host_count n))) }

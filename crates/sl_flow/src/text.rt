@@ -1,6 +1,6 @@
 // The sample inputs as TOML.
 ghost use Rattle.std.specs.Prelude.{◌≡◌, ◌≤◌, ◌++◌, ◌==◌, List, ℕ, [], ◌↔◌, cond, IfOk, OnOk, IfErr, codes, string_bytes};
-ghost use Rattle.sl_net.specs.Parts.{Parts};
+ghost use Rattle.sl_parts.specs.Parts.{Parts};
 ghost use Rattle.sl_net.specs.Spelling.{host_name};
 ghost use Rattle.sl_flow.specs.Sample.{IsSampleNumber};
 ghost use Rattle.sl_flow.specs.InputText.{port_text, device_row, cable_row, host_row, flow_row, rows_text, list_line, snapshot_line, loss_line, document, sample_text};

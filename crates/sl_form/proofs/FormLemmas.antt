@@ -5,7 +5,7 @@ use Rattle.std.proofs.lemmas.Bool.{and_parts, and_from}
 use Rattle.std.proofs.lemmas.Bool.Decides.{nat_tests}
 use Rattle.std.proofs.lemmas.Str.{IsUtf8-from_is_utf8, is_utf8-from_IsUtf8}
 use Rattle.std.specs.Str.{IsUtf8, is_utf8}
-use Rattle.sl_net.specs.Text.{IsName}
+use Rattle.sl_parts.specs.Text.{IsName}
 use Rattle.sl_form.specs.Forms.{is_name, name_of, byte_of, pairs_of}
 
 is_name_from : (text : List ℕ) → IsName text → is_name text ≡ true

@@ -2,8 +2,8 @@
 use Rattle.std.specs.Prelude.{ℕ, ◌+◌, ◌-◌, ◌*◌, Bool, ◌&&◌, ◌==◌, nat_le, nat_lt, if◌then◌else◌, List, [], ◌∷◌, length, Option, Some, None, option_map, option_and_then, codes}
 use Rattle.std.specs.List.{list_all, before_first, after_first}
 use Rattle.std.specs.Str.{bytes_eq}
-use Rattle.sl_net.specs.Text.{is_name_byte}
-use Rattle.sl_net.specs.Number.{plain_number}
+use Rattle.sl_parts.specs.Text.{is_name_byte}
+use Rattle.sl_parts.specs.Number.{plain_number}
 use Rattle.sl_form.specs.declared.forms.PortText.{PortText}
 
 -- 1 to 16 bytes of a to z, 0 to 9 and the underscore

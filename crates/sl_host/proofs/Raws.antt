@@ -3,7 +3,7 @@ use Rattle.std.proofs.Common.{◌≡◌, ℕ, ◌+◌, ◌<◌, List, [], ◌∷
 use Rattle.std.specs.Prelude.{filter, ◌==◌, true, false, cond}
 use Rattle.std.proofs.lemmas.List.{map-append, take_more}
 use Rattle.sl_net.specs.declared.input.RawPart.{RawPart}
-use Rattle.sl_net.proofs.Counting.{filter-push}
+use Rattle.sl_parts.proofs.Lists.{filter-push}
 use Rattle.sl_host.specs.Host.{raws_of}
 
 -- what a host sends of one raw frame

@@ -2,21 +2,21 @@
 use Rattle.std.proofs.Common.{◌≡◌, ℕ, List, [], ◌∷◌, ◌++◌, refl, sym, ap, subst, map}
 use Rattle.std.specs.Prelude.{cond, true, false, Bool, if◌then◌else◌, flat_map, slice_index, slice_index_or}
 use Rattle.sl_layout.specs.declared.actor.Sort.TheVariants.{Dump, Done}
-use Rattle.sl_net.specs.Net.{Net, links_out, action_choice, units, unit_place}
-use Rattle.sl_net.specs.Serving.{Served, choice_from}
-use Rattle.sl_net.specs.Wires.{out_of}
+use Rattle.sl_layout.specs.Net.{Net, links_out, action_choice, units, unit_place}
+use Rattle.sl_layout.specs.Serving.{Served, choice_from}
+use Rattle.sl_layout.specs.Wires.{out_of}
 use Rattle.sl_wire.specs.declared.message.PlainDump.{PlainDump}
 use Rattle.sl_wire.specs.declared.message.Msg.TheVariants as wire
 use Rattle.sl_machine.specs.Machine.{send_all as send_each}
 use Rattle.sl_wire.specs.declared.message.Msg.{Msg}
 use Rattle.sl_control.specs.Control.{poll_by, answer_by, done_of}
 use Rattle.sl_control.specs.Wires.{control_wires}
-use Rattle.sl_history.specs.declared.message.Message.TheVariants.{Init as InitMsg, Poll as PollMsg, Done as DoneMsg}
-use Rattle.sl_history.specs.declared.message.Put.{Put}
-use Rattle.sl_cut.specs.Words.{Each}
-use Rattle.sl_cut.specs.History.{History, first}
-use Rattle.sl_cut.specs.Knowledge.{dumped, told_of, is_outstanding, is_again}
-use Rattle.sl_cut.specs.Puts.{send, send_all, poll_puts, dump_answer}
+use Rattle.sl_model.specs.declared.message.Message.TheVariants.{Init as InitMsg, Poll as PollMsg, Done as DoneMsg}
+use Rattle.sl_model.specs.declared.message.Put.{Put}
+use Rattle.sl_parts.specs.Lists.{Each}
+use Rattle.sl_model.specs.History.{History, first}
+use Rattle.sl_model.specs.Knowledge.{dumped, told_of, is_outstanding, is_again}
+use Rattle.sl_model.specs.Puts.{send, send_all, poll_puts, dump_answer}
 use Rattle.sl_image.specs.Messages.{AreSent, IsDoneOf, SaysDone}
 use Rattle.sl_image.specs.ControlImage.{known_of, told_at}
 

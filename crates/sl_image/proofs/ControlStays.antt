@@ -2,23 +2,24 @@
 use Rattle.std.proofs.Common.{◌≡◌, ℕ, ◌≤◌, List, length, sym, ap, subst, ◌∙◌, inl, inr}
 use Rattle.std.specs.Prelude.{◌⊎◌}
 use Rattle.sl_layout.specs.declared.actor.Sort.TheVariants.{Poll}
-use Rattle.sl_net.specs.Net.{link_of, links_out, choice_of, action_choice}
-use Rattle.sl_net.specs.Serving.{serving}
+use Rattle.sl_layout.specs.Net.{link_of, links_out, choice_of, action_choice}
+use Rattle.sl_layout.specs.Serving.{serving}
 use Rattle.sl_net.specs.Wired.{IsWired}
 use Rattle.sl_control.specs.Control.{ControlState}
-use Rattle.sl_cut.specs.History.{World, Losses, history}
-use Rattle.sl_cut.specs.Setup.{Setup}
-use Rattle.sl_cut.specs.Knowledge.{dumped, is_outstanding, is_again}
-use Rattle.sl_cut.specs.World.{Entry, turn, world}
-use Rattle.sl_cut.specs.Made.{Ran}
-use Rattle.sl_cut.proofs.Turns.{Steps, turn-cases}
-use Rattle.sl_cut.proofs.Ran.{ran}
-use Rattle.sl_cut.proofs.Numbers.{rises-le}
-use Rattle.sl_cut.proofs.Reported.{knows}
-use Rattle.sl_cut.proofs.Floors.{extends-turn}
-use Rattle.sl_net.proofs.Lists.{Member, each-of}
+use Rattle.sl_model.specs.History.{World, Losses, history}
+use Rattle.sl_model.specs.Setup.{Setup}
+use Rattle.sl_model.specs.Knowledge.{dumped, is_outstanding, is_again}
+use Rattle.sl_model.specs.World.{Entry, turn, world}
+use Rattle.sl_model.specs.Made.{Ran}
+use Rattle.sl_model.proofs.Turns.{Steps, turn-cases}
+use Rattle.sl_model.proofs.Ran.{ran}
+use Rattle.sl_model.proofs.Numbers.{rises-le}
+use Rattle.sl_model.proofs.Reported.{knows}
+use Rattle.sl_model.proofs.Floors.{extends-turn}
+use Rattle.sl_parts.specs.Lists.{Member}
+use Rattle.sl_parts.proofs.Lists.{each-of}
 use Rattle.sl_image.specs.ControlImage.{known_by, known_of, IsControlOf}
-use Rattle.sl_image.proofs.Polls.{IsServed}
+use Rattle.sl_model.proofs.Polls.{IsServed}
 use Rattle.sl_image.proofs.ControlUnits.{seen}
 use Rattle.sl_image.proofs.ControlSteps.{same-units, served-at}
 

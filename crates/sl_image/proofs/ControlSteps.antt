@@ -7,29 +7,29 @@ use Rattle.std.proofs.lemmas.Bool.{and_from}
 use Rattle.std.proofs.lemmas.Bool.Decides.{eqb_tells}
 use Rattle.sl_layout.specs.declared.actor.ActorId.TheVariants.{Control, Unit as OfUnit}
 use Rattle.sl_layout.specs.declared.actor.Sort.TheVariants.{Init, Poll, Notice, Dump, Begin, Done}
-use Rattle.sl_net.specs.Net.{Net, actor_of, link_of, links_into, links_out, action_choice}
-use Rattle.sl_net.specs.Serving.{Served, serving, served}
+use Rattle.sl_layout.specs.Net.{Net, actor_of, link_of, links_into, links_out, action_choice}
+use Rattle.sl_layout.specs.Serving.{Served, serving, served}
 use Rattle.sl_net.specs.Wired.{IsWired}
 use Rattle.sl_wire.specs.declared.message.PlainDump.{PlainDump}
 use Rattle.sl_control.specs.declared.known.Known.{Known}
 use Rattle.sl_control.specs.Control.{asked, ask_by, ask_puts, is_read, takes_dump, dump_by, dump_puts, answered, answer_by}
 use Rattle.sl_control.specs.Wires.{unit_wires, unheard, control_wires, first_control}
-use Rattle.sl_history.specs.declared.message.Message.{Message}
-use Rattle.sl_history.specs.declared.message.Message.TheVariants.{Init as InitMsg, Notice as NoticeMsg, Dump as DumpMsg, Begin as BeginMsg}
-use Rattle.sl_history.specs.declared.message.Put.{Put}
-use Rattle.sl_history.specs.declared.message.Step.{Step}
-use Rattle.sl_cut.specs.Words.{Each}
-use Rattle.sl_cut.specs.History.{History, history, first, on_link}
-use Rattle.sl_cut.specs.Knowledge.{told_of, is_outstanding, asks, is_again}
-use Rattle.sl_cut.specs.Puts.{send_all, poll_puts, dump_answer, control_puts}
-use Rattle.sl_cut.specs.World.{start}
-use Rattle.sl_cut.proofs.Turns.{start-empty}
-use Rattle.sl_net.proofs.Lists.{Member, each-of, each-at}
+use Rattle.sl_model.specs.declared.message.Message.{Message}
+use Rattle.sl_model.specs.declared.message.Message.TheVariants.{Init as InitMsg, Notice as NoticeMsg, Dump as DumpMsg, Begin as BeginMsg}
+use Rattle.sl_model.specs.declared.message.Put.{Put}
+use Rattle.sl_model.specs.declared.message.Step.{Step}
+use Rattle.sl_parts.specs.Lists.{Each, Member}
+use Rattle.sl_parts.proofs.Lists.{each-of, each-at}
+use Rattle.sl_model.specs.History.{History, history, first, on_link}
+use Rattle.sl_model.specs.Knowledge.{told_of, is_outstanding, asks, is_again}
+use Rattle.sl_model.specs.Puts.{send_all, poll_puts, dump_answer, control_puts}
+use Rattle.sl_model.specs.World.{start}
+use Rattle.sl_model.proofs.Turns.{start-empty}
 use Rattle.sl_net.proofs.Sorts.{IsOut, each-out}
-use Rattle.sl_image.specs.Polls.{IsAsked}
+use Rattle.sl_model.specs.Polls.{IsAsked}
 use Rattle.sl_image.specs.Messages.{AreSent}
 use Rattle.sl_image.specs.ControlImage.{known_of, IsControlOf, told_at}
-use Rattle.sl_image.proofs.Polls.{send-off, own-link, polls-else, again-else, if-off, answer-on, IsServed, is-served}
+use Rattle.sl_model.proofs.Polls.{send-off, own-link, polls-else, again-else, if-off, answer-on, IsServed, is-served}
 use Rattle.sl_image.proofs.ControlUnits.{seen, unheard-is, still, asked-is, dumped-is}
 use Rattle.sl_image.proofs.ControlTells.{Tells, answered-is, done-is, read-is}
 use Rattle.sl_image.proofs.ControlWays.{unit-at, dump-from, no-dump}

@@ -6,9 +6,9 @@ use Rattle.std.proofs.lemmas.Bool.{lt-ltb, eq-eqb, and_from}
 use Rattle.std.proofs.lemmas.List.{length-map}
 use Rattle.std.proofs.lemmas.Nat.{mod_below}
 use Rattle.sl_layout.specs.declared.actor.Sort.TheVariants.{Init}
-use Rattle.sl_net.specs.Parts.{numbers_from}
-use Rattle.sl_net.specs.Net.{Net, data_channels, choices_of}
-use Rattle.sl_net.specs.Serving.{Served}
+use Rattle.sl_parts.specs.Parts.{numbers_from}
+use Rattle.sl_layout.specs.Net.{Net, data_channels, choices_of}
+use Rattle.sl_layout.specs.Serving.{Served}
 use Rattle.sl_saves.specs.Calls.{number}
 use Rattle.sl_saves.specs.Views.{IsLive, held_saved, read}
 use Rattle.sl_wire.specs.declared.message.PlainDump.{PlainDump}
@@ -17,11 +17,11 @@ use Rattle.sl_control.specs.Rows.{span, seen_on, is_sized, is_readable, row as c
 use Rattle.sl_control.specs.Control.{is_read, answered, done_of}
 use Rattle.sl_control.specs.Wires.{unit_wires}
 use Rattle.sl_control.proofs.Reading.{readable-live}
-use Rattle.sl_cut.specs.Words.{least_of}
-use Rattle.sl_cut.specs.History.{History, id, last}
-use Rattle.sl_cut.specs.Knowledge.{upto_of}
-use Rattle.sl_image.specs.Calls.{calls}
-use Rattle.sl_image.specs.Rows.{row}
+use Rattle.sl_model.specs.Words.{least_of}
+use Rattle.sl_model.specs.History.{History, id, last}
+use Rattle.sl_model.specs.Knowledge.{upto_of}
+use Rattle.sl_model.specs.Calls.{calls}
+use Rattle.sl_model.specs.Rows.{row}
 use Rattle.sl_image.specs.Messages.{eight, lasts, IsDumpOf, IsDoneOf, held_row}
 use Rattle.sl_image.specs.ControlImage.{known_by}
 

@@ -8,8 +8,8 @@ use Rattle.std.proofs.lemmas.List.{get_or_past}
 use Rattle.std.proofs.lemmas.Option.{slice_get-get_or, get_or_from_slice_get}
 use Rattle.sl_layout.specs.declared.actor.ActorId.TheVariants.{Control}
 use Rattle.sl_layout.specs.declared.actor.Sort.TheVariants.{Init, Poll, Notice, Dump, Begin}
-use Rattle.sl_net.specs.Net.{Net, nobody, actor_of, link_of, link_at, links_into, links_out, action_choice, data_channels}
-use Rattle.sl_net.specs.Serving.{Served, serving, served}
+use Rattle.sl_layout.specs.Net.{Net, nobody, actor_of, link_of, link_at, links_into, links_out, action_choice, data_channels}
+use Rattle.sl_layout.specs.Serving.{Served, serving, served}
 use Rattle.sl_net.specs.Wired.{IsNet, IsWired, receives}
 use Rattle.sl_saves.specs.declared.entry.View.{View}
 use Rattle.sl_saves.specs.Views.{IsShown, IsLive, held_saved, read}
@@ -20,34 +20,33 @@ use Rattle.sl_control.specs.declared.known.Known.{Known}
 use Rattle.sl_machine.specs.Machine.{send_all as send_each}
 use Rattle.sl_control.specs.Control.{ControlState, ask_by, ask_puts, dump_by, dump_puts, is_swept as is_swept_by, asked_all, control_take, control_act}
 use Rattle.sl_control.specs.Wires.{control_wires, outs_of}
-use Rattle.sl_history.specs.declared.message.Message.{Message}
-use Rattle.sl_history.specs.declared.message.Message.TheVariants.{Notice as NoticeMsg, Dump as DumpMsg, Begin as BeginMsg}
-use Rattle.sl_history.specs.declared.message.Put.{Put}
-use Rattle.sl_history.specs.declared.message.Step.{Step}
-use Rattle.sl_cut.specs.Words.{Each}
-use Rattle.sl_cut.specs.History.{History, World, Losses, history, id, first, takes}
-use Rattle.sl_cut.specs.Setup.{Setup}
-use Rattle.sl_cut.specs.Knowledge.{upto_of, dumped, is_outstanding, is_again, is_swept}
-use Rattle.sl_cut.specs.Puts.{poll_puts, dump_answer, control_puts, guarded, action}
-use Rattle.sl_cut.specs.World.{Entry, next_step, step_by, acting, turn, after, world}
-use Rattle.sl_cut.specs.Fit.{fits_link}
-use Rattle.sl_cut.proofs.Turns.{GrowsAt, grows-after, next-within}
-use Rattle.sl_cut.proofs.Ran.{Takes, Acts, next-view, ran, ran-turn}
-use Rattle.sl_cut.proofs.Stamps.{took-by, acted-by}
-use Rattle.sl_cut.proofs.Begins.{fit-taken, fit-last}
-use Rattle.sl_cut.proofs.Near.{in-window}
-use Rattle.sl_net.proofs.Lists.{Member, each-of, each-at}
+use Rattle.sl_model.specs.declared.message.Message.{Message}
+use Rattle.sl_model.specs.declared.message.Message.TheVariants.{Notice as NoticeMsg, Dump as DumpMsg, Begin as BeginMsg}
+use Rattle.sl_model.specs.declared.message.Put.{Put}
+use Rattle.sl_model.specs.declared.message.Step.{Step}
+use Rattle.sl_parts.specs.Lists.{Each, Member}
+use Rattle.sl_parts.proofs.Lists.{each-of, each-at}
+use Rattle.sl_model.specs.History.{History, World, Losses, history, id, first, takes}
+use Rattle.sl_model.specs.Setup.{Setup}
+use Rattle.sl_model.specs.Knowledge.{upto_of, dumped, is_outstanding, is_again, is_swept}
+use Rattle.sl_model.specs.Puts.{poll_puts, dump_answer, control_puts, guarded, action}
+use Rattle.sl_model.specs.World.{Entry, next_step, step_by, acting, turn, after, world}
+use Rattle.sl_model.specs.Fit.{fits_link}
+use Rattle.sl_model.proofs.Turns.{GrowsAt, grows-after, next-within}
+use Rattle.sl_model.proofs.Ran.{Takes, Acts, next-view, ran, ran-turn}
+use Rattle.sl_model.proofs.Stamps.{took-by, acted-by}
+use Rattle.sl_model.proofs.Begins.{fit-taken, fit-last}
+use Rattle.sl_model.proofs.Near.{in-window}
 use Rattle.sl_net.proofs.Sorts.{IsOut, is-into}
-use Rattle.sl_image.specs.Calls.{calls}
-use Rattle.sl_image.specs.Rows.{row}
-use Rattle.sl_image.specs.Brought.{IsBrought}
-use Rattle.sl_image.specs.Polls.{IsAsked}
+use Rattle.sl_model.specs.Calls.{calls}
+use Rattle.sl_model.specs.Rows.{row}
+use Rattle.sl_model.specs.Brought.{IsBrought}
+use Rattle.sl_model.specs.Polls.{IsAsked}
 use Rattle.sl_image.specs.Messages.{IsDumpOf, IsMessage, AreSent}
 use Rattle.sl_image.specs.ControlImage.{known_of, IsControlOf, IsControlTurn, IsControlAct, told_at}
-use Rattle.sl_image.proofs.Channels.{few-channels}
-use Rattle.sl_image.proofs.Polls.{IsServed, all-asked, next-asked}
-use Rattle.sl_image.proofs.Brought.{world-length, next-dump}
-use Rattle.sl_image.proofs.ControlWays.{few-inits, dump-from, is_heard, heard, begin-sort, notice-sort, step-choice}
+use Rattle.sl_model.proofs.Polls.{IsServed, all-asked, next-asked}
+use Rattle.sl_model.proofs.Brought.{world-length, next-dump}
+use Rattle.sl_image.proofs.ControlWays.{dump-from, is_heard, heard, begin-sort, notice-sort, step-choice}
 use Rattle.sl_image.proofs.ControlPuts.{sent-each, flat-map, sent-inits}
 use Rattle.sl_image.proofs.ControlSteps.{Turns, Answers, each-unmap, units-are, same-units, served-at, begin-one, notice-one, notice-sent, sweep-one, sweep-sent, dump-one, answer-one}
 
@@ -160,8 +159,8 @@ answers : (s : Setup) (lost : Losses) (es : List Entry) (e : Entry) (ring k n l 
 answers s lost es e ring k n l step d live reads i z p x t g of m c = record {
   tells = record {
     dump = is;
-    few = few-channels s.net u v.unit i v.is_unit;
-    one = few-inits s.net u v.unit i v.is_unit;
+    few = z.few_channels u v.unit v.is_unit;
+    one = z.one_init u v.unit v.is_unit;
     near = λ j q. let y = brought.near j q in omega (arith, y, p);
     live = λ j q r. live s.net s.window u (history w u) (dumped (serving s.net e.0 l).dump (history w e.0)) n (data_channels s.net u) d.view j brought is.shown size q r;
     reads = λ j q r. reads s.net s.window u (history w u) (dumped (serving s.net e.0 l).dump (history w e.0)) n (data_channels s.net u) d.view j brought is.shown size q r;

@@ -3,23 +3,23 @@ use Rattle.std.proofs.Common.{◌≡◌, ℕ, zero, suc, ◌+◌, ◌<◌, ◌�
 use Rattle.std.specs.Prelude.{cond, true, false, Bool, nat_lt, ◌==◌, ◌||◌, ◌⊎◌, if◌then◌else◌, replicate, take, option_map, unwrap_or, option_and_then, slice_get}
 use Rattle.std.proofs.lemmas.Bool.{lt-ltb, le-ltb, ltb-true, cases_Bool, ne_eqb}
 use Rattle.sl_layout.specs.declared.actor.Sort.TheVariants.{Init}
-use Rattle.sl_net.specs.Net.{Net, choices_of, data_channels}
-use Rattle.sl_net.specs.Serving.{Served}
+use Rattle.sl_layout.specs.Net.{Net, choices_of, data_channels}
+use Rattle.sl_layout.specs.Serving.{Served}
 use Rattle.sl_control.specs.declared.known.Known.{Known}
 use Rattle.sl_control.specs.Control.{asked}
 use Rattle.sl_control.specs.Wires.{unit_wires, unheard}
-use Rattle.sl_history.specs.declared.message.Message.{Message}
-use Rattle.sl_history.specs.declared.message.Message.TheVariants.{Poll as PollMsg, Dump as DumpMsg}
-use Rattle.sl_history.specs.declared.message.Put.{Put}
-use Rattle.sl_history.specs.declared.message.Step.{Step}
-use Rattle.sl_cut.specs.Words.{least_of}
-use Rattle.sl_cut.specs.History.{History, last, first, dump_of, taken, on_link, put}
-use Rattle.sl_cut.specs.Knowledge.{dumped, is_outstanding, puts_on, asks, is_again}
-use Rattle.sl_cut.specs.Puts.{send, poll_puts}
-use Rattle.sl_cut.proofs.Turns.{taken-this, taken-other}
-use Rattle.sl_cut.proofs.Begins.{heard-this}
+use Rattle.sl_model.specs.declared.message.Message.{Message}
+use Rattle.sl_model.specs.declared.message.Message.TheVariants.{Poll as PollMsg, Dump as DumpMsg}
+use Rattle.sl_model.specs.declared.message.Put.{Put}
+use Rattle.sl_model.specs.declared.message.Step.{Step}
+use Rattle.sl_model.specs.Words.{least_of}
+use Rattle.sl_model.specs.History.{History, last, first, dump_of, taken, on_link, put}
+use Rattle.sl_model.specs.Knowledge.{dumped, is_outstanding, puts_on, asks, is_again}
+use Rattle.sl_model.specs.Puts.{send, poll_puts}
+use Rattle.sl_model.proofs.Turns.{taken-this, taken-other}
+use Rattle.sl_model.proofs.Begins.{heard-this}
 use Rattle.sl_image.specs.Messages.{eight, lasts}
-use Rattle.sl_image.specs.Polls.{IsAsked}
+use Rattle.sl_model.specs.Polls.{IsAsked}
 use Rattle.sl_image.specs.ControlImage.{known_by}
 
 -- what is known of a unit with the history g after the history h of its control plane

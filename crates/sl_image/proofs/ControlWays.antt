@@ -10,48 +10,26 @@ use Rattle.sl_layout.specs.declared.actor.Side.TheVariants.{Ingress, Egress}
 use Rattle.sl_layout.specs.declared.actor.Sort.{Sort}
 use Rattle.sl_layout.specs.declared.actor.Sort.TheVariants.{Crossbar, Init, Poll, Notice, Dump, Begin}
 use Rattle.sl_parts.specs.declared.parts.PortRef.{PortRef}
-use Rattle.sl_net.specs.Parts.{Parts, other_end, host_at, used_ports}
+use Rattle.sl_parts.specs.Parts.{Parts, other_end, host_at, used_ports}
 use Rattle.sl_net.specs.Wired.{IsNet, receives}
-use Rattle.sl_net.specs.Net.{Net, ingress, net_of, actor_of, link_of, links_into, choices_of, action_choice, choice_of, unit_incoming, from_host_or_cable, place_in, units, unit_place}
-use Rattle.sl_net.specs.Serving.{serving}
-use Rattle.sl_net.proofs.Lists.{Member}
+use Rattle.sl_layout.specs.Net.{Net, ingress, net_of, actor_of, link_of, links_into, choices_of, action_choice, choice_of, unit_incoming, from_host_or_cable, place_in, units, unit_place}
+use Rattle.sl_layout.specs.Serving.{serving}
+use Rattle.sl_parts.specs.Lists.{Member}
 use Rattle.sl_net.proofs.Sorts.{IsOut}
 use Rattle.sl_net.proofs.Linked.{is-at}
 use Rattle.sl_net.proofs.ReportWays.{unit-listed, only-is-out}
 use Rattle.sl_control.specs.Wires.{control_of}
-use Rattle.sl_history.specs.declared.message.Message.{Message}
-use Rattle.sl_history.specs.declared.message.Message.TheVariants.{Notice as NoticeMsg, Dump as DumpMsg, Begin as BeginMsg}
-use Rattle.sl_history.specs.declared.message.Step.{Step}
-use Rattle.sl_cut.specs.History.{World, Losses, history}
-use Rattle.sl_cut.specs.Setup.{Setup}
-use Rattle.sl_cut.specs.Puts.{puts_of, action}
-use Rattle.sl_cut.specs.World.{Entry, next_step, step_by, front, taking, acting, floor_for}
-use Rattle.sl_cut.specs.Fit.{fits}
-use Rattle.sl_cut.proofs.Turns.{stepped}
-use Rattle.sl_cut.proofs.Reported.{dumps-into}
-use Rattle.sl_image.proofs.Channels.{of_sort, incoming-count}
-use Rattle.sl_image.proofs.Polls.{IsServed}
-
--- A unit has at most one link of initiations.
-
-inits-outside : (d : ℕ) (o : Option ℕ) (e : Option PortRef) → length (filter (of_sort Init) (from_host_or_cable o e ++ (Control d, Init) ∷ (Control d, Poll) ∷ [])) ≤ 1
-inits-outside d (Some h) e = omega arith
-inits-outside d None (Some q) = omega arith
-inits-outside d None None = omega arith
-
-no-inits : (d : ℕ) (qs : List ℕ) → length (filter (of_sort Init) (map (λ q. (ingress d q, Crossbar)) qs ++ (Control d, Poll) ∷ [])) ≤ 1
-no-inits d [] = omega arith
-no-inits d (q ∷ qs) = no-inits d qs
-
-inits-incoming : (parts : Parts) (d p : ℕ) (side : Side) → length (filter (of_sort Init) (unit_incoming parts d p side)) ≤ 1
-inits-incoming parts d p Ingress = let at : PortRef = record { device = d; port = p } in inits-outside d (host_at parts at) (other_end parts.cables at)
-inits-incoming parts d p Egress = no-inits d (used_ports parts d)
-
-inits-of : (parts : Parts) (u : ℕ) (i : UnitId) → actor_of (net_of parts) u ≡ OfUnit i → length (choices_of (net_of parts) u Init) ≤ 1
-inits-of parts u i q = let a = is-at parts u (OfUnit i) q (λ e. cc) in omega (arith, incoming-count parts u (OfUnit i) Init a, inits-incoming parts i.device i.port i.side)
-
-pub few-inits : (net : Net) (u : ℕ) (i : UnitId) → IsNet net → actor_of net u ≡ OfUnit i → length (choices_of net u Init) ≤ 1
-few-inits net u i n = subst (λ m. actor_of m u ≡ OfUnit i → length (choices_of m u Init) ≤ 1) (sym n.made) (λ q. inits-of net.parts u i q)
+use Rattle.sl_model.specs.declared.message.Message.{Message}
+use Rattle.sl_model.specs.declared.message.Message.TheVariants.{Notice as NoticeMsg, Dump as DumpMsg, Begin as BeginMsg}
+use Rattle.sl_model.specs.declared.message.Step.{Step}
+use Rattle.sl_model.specs.History.{World, Losses, history}
+use Rattle.sl_model.specs.Setup.{Setup}
+use Rattle.sl_model.specs.Puts.{puts_of, action}
+use Rattle.sl_model.specs.World.{Entry, next_step, step_by, front, taking, acting, floor_for}
+use Rattle.sl_model.specs.Fit.{fits}
+use Rattle.sl_model.proofs.Turns.{stepped}
+use Rattle.sl_model.proofs.Reported.{dumps-into}
+use Rattle.sl_model.proofs.Polls.{IsServed}
 
 -- The control plane of a device.
 

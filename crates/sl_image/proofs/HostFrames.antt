@@ -3,17 +3,17 @@ use Rattle.std.proofs.Common.{◌≡◌, ℕ, List, [], ◌∷◌, ◌++◌, ref
 use Rattle.std.specs.Prelude.{map}
 use Rattle.sl_net.specs.declared.input.Packet.{Packet}
 use Rattle.sl_net.specs.Input.{Input}
-use Rattle.sl_net.specs.Net.{action_choice}
+use Rattle.sl_layout.specs.Net.{action_choice}
 use Rattle.sl_flow.specs.Flow.{packets_of}
 use Rattle.sl_wire.specs.Frames.{frame}
 use Rattle.sl_wire.specs.Frames.{plain_frame as wire_frame}
 use Rattle.sl_host.specs.Host.{raws_of}
 use Rattle.sl_host.specs.Host.{frames_of as frames_there}
-use Rattle.sl_cut.specs.Frame.{plain_frame}
-use Rattle.sl_cut.specs.History.{Losses, history, taken}
-use Rattle.sl_cut.specs.Setup.{frames_of, setup_of}
-use Rattle.sl_cut.specs.World.{world}
-use Rattle.sl_cut.proofs.Turns.{start-empty}
+use Rattle.sl_model.specs.Frame.{plain_frame}
+use Rattle.sl_model.specs.History.{Losses, history, taken}
+use Rattle.sl_model.specs.Setup.{frames_of, setup_of}
+use Rattle.sl_model.specs.World.{world}
+use Rattle.sl_model.proofs.Turns.{start-empty}
 use Rattle.sl_image.specs.HostImage.{host_of}
 
 plain-same : (p : Packet) → wire_frame p ≡ plain_frame p

@@ -6,41 +6,33 @@ use Rattle.sl_machine.specs.Machine.{After}
 use Rattle.sl_layout.specs.declared.actor.ActorId.TheVariants.{Host as OfHost}
 use Rattle.sl_layout.specs.declared.actor.Sort.{Sort}
 use Rattle.sl_layout.specs.declared.actor.Sort.TheVariants.{FromHost, ToHost, Cable, Crossbar, Init, Poll, Notice, Dump, Begin, Done}
-use Rattle.sl_net.specs.Net.{Net, actor_of, action_choice, link_of, links_into, links_from, links_out}
-use Rattle.sl_net.specs.Wires.{out_of}
-use Rattle.sl_net.specs.Wired.{IsWired, receives}
+use Rattle.sl_layout.specs.Net.{Net, actor_of, action_choice, link_of, links_into, links_from, links_out}
+use Rattle.sl_layout.specs.Wires.{out_of}
+use Rattle.sl_net.specs.Wired.{IsWired, receives, HostLinks}
 use Rattle.sl_net.proofs.Sorts.{IsInto, is-into}
 use Rattle.sl_wire.specs.declared.message.Msg.{Msg}
 use Rattle.sl_wire.specs.declared.message.Msg.TheVariants as wire
 use Rattle.sl_host.specs.Host.{HostState, one_more, host_take, host_act, sending}
-use Rattle.sl_history.specs.declared.message.Message.{Message}
-use Rattle.sl_history.specs.declared.message.Message.TheVariants.{Host as HostMsg, Data, Probe as ProbeMsg, Init as InitMsg, Poll as PollMsg, Notice as NoticeMsg, Dump as DumpMsg, Begin as BeginMsg, Done as DoneMsg}
-use Rattle.sl_history.specs.declared.message.Step.{Step}
-use Rattle.sl_cut.specs.Fit.{fits, fits_link}
-use Rattle.sl_cut.specs.History.{History, World, Losses, history, taken, put}
-use Rattle.sl_cut.specs.Made.{Ran}
-use Rattle.sl_cut.specs.Puts.{send_all, action}
-use Rattle.sl_cut.specs.Setup.{Setup, frames_of}
-use Rattle.sl_cut.specs.World.{Entry, next_step, step_by, acting, carried, turn, world}
-use Rattle.sl_cut.proofs.Ran.{Takes, Acts, next-view, ran}
-use Rattle.sl_cut.proofs.Steps.{history_size}
-use Rattle.sl_cut.proofs.Sizes.{world_size}
-use Rattle.sl_cut.proofs.Stamps.{took-by, acted-by, each-lost, put-fits}
-use Rattle.sl_cut.proofs.Turns.{Steps, turn-cases, taken-this, taken-other, taken-step}
+use Rattle.sl_model.specs.declared.message.Message.{Message}
+use Rattle.sl_model.specs.declared.message.Message.TheVariants.{Host as HostMsg, Data, Probe as ProbeMsg, Init as InitMsg, Poll as PollMsg, Notice as NoticeMsg, Dump as DumpMsg, Begin as BeginMsg, Done as DoneMsg}
+use Rattle.sl_model.specs.declared.message.Step.{Step}
+use Rattle.sl_model.specs.Fit.{fits, fits_link}
+use Rattle.sl_model.specs.History.{History, World, Losses, history, taken, put}
+use Rattle.sl_model.specs.Made.{Ran}
+use Rattle.sl_model.specs.Puts.{send_all, action}
+use Rattle.sl_model.specs.Setup.{Setup, frames_of}
+use Rattle.sl_model.specs.World.{Entry, next_step, step_by, acting, carried, turn, world}
+use Rattle.sl_model.proofs.Ran.{Takes, Acts, next-view, ran}
+use Rattle.sl_model.proofs.Steps.{history_size}
+use Rattle.sl_model.proofs.Sizes.{world_size}
+use Rattle.sl_model.proofs.Stamps.{took-by, acted-by, each-lost, put-fits}
+use Rattle.sl_model.proofs.Turns.{Steps, turn-cases, taken-this, taken-other, taken-step}
 use Rattle.sl_image.specs.HostImage.{host_of, IsHostOf}
 use Rattle.sl_image.specs.Leaves.{Leaves, Does}
 use Rattle.sl_image.specs.Messages.{IsMessage, AreSent}
 use Rattle.sl_image.proofs.ObserverActs.{past-end, get-past}
 use Rattle.sl_image.proofs.ObserverWorlds.{grows-turn}
-use Rattle.sl_image.proofs.Windows.{each-get}
-
--- a host has one link to it and one from it
-pub record HostLinks (net : Net) (a : ℕ) : Type 0 where
-  pub one_in : length (links_into net a) ≡ 1
-  pub out : ℕ
-  pub outs : links_from net a ≡ out ∷ []
-  pub puts_on : links_out net a FromHost ≡ out ∷ []
-  pub is_out : out_of net out ≡ 0
+use Rattle.sl_model.proofs.Windows.{each-get}
 
 -- Another actor's turn.
 

@@ -7,35 +7,31 @@ use Rattle.std.proofs.lemmas.Option.{slice_get-map}
 use Rattle.sl_layout.specs.declared.actor.ActorId.TheVariants.{Unit as OfUnit}
 use Rattle.sl_layout.specs.declared.actor.UnitId.{UnitId}
 use Rattle.sl_net.specs.declared.input.Snapshot.{Snapshot}
-use Rattle.sl_net.specs.Parts.{numbers_from}
-use Rattle.sl_net.specs.Net.{Net, actor_of, units, unit_place, data_channels}
-use Rattle.sl_net.specs.Wired.{IsNet, IsWired}
-use Rattle.sl_net.proofs.Counting.{length_numbers}
-use Rattle.sl_net.proofs.Filters.{place-of-member}
-use Rattle.sl_net.proofs.Lists.{each-imp}
-use Rattle.sl_net.proofs.NetWired.{map-map}
+use Rattle.sl_parts.specs.Parts.{numbers_from}
+use Rattle.sl_layout.specs.Net.{Net, actor_of, units, unit_place, data_channels}
+use Rattle.sl_net.specs.Wired.{IsWired}
+use Rattle.sl_parts.proofs.Lists.{length_numbers, place-of-member, each-imp, number-found}
+use Rattle.std.proofs.lemmas.Simd.{map-map}
 use Rattle.sl_net.proofs.ReportWays.{unit-listed}
-use Rattle.sl_net.proofs.Sizes.{length_map-is}
+use Rattle.std.proofs.lemmas.List.{length-map}
 use Rattle.sl_saves.specs.Views.{held_saved}
 use Rattle.sl_observe.specs.Observer.{new_unit, unit_at, saved_of}
-use Rattle.sl_cut.specs.History.{History, World, Losses, history, id, last, first}
-use Rattle.sl_cut.specs.Setup.{Setup}
-use Rattle.sl_cut.specs.Knowledge.{observer, known, collected, upto_of, floor_of}
-use Rattle.sl_cut.specs.Made.{Ran}
-use Rattle.sl_cut.proofs.Collected.{Reached, lag-of}
-use Rattle.sl_cut.proofs.Near.{least-start, least-each}
-use Rattle.sl_cut.proofs.FoundPackets.{number-found}
-use Rattle.sl_cut.proofs.Prefixes.{first-all}
-use Rattle.sl_cut.proofs.Reported.{knows}
-use Rattle.sl_image.specs.Accounts.{account, accounts}
+use Rattle.sl_model.specs.History.{History, World, Losses, history, id, last, first}
+use Rattle.sl_model.specs.Setup.{Setup}
+use Rattle.sl_model.specs.Knowledge.{observer, known, collected, upto_of, floor_of}
+use Rattle.sl_model.specs.Made.{Ran}
+use Rattle.sl_model.proofs.Collected.{Reached, lag-of}
+use Rattle.sl_model.proofs.Near.{least-start, least-each}
+use Rattle.sl_model.proofs.Prefixes.{first-all}
+use Rattle.sl_model.proofs.Reported.{knows}
+use Rattle.sl_model.specs.Accounts.{account, accounts}
 use Rattle.sl_image.specs.ObserverImage.{unit_of, observer_of, account_of}
-use Rattle.sl_image.specs.Rows.{row}
-use Rattle.sl_image.proofs.Channels.{few-channels}
+use Rattle.sl_model.specs.Rows.{row}
 use Rattle.sl_image.proofs.ObserverLists.{map-same, map-numbers}
 use Rattle.sl_image.proofs.ObserverTakes.{place-of-unit}
 use Rattle.sl_image.proofs.ObserverUnits.{channels-are}
 use Rattle.sl_image.proofs.ObserverWorlds.{unit-at}
-use Rattle.sl_image.proofs.Settled.{row-later}
+use Rattle.sl_model.proofs.Settled.{row-later}
 
 -- The unit at its place.
 
@@ -66,7 +62,7 @@ held-at net u g k one p = ap (λ b. if b then None else slice_get (unit_of net u
 
 pub none-past : (net : Net) (table : Snapshot) (w : World) (u k : ℕ) (i : UnitId) → actor_of net u ≡ OfUnit i → upto_of net u (collected net w u) < k → saved_of (unit_at (observer_of net table w).units (unit_place net u)) k ≡ None
 none-past net table w u k i q p = let g = collected net w u in ap (λ x. saved_of x k) (unit-there net table w u i q) ∙ ap (λ b. if b then None else slice_get (unit_of net u g).rows (k - 1)) (not-zero k (omega (arith, p)))
-    ∙ get-past (unit_of net u g).rows (k - 1) (let n = length_map-is (λ k. held_saved (row (data_channels net u) k g)) (numbers_from 1 (upto_of net u g)) in let m = length_numbers 1 (upto_of net u g) in omega (arith, n, m, p))
+    ∙ get-past (unit_of net u g).rows (k - 1) (let n = length-map (numbers_from 1 (upto_of net u g)) (λ k. held_saved (row (data_channels net u) k g)) in let m = length_numbers 1 (upto_of net u g) in omega (arith, n, m, p))
 
 reached-upto : (net : Net) (u k : ℕ) (h : History) → k ≤ upto_of net u h → Reached net k u h
 reached-upto net u k h p = record {
@@ -89,12 +85,12 @@ saved-there s lost table w u k i n r q h one p = ap (λ x. saved_of x k) (unit-t
 
 -- Accounts.
 
-pub accounts-are : (net : Net) (table : Snapshot) (w : World) → IsNet net → ((u k : ℕ) → held_saved (row (data_channels net u) k (collected net w u)) ≡ row (data_channels net u) k (collected net w u))
+pub accounts-are : (net : Net) (table : Snapshot) (w : World) → IsWired net → ((u k : ℕ) → held_saved (row (data_channels net u) k (collected net w u)) ≡ row (data_channels net u) k (collected net w u))
     → map account_of (observer_of net table w).units ≡ accounts net w
 accounts-are net table w n h = map-map account_of (λ u. unit_of net u (collected net w u)) (units net)
     ∙ map-same (λ u. account_of (unit_of net u (collected net w u))) (λ u. account net u (collected net w u)) (units net) (λ j p. let t = unit-at net j p in one (get_or (units net) j 0) t.0 t.1)
   where
     one : (u : ℕ) (i : UnitId) → actor_of net u ≡ OfUnit i → account_of (unit_of net u (collected net w u)) ≡ account net u (collected net w u)
-    one u i q = let g = collected net w u in let l = channels-are net u g (few-channels net u i n q) in
+    one u i q = let g = collected net w u in let l = channels-are net u g (n.few_channels u i q) in
         let r = map-numbers (λ k. held_saved (row (data_channels net u) k g)) (λ k. row (data_channels net u) k g) 1 (upto_of net u g) (λ k a b. h u k) in
         λ j. record { number = id g; lasts = l j; floor = floor_of net u g; rows = r j }

@@ -7,30 +7,29 @@ use Rattle.sl_machine.specs.Machine.{After}
 use Rattle.sl_layout.specs.declared.actor.ActorId.TheVariants.{Observer}
 use Rattle.sl_layout.specs.declared.actor.Sort.TheVariants.{Begin as BeginSort}
 use Rattle.sl_net.specs.declared.input.Snapshot.{Snapshot}
-use Rattle.sl_net.specs.Parts.{numbers_from}
-use Rattle.sl_net.specs.Net.{Net, link_of, link_numbers, links_into, links_from, links_out, action_choice, units, unit_place, place_in}
-use Rattle.sl_net.specs.Wires.{out_of}
+use Rattle.sl_parts.specs.Parts.{numbers_from}
+use Rattle.sl_layout.specs.Net.{Net, link_of, link_numbers, links_into, links_from, links_out, action_choice, units, unit_place, place_in}
+use Rattle.sl_layout.specs.Wires.{out_of}
 use Rattle.sl_net.specs.Wired.{IsNet, IsWired}
-use Rattle.sl_net.proofs.Lists.{distinct-filter, distinct-from, each-index}
-use Rattle.sl_net.proofs.Filters.{each-passes}
-use Rattle.sl_net.proofs.NetWired.{map-map}
+use Rattle.sl_parts.proofs.Lists.{distinct-filter, distinct-from, each-index, each-passes}
+use Rattle.std.proofs.lemmas.Simd.{map-map}
 use Rattle.sl_wire.specs.declared.message.Msg.{Msg}
 use Rattle.sl_wire.specs.declared.message.Msg.TheVariants as wire
 use Rattle.sl_observe.specs.Least.{least as least_there}
 use Rattle.sl_observe.specs.Observer.{ObserverState, observer_act, issue, resend}
 use Rattle.sl_observe.specs.Observer.{floor_of as floor_there, can_issue as can_issue_there, can_resend as can_resend_there, begin_all as begins_there}
-use Rattle.sl_history.specs.declared.message.Message.TheVariants.{Begin as BeginMsg}
-use Rattle.sl_history.specs.declared.message.Put.{Put}
-use Rattle.sl_history.specs.declared.message.Step.{Step}
-use Rattle.sl_cut.specs.History.{History, World, Losses, history, done_of}
-use Rattle.sl_cut.specs.Setup.{Setup}
-use Rattle.sl_cut.specs.Knowledge.{observer, issued, resent, collected, floors, floor, can_issue, can_resend}
-use Rattle.sl_cut.specs.Puts.{send_all, begin_all, guarded, action}
-use Rattle.sl_cut.specs.World.{Entry, next_step, step_by, acting, floor_for, turn, world}
-use Rattle.sl_cut.proofs.Turns.{taken-this, taken-other}
-use Rattle.sl_cut.proofs.Ran.{Takes, Acts, next-view}
-use Rattle.sl_cut.proofs.Said.{Begins, observer-acts}
-use Rattle.sl_cut.proofs.Stamps.{acted-by}
+use Rattle.sl_model.specs.declared.message.Message.TheVariants.{Begin as BeginMsg}
+use Rattle.sl_model.specs.declared.message.Put.{Put}
+use Rattle.sl_model.specs.declared.message.Step.{Step}
+use Rattle.sl_model.specs.History.{History, World, Losses, history, done_of}
+use Rattle.sl_model.specs.Setup.{Setup}
+use Rattle.sl_model.specs.Knowledge.{observer, issued, resent, collected, floors, floor, can_issue, can_resend}
+use Rattle.sl_model.specs.Puts.{send_all, begin_all, guarded, action}
+use Rattle.sl_model.specs.World.{Entry, next_step, step_by, acting, floor_for, turn, world}
+use Rattle.sl_model.proofs.Turns.{taken-this, taken-other}
+use Rattle.sl_model.proofs.Ran.{Takes, Acts, next-view}
+use Rattle.sl_model.proofs.Said.{Begins, observer-acts}
+use Rattle.sl_model.proofs.Stamps.{acted-by}
 use Rattle.sl_image.specs.Leaves.{Does}
 use Rattle.sl_image.specs.Messages.{AreSent}
 use Rattle.sl_image.specs.ObserverImage.{unit_of, observer_of, IsObserverOf, IsTableOf}

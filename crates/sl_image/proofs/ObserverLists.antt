@@ -2,11 +2,13 @@
 use Rattle.std.proofs.Common.{◌≡◌, ℕ, zero, suc, ◌+◌, ◌<◌, ◌≤◌, List, [], ◌∷◌, ◌++◌, length, refl, sym, ap, subst, ◌∙◌, Some, arith, inl, inr, eq-eqb, get_or}
 use Rattle.std.specs.Prelude.{◌⊎◌, ◌&&◌, true, false, nat_eq, min, map, take, replicate, if◌then◌else◌, slice_set}
 use Rattle.std.proofs.lemmas.Bool.Decides.{eqb_tells}
-use Rattle.sl_net.specs.Parts.{numbers_from}
-use Rattle.sl_net.specs.Net.{place_in}
+use Rattle.sl_parts.specs.Parts.{numbers_from}
+use Rattle.sl_layout.specs.Net.{place_in}
 use Rattle.sl_saves.specs.declared.entry.Saved.{Saved}
-use Rattle.sl_cut.specs.Words.{least, least_in, least_of}
-use Rattle.sl_net.proofs.Lists.{Member, Distinct, inside}
+use Rattle.sl_model.specs.Words.{least_of}
+use Rattle.sl_route.specs.Least.{least, least_in}
+use Rattle.sl_parts.specs.Lists.{Member, Distinct}
+use Rattle.sl_parts.proofs.Lists.{inside}
 use Rattle.sl_wire.specs.Reach.{least_of as least_of_there}
 use Rattle.sl_observe.specs.Least.{least as least_there}
 use Rattle.sl_observe.specs.Observer.{is_after}

@@ -1,12 +1,12 @@
 -- The observer's first state.
 use Rattle.std.proofs.Common.{◌≡◌, ℕ, [], length, sym, ap, ◌∙◌}
 use Rattle.sl_net.specs.declared.input.Snapshot.{Snapshot}
-use Rattle.sl_net.specs.Net.{Net, links_into, links_from, units, unit_place}
+use Rattle.sl_layout.specs.Net.{Net, links_into, links_from, units, unit_place}
 use Rattle.sl_observe.specs.Observer.{first_state, first_unit}
-use Rattle.sl_cut.specs.History.{first}
-use Rattle.sl_cut.specs.Knowledge.{observer, known, issued, resent, collected}
-use Rattle.sl_cut.specs.World.{start}
-use Rattle.sl_cut.proofs.Turns.{start-empty}
+use Rattle.sl_model.specs.History.{first}
+use Rattle.sl_model.specs.Knowledge.{observer, known, issued, resent, collected}
+use Rattle.sl_model.specs.World.{start}
+use Rattle.sl_model.proofs.Turns.{start-empty}
 use Rattle.std.proofs.Common.{get_or}
 use Rattle.sl_image.specs.ObserverImage.{unit_of, observer_of}
 use Rattle.sl_image.proofs.ObserverLists.{map-same}

@@ -9,36 +9,34 @@ use Rattle.sl_machine.specs.Machine.{After}
 use Rattle.sl_layout.specs.declared.actor.ActorId.TheVariants.{Observer, Unit as OfUnit}
 use Rattle.sl_layout.specs.declared.actor.UnitId.{UnitId}
 use Rattle.sl_net.specs.declared.input.Snapshot.{Snapshot}
-use Rattle.sl_net.specs.Parts.{below}
-use Rattle.sl_net.specs.Net.{Net, actor_of, action_choice, links_into, links_from, choice_of, is_unit, units, unit_place, data_channels}
+use Rattle.sl_parts.specs.Parts.{below}
+use Rattle.sl_layout.specs.Net.{Net, actor_of, action_choice, links_into, links_from, choice_of, is_unit, units, unit_place, data_channels}
 use Rattle.sl_net.specs.Wired.{IsNet, IsWired}
-use Rattle.sl_net.proofs.Lists.{Member, Distinct, distinct-filter, distinct-from, each-at}
-use Rattle.sl_net.proofs.Filters.{each-passes}
-use Rattle.sl_net.proofs.Sizes.{length_map-is}
+use Rattle.sl_parts.specs.Lists.{Member, Distinct}
+use Rattle.sl_parts.proofs.Lists.{distinct-filter, distinct-from, each-at, each-passes}
+use Rattle.std.proofs.lemmas.List.{length-map}
 use Rattle.sl_wire.specs.declared.message.Done.{Done}
 use Rattle.sl_wire.specs.declared.message.Msg.{Msg}
 use Rattle.sl_observe.specs.Observer.{UnitState, ObserverState, new_unit, unit_at, device_of, heard, units_after, observer_take}
-use Rattle.sl_history.specs.declared.message.Message.{Message}
-use Rattle.sl_history.specs.declared.message.Message.TheVariants.{Host, Data, Probe, Init, Poll, Notice, Dump as DumpMsg, Begin, Done as DoneMsg}
-use Rattle.sl_history.specs.declared.message.Step.{Step}
-use Rattle.sl_cut.specs.History.{World, Losses, history, done_of, heard as heard_by, first}
-use Rattle.sl_cut.specs.Setup.{Setup}
-use Rattle.sl_cut.specs.Knowledge.{observer, known, issued, resent, collected}
-use Rattle.sl_cut.specs.World.{Entry, next_step, turn, world}
-use Rattle.sl_cut.specs.Made.{Ran}
-use Rattle.sl_cut.proofs.Turns.{GrowsAt, taken-other}
-use Rattle.sl_cut.proofs.Ran.{Takes, Acts, next-view, ran, ran-turn}
-use Rattle.sl_cut.proofs.Reported.{knows}
-use Rattle.sl_cut.proofs.Stamps.{took-by}
-use Rattle.sl_image.specs.Brought.{IsBrought}
+use Rattle.sl_model.specs.declared.message.Message.{Message}
+use Rattle.sl_model.specs.declared.message.Message.TheVariants.{Host, Data, Probe, Init, Poll, Notice, Dump as DumpMsg, Begin, Done as DoneMsg}
+use Rattle.sl_model.specs.declared.message.Step.{Step}
+use Rattle.sl_model.specs.History.{World, Losses, history, done_of, heard as heard_by, first}
+use Rattle.sl_model.specs.Setup.{Setup}
+use Rattle.sl_model.specs.Knowledge.{observer, known, issued, resent, collected}
+use Rattle.sl_model.specs.World.{Entry, next_step, turn, world}
+use Rattle.sl_model.specs.Made.{Ran}
+use Rattle.sl_model.proofs.Turns.{GrowsAt, taken-other}
+use Rattle.sl_model.proofs.Ran.{Takes, Acts, next-view, ran, ran-turn}
+use Rattle.sl_model.proofs.Reported.{knows}
+use Rattle.sl_model.proofs.Stamps.{took-by}
+use Rattle.sl_model.specs.Brought.{IsBrought}
 use Rattle.sl_image.specs.Leaves.{Leaves}
 use Rattle.sl_image.specs.Messages.{IsDoneOf, IsMessage, AreSent}
 use Rattle.sl_image.specs.ObserverImage.{unit_of, observer_of, IsObserverOf, IsTableOf, known_at}
-use Rattle.sl_image.proofs.Brought.{unit-done}
-use Rattle.sl_image.proofs.Channels.{few-channels}
+use Rattle.sl_model.proofs.Brought.{unit-done}
 use Rattle.sl_image.proofs.ObserverLists.{place-at, place-past, map-same, map-set}
 use Rattle.sl_image.proofs.ObserverUnits.{Brings, hears}
-use Rattle.sl_image.proofs.ObserverLinks.{device-choice}
 use Rattle.sl_image.proofs.ObserverWorlds.{unit-at, grows-turn, step-choice}
 
 -- Places of units.
@@ -104,7 +102,7 @@ by-device s lost w v step u n i t z r k g q e = (now, by_tells (eqb_tells step.c
 
     by_tells : ((nat_eq step.choice (choice_of s.net (z.reports u i q).done) ≡ true) × (step.choice ≡ choice_of s.net (z.reports u i q).done)) ⊎ ((nat_eq step.choice (choice_of s.net (z.reports u i q).done) ≡ false) × (step.choice ≡ choice_of s.net (z.reports u i q).done → ⊥))
         → (device_of (actor_of s.net u) ≡ step.choice) ⊎ (known (unit_place s.net u) (observer w) ≡ n)
-    by_tells (inl y) = inl (ap device_of q ∙ sym (device-choice s.net u i t q (z.reports u i q)) ∙ sym y.1)
+    by_tells (inl y) = inl (ap device_of q ∙ sym (z.done_choice u i q (z.reports u i q)) ∙ sym y.1)
     by_tells (inr y) = let d = (z.reports u i q).done in inr ((knows s lost w u i z r (z.reports u i q) q).told
         ∙ sym (ap (λ b. if b then unwrap_or (option_and_then (done_of (unit_place s.net u)) step.taken) (heard_by (done_of (unit_place s.net u)) (choice_of s.net d) (observer w)) else heard_by (done_of (unit_place s.net u)) (choice_of s.net d) (observer w)) y.0)
         ∙ sym (ap (heard_by (done_of (unit_place s.net u)) (choice_of s.net d)) g.same)
@@ -140,7 +138,7 @@ module _ (s : Setup) (lost : Losses) (table : Snapshot) (es : List Entry) (c n :
 
       brings : Brings s.net u table.ring (collected s.net w u) (first n (history w u)) y
       brings = record {
-        few = few-channels s.net u i t q;
+        few = z.few_channels u i q;
         of = d;
         rises = brought.rises;
         within = let a = brought.within in let b = f.window in let g = f.room in omega (arith, a, b, g);
@@ -175,7 +173,7 @@ module _ (s : Setup) (lost : Losses) (table : Snapshot) (es : List Entry) (c n :
           ∙ map-set old new (units s.net) place (heard table.ring c y (old u)) p (λ j l ne. other-unit place j l ne e)
           (unit-done-is (get_or (units s.net) place 0) is.0 is.1 (e ∙ ap (λ k. Some (DoneMsg k n)) (sym here)) same)
       by_place (inr p) = let k : y.unit ≡ unit_place s.net 0 = d.unit ∙ ap (unit_place s.net) (get_or_past (units s.net) place 0 p) in
-          let o = place-of-none s.net z in let m = length_map-is old (units s.net) in
+          let o = place-of-none s.net z in let m = length-map (units s.net) old in
           set_past (map old (units s.net)) y.unit (heard table.ring c y (unit_at (map old (units s.net)) y.unit)) (omega (arith, k, o, m))
           ∙ map-same old new (units s.net) (λ j l. other-unit place j l (λ q. omega (arith, q, l, p)) e)
 

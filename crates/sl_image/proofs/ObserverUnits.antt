@@ -3,25 +3,25 @@ use Rattle.std.proofs.Common.{◌≡◌, ℕ, suc, ◌+◌, ◌-◌, ◌≤◌, 
 use Rattle.std.specs.Prelude.{◌⊎◌, ◌==◌, ◌&&◌, true, false, Bool, map, take, replicate, if◌then◌else◌}
 use Rattle.std.proofs.lemmas.Bool.{le-leb, and_from}
 use Rattle.std.proofs.lemmas.List.{map-append}
-use Rattle.sl_net.specs.Parts.{numbers_from}
-use Rattle.sl_net.specs.Net.{Net, actor_of, choices_of, data_channels}
+use Rattle.sl_parts.specs.Parts.{numbers_from}
+use Rattle.sl_layout.specs.Net.{Net, actor_of, choices_of, data_channels}
 use Rattle.sl_layout.specs.declared.actor.Sort.TheVariants.{Init}
-use Rattle.sl_net.proofs.Counting.{length_numbers}
-use Rattle.sl_net.proofs.Sizes.{length_map-is}
-use Rattle.sl_net.proofs.NetWired.{map-map}
+use Rattle.sl_parts.proofs.Lists.{length_numbers}
+use Rattle.std.proofs.lemmas.List.{length-map}
+use Rattle.std.proofs.lemmas.Simd.{map-map}
 use Rattle.sl_saves.specs.declared.entry.Saved.{Saved}
 use Rattle.sl_saves.specs.Views.{held_saved}
 use Rattle.sl_wire.specs.declared.message.Done.{Done}
 use Rattle.sl_wire.specs.Reach.{least_of as least_of_there}
 use Rattle.sl_observe.specs.Observer.{device_of, reached, is_after, is_next, told, heard, first_unit}
 use Rattle.sl_control.specs.Rows.{span}
-use Rattle.sl_cut.specs.Words.{least_of}
-use Rattle.sl_cut.specs.History.{History, id, last}
-use Rattle.sl_cut.specs.Knowledge.{upto_of, floor_of}
-use Rattle.sl_image.specs.Rows.{row}
+use Rattle.sl_model.specs.Words.{least_of}
+use Rattle.sl_model.specs.History.{History, id, last}
+use Rattle.sl_model.specs.Knowledge.{upto_of, floor_of}
+use Rattle.sl_model.specs.Rows.{row}
 use Rattle.sl_image.specs.Messages.{eight, lasts, held_row, IsDoneOf}
 use Rattle.sl_image.specs.ObserverImage.{unit_of}
-use Rattle.sl_cut.proofs.Near.{least-start}
+use Rattle.sl_model.proofs.Near.{least-start}
 use Rattle.sl_image.proofs.ObserverLists.{map-numbers, numbers-more, rows-follow, take-front, take-zeros, least-of-same}
 
 abbrev held : Net → ℕ → History → ℕ → Saved
@@ -38,13 +38,13 @@ pub record Brings (net : Net) (u ring : ℕ) (before now : History) (d : Done) :
 -- The rows come next.
 
 row-count : (net : Net) (u : ℕ) (g : History) (s n : ℕ) → length (map (held_row net u g) (numbers_from s n)) ≡ n
-row-count net u g s n = length_map-is (held_row net u g) (numbers_from s n) ∙ length_numbers s n
+row-count net u g s n = length-map (numbers_from s n) (held_row net u g) ∙ length_numbers s n
 
 count-before : (net : Net) (u : ℕ) (g : History) → length (unit_of net u g).rows ≡ upto_of net u g
-count-before net u g = length_map-is (held net u g) (numbers_from 1 (upto_of net u g)) ∙ length_numbers 1 (upto_of net u g)
+count-before net u g = length-map (numbers_from 1 (upto_of net u g)) (held net u g) ∙ length_numbers 1 (upto_of net u g)
 
 pub channels-are : (net : Net) (u : ℕ) (g : History) → length (data_channels net u) ≤ 8 → take (length (data_channels net u)) (eight (lasts net u g)) ≡ lasts net u g
-channels-are net u g l = let n : length (lasts net u g) ≡ length (data_channels net u) = length_map-is (λ c. last c g) (data_channels net u) in
+channels-are net u g l = let n : length (lasts net u g) ≡ length (data_channels net u) = length-map (data_channels net u) (λ c. last c g) in
     ap (λ k. take k (eight (lasts net u g))) (sym n) ∙ take-front (lasts net u g) (replicate 8 0) 8 (omega (arith, n, l))
 
 reached-is : (net : Net) (u ring : ℕ) (before now : History) (d : Done) → Brings net u ring before now d → reached (unit_of net u before) d ≡ upto_of net u now

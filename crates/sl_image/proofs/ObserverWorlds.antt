@@ -7,22 +7,22 @@ use Rattle.sl_layout.specs.declared.actor.ActorId.{ActorId}
 use Rattle.sl_layout.specs.declared.actor.ActorId.TheVariants.{Unit as OfUnit}
 use Rattle.sl_layout.specs.declared.actor.UnitId.{UnitId}
 use Rattle.sl_net.specs.declared.input.Snapshot.{Snapshot}
-use Rattle.sl_net.specs.Net.{Net, actor_of, action_choice, links_into, links_from, units, unit_place}
+use Rattle.sl_layout.specs.Net.{Net, actor_of, action_choice, links_into, links_from, units, unit_place}
 use Rattle.sl_net.specs.Wired.{IsWired}
-use Rattle.sl_net.proofs.Lists.{each-index}
-use Rattle.sl_history.specs.declared.message.Message.{Message}
-use Rattle.sl_history.specs.declared.message.Put.{Put}
-use Rattle.sl_history.specs.declared.message.Step.{Step}
-use Rattle.sl_cut.specs.History.{World, Losses, history, first}
-use Rattle.sl_cut.specs.Setup.{Setup}
-use Rattle.sl_cut.specs.Knowledge.{observer, known, issued, resent, collected}
-use Rattle.sl_cut.specs.Puts.{puts_of, action}
-use Rattle.sl_cut.specs.World.{Entry, start, next_step, step_by, taking, acting, front, floor_for, turn, after, world}
-use Rattle.sl_cut.specs.Made.{Ran}
-use Rattle.sl_cut.proofs.Turns.{kept_by_run, GrowsAt, grows-after, next-within, Steps, turn-cases, stepped}
-use Rattle.sl_cut.proofs.Ran.{ran}
-use Rattle.sl_cut.proofs.Reported.{knows}
-use Rattle.sl_cut.proofs.Floors.{Extends, extends-turn, each-unit}
+use Rattle.sl_parts.proofs.Lists.{each-index}
+use Rattle.sl_model.specs.declared.message.Message.{Message}
+use Rattle.sl_model.specs.declared.message.Put.{Put}
+use Rattle.sl_model.specs.declared.message.Step.{Step}
+use Rattle.sl_model.specs.History.{World, Losses, history, first}
+use Rattle.sl_model.specs.Setup.{Setup}
+use Rattle.sl_model.specs.Knowledge.{observer, known, issued, resent, collected}
+use Rattle.sl_model.specs.Puts.{puts_of, action}
+use Rattle.sl_model.specs.World.{Entry, start, next_step, step_by, taking, acting, front, floor_for, turn, after, world}
+use Rattle.sl_model.specs.Made.{Ran}
+use Rattle.sl_model.proofs.Turns.{kept_by_run, GrowsAt, grows-after, next-within, Steps, turn-cases, stepped}
+use Rattle.sl_model.proofs.Ran.{ran}
+use Rattle.sl_model.proofs.Reported.{knows}
+use Rattle.sl_model.proofs.Floors.{Extends, extends-turn, each-unit}
 use Rattle.sl_image.specs.ObserverImage.{unit_of, observer_of}
 use Rattle.sl_image.proofs.ObserverLists.{map-same}
 

@@ -14,8 +14,8 @@ use Rattle.sl_wire.specs.declared.frame.WireFault.TheVariants.{E1, E2, E3, E4}
 use Rattle.sl_wire.specs.Frames.{frame, decoded, kind_of, kind_decoded, id_fits, channel_fits, packet_fits, number, packet_of, header_of, all_zero}
 use Rattle.sl_unit.specs.Step.{plain_of, plain_packet}
 use Rattle.sl_wire.specs.Frames.{plain_frame as wire_frame}
-use Rattle.sl_cut.specs.Frame.{plain_frame, packet_at, number_at}
-use Rattle.sl_cut.specs.Frame.{packet_of as cut_packet}
+use Rattle.sl_model.specs.Frame.{plain_frame, packet_at, number_at}
+use Rattle.sl_model.specs.Frame.{packet_of as cut_packet}
 
 pub frame-is : (p : Packet) → wire_frame p ≡ plain_frame p
 unfolding frame plain_frame

@@ -4,15 +4,16 @@ use Rattle.std.specs.Prelude.{◌⊎◌, true, false, Bool, nat_eq, ◌==◌, if
 use Rattle.std.proofs.lemmas.Bool.{eq-eqb, ne_eqb}
 use Rattle.std.proofs.lemmas.Bool.Decides.{eqb_tells}
 use Rattle.std.proofs.lemmas.List.{set-append_left, get_or_append_left, get_or-take, length-map}
-use Rattle.sl_net.specs.Net.{place_in}
-use Rattle.sl_net.proofs.Lists.{Member, Distinct, each-of}
-use Rattle.sl_history.specs.declared.message.Message.{Message}
-use Rattle.sl_history.specs.declared.message.Step.{Step}
-use Rattle.sl_cut.specs.History.{History, stamp_of, last}
+use Rattle.sl_layout.specs.Net.{place_in}
+use Rattle.sl_parts.specs.Lists.{Member, Distinct}
+use Rattle.sl_parts.proofs.Lists.{each-of}
+use Rattle.sl_model.specs.declared.message.Message.{Message}
+use Rattle.sl_model.specs.declared.message.Step.{Step}
+use Rattle.sl_model.specs.History.{History, stamp_of, last}
 use Rattle.sl_image.specs.Messages.{eight}
-use Rattle.sl_image.proofs.Entries.{map-each}
-use Rattle.sl_image.proofs.Late.{place-here, place-past}
-use Rattle.sl_image.proofs.Settled.{place-lt}
+use Rattle.sl_model.proofs.Entries.{map-each}
+use Rattle.sl_model.proofs.Late.{place-here, place-past}
+use Rattle.sl_model.proofs.Settled.{place-lt}
 
 -- Places.
 

@@ -9,8 +9,8 @@ use Rattle.sl_layout.specs.declared.actor.ActorId.TheVariants.{Unit as OfUnit}
 use Rattle.sl_layout.specs.declared.actor.UnitId.{UnitId}
 use Rattle.sl_net.specs.declared.input.Packet.{Packet}
 use Rattle.sl_net.specs.declared.input.Snapshot.{Snapshot}
-use Rattle.sl_net.specs.Net.{Net, actor_of, links_out, data_channels, choices_of, place_in}
-use Rattle.sl_net.proofs.Lists.{Member}
+use Rattle.sl_layout.specs.Net.{Net, actor_of, links_out, data_channels, choices_of, place_in}
+use Rattle.sl_parts.specs.Lists.{Member}
 use Rattle.sl_route.specs.Route.{next_port}
 use Rattle.sl_saves.specs.Keeping.{Listed}
 use Rattle.sl_saves.proofs.Lists.{list-shown, length-view}
@@ -22,18 +22,18 @@ use Rattle.sl_unit.specs.Registers.{Registers, more, dump_of, after_stamp, after
 use Rattle.sl_unit.specs.Registers.{counted as counted_by}
 use Rattle.sl_unit.specs.Step.{UnitState, take_at, framed, routed, passed, probed, initiated, absorbed, send}
 use Rattle.sl_wire.specs.Frames.{plain_frame as wire_frame}
-use Rattle.sl_history.specs.declared.message.Message.{Message}
-use Rattle.sl_history.specs.declared.message.Message.TheVariants.{Host as HostMsg, Data, Probe as ProbeMsg, Init as InitMsg, Poll as PollMsg, Dump as DumpMsg}
-use Rattle.sl_history.specs.declared.message.Put.{Put}
-use Rattle.sl_history.specs.declared.message.Step.{Step}
-use Rattle.sl_cut.specs.Words.{tally}
-use Rattle.sl_cut.specs.World.{taking}
-use Rattle.sl_cut.specs.History.{History, stamp_of, id, last, first}
-use Rattle.sl_cut.specs.Counting.{packets, bytes, bad, expired, noroute, counted, is_bad, is_expired, is_noroute}
-use Rattle.sl_cut.specs.Frame.{packet_of, plain_frame}
-use Rattle.sl_cut.specs.Puts.{send_all, route, route_frame, notice_puts}
-use Rattle.sl_image.specs.Calls.{calls}
-use Rattle.sl_image.specs.Window.{IsTakeable}
+use Rattle.sl_model.specs.declared.message.Message.{Message}
+use Rattle.sl_model.specs.declared.message.Message.TheVariants.{Host as HostMsg, Data, Probe as ProbeMsg, Init as InitMsg, Poll as PollMsg, Dump as DumpMsg}
+use Rattle.sl_model.specs.declared.message.Put.{Put}
+use Rattle.sl_model.specs.declared.message.Step.{Step}
+use Rattle.sl_model.specs.Words.{tally}
+use Rattle.sl_model.specs.World.{taking}
+use Rattle.sl_model.specs.History.{History, stamp_of, id, last, first}
+use Rattle.sl_model.specs.Counting.{packets, bytes, bad, expired, noroute, counted, is_bad, is_expired, is_noroute}
+use Rattle.sl_model.specs.Frame.{packet_of, plain_frame}
+use Rattle.sl_model.specs.Puts.{send_all, route, route_frame, notice_puts}
+use Rattle.sl_model.specs.Calls.{calls}
+use Rattle.sl_model.specs.UnitWindow.{IsTakeable}
 use Rattle.sl_image.specs.Messages.{AreSent, IsDumpOf, eight, lasts, cpu_last}
 use Rattle.sl_image.specs.UnitImage.{IsUnitOf, Keeps, dropped}
 use Rattle.sl_image.proofs.UnitLasts.{lasts-at, first-only}

@@ -7,26 +7,26 @@ use Rattle.std.proofs.lemmas.Bool.{lt-ltb, le-ltb, cases_lt}
 use Rattle.sl_layout.specs.declared.actor.Sort.TheVariants.{Init}
 use Rattle.sl_layout.specs.declared.actor.UnitId.{UnitId}
 use Rattle.sl_net.specs.declared.input.Packet.{Packet}
-use Rattle.sl_net.specs.Net.{Net, data_channels, choices_of, place_in}
-use Rattle.sl_net.proofs.Lists.{Member, Distinct}
+use Rattle.sl_layout.specs.Net.{Net, data_channels, choices_of, place_in}
+use Rattle.sl_parts.specs.Lists.{Member, Distinct}
 use Rattle.sl_saves.specs.Calls.{Adopt, Credited}
 use Rattle.sl_saves.specs.Keeping.{Listed, IsListed, list_adopted, list_credited}
 use Rattle.sl_saves.proofs.Lists.{list-adopt, list-credit}
 use Rattle.sl_unit.specs.declared.registers.Channel.TheVariants.{Cpu, Upstream}
 use Rattle.sl_unit.specs.Registers.{Registers, more, adopted, credited, seen, counted, after_stamp, after_data}
-use Rattle.sl_history.specs.declared.message.Message.{Message}
-use Rattle.sl_history.specs.declared.message.Message.TheVariants.{Data, Probe as ProbeMsg, Init as InitMsg}
-use Rattle.sl_history.specs.declared.message.Put.{Put}
-use Rattle.sl_history.specs.declared.message.Step.{Step}
-use Rattle.sl_cut.specs.World.{taking}
-use Rattle.sl_cut.specs.History.{History, stamp_of, id}
-use Rattle.sl_cut.specs.Counting.{packets, bytes, bad, expired, noroute}
-use Rattle.sl_cut.specs.Counting.{counted_in}
-use Rattle.sl_image.specs.Calls.{calls, credit, credits_in}
+use Rattle.sl_model.specs.declared.message.Message.{Message}
+use Rattle.sl_model.specs.declared.message.Message.TheVariants.{Data, Probe as ProbeMsg, Init as InitMsg}
+use Rattle.sl_model.specs.declared.message.Put.{Put}
+use Rattle.sl_model.specs.declared.message.Step.{Step}
+use Rattle.sl_model.specs.World.{taking}
+use Rattle.sl_model.specs.History.{History, stamp_of, id}
+use Rattle.sl_model.specs.Counting.{packets, bytes, bad, expired, noroute}
+use Rattle.sl_model.specs.Counting.{counted_in}
+use Rattle.sl_model.specs.Calls.{calls, credit, credits_in}
 use Rattle.sl_image.specs.Messages.{eight, lasts, cpu_last}
 use Rattle.sl_image.specs.UnitImage.{Keeps, HasRegisters, dropped}
-use Rattle.sl_image.proofs.Entries.{calls-rise, calls-stay}
-use Rattle.sl_image.proofs.Settled.{place-lt}
+use Rattle.sl_model.proofs.Entries.{calls-rise, calls-stay}
+use Rattle.sl_model.proofs.Settled.{place-lt}
 use Rattle.sl_image.proofs.UnitLasts.{last-here, lasts-set, lasts-there, lasts-same, first-there, first-same, first-only}
 
 abbrev pub regs : Net → ℕ → History → ℕ → ℕ → ℕ → Listed → Registers

@@ -2,8 +2,8 @@
 use Rattle.std.proofs.Common.{◌≡◌, ℕ, List, [], ◌∷◌, ◌++◌, refl, sym, ap, subst, ◌∙◌, append-nil}
 use Rattle.std.specs.Prelude.{map, true, false, Bool, if◌then◌else◌}
 use Rattle.sl_layout.specs.declared.actor.Sort.{Sort}
-use Rattle.sl_net.specs.Net.{Net, links_out}
-use Rattle.sl_net.specs.Wires.{out_of}
+use Rattle.sl_layout.specs.Net.{Net, links_out}
+use Rattle.sl_layout.specs.Wires.{out_of}
 use Rattle.sl_wire.specs.declared.message.Msg.{Msg}
 use Rattle.sl_unit.specs.declared.wires.Way.TheVariants.{All, Toward}
 use Rattle.sl_unit.specs.Wires.{Wires, outs}
@@ -11,10 +11,10 @@ use Rattle.sl_unit.specs.Made.{exits_of}
 use Rattle.sl_unit.specs.Step.{send}
 use Rattle.sl_machine.specs.Machine.{send_all as sent_all}
 use Rattle.sl_unit.proofs.Numbers.{sorts_are, toward_are}
-use Rattle.sl_history.specs.declared.message.Message.{Message}
-use Rattle.sl_history.specs.declared.message.Put.{Put}
-use Rattle.sl_cut.specs.History.{History}
-use Rattle.sl_cut.specs.Puts.{send_all, crossbar_to}
+use Rattle.sl_model.specs.declared.message.Message.{Message}
+use Rattle.sl_model.specs.declared.message.Put.{Put}
+use Rattle.sl_model.specs.History.{History}
+use Rattle.sl_model.specs.Puts.{send_all, crossbar_to}
 use Rattle.sl_image.specs.Messages.{IsMessage, AreSent}
 
 pub sent-append : (net : Net) (ring : ℕ) (us : ℕ → History) (a : ℕ) (told : ℕ → ℕ) (ps qs : List Put) (xs ys : List (ℕ × Msg)) → AreSent net ring us a told ps xs → AreSent net ring us a told qs ys

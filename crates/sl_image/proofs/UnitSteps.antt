@@ -8,9 +8,10 @@ use Rattle.sl_layout.specs.declared.actor.Sort.{Sort}
 use Rattle.sl_layout.specs.declared.actor.Sort.TheVariants.{FromHost, Cable, Crossbar, Init, Poll}
 use Rattle.sl_layout.specs.declared.actor.ActorId.TheVariants.{Unit as OfUnit}
 use Rattle.sl_net.specs.declared.input.Snapshot.{Snapshot}
-use Rattle.sl_net.specs.Net.{Net, actor_of, link_of, links_into, data_channels, choices_of}
+use Rattle.sl_layout.specs.Net.{Net, actor_of, link_of, links_into, data_channels, choices_of}
 use Rattle.sl_net.specs.Wired.{unit_receives}
-use Rattle.sl_net.proofs.Lists.{Member, each-of, each-at}
+use Rattle.sl_parts.specs.Lists.{Member}
+use Rattle.sl_parts.proofs.Lists.{each-of, each-at}
 use Rattle.sl_net.proofs.Sorts.{IsChoice, each-choice, of-choice}
 use Rattle.sl_saves.specs.Keeping.{Listed}
 use Rattle.sl_wire.specs.declared.message.Msg.{Msg}
@@ -18,15 +19,15 @@ use Rattle.sl_unit.specs.Wires.{entrance_at}
 use Rattle.sl_unit.specs.Made.{entrance, is_own}
 use Rattle.sl_unit.specs.Step.{take_at, unit_take}
 use Rattle.sl_unit.proofs.Numbers.{entrances_are}
-use Rattle.sl_history.specs.declared.message.Message.{Message}
-use Rattle.sl_history.specs.declared.message.Message.TheVariants.{Host as HostMsg, Data, Probe as ProbeMsg, Init as InitMsg, Poll as PollMsg}
-use Rattle.sl_cut.specs.History.{History}
-use Rattle.sl_cut.specs.Puts.{unit_puts, is_own_port}
-use Rattle.sl_cut.specs.World.{taking}
-use Rattle.sl_cut.specs.Fit.{fits, fits_link}
-use Rattle.sl_cut.proofs.Collected.{IsChannel, each-channel}
+use Rattle.sl_model.specs.declared.message.Message.{Message}
+use Rattle.sl_model.specs.declared.message.Message.TheVariants.{Host as HostMsg, Data, Probe as ProbeMsg, Init as InitMsg, Poll as PollMsg}
+use Rattle.sl_model.specs.History.{History}
+use Rattle.sl_model.specs.Puts.{unit_puts, is_own_port}
+use Rattle.sl_model.specs.World.{taking}
+use Rattle.sl_model.specs.Fit.{fits, fits_link}
+use Rattle.sl_model.proofs.Collected.{IsChannel, each-channel}
 use Rattle.sl_image.specs.Messages.{IsMessage}
-use Rattle.sl_image.proofs.Settled.{is-channel}
+use Rattle.sl_model.proofs.Settled.{is-channel}
 use Rattle.sl_image.proofs.UnitTurns.{wires_at, Ends}
 use Rattle.sl_image.proofs.UnitMessages.{IsGiven, unit_at, state_at, place, host-frame, cable-data, cable-probe, init-stamp, crossbar-data, crossbar-probe, poll-dump}
 

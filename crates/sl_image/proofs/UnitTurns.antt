@@ -13,9 +13,9 @@ use Rattle.sl_layout.specs.declared.actor.ActorId.TheVariants.{Unit as OfUnit}
 use Rattle.sl_layout.specs.declared.actor.UnitId.{UnitId}
 use Rattle.sl_net.specs.declared.input.Packet.{Packet}
 use Rattle.sl_net.specs.declared.input.Snapshot.{Snapshot}
-use Rattle.sl_net.specs.Parts.{Parts, below}
-use Rattle.sl_net.specs.Net.{Net, actor_of, links_out}
-use Rattle.sl_net.proofs.Counting.{at_below, length_numbers}
+use Rattle.sl_parts.specs.Parts.{Parts, below}
+use Rattle.sl_layout.specs.Net.{Net, actor_of, links_out}
+use Rattle.sl_parts.proofs.Lists.{at_below, length_numbers}
 use Rattle.sl_route.specs.Least.{least}
 use Rattle.sl_route.specs.Route.{next_port, least_walks, first_port}
 use Rattle.sl_saves.specs.Keeping.{Listed}
@@ -27,12 +27,12 @@ use Rattle.sl_unit.specs.Registers.{Registers, more, last_on, is_near}
 use Rattle.sl_unit.specs.Made.{device_of, entrances_of, exits_of, ports_of}
 use Rattle.sl_unit.specs.declared.wires.Way.TheVariants.{All}
 use Rattle.sl_unit.specs.Step.{UnitState, onward, routed, stamped, notices, ignored, send}
-use Rattle.sl_history.specs.declared.message.Message.TheVariants.{Data, Notice as NoticeMsg}
-use Rattle.sl_history.specs.declared.message.Put.{Put}
-use Rattle.sl_cut.specs.History.{History, id, last}
-use Rattle.sl_cut.specs.Puts.{send_all, route, notice_puts}
-use Rattle.sl_cut.specs.Puts.{onward as puts_onward}
-use Rattle.sl_image.specs.Window.{IsTakeable}
+use Rattle.sl_model.specs.declared.message.Message.TheVariants.{Data, Notice as NoticeMsg}
+use Rattle.sl_model.specs.declared.message.Put.{Put}
+use Rattle.sl_model.specs.History.{History, id, last}
+use Rattle.sl_model.specs.Puts.{send_all, route, notice_puts}
+use Rattle.sl_model.specs.Puts.{onward as puts_onward}
+use Rattle.sl_model.specs.UnitWindow.{IsTakeable}
 use Rattle.sl_image.specs.Messages.{AreSent}
 use Rattle.sl_image.specs.UnitImage.{IsUnitOf, new_state}
 use Rattle.sl_image.proofs.UnitRegisters.{regs}

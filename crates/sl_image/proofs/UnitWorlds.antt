@@ -9,37 +9,36 @@ use Rattle.sl_layout.specs.declared.actor.Side.TheVariants.{Ingress, Egress}
 use Rattle.sl_layout.specs.declared.actor.Sort.TheVariants.{Init}
 use Rattle.sl_layout.specs.declared.actor.UnitId.{UnitId}
 use Rattle.sl_net.specs.declared.input.Snapshot.{Snapshot}
-use Rattle.sl_net.specs.Net.{Net, actor_of, link_of, links_into, data_channels, choices_of, action_choice}
+use Rattle.sl_layout.specs.Net.{Net, actor_of, link_of, links_into, data_channels, choices_of, action_choice}
 use Rattle.sl_net.specs.Wired.{IsNet, IsWired, receives, unit_receives}
 use Rattle.sl_net.proofs.Sorts.{is-into}
 use Rattle.sl_wire.specs.declared.message.Msg.{Msg}
 use Rattle.sl_unit.specs.Made.{IsRanged}
 use Rattle.sl_unit.specs.Registers.{first_registers}
 use Rattle.sl_unit.specs.Step.{UnitState, unit_take}
-use Rattle.sl_history.specs.declared.message.Message.{Message}
-use Rattle.sl_history.specs.declared.message.Put.{Put}
-use Rattle.sl_history.specs.declared.message.Step.{Step}
-use Rattle.sl_cut.specs.History.{History, World, Losses, history, stamp_of, taken, put}
-use Rattle.sl_cut.specs.Setup.{Setup}
-use Rattle.sl_cut.specs.Counting.{counted_in}
-use Rattle.sl_cut.specs.Puts.{puts_of, unit_puts, action}
-use Rattle.sl_cut.specs.World.{Entry, start, taking, acting, floor_for, next_step, step_by, after, turn, world, front, carried}
-use Rattle.sl_cut.specs.Fit.{fits_link}
-use Rattle.sl_cut.proofs.Turns.{kept_by_run, Steps, grows-after, stepped, next-within, turn-cases, run-append}
-use Rattle.sl_cut.proofs.Ran.{Takes, Acts, next-view, ran}
-use Rattle.sl_cut.proofs.Near.{in-window}
-use Rattle.sl_cut.proofs.Stamps.{each-lost, put-fits}
-use Rattle.sl_cut.proofs.Steps.{history_size}
-use Rattle.sl_cut.proofs.Sizes.{world_size}
+use Rattle.sl_model.specs.declared.message.Message.{Message}
+use Rattle.sl_model.specs.declared.message.Put.{Put}
+use Rattle.sl_model.specs.declared.message.Step.{Step}
+use Rattle.sl_model.specs.History.{History, World, Losses, history, stamp_of, taken, put}
+use Rattle.sl_model.specs.Setup.{Setup}
+use Rattle.sl_model.specs.Counting.{counted_in}
+use Rattle.sl_model.specs.Puts.{puts_of, unit_puts, action}
+use Rattle.sl_model.specs.World.{Entry, start, taking, acting, floor_for, next_step, step_by, after, turn, world, front, carried}
+use Rattle.sl_model.specs.Fit.{fits_link}
+use Rattle.sl_model.proofs.Turns.{kept_by_run, Steps, grows-after, stepped, next-within, turn-cases, run-append}
+use Rattle.sl_model.proofs.Ran.{Takes, Acts, next-view, ran}
+use Rattle.sl_model.proofs.Near.{in-window}
+use Rattle.sl_model.proofs.Stamps.{each-lost, put-fits}
+use Rattle.sl_model.proofs.Steps.{history_size}
+use Rattle.sl_model.proofs.Sizes.{world_size}
 use Rattle.sl_image.specs.Messages.{IsMessage, AreSent}
-use Rattle.sl_image.specs.Short.{TakesShort, SendsShort}
-use Rattle.sl_image.specs.Window.{IsTakeable}
+use Rattle.sl_model.specs.Short.{TakesShort, SendsShort}
+use Rattle.sl_model.specs.UnitWindow.{IsTakeable}
 use Rattle.sl_image.specs.UnitImage.{IsUnitOf, HasRegisters, FollowsStep, dropped, new_state}
-use Rattle.sl_image.proofs.Channels.{few-channels, init-choices}
-use Rattle.sl_image.proofs.Fits.{few-packets, few-bytes}
-use Rattle.sl_image.proofs.Shorts.{all-short}
-use Rattle.sl_image.proofs.Totals.{distinct-channels}
-use Rattle.sl_image.proofs.Windows.{each-get, next-takeable}
+use Rattle.sl_model.proofs.Fits.{few-packets, few-bytes}
+use Rattle.sl_model.proofs.Shorts.{all-short}
+use Rattle.sl_model.proofs.Totals.{distinct-channels}
+use Rattle.sl_model.proofs.Windows.{each-get, next-takeable}
 use Rattle.sl_image.proofs.UnitRegisters.{regs-is}
 use Rattle.sl_image.proofs.UnitTurns.{wires-are}
 use Rattle.sl_image.proofs.UnitMessages.{IsGiven, state_at}
@@ -121,7 +120,7 @@ given : (s : Setup) (table : Snapshot) (lost : Losses) (es : List Entry) (u c : 
     → IsGiven s.net table u i.device i.port i.side c (history (world s lost es) u) st.registers.saved m
 given s table lost es u c i step m st net wired t short few q n e stands = record {
   actor = q;
-  chans = record { distinct = distinct-channels s.net u; few = few-channels s.net u i net q; inits = init-choices s.net u i net q };
+  chans = record { distinct = distinct-channels s.net u; few = wired.few_channels u i q; inits = wired.one_init u i q };
   keeps = stands.registers.saved;
   room = record {
     packets = omega (arith, steps, few, few-packets (history (world s lost es) u));

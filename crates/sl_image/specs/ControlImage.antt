@@ -5,15 +5,15 @@
 use Rattle.std.specs.Prelude.{◌≡◌, ℕ, Bool, List, map, slice_index, Option, Some}
 use Rattle.sl_machine.specs.Machine.{After}
 use Rattle.sl_layout.specs.declared.actor.Sort.TheVariants.{Dump}
-use Rattle.sl_net.specs.Net.{Net, units, action_choice}
-use Rattle.sl_net.specs.Serving.{Served, choice_from, served}
+use Rattle.sl_layout.specs.Net.{Net, units, action_choice}
+use Rattle.sl_layout.specs.Serving.{Served, choice_from, served}
 use Rattle.sl_wire.specs.declared.message.Msg.{Msg}
 use Rattle.sl_control.specs.declared.known.Known.{Known}
 use Rattle.sl_control.specs.Control.{ControlState}
 use Rattle.sl_control.specs.Wires.{unit_wires, control_wires}
-use Rattle.sl_history.specs.declared.message.Put.{Put}
-use Rattle.sl_cut.specs.History.{History, id}
-use Rattle.sl_cut.specs.Knowledge.{upto_of, dumped, told_of, is_outstanding, is_again}
+use Rattle.sl_model.specs.declared.message.Put.{Put}
+use Rattle.sl_model.specs.History.{History, id}
+use Rattle.sl_model.specs.Knowledge.{upto_of, dumped, told_of, is_outstanding, is_again}
 use Rattle.sl_image.specs.Messages.{eight, lasts, cpu_last, AreSent}
 
 -- what is known of a unit of which the history g was told

@@ -1,9 +1,9 @@
 -- What a host's machine stands for: the host's history. a is the host's actor, and i its number among the hosts.
 use Rattle.std.specs.Prelude.{◌≡◌, ℕ}
-use Rattle.sl_net.specs.Net.{action_choice}
+use Rattle.sl_layout.specs.Net.{action_choice}
 use Rattle.sl_host.specs.Host.{HostState}
-use Rattle.sl_cut.specs.History.{History, World, history, taken}
-use Rattle.sl_cut.specs.Setup.{Setup, frames_of}
+use Rattle.sl_model.specs.History.{History, World, history, taken}
+use Rattle.sl_model.specs.Setup.{Setup, frames_of}
 
 -- it sent a frame each time that it injected, and took each from its one link, by the choice 0
 abbrev pub host_of : Setup → ℕ → ℕ → History → HostState

@@ -4,10 +4,10 @@
 --     Does Stands .. o       of an action, which may be done or not
 use Rattle.std.specs.Prelude.{◌≡◌, ℕ, List, Option, Some}
 use Rattle.sl_machine.specs.Machine.{After}
-use Rattle.sl_net.specs.Net.{Net}
+use Rattle.sl_layout.specs.Net.{Net}
 use Rattle.sl_wire.specs.declared.message.Msg.{Msg}
-use Rattle.sl_history.specs.declared.message.Put.{Put}
-use Rattle.sl_cut.specs.History.{History}
+use Rattle.sl_model.specs.declared.message.Put.{Put}
+use Rattle.sl_model.specs.History.{History}
 use Rattle.sl_image.specs.Messages.{AreSent}
 
 pub record Leaves {S : Type 0} (Stands : S → Type 0) (net : Net) (ring : ℕ) (us : ℕ → History) (a : ℕ) (told : ℕ → ℕ) (ps : List Put) (x : After S Msg) : Type 0 where

@@ -1,14 +1,5 @@
-pub mod Calls
-pub mod Rows
-pub mod Late
-pub mod Window
-pub mod Short
-pub mod Brought
-pub mod Polls
-pub mod Accounts
 pub mod Messages
 pub mod UnitImage
-pub mod Fields
 pub mod ControlImage
 pub mod Leaves
 pub mod ObserverImage

@@ -6,8 +6,8 @@
 -- told gives for the place of each unit how many of its steps were told before.
 use Rattle.std.specs.Prelude.{◌≡◌, ℕ, List, [], ◌∷◌, ◌++◌, map, take, length, replicate, slice_index, slice_get, option_map, unwrap_or}
 use Rattle.sl_layout.specs.declared.actor.Sort.TheVariants.{Init as InitSort}
-use Rattle.sl_net.specs.Net.{Net, units, unit_place, data_channels, choices_of}
-use Rattle.sl_net.specs.Wires.{out_of}
+use Rattle.sl_layout.specs.Net.{Net, units, unit_place, data_channels, choices_of}
+use Rattle.sl_layout.specs.Wires.{out_of}
 use Rattle.sl_saves.specs.declared.entry.Saved.{Saved}
 use Rattle.sl_saves.specs.Views.{IsShown, held_saved}
 use Rattle.sl_wire.specs.declared.message.PlainDump.{PlainDump}
@@ -15,13 +15,13 @@ use Rattle.sl_wire.specs.declared.message.Done.{Done}
 use Rattle.sl_wire.specs.declared.message.Msg.{Msg}
 use Rattle.sl_wire.specs.declared.message.Msg.TheVariants as wire
 use Rattle.sl_control.specs.Rows.{span}
-use Rattle.sl_history.specs.declared.message.Message.{Message}
-use Rattle.sl_history.specs.declared.message.Message.TheVariants.{Host, Data, Probe, Init, Poll, Notice, Dump as DumpMsg, Begin, Done as DoneMsg}
-use Rattle.sl_history.specs.declared.message.Put.{Put}
-use Rattle.sl_cut.specs.History.{History, id, last, first}
-use Rattle.sl_cut.specs.Knowledge.{upto_of, floor_of}
-use Rattle.sl_image.specs.Calls.{calls}
-use Rattle.sl_image.specs.Rows.{row}
+use Rattle.sl_model.specs.declared.message.Message.{Message}
+use Rattle.sl_model.specs.declared.message.Message.TheVariants.{Host, Data, Probe, Init, Poll, Notice, Dump as DumpMsg, Begin, Done as DoneMsg}
+use Rattle.sl_model.specs.declared.message.Put.{Put}
+use Rattle.sl_model.specs.History.{History, id, last, first}
+use Rattle.sl_model.specs.Knowledge.{upto_of, floor_of}
+use Rattle.sl_model.specs.Calls.{calls}
+use Rattle.sl_model.specs.Rows.{row}
 
 -- eight numbers, with 0 past those that there are
 abbrev pub eight : List ℕ → List ℕ

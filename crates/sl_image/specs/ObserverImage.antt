@@ -5,15 +5,15 @@
 --     account_of x              the account that a unit's state is
 use Rattle.std.specs.Prelude.{◌≡◌, ℕ, ◌≤◌, map, length, take}
 use Rattle.sl_net.specs.declared.input.Snapshot.{Snapshot}
-use Rattle.sl_net.specs.Parts.{numbers_from}
-use Rattle.sl_net.specs.Net.{Net, actor_of, links_into, links_from, units, data_channels}
+use Rattle.sl_parts.specs.Parts.{numbers_from}
+use Rattle.sl_layout.specs.Net.{Net, actor_of, links_into, links_from, units, data_channels}
 use Rattle.sl_saves.specs.Views.{held_saved}
 use Rattle.sl_observe.specs.Observer.{UnitState, ObserverState, device_of}
-use Rattle.sl_cut.specs.History.{History, World, id}
-use Rattle.sl_cut.specs.Setup.{Setup}
-use Rattle.sl_cut.specs.Knowledge.{observer, known, issued, resent, collected, upto_of, floor_of}
-use Rattle.sl_image.specs.Rows.{row}
-use Rattle.sl_image.specs.Accounts.{Account}
+use Rattle.sl_model.specs.History.{History, World, id}
+use Rattle.sl_model.specs.Setup.{Setup}
+use Rattle.sl_model.specs.Knowledge.{observer, known, issued, resent, collected, upto_of, floor_of}
+use Rattle.sl_model.specs.Rows.{row}
+use Rattle.sl_model.specs.Accounts.{Account}
 use Rattle.sl_image.specs.Messages.{eight, lasts}
 
 -- the rows are those of the numbers that are collected, as slots hold them

@@ -8,17 +8,17 @@ use Rattle.sl_layout.specs.declared.actor.Side.{Side}
 use Rattle.sl_layout.specs.declared.actor.Side.TheVariants.{Ingress, Egress}
 use Rattle.sl_layout.specs.declared.actor.UnitId.{UnitId}
 use Rattle.sl_net.specs.declared.input.Snapshot.{Snapshot}
-use Rattle.sl_net.specs.Net.{Net, data_channels}
+use Rattle.sl_layout.specs.Net.{Net, data_channels}
 use Rattle.sl_saves.specs.Calls.{Call}
 use Rattle.sl_saves.specs.Keeping.{Listed, IsListed}
 use Rattle.sl_wire.specs.declared.message.Msg.{Msg}
 use Rattle.sl_unit.specs.Registers.{Registers}
 use Rattle.sl_unit.specs.Step.{UnitState}
 use Rattle.sl_unit.specs.Made.{ingress_state, egress_state}
-use Rattle.sl_history.specs.declared.message.Put.{Put}
-use Rattle.sl_cut.specs.History.{History, id}
-use Rattle.sl_cut.specs.Counting.{packets, bytes, bad, expired, noroute}
-use Rattle.sl_image.specs.Calls.{calls}
+use Rattle.sl_model.specs.declared.message.Put.{Put}
+use Rattle.sl_model.specs.History.{History, id}
+use Rattle.sl_model.specs.Counting.{packets, bytes, bad, expired, noroute}
+use Rattle.sl_model.specs.Calls.{calls}
 use Rattle.sl_image.specs.Messages.{eight, lasts, cpu_last, AreSent}
 
 -- they are shown in views of as many slots as the ring has

@@ -2,20 +2,20 @@
 // functions do nothing: their contracts are the laws, and the proofs are in proofs/.
 ghost use Rattle.std.specs.Prelude.{◌≡◌, ◌≢◌, ℕ, ◌≤◌, List, Some, None};
 ghost use Rattle.sl_layout.specs.declared.actor.ActorId.TheVariants.{Control};
-ghost use Rattle.sl_net.specs.Net.{Net, actor_of, link_of, link_at};
+ghost use Rattle.sl_layout.specs.Net.{Net, actor_of, link_of, link_at};
 ghost use Rattle.sl_net.specs.Wired.{IsNet};
 ghost use Rattle.sl_wire.specs.declared.message.Msg.{Msg};
 ghost use Rattle.sl_control.specs.Control.{ControlState, control_take, control_act};
 ghost use Rattle.sl_control.specs.Wires.{control_of, first_control};
-ghost use Rattle.sl_history.specs.declared.message.Message.{Message};
-ghost use Rattle.sl_history.specs.declared.message.Step.{Step};
-ghost use Rattle.sl_cut.specs.History.{Losses, history};
-ghost use Rattle.sl_cut.specs.Setup.{Setup};
-ghost use Rattle.sl_cut.specs.World.{Entry, start, next_step, turn, world};
+ghost use Rattle.sl_model.specs.declared.message.Message.{Message};
+ghost use Rattle.sl_model.specs.declared.message.Step.{Step};
+ghost use Rattle.sl_model.specs.History.{Losses, history};
+ghost use Rattle.sl_model.specs.Setup.{Setup};
+ghost use Rattle.sl_model.specs.World.{Entry, start, next_step, turn, world};
 ghost use Rattle.sl_image.specs.Messages.{IsMessage};
 ghost use Rattle.sl_image.specs.ControlImage.{IsControlOf, IsControlTurn, IsControlAct};
 
-use crate::reports::brought_rows_are_read;
+use sl_model::brought_rows_are_read;
 use sl_net::nets_are_wired;
 
 /// At the start the machine of a control plane stands for the world at the start. The machine of a

@@ -3,15 +3,15 @@
 ghost use Rattle.std.specs.Prelude.{◌≡◌, ◌≢◌, ◌<◌, ◌^◌, ℕ, [], List, length, Some, None, slice_get};
 ghost use Rattle.sl_layout.specs.declared.actor.ActorId.TheVariants.{Host as OfHost};
 ghost use Rattle.sl_net.specs.Input.{Input};
-ghost use Rattle.sl_net.specs.Net.{Net, action_choice, links_into, links_from};
+ghost use Rattle.sl_layout.specs.Net.{Net, action_choice, links_into, links_from};
 ghost use Rattle.sl_net.specs.Wired.{IsNet};
 ghost use Rattle.sl_wire.specs.declared.message.Msg.{Msg};
 ghost use Rattle.sl_host.specs.Host.{HostState, frames_of, host_take, host_act};
-ghost use Rattle.sl_history.specs.declared.message.Message.{Message};
-ghost use Rattle.sl_history.specs.declared.message.Step.{Step};
-ghost use Rattle.sl_cut.specs.History.{Losses, history};
-ghost use Rattle.sl_cut.specs.Setup.{Setup, setup_of};
-ghost use Rattle.sl_cut.specs.World.{Entry, next_step, turn, world};
+ghost use Rattle.sl_model.specs.declared.message.Message.{Message};
+ghost use Rattle.sl_model.specs.declared.message.Step.{Step};
+ghost use Rattle.sl_model.specs.History.{Losses, history};
+ghost use Rattle.sl_model.specs.Setup.{Setup, setup_of};
+ghost use Rattle.sl_model.specs.World.{Entry, next_step, turn, world};
 ghost use Rattle.sl_image.specs.HostImage.{IsHostOf};
 ghost use Rattle.sl_image.specs.Leaves.{Leaves, Does};
 ghost use Rattle.sl_image.specs.Messages.{IsMessage};
@@ -22,7 +22,9 @@ use sl_net::nets_are_wired;
 pub fn hosts_have_two_links()
     ensures ins { (net : Net) (a i : ℕ) → IsNet net → slice_get net.actors a ≡ Some (OfHost i) → length (links_into net a) ≡ 1 }
     ensures outs { (net : Net) (a i : ℕ) → IsNet net → slice_get net.actors a ≡ Some (OfHost i) → length (links_from net a) ≡ 1 }
-{}
+{
+    nets_are_wired()
+}
 
 /// The first state of a host's machine stands for the empty history.
 pub fn hosts_start()

@@ -4,28 +4,28 @@ ghost use Rattle.std.specs.Prelude.{◌≡◌, ◌≢◌, ◌≤◌, ◌<◌, �
 ghost use Rattle.sl_layout.specs.declared.actor.UnitId.{UnitId};
 ghost use Rattle.sl_layout.specs.declared.actor.ActorId.TheVariants.{Unit as OfUnit};
 ghost use Rattle.sl_net.specs.declared.input.Snapshot.{Snapshot};
-ghost use Rattle.sl_net.specs.Parts.{numbers_from};
-ghost use Rattle.sl_net.specs.Net.{actor_of, action_choice, units, unit_place, data_channels};
+ghost use Rattle.sl_parts.specs.Parts.{numbers_from};
+ghost use Rattle.sl_layout.specs.Net.{actor_of, action_choice, units, unit_place, data_channels};
 ghost use Rattle.sl_net.specs.Wired.{IsNet};
 ghost use Rattle.sl_wire.specs.declared.message.Msg.{Msg};
 ghost use Rattle.sl_observe.specs.Observer.{ObserverState, first_state, observer_take, observer_act, unit_at, seen_of, saved_of};
 ghost use Rattle.sl_observe.specs.Observer.{floor_of as floor_told};
-ghost use Rattle.sl_history.specs.declared.message.Message.{Message};
-ghost use Rattle.sl_history.specs.declared.message.Step.{Step};
-ghost use Rattle.sl_cut.specs.History.{Losses, history, id};
-ghost use Rattle.sl_cut.specs.Setup.{Setup};
-ghost use Rattle.sl_cut.specs.Knowledge.{observer, collected, issued, resent, upto_of, unit_floor, floor};
-ghost use Rattle.sl_cut.specs.End.{IsFinished};
-ghost use Rattle.sl_cut.specs.Findings.{finding, findings};
-ghost use Rattle.sl_cut.specs.World.{Entry, next_step, turn, world};
-ghost use Rattle.sl_image.specs.Rows.{row};
-ghost use Rattle.sl_image.specs.Short.{SendsShort};
-ghost use Rattle.sl_image.specs.Accounts.{accounts, finding_by};
+ghost use Rattle.sl_model.specs.declared.message.Message.{Message};
+ghost use Rattle.sl_model.specs.declared.message.Step.{Step};
+ghost use Rattle.sl_model.specs.History.{Losses, history, id};
+ghost use Rattle.sl_model.specs.Setup.{Setup};
+ghost use Rattle.sl_model.specs.Knowledge.{observer, collected, issued, resent, upto_of, unit_floor, floor};
+ghost use Rattle.sl_model.specs.End.{IsFinished};
+ghost use Rattle.sl_model.specs.Findings.{finding, findings};
+ghost use Rattle.sl_model.specs.World.{Entry, next_step, turn, world};
+ghost use Rattle.sl_model.specs.Rows.{row};
+ghost use Rattle.sl_model.specs.Short.{SendsShort};
+ghost use Rattle.sl_model.specs.Accounts.{accounts, finding_by};
 ghost use Rattle.sl_image.specs.Leaves.{Leaves, Does};
 ghost use Rattle.sl_image.specs.Messages.{IsMessage, eight, lasts};
 ghost use Rattle.sl_image.specs.ObserverImage.{IsObserverOf, IsTableOf, known_at, account_of};
 
-use crate::worlds::{accounts_give_findings, rows_are_held};
+use sl_model::{accounts_give_findings, rows_are_held};
 use sl_net::nets_are_wired;
 use sl_observe::begins_take_all_links;
 
@@ -110,6 +110,7 @@ pub fn observers_give_findings()
         → IsObserverOf s.net table (world s lost es) o → IsFinished s lost (world s lost es)
         → map (finding_by o.issued (map account_of o.units)) (numbers_from 1 s.count) ≡ (findings s lost es).list }
 {
+    nets_are_wired();
     rows_are_held();
     accounts_give_findings()
 }

@@ -5,22 +5,20 @@ ghost use Rattle.sl_layout.specs.declared.actor.ActorId.TheVariants.{Unit as OfU
 ghost use Rattle.sl_layout.specs.declared.actor.Side.TheVariants.{Ingress, Egress};
 ghost use Rattle.sl_layout.specs.declared.actor.UnitId.{UnitId};
 ghost use Rattle.sl_net.specs.declared.input.Snapshot.{Snapshot};
-ghost use Rattle.sl_net.specs.Net.{Net, actor_of, links_into};
+ghost use Rattle.sl_layout.specs.Net.{Net, actor_of, links_into};
 ghost use Rattle.sl_net.specs.Wired.{IsNet};
 ghost use Rattle.sl_wire.specs.declared.message.Msg.{Msg};
 ghost use Rattle.sl_unit.specs.Made.{IsRanged, ingress_state, egress_state};
 ghost use Rattle.sl_unit.specs.Step.{UnitState, unit_rules};
 ghost use Rattle.sl_unit.specs.Units.{shown_counts};
-ghost use Rattle.sl_history.specs.declared.message.Message.{Message};
-ghost use Rattle.sl_history.specs.declared.message.Step.{Step};
-ghost use Rattle.sl_cut.specs.Words.{Each, listed};
-ghost use Rattle.sl_cut.specs.History.{History, Losses, history, put};
-ghost use Rattle.sl_cut.specs.Counting.{counted, packets, bytes, bad, expired, noroute};
-ghost use Rattle.sl_cut.specs.Setup.{Setup};
-ghost use Rattle.sl_cut.specs.World.{Entry, next_step, turn, world};
+ghost use Rattle.sl_model.specs.declared.message.Message.{Message};
+ghost use Rattle.sl_model.specs.declared.message.Step.{Step};
+ghost use Rattle.sl_model.specs.History.{History, Losses, history};
+ghost use Rattle.sl_model.specs.Counting.{packets, bytes, bad, expired, noroute};
+ghost use Rattle.sl_model.specs.Setup.{Setup};
+ghost use Rattle.sl_model.specs.World.{Entry, next_step, turn, world};
 ghost use Rattle.sl_image.specs.Messages.{IsMessage};
-ghost use Rattle.sl_image.specs.Fields.{HasFields, SendsFields, MessageHasFields};
-ghost use Rattle.sl_image.specs.Short.{SendsShort};
+ghost use Rattle.sl_model.specs.Short.{SendsShort};
 ghost use Rattle.sl_image.specs.UnitImage.{IsUnitOf, FollowsStep, dropped};
 
 use sl_net::nets_are_wired;
@@ -71,13 +69,4 @@ pub fn unit_counts_are_told()
           expired = dropped i.side (expired h);
           noroute = dropped i.side (noroute net.parts i.device h);
         } }
-{}
-
-/// Where the fields of the packets that hosts send fit the columns of a frame, so do those of each
-/// packet that is put, and of each that is counted.
-pub fn packets_have_fields()
-    ensures put { (s : Setup) (lost : Losses) (es : List Entry) (l a : ℕ) → SendsFields s → Each MessageHasFields (put l (history (world s lost es) a)) }
-    ensures counted { (s : Setup) (lost : Losses) (es : List Entry) (a : ℕ) → SendsFields s
-        → Each (λ step. Each HasFields (listed (counted step))) (history (world s lost es) a) }
-    ensures short { (s : Setup) → SendsFields s → SendsShort s }
 {}

@@ -16,10 +16,11 @@ use Rattle.sl_layout.specs.Net.{Net, net_of, no_link, link_numbers, links_into, 
 use Rattle.sl_parts.specs.Valid.{IsValid}
 use Rattle.sl_layout.specs.Groups.{grouped, places_in_groups}
 use Rattle.sl_layout.specs.Wires.{HasEnds, out_of}
-use Rattle.sl_parts.proofs.Lists.{each-imp, each-of, each-map, each-from_all, all-from_each, Member}
-use Rattle.sl_parts.proofs.Counting.{length_numbers}
+use Rattle.sl_parts.specs.Lists.{Member}
+use Rattle.sl_parts.proofs.Lists.{each-imp, each-of, each-map, each-from_all, all-from_each, length_numbers, length_flat_le}
 use Rattle.sl_layout.proofs.Grouping.{map_same}
-use Rattle.sl_layout.proofs.Sizes.{few_used, few_units, length_flat_le, length_map-is}
+use Rattle.std.proofs.lemmas.List.{length-map}
+use Rattle.sl_layout.proofs.Sizes.{few_used, few_units}
 use Rattle.sl_layout.proofs.Actors.{same_actor_refl, actor-member}
 use Rattle.sl_layout.proofs.Senders.{IsLink, each-link}
 
@@ -61,10 +62,10 @@ few_to_unit parts d p Ingress v = omega (
 )
 few_to_unit parts d p Egress v =
     let xs : List Incoming = map (λ q. (ingress d q, Crossbar)) (used_ports parts d) in
-    omega (arith, length-append xs ((Control d, Poll) ∷ []), length_map-is {B = Incoming} (λ q. (ingress d q, Crossbar)) (used_ports parts d), few_used parts d v)
+    omega (arith, length-append xs ((Control d, Poll) ∷ []), length-map {B = Incoming} (used_ports parts d) (λ q. (ingress d q, Crossbar)), few_used parts d v)
 
 few_incoming : (parts : Parts) (a : ActorId) → IsValid parts → length (incoming parts a) ≤ 64
-few_incoming parts Observer v = omega (arith, length_map-is {B = Incoming} (λ d. (Control d, Done)) (below (length parts.devices)), length_numbers 0 (length parts.devices), v.devices)
+few_incoming parts Observer v = omega (arith, length-map {B = Incoming} (below (length parts.devices)) (λ d. (Control d, Done)), length_numbers 0 (length parts.devices), v.devices)
 few_incoming parts (Control d) v = omega (
   arith,
   few_units parts d v,
@@ -78,7 +79,7 @@ few_links parts v few = omega (
   arith,
   few,
   length_flat_le (links_to parts (actors_of parts)) 64 (actors_of parts) (each-of (λ a. length (links_to parts (actors_of parts) a) ≤ 64) (actors_of parts)
-      (λ a m. omega (arith, length_map-is {B = LinkPart} (λ (i : Incoming). record { from = place_of i.0 (actors_of parts); to = place_of a (actors_of parts); sort = i.1 }) (incoming parts a), few_incoming parts a v))),
+      (λ a m. omega (arith, length-map {B = LinkPart} (incoming parts a) (λ (i : Incoming). record { from = place_of i.0 (actors_of parts); to = place_of a (actors_of parts); sort = i.1 }), few_incoming parts a v))),
 )
 
 -- Sorted by an end.
@@ -91,7 +92,7 @@ key_at : (f : LinkPart → ℕ) (links : List LinkPart) (l : ℕ) → f no_link 
 key_at f links l z = ap (λ n. get_or (map f links) l n) (sym z) ∙ get_or-map f links l no_link
 
 sorted-is : (f : LinkPart → ℕ) (links : List LinkPart) (a : ℕ) → f no_link ≡ 0 → grouped (map f links) (length (map f links)) a ≡ filter (λ l. f (get_or links l no_link) == a) (below (length links))
-sorted-is f links a z = ap (λ n. grouped (map f links) n a) (length_map-is f links)
+sorted-is f links a z = ap (λ n. grouped (map f links) n a) (length-map links f)
     ∙ filter_same (λ l. slice_index (map f links) l == a) (λ l. f (get_or links l no_link) == a) (below (length links)) (λ l. ap (λ n. n == a) (key_at f links l z))
 
 pub into-is : (net : Net) (count : ℕ) → map (grouped (map (λ k. k.to) net.links) (length (map (λ k. k.to) net.links))) (below count) ≡ map (links_into net) (below count)
@@ -104,11 +105,11 @@ places-sorted : (f : LinkPart → ℕ) (links : List LinkPart) (l : ℕ) → f n
 places-sorted f links l z = ap (λ a. place_in 0 l (grouped (map f links) (length (map f links)) a)) (key_at f links l z) ∙ ap (place_in 0 l) (sorted-is f links (f (get_or links l no_link)) z)
 
 pub choices-is : (net : Net) → map (places_in_groups (map (λ k. k.to) net.links)) (below (length (map (λ k. k.to) net.links))) ≡ map (choice_of net) (link_numbers net)
-choices-is net = ap (λ n. map (places_in_groups (map (λ k. k.to) net.links)) (below n)) (length_map-is (λ k. k.to) net.links)
+choices-is net = ap (λ n. map (places_in_groups (map (λ k. k.to) net.links)) (below n)) (length-map net.links (λ k. k.to))
     ∙ map_same (places_in_groups (map (λ k. k.to) net.links)) (choice_of net) (length net.links) (λ l h. places-sorted (λ k. k.to) net.links l refl)
 
 pub outs-is : (net : Net) → map (places_in_groups (map (λ k. k.from) net.links)) (below (length (map (λ k. k.from) net.links))) ≡ map (out_of net) (link_numbers net)
-outs-is net = ap (λ n. map (places_in_groups (map (λ k. k.from) net.links)) (below n)) (length_map-is (λ k. k.from) net.links)
+outs-is net = ap (λ n. map (places_in_groups (map (λ k. k.from) net.links)) (below n)) (length-map net.links (λ k. k.from))
     ∙ map_same (places_in_groups (map (λ k. k.from) net.links)) (out_of net) (length net.links) (λ l h. places-sorted (λ k. k.from) net.links l refl)
 
 -- The keys are actors' numbers, and few.
@@ -124,4 +125,4 @@ pub senders_low : (parts : Parts) → IsValid parts → All (λ n. n < length (a
 senders_low parts v = keys-low parts (λ k. k.from) v (λ k e. e.from)
 
 pub few_keys : (parts : Parts) (f : LinkPart → ℕ) → IsValid parts → length (actors_of parts) ≤ 1217 → length (map f (net_of parts).links) ≤ 77888
-few_keys parts f v few = omega (arith, length_map-is f (net_of parts).links, few_links parts v few)
+few_keys parts f v few = omega (arith, length-map (net_of parts).links f, few_links parts v few)

@@ -6,8 +6,7 @@ use Rattle.std.proofs.lemmas.Bool.{cases_lt, eq-eqb}
 use Rattle.sl_parts.specs.Parts.{below, numbers_from}
 use Rattle.sl_layout.specs.Net.{place_in}
 use Rattle.sl_layout.specs.Groups.{grouped, places_in_groups}
-use Rattle.sl_parts.proofs.Counting.{filter_below_more, at_below, length_numbers}
-use Rattle.sl_layout.proofs.Sizes.{length_filter_le}
+use Rattle.sl_parts.proofs.Lists.{filter_below_more, at_below, length_numbers, length_filter_le}
 
 -- two lists made of the numbers are one where they agree at each number
 pub map_same : {A : Type 0} (f g : ℕ → A) (n : ℕ) → ((i : ℕ) → i < n → f i ≡ g i) → map f (below n) ≡ map g (below n)

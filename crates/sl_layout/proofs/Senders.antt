@@ -18,7 +18,8 @@ use Rattle.sl_parts.specs.Valid.{IsPort, IsValid}
 use Rattle.sl_layout.specs.Roster.{IsActor}
 use Rattle.sl_parts.specs.Ports.{IsNear}
 use Rattle.sl_parts.proofs.Tables.{near}
-use Rattle.sl_parts.proofs.Lists.{Each, each-append, each-map, each-imp, each-flat, each-below, each-of, each-at, each-from_all, Member}
+use Rattle.sl_parts.specs.Lists.{Each, Member}
+use Rattle.sl_parts.proofs.Lists.{each-append, each-map, each-imp, each-flat, each-below, each-of, each-at, each-from_all}
 use Rattle.sl_layout.proofs.Actors.{each-actor, each-used}
 
 abbrev pub sends : ActorId → ℕ → Bool

@@ -9,24 +9,9 @@ use Rattle.sl_parts.specs.Parts.{Parts, below, is_used, ports_of, used_ports}
 use Rattle.sl_layout.specs.Net.{units_of, actors_of, ingress, egress}
 use Rattle.sl_layout.specs.Roster.{IsFew, IsActor}
 use Rattle.sl_parts.specs.Valid.{IsValid}
-use Rattle.sl_parts.proofs.Lists.{Each, each-imp, each-of, all-from_each}
-use Rattle.sl_parts.proofs.Counting.{length_numbers}
+use Rattle.sl_parts.specs.Lists.{Each}
+use Rattle.sl_parts.proofs.Lists.{length_filter_le, length_flat_le, each-imp, each-of, all-from_each, length_numbers}
 use Rattle.sl_layout.proofs.Actors.{each-actor, each-used}
-
-pub length_filter_le : {A : Type 0} (t : A → Bool) (xs : List A) → length (filter t xs) ≤ length xs
-length_filter_le t [] = omega arith
-length_filter_le t (x ∷ xs) = by_bool (t x) (length_filter_le t xs)
-  where
-    by_bool : (b : Bool) → length (filter t xs) ≤ length xs → length (cond b (x ∷ filter t xs) (filter t xs)) ≤ suc (length xs)
-    by_bool true h = omega arith
-    by_bool false h = omega arith
-
-pub length_flat_le : {A B : Type 0} (f : A → List B) (m : ℕ) (xs : List A) → Each (λ x. length (f x) ≤ m) xs → length (flat_map f xs) ≤ m * length xs
-length_flat_le f m [] e = omega arith
-length_flat_le f m (x ∷ xs) e = omega (arith, e.0, length-append (f x) (flat_map f xs), length_flat_le f m xs e.1)
-
-pub length_map-is : {A B : Type 0} (f : A → B) (xs : List A) → length (map f xs) ≡ length xs
-length_map-is f xs = simp length-map
 
 pub few_used : (parts : Parts) (d : ℕ) → IsValid parts → length (used_ports parts d) ≤ 8
 few_used parts d v = omega (arith, length_filter_le (λ p. is_used parts (record { device = d; port = p })) (below (ports_of parts d)), length_numbers 0 (ports_of parts d), v.ports d)
@@ -41,7 +26,7 @@ few_actors parts v h =
     omega (
       arith,
       length-append devices hosts,
-      length_map-is OfHost (below (length parts.hosts)),
+      length-map (below (length parts.hosts)) OfHost,
       length_numbers 0 (length parts.hosts),
       length_numbers 0 (length parts.devices),
       v.devices,

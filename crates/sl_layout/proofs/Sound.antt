@@ -14,9 +14,9 @@ use Rattle.sl_layout.specs.Wires.{HasEnds, AreWires, out_of}
 use Rattle.sl_layout.specs.Groups.{Sorted}
 use Rattle.std.specs.List.{All}
 use Rattle.sl_layout.specs.Wiring.{actions_of, wired_link, plan_of}
-use Rattle.sl_parts.proofs.Lists.{Member, Distinct, distinct-filter, distinct-from, member-filter, member-from, inside, each-below, each-both, each-index}
-use Rattle.sl_parts.proofs.Counting.{at_below, length_below, length_numbers}
-use Rattle.sl_layout.proofs.Sizes.{length_filter_le, length_map-is}
+use Rattle.sl_parts.specs.Lists.{Member, Distinct}
+use Rattle.sl_parts.proofs.Lists.{distinct-filter, distinct-from, member-filter, member-from, inside, each-below, each-both, each-index, at_below, length_below, length_numbers, length_filter_le}
+use Rattle.std.proofs.lemmas.List.{length-map}
 
 -- Places in a list with no element twice.
 
@@ -122,7 +122,7 @@ few_actions (OfHost h) = omega arith
 pub sound : (net : Net) → length net.actors ≤ 1217 → length net.links ≤ 77888 → ((l : ℕ) → l < length net.links → HasEnds net (link_of net l)) → IsSound (plan_of net)
 sound net actors_few links_few ends = record {
   outs_each = length_below (λ a. length (links_from net a)) n ∙ sym ins;
-  actions_each = length_map-is actions_of net.actors ∙ sym ins;
+  actions_each = length-map net.actors actions_of ∙ sym ins;
   actors_fit = omega (arith, ins);
   links_fit = omega (arith, count);
   choices_fit = λ a h. omega (arith, ins_at a (omega (arith, ins, h)), length_filter_le (λ l. (link_of net l).to == a) (below m), length_numbers 0 m, few_at a (omega (arith, ins, h)));

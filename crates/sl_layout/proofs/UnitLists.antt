@@ -8,8 +8,7 @@ use Rattle.sl_parts.specs.Parts.{below}
 use Rattle.sl_layout.specs.declared.actor.Sort.{Sort}
 use Rattle.sl_layout.specs.Net.{Net, is_unit, nobody, same_sort, link_of, link_at, unit_place}
 use Rattle.sl_layout.specs.Wiring.{sender_by}
-use Rattle.sl_parts.proofs.Lists.{each-imp, each-both, each-below, all-from_each}
-use Rattle.sl_parts.proofs.Counting.{filter_below_more}
+use Rattle.sl_parts.proofs.Lists.{each-imp, each-both, each-below, all-from_each, filter_below_more}
 
 abbrev test : List ActorId → ℕ → Bool
 test actors a = is_unit (get_or actors a nobody)

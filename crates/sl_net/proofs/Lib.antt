@@ -1,23 +1,13 @@
-pub use Rattle.sl_parts.proofs.NumberLemmas
-pub use Rattle.sl_parts.proofs.NameLemmas
-pub use Rattle.sl_parts.proofs.Clash
-pub use Rattle.sl_parts.proofs.Tables
-pub use Rattle.sl_parts.proofs.Checked
-pub use Rattle.sl_parts.proofs.Counting
-pub use Rattle.sl_layout.proofs.Numbering
-pub use Rattle.sl_parts.proofs.Lists
-pub use Rattle.sl_layout.proofs.Actors
-pub use Rattle.sl_layout.proofs.Sizes
-pub use Rattle.sl_layout.proofs.Senders
-pub use Rattle.sl_layout.proofs.Grouping
-pub use Rattle.sl_layout.proofs.Ends
-pub use Rattle.sl_layout.proofs.Placing
-pub use Rattle.sl_layout.proofs.UnitLists
-pub use Rattle.sl_parts.proofs.Filters
+-- Used above, where links are followed one by one: Sorts and ReportWays (lists of links and choices against the links' ends, of any net), EndKinds (which
+-- actor stands at the end of a link), Linked and NetWired (the links of the net of some parts). What holds of each net of parts without a fault is a field of
+-- `IsWired`, by the law `nets_are_wired`.
 pub mod Sorts
 pub mod EndKinds
 pub mod Linked
 pub mod NetWired
 pub mod ReportWays
 pub mod Skips
-pub use Rattle.sl_layout.proofs.Sound
+pub mod HostWays
+pub mod Channels
+pub mod ObserverLinks
+pub mod Wired

@@ -18,11 +18,11 @@ use Rattle.sl_layout.specs.Net.{net_of, link_of, actor_of, nobody, no_link, ingr
 use Rattle.sl_parts.specs.Valid.{IsValid}
 use Rattle.sl_layout.specs.Roster.{IsActor}
 use Rattle.sl_net.specs.Wired.{sends, receives}
-use Rattle.sl_parts.proofs.Lists.{Each, each-append, each-map, each-imp, each-flat, each-of, each-at, each-index, Member, member-flat, member-map, Distinct, distinct-append, distinct-filter, distinct-from}
+use Rattle.sl_parts.specs.Lists.{Each, Member, Distinct}
+use Rattle.sl_parts.proofs.Lists.{each-append, each-map, each-imp, each-flat, each-of, each-at, each-index, member-flat, member-map, distinct-append, distinct-filter, distinct-from, member-of-map, place-of-member, distinct-map, distinct-joined, one-place}
 use Rattle.sl_layout.proofs.Actors.{actor-member, each-actor, actor-at, actors-distinct, place-at, units-distinct, each-unit-of}
 use Rattle.sl_layout.proofs.Senders.{IsSender, IsLink, each-sender, each-link}
 use Rattle.sl_net.proofs.EndKinds.{home}
-use Rattle.sl_parts.proofs.Filters.{member-of-map, place-of-member, distinct-map, distinct-joined, one-place}
 
 -- Actors by their places.
 

@@ -1,6 +1,5 @@
 -- The net of valid parts is wired.
 --     into-links      the links into an actor are its incoming ones, in order
---     wired           the wiring that the laws ask for
 use Rattle.std.proofs.Common.{◌≡◌, ℕ, zero, suc, ◌<◌, List, [], ◌∷◌, ◌++◌, length, refl, sym, ap, subst, ◌∙◌, Option, Some, None, arith, inl, inr, eq-eqb, get_or, append-nil}
 use Rattle.std.specs.Prelude.{◌⊎◌, cond, true, false, Bool, ◌==◌, nat_eq, map, filter, flat_map, slice_get}
 use Rattle.std.proofs.lemmas.Bool.Decides.{eqb_tells}
@@ -18,32 +17,17 @@ use Rattle.sl_parts.specs.Valid.{IsValid}
 use Rattle.sl_layout.specs.Roster.{IsActor}
 use Rattle.sl_parts.specs.declared.fault.NetFault.{NetFault}
 use Rattle.sl_parts.specs.Fault.{first_of, fault_of, no_device, too_many_devices, wrong_ports, stray_cable, stray_host, reused_port, too_many_hosts, used_host_port, device_namesake, host_namesake}
-use Rattle.sl_net.specs.Wired.{sends, receives, Reports, IsWired, IsNet}
+use Rattle.sl_net.specs.Wired.{sends, receives, Reports}
 use Rattle.sl_parts.proofs.Checked.{valid_from}
-use Rattle.sl_parts.proofs.Lists.{Each, each-map, each-imp, each-of, each-at, Member, member-right, member-flat, member-from, member-map, member-filter, Distinct, distinct-filter, distinct-from}
-use Rattle.sl_parts.proofs.Filters.{only-one}
+use Rattle.sl_parts.specs.Lists.{Each, Member, Distinct}
+use Rattle.std.proofs.lemmas.Simd.{map-map}
+use Rattle.sl_parts.proofs.Lists.{numbers-suc, filter-map, each-map, each-imp, each-of, each-at, member-right, member-flat, member-from, member-map, member-filter, distinct-filter, distinct-from, only-one}
 use Rattle.sl_layout.proofs.Actors.{actor-member, each-actor, actor-at, actors-distinct}
 use Rattle.sl_net.proofs.Sorts.{IsOut, each-out, out-member, is-link, is-into, one-choice}
 use Rattle.sl_net.proofs.EndKinds.{home, notice-receiver, dump-receiver, begin-receiver, done-receiver, poll-sender, begin-sender}
 use Rattle.sl_net.proofs.Linked.{same-place, IsAt, is-at, Joined, reports_of, link_from, Linked, linked, one-link, Ends, ends}
 
 -- The links into an actor.
-
-pub numbers-suc : (s n : ℕ) → numbers_from (suc s) n ≡ map suc (numbers_from s n)
-numbers-suc s zero = refl
-numbers-suc s (suc n) = ap (λ r. suc s ∷ r) (numbers-suc (suc s) n)
-
-pub filter-map : {A B : Type 0} (t : B → Bool) (f : A → B) (xs : List A) → filter t (map f xs) ≡ map f (filter (λ x. t (f x)) xs)
-filter-map t f [] = refl
-filter-map t f (x ∷ xs) = by_bool (t (f x)) (filter-map t f xs)
-  where
-    by_bool : (b : Bool) → filter t (map f xs) ≡ map f (filter (λ x. t (f x)) xs) → cond b (f x ∷ filter t (map f xs)) (filter t (map f xs)) ≡ map f (cond b (x ∷ filter (λ x. t (f x)) xs) (filter (λ x. t (f x)) xs))
-    by_bool true h = ap (λ r. f x ∷ r) h
-    by_bool false h = h
-
-pub map-map : {A B C : Type 0} (g : B → C) (f : A → B) (xs : List A) → map g (map f xs) ≡ map (λ x. g (f x)) xs
-map-map g f [] = refl
-map-map g f (x ∷ xs) = ap (λ r. g (f x) ∷ r) (map-map g f xs)
 
 -- the elements at the numbers of those that pass are those that pass
 pub at-numbers : (t : LinkPart → Bool) (d : LinkPart) (ks : List LinkPart) → map (λ l. get_or ks l d) (filter (λ l. t (get_or ks l d)) (below (length ks))) ≡ filter t ks
@@ -148,7 +132,7 @@ poll-member parts i = of_side i.side
 done-member : (parts : Parts) (d : ℕ) → d < length parts.devices → Member (Control d, Done) (incoming parts Observer)
 done-member parts d h = member-map (λ d. (Control d, Done)) d (below (length parts.devices)) (member-from d 0 (length parts.devices) (omega arith) (omega arith))
 
-reports : (parts : Parts) (u : ℕ) (i : UnitId) → IsValid parts → actor_of (net_of parts) u ≡ OfUnit i → Reports (net_of parts) u
+pub reports : (parts : Parts) (u : ℕ) (i : UnitId) → IsValid parts → actor_of (net_of parts) u ≡ OfUnit i → Reports (net_of parts) u
 reports parts u i v q = of_at (is-at parts u (OfUnit i) q (λ e. cc))
   where
     of_at : IsAt parts u (OfUnit i) → Reports (net_of parts) u
@@ -192,12 +176,12 @@ first-link : (f : ℕ → LinkPart) (xs : List ℕ) (k : LinkPart) (ks : List Li
 first-link f [] k ks h = absurd cc
 first-link f (x ∷ xs) k ks h = (x, refl, cc)
 
-begins : (parts : Parts) (a d : ℕ) → actor_of (net_of parts) a ≡ Control d → (l : ℕ) × (slice_get (links_into (net_of parts) a) 0 ≡ Some l) × ((link_of (net_of parts) l).sort ≡ Begin)
+pub begins : (parts : Parts) (a d : ℕ) → actor_of (net_of parts) a ≡ Control d → (l : ℕ) × (slice_get (links_into (net_of parts) a) 0 ≡ Some l) × ((link_of (net_of parts) l).sort ≡ Begin)
 begins parts a d q = let i = is-at parts a (Control d) q (λ e. cc) in
     let f = first-link (link_of (net_of parts)) (links_into (net_of parts) (place_of (Control d) (actors_of parts))) _ _ (into-links parts (Control d) i.actor) in
     (f.0, subst (λ a. slice_get (links_into (net_of parts) a) 0 ≡ Some f.0) i.place f.1, ap (λ k. k.sort) f.2)
 
-begin-first : (parts : Parts) (a c l : ℕ) → IsValid parts → slice_get (links_into (net_of parts) a) c ≡ Some l → (link_of (net_of parts) l).sort ≡ Begin → c ≡ 0
+pub begin-first : (parts : Parts) (a c l : ℕ) → IsValid parts → slice_get (links_into (net_of parts) a) c ≡ Some l → (link_of (net_of parts) l).sort ≡ Begin → c ≡ 0
 begin-first parts a c l v k q = let i = is-into (net_of parts) a c l k in let e = ends parts l v i.is_link in
     let j : receives e.receiver Begin ≡ true = subst (λ s. receives e.receiver s ≡ true) q e.joined.received in
     let x : actor_of (net_of parts) a ≡ Control (home e.receiver) = ap (actor_of (net_of parts)) (sym i.to) ∙ e.to ∙ begin-receiver e.receiver j in
@@ -210,18 +194,6 @@ begin-first parts a c l v k q = let i = is-into (net_of parts) a c l k in let e 
         let z : l ≡ f.0 = one-link parts l f.0 v i.is_link n.is_link (e.is ∙ ap (λ r. link_from parts r (e.sender, (link_of (net_of parts) l).sort)) y ∙ ap (λ r. link_from parts g.receiver (r, (link_of (net_of parts) l).sort)) x
         ∙ ap (λ s. link_from parts g.receiver (g.sender, s)) (q ∙ sym f.2) ∙ sym g.is) in
         one-choice (net_of parts) a c 0 l k (subst (λ m. slice_get (links_into (net_of parts) a) 0 ≡ Some m) (sym z) f.1)
-
--- The net of valid parts is wired.
-pub wired : (parts : Parts) → IsValid parts → IsWired (net_of parts)
-wired parts v = record {
-  observer = refl;
-  one_observer = λ a q. sym (is-at parts a Observer q (λ e. cc)).place;
-  sender = λ l p. let e = ends parts l v p in subst (λ x. sends x (link_of (net_of parts) l).sort ≡ true) (sym e.from) e.joined.sent;
-  receiver = λ l p. let e = ends parts l v p in subst (λ x. receives x (link_of (net_of parts) l).sort ≡ true) (sym e.to) e.joined.received;
-  begins = λ a d q. begins parts a d q;
-  begin_first = λ a c l k q. begin-first parts a c l v k q;
-  reports = λ u i q. reports parts u i v q;
-}
 
 -- Parts without a fault are valid.
 
@@ -239,6 +211,3 @@ no-reason parts h = none-first (reasons parts) h
 
 pub valid : (parts : Parts) → fault_of parts ≡ None → IsValid parts
 valid parts h = let e = no-reason parts h in valid_from parts e.1.0 e.1.1.0 e.1.1.1.0 e.1.1.1.1.0
-
-pub net-wired : (net : Net) → IsNet net → IsWired net
-net-wired net n = subst IsWired (sym n.made) (wired net.parts (valid net.parts n.right))

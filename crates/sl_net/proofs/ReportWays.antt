@@ -13,7 +13,8 @@ use Rattle.sl_parts.specs.Parts.{below}
 use Rattle.sl_layout.specs.Net.{Net, actor_of, nobody, link_of, link_at, links_into, links_out, choices_of, choice_of, sort_number, same_sort, place_in, is_unit, units, unit_place}
 use Rattle.sl_layout.specs.Serving.{choice_from, serving, served}
 use Rattle.sl_net.specs.Wired.{Reports}
-use Rattle.sl_parts.proofs.Lists.{Each, each-map, each-imp, each-both, Member, member-filter, member-from}
+use Rattle.sl_parts.specs.Lists.{Each, Member}
+use Rattle.sl_parts.proofs.Lists.{each-map, each-imp, each-both, member-filter, member-from}
 use Rattle.sl_net.proofs.Sorts.{told, IsOut, each-out, out-member, IsChoice, each-choice, choice-takes, choice-is, is-into}
 
 -- Places.

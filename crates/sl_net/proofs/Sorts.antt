@@ -11,8 +11,8 @@ use Rattle.sl_layout.specs.declared.actor.Sort.{Sort}
 use Rattle.sl_layout.specs.declared.actor.Sort.TheVariants.{FromHost, ToHost, Cable, Crossbar, Init, Poll, Notice, Dump, Begin, Done}
 use Rattle.sl_parts.specs.Parts.{below, numbers_from}
 use Rattle.sl_layout.specs.Net.{Net, link_of, link_at, link_numbers, links_into, links_from, links_out, no_link, choices_of, sort_number, same_sort, place_in, choice_of}
-use Rattle.sl_parts.proofs.Lists.{Each, each-imp, each-both, each-below, Member, member-filter, member-from, distinct-filter, distinct-from}
-use Rattle.sl_parts.proofs.Filters.{each-member, one-place}
+use Rattle.sl_parts.specs.Lists.{Each, Member}
+use Rattle.sl_parts.proofs.Lists.{each-imp, each-both, each-below, member-filter, member-from, distinct-filter, distinct-from, each-member, one-place}
 
 pub told : (x y : ℕ) → nat_eq x y ≡ true → x ≡ y
 told x y h = by_tells (eqb_tells x y)

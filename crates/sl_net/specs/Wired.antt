@@ -1,9 +1,9 @@
 -- What the laws ask of a net's wiring.
 --     sends, receives      whether an actor has outgoing, incoming links of a sort
 --     Reports net u        how the unit u reports to its control plane, and this to the observer
---     IsWired net          the net is wired so
---     IsNet net            the net is made of parts without a fault; each such net is wired
-use Rattle.std.specs.Prelude.{◌≡◌, ℕ, ◌<◌, Bool, true, false, [], ◌∷◌, length, Some, None, slice_get}
+--     IsNet net            the net is made of parts without a fault
+--     IsWired net          the net is wired so; each net of parts without a fault is
+use Rattle.std.specs.Prelude.{◌≡◌, ℕ, ◌<◌, ◌≤◌, Bool, true, false, [], ◌∷◌, length, Some, None, slice_get}
 use Rattle.sl_layout.specs.declared.actor.Side.TheVariants.{Ingress, Egress}
 use Rattle.sl_layout.specs.declared.actor.UnitId.{UnitId}
 use Rattle.sl_layout.specs.declared.actor.Side.{Side}
@@ -12,7 +12,9 @@ use Rattle.sl_layout.specs.declared.actor.ActorId.TheVariants.{Observer, Control
 use Rattle.sl_layout.specs.declared.actor.Sort.{Sort}
 use Rattle.sl_layout.specs.declared.actor.Sort.TheVariants.{FromHost, ToHost, Cable, Crossbar, Init, Poll, Notice, Dump, Begin, Done}
 use Rattle.sl_parts.specs.Fault.{fault_of}
-use Rattle.sl_layout.specs.Net.{Net, net_of, actor_of, link_of, links_into, links_out}
+use Rattle.sl_parts.specs.Valid.{IsValid}
+use Rattle.sl_layout.specs.Wires.{out_of}
+use Rattle.sl_layout.specs.Net.{Net, net_of, actor_of, place_of, link_of, links_into, links_from, links_out, choices_of, choice_of, data_channels}
 
 abbrev pub unit_sends : Side → Sort → Bool
 unit_sends Ingress Crossbar = true
@@ -70,6 +72,19 @@ pub record Reports (net : Net) (u : ℕ) : Type 0 where
   pub dones : links_out net control Done ≡ done ∷ []
   pub done_to : (link_of net done).to ≡ 0
 
+-- a net is made of parts without a fault
+pub record IsNet (net : Net) : Type 0 where
+  pub made : net ≡ net_of net.parts
+  pub right : fault_of net.parts ≡ None
+
+-- a host has one link to it, and one from it, on which it puts its frames
+pub record HostLinks (net : Net) (a : ℕ) : Type 0 where
+  pub one_in : length (links_into net a) ≡ 1
+  pub out : ℕ
+  pub outs : links_from net a ≡ out ∷ []
+  pub puts_on : links_out net a FromHost ≡ out ∷ []
+  pub is_out : out_of net out ≡ 0
+
 pub record IsWired (net : Net) : Type 0 where
   -- the observer is the actor 0, and no other is one
   pub observer : actor_of net 0 ≡ Observer
@@ -81,8 +96,14 @@ pub record IsWired (net : Net) : Type 0 where
   pub begins : (a d : ℕ) → actor_of net a ≡ Control d → (l : ℕ) × (slice_get (links_into net a) 0 ≡ Some l) × ((link_of net l).sort ≡ Begin)
   pub begin_first : (a c l : ℕ) → slice_get (links_into net a) c ≡ Some l → (link_of net l).sort ≡ Begin → c ≡ 0
   pub reports : (u : ℕ) (i : UnitId) → actor_of net u ≡ OfUnit i → Reports net u
-
--- a net is made of parts without a fault
-pub record IsNet (net : Net) : Type 0 where
-  pub made : net ≡ net_of net.parts
-  pub right : fault_of net.parts ≡ None
+  -- the parts are valid, and at most 128 of them are hosts
+  pub valid : IsValid net.parts
+  pub few_hosts : length net.parts.hosts ≤ 128
+  -- an actor's place is its number
+  pub place : (a : ℕ) → a < length net.actors → place_of (actor_of net a) net.actors ≡ a
+  -- a host has one link each way; a unit has at most eight data channels, and takes initiations by one choice at most
+  pub host_links : (a i : ℕ) → slice_get net.actors a ≡ Some (OfHost i) → HostLinks net a
+  pub few_channels : (u : ℕ) (i : UnitId) → actor_of net u ≡ OfUnit i → length (data_channels net u) ≤ 8
+  pub one_init : (u : ℕ) (i : UnitId) → actor_of net u ≡ OfUnit i → length (choices_of net u Init) ≤ 1
+  -- the observer takes the Dones of a unit by the choice of the unit's device
+  pub done_choice : (u : ℕ) (i : UnitId) → actor_of net u ≡ OfUnit i → (r : Reports net u) → choice_of net r.done ≡ i.device

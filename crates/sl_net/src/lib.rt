@@ -1,13 +1,14 @@
 // Topology: the parts of a net, its actors and links in order, and the plain types of an input.
 #![tactic(auto)]
 
+mod choice_of_text;
 mod input;
 mod laws;
 mod matching;
 mod net;
-mod spelling;
-mod wording;
+mod text_of_choice;
 
+pub use choice_of_text::find_choice;
 pub use input::{Drop1, Flow, Input, LossSpec, Packet, RawPart, Script1, Snapshot};
 pub use laws::nets_are_wired;
 pub use net::Net;
@@ -16,5 +17,4 @@ pub use sl_parts::{
     Bytes, CablePart, DevicePart, HostPart, Line, Name, NetFault, Parts, Place, PortRef,
     plain_number, plain_numbers, push_if,
 };
-pub use spelling::find_choice;
-pub use wording::choice_text;
+pub use text_of_choice::choice_text;

@@ -3,8 +3,8 @@ use Rattle.std.proofs.Common.{◌≡◌, ℕ, zero, suc, ◌+◌, ◌<◌, ◌�
 use Rattle.std.specs.Prelude.{true, false, not, ◌==◌, ◌||◌, ◌&&◌, nat_lt}
 use Rattle.std.proofs.lemmas.Bool.Decides.{nat_tests}
 use Rattle.sl_machine.specs.Machine.{puts_on, is_fitting}
-use Rattle.sl_net.specs.Parts.{numbers_from}
-use Rattle.sl_net.proofs.Counting.{map_below_more, length_below}
+use Rattle.sl_parts.specs.Parts.{numbers_from}
+use Rattle.sl_parts.proofs.Lists.{map_below_more, length_below}
 use Rattle.sl_wire.specs.declared.message.Msg.{Msg}
 use Rattle.sl_wire.specs.declared.message.Msg.TheVariants.{Begin}
 use Rattle.sl_observe.specs.Observer.{begin_all}

@@ -5,8 +5,8 @@ use Rattle.std.specs.Prelude.{Bool, true, false, cond, filter, ◌==◌}
 use Rattle.sl_layout.specs.declared.actor.Sort.{Sort}
 use Rattle.sl_layout.specs.declared.actor.Sort.TheVariants.{FromHost, ToHost, Cable, Crossbar, Init, Poll, Notice, Dump, Begin, Done}
 use Rattle.sl_layout.specs.declared.actor.ActorId.TheVariants.{Observer}
-use Rattle.sl_net.specs.Parts.{numbers_from}
-use Rattle.sl_net.specs.Net.{Net, same_sort, actor_of, link_of, links_from, links_out}
+use Rattle.sl_parts.specs.Parts.{numbers_from}
+use Rattle.sl_layout.specs.Net.{Net, same_sort, actor_of, link_of, links_from, links_out}
 use Rattle.sl_net.specs.Wired.{sends, IsWired}
 
 observer_sends : (s : Sort) → sends Observer s ≡ true → same_sort s Begin ≡ true

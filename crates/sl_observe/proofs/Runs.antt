@@ -7,7 +7,7 @@ use Rattle.std.proofs.lemmas.List.{set_past}
 use Rattle.std.proofs.lemmas.List.Elements.{All-nil, All-cons}
 use Rattle.sl_machine.specs.Machine.{After}
 use Rattle.sl_machine.specs.Turns.{Turn, Took, Acted, acted, after_turn, after}
-use Rattle.sl_net.specs.Parts.{numbers_from}
+use Rattle.sl_parts.specs.Parts.{numbers_from}
 use Rattle.sl_saves.specs.declared.entry.Saved.{Saved}
 use Rattle.sl_wire.specs.declared.message.Done.{Done as Report}
 use Rattle.sl_wire.specs.declared.message.Msg.{Msg}

@@ -3,13 +3,13 @@ use Rattle.std.proofs.Common.{◌≡◌, ℕ, ◌+◌, ◌<◌, ◌≤◌, List,
 use Rattle.std.proofs.Common.{subst, get_or-set_same}
 use Rattle.std.specs.Prelude.{filter, cond, Bool, true, false, Option, Some, None}
 use Rattle.std.proofs.lemmas.List.{map-set, set-get_or, get_or-map, length-map, map_push, map_more}
-use Rattle.sl_net.specs.Parts.{below}
+use Rattle.sl_parts.specs.Parts.{below}
 use Rattle.sl_layout.specs.declared.actor.ActorId.TheVariants.{Unit as OfUnit}
 use Rattle.sl_layout.specs.declared.actor.UnitId.{UnitId}
-use Rattle.sl_net.specs.Net.{Net, units, net_of, actors_of, is_unit, actor_of, nobody, data_channels}
-use Rattle.sl_net.specs.Units.{AreUnits}
-use Rattle.sl_net.specs.Wiring.{upstream_of, sender_by}
-use Rattle.sl_net.proofs.Counting.{length_numbers}
+use Rattle.sl_layout.specs.Net.{Net, units, net_of, actors_of, is_unit, actor_of, nobody, data_channels}
+use Rattle.sl_layout.specs.Units.{AreUnits}
+use Rattle.sl_layout.specs.Wiring.{upstream_of, sender_by}
+use Rattle.sl_parts.proofs.Lists.{length_numbers}
 use Rattle.sl_observe.specs.Observer.{UnitState, unit_at, floors_of, new_unit, device_of, first_unit}
 use Rattle.sl_observe.specs.Kept.{Collected, states, collected_at, HasSpan, HaveSpans, HasRoom, IsKept}
 use Rattle.sl_observe.specs.declared.spans.Span.{Span}

@@ -9,8 +9,8 @@ use Rattle.sl_machine.specs.Machine.{After, Rules, Counts, send_all}
 use Rattle.sl_layout.specs.declared.actor.ActorId.{ActorId}
 use Rattle.sl_layout.specs.declared.actor.ActorId.TheVariants.{Unit as OfUnit}
 use Rattle.sl_net.specs.declared.input.Snapshot.{Snapshot}
-use Rattle.sl_net.specs.Parts.{below}
-use Rattle.sl_net.specs.Net.{Net, actor_of, links_into, links_from, units, data_channels}
+use Rattle.sl_parts.specs.Parts.{below}
+use Rattle.sl_layout.specs.Net.{Net, actor_of, links_into, links_from, units, data_channels}
 use Rattle.sl_saves.specs.declared.entry.Saved.{Saved}
 use Rattle.sl_wire.specs.declared.message.Done.{Done}
 use Rattle.sl_wire.specs.declared.message.Msg.{Msg}

@@ -4,7 +4,7 @@ ghost use Rattle.std.specs.Prelude.{◌≡◌, ◌≤◌, ◌+◌, ◌⊎◌, �
 ghost use Rattle.std.specs.List.{All};
 ghost use Rattle.sl_machine.specs.Machine.{After};
 ghost use Rattle.sl_machine.specs.Turns.{Turn, after};
-ghost use Rattle.sl_net.specs.Net.{Net, links_from, links_out};
+ghost use Rattle.sl_layout.specs.Net.{Net, links_from, links_out};
 ghost use Rattle.sl_net.specs.Wired.{IsNet};
 ghost use Rattle.sl_layout.specs.declared.actor.Sort.TheVariants.{Begin as BeginSort};
 ghost use Rattle.sl_saves.specs.declared.entry.Saved.{Saved};

@@ -1,6 +1,6 @@
 // The units that the observer knows, in order.
 ghost use Rattle.std.specs.Prelude.{◌≡◌, ◌<◌, ◌≤◌, ℕ, length, map, slice_set, IfOk, OnOk};
-ghost use Rattle.sl_net.specs.Net.{units};
+ghost use Rattle.sl_layout.specs.Net.{units};
 ghost use Rattle.sl_observe.specs.Observer.{first_unit, floors_of, unit_at, heard, units_after};
 ghost use Rattle.sl_observe.specs.Kept.{states, collected_at, HasRoom, HaveSpans};
 

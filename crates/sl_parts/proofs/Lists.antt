@@ -1,13 +1,15 @@
--- Lists: what holds of each element, members, and lists with no element twice.
-use Rattle.std.proofs.Common.{◌≡◌, ℕ, zero, suc, ◌+◌, ◌<◌, ◌≤◌, List, [], ◌∷◌, ◌++◌, length, refl, sym, ap, subst, ◌∙◌, arith, inl, inr, get_or, map}
-use Rattle.std.specs.Prelude.{◌⊎◌, cond, true, false, Bool, filter, flat_map}
+-- Lemmas on lists, which the crates above use as they use those of std: what holds of each element, members, lists with no element twice; numbers
+-- counted up; filters, fronts, maps and joins.
+use Rattle.std.proofs.Common.{◌≡◌, ℕ, zero, suc, ◌+◌, ◌<◌, ◌≤◌, List, [], ◌∷◌, ◌++◌, length, refl, sym, ap, subst, ◌∙◌, arith, inl, inr, get_or, map, append-nil, append_assoc, zero-add, length-append, ◌*◌}
+use Rattle.std.specs.Prelude.{◌⊎◌, cond, true, false, Bool, filter, flat_map, Some, slice_get, ◌&&◌, nat_eq}
 use Rattle.std.specs.List.{All}
 use Rattle.std.proofs.lemmas.Bool.{cases_lt}
 use Rattle.sl_parts.specs.Parts.{below, numbers_from}
-
-abbrev pub Each : {A : Type 0} → (A → Type 0) → List A → Type 0
-Each P [] = Unit {0}
-Each P (x ∷ xs) = P x × Each P xs
+use Rattle.std.proofs.Math.Numerals.{add-one}
+use Rattle.std.proofs.lemmas.List.{map-append, length-map}
+use Rattle.std.proofs.lemmas.Grind.{flat_map-append}
+use Rattle.std.proofs.lemmas.Bool.Decides.{eqb_tells}
+use Rattle.sl_parts.specs.Lists.{Each, Member, Distinct}
 
 pub each-from_all : {A : Type 0} (P : A → Type 0) (xs : List A) → All P xs → Each P xs
 each-from_all P [] h = tt
@@ -48,10 +50,6 @@ each-both P t (x ∷ xs) h = by_bool (each-both P t xs h.1) (t x) refl
     by_bool : Each (λ x. P x × (t x ≡ true)) (filter t xs) → (b : Bool) → t x ≡ b → Each (λ x. P x × (t x ≡ true)) (cond b (x ∷ filter t xs) (filter t xs))
     by_bool ih true q = ((h.0, q), ih)
     by_bool ih false q = ih
-
-abbrev pub Member : {A : Type 0} → A → List A → Type 0
-Member x [] = ⊥
-Member x (y ∷ ys) = (x ≡ y) ⊎ Member x ys
 
 pub member-left : {A : Type 0} (x : A) (xs ys : List A) → Member x xs → Member x (xs ++ ys)
 member-left x [] ys m = absurd m
@@ -97,10 +95,6 @@ pub each-at : {A : Type 0} (P : A → Type 0) (x : A) (xs : List A) → Each P x
 each-at P x [] e m = absurd m
 each-at P x (y ∷ ys) e (inl q) = subst P (sym q) e.0
 each-at P x (y ∷ ys) e (inr m) = each-at P x ys e.1 m
-
-abbrev pub Distinct : {A : Type 0} → List A → Type 0
-Distinct [] = Unit {0}
-Distinct (x ∷ xs) = (Member x xs → ⊥) × Distinct xs
 
 pub member-parts : {A : Type 0} (x : A) (xs ys : List A) → Member x (xs ++ ys) → Member x xs ⊎ Member x ys
 member-parts x [] ys m = inr m
@@ -167,3 +161,181 @@ pub inside : {A : Type 0} (ys : List A) (i : ℕ) (d : A) → i < length ys → 
 inside [] i d p = absurd (omega arith)
 inside (y ∷ ys) zero d p = inl refl
 inside (y ∷ ys) (suc i) d p = inr (inside ys i d (omega arith))
+
+-- Loops that count up, and what they make of the numbers.
+
+pub numbers-more : (s n : ℕ) → numbers_from s (suc n) ≡ numbers_from s n ++ (s + n) ∷ []
+numbers-more s zero = let e : s ≡ s + 0 = omega arith in ap (λ k. k ∷ []) e
+numbers-more s (suc n) = let e : suc s + n ≡ s + suc n = omega arith in ap (λ r. s ∷ r) (numbers-more (suc s) n) ∙ ap (λ k. s ∷ (numbers_from (suc s) n ++ k ∷ [])) e
+
+pub below_more : (n : ℕ) → below (n + 1) ≡ below n ++ n ∷ []
+below_more n = let z : 0 + n ≡ n = omega arith in ap below (add-one n) ∙ numbers-more 0 n ∙ ap (λ k. below n ++ k ∷ []) z
+
+pub length_numbers : (s n : ℕ) → length (numbers_from s n) ≡ n
+length_numbers s zero = refl
+length_numbers s (suc n) = ap suc (length_numbers (suc s) n)
+
+pub number_at : (s n i d : ℕ) → i < n → get_or (numbers_from s n) i d ≡ s + i
+number_at s zero i d h = absurd (omega arith)
+number_at s (suc n) zero d h = omega arith
+number_at s (suc n) (suc i) d h = number_at (suc s) n i d (omega arith) ∙ omega arith
+
+pub filter-push : {A : Type 0} (p : A → Bool) (xs : List A) (x : A) → filter p (xs ++ x ∷ []) ≡ filter p xs ++ cond (p x) (x ∷ []) []
+filter-push p [] x = refl
+filter-push p (y ∷ ys) x = elim (p y) as (λ b. cond b (y ∷ filter p (ys ++ x ∷ [])) (filter p (ys ++ x ∷ [])) ≡ cond b (y ∷ filter p ys) (filter p ys) ++ cond (p x) (x ∷ []) [])
+    [ true ↦ ap (λ r. y ∷ r) (filter-push p ys x) | false ↦ filter-push p ys x ]
+
+pub filter_below_more : (p : ℕ → Bool) (n : ℕ) → filter p (below (n + 1)) ≡ filter p (below n) ++ cond (p n) (n ∷ []) []
+filter_below_more p n = ap (filter p) (below_more n) ∙ filter-push p (below n) n
+
+pub map_below_more : {A : Type 0} (f : ℕ → A) (n : ℕ) → map f (below (n + 1)) ≡ map f (below n) ++ f n ∷ []
+map_below_more f n = ap (map f) (below_more n) ∙ map-append f (below n) (n ∷ [])
+
+pub flat_map_below_more : {A : Type 0} (f : ℕ → List A) (n : ℕ) → flat_map f (below (n + 1)) ≡ flat_map f (below n) ++ f n
+flat_map_below_more f n = ap (flat_map f) (below_more n) ∙ flat_map-append f (below n) (n ∷ []) ∙ ap (λ r. flat_map f (below n) ++ r) (append-nil (f n))
+
+-- the i-th of a list that is made of the numbers
+pub at_below : {A : Type 0} (f : ℕ → A) (n i : ℕ) (d : A) → i < n → get_or (map f (below n)) i d ≡ f i
+at_below f n i d h = at_from 0 n i h ∙ ap f (zero-add i)
+  where
+    at_from : (s n i : ℕ) → i < n → get_or (map f (numbers_from s n)) i d ≡ f (s + i)
+    at_from s zero i h = absurd (omega arith)
+    at_from s (suc n) zero h = ap f (omega arith)
+    at_from s (suc n) (suc i) h = at_from (suc s) n i (omega arith) ∙ ap f (omega arith)
+
+pub length_below : {A : Type 0} (f : ℕ → A) (n : ℕ) → length (map f (below n)) ≡ n
+length_below f n = let e : length (map f (below n)) ≡ length (below n) = simp length-map in e ∙ length_numbers 0 n
+
+pub numbers-suc : (s n : ℕ) → numbers_from (suc s) n ≡ map suc (numbers_from s n)
+numbers-suc s zero = refl
+numbers-suc s (suc n) = ap (λ r. suc s ∷ r) (numbers-suc (suc s) n)
+
+pub map_numbers_more : {A : Type 0} (f : ℕ → A) (s n : ℕ) → map f (numbers_from s (n + 1)) ≡ map f (numbers_from s n) ++ f (s + n) ∷ []
+map_numbers_more f s n = ap (λ k. map f (numbers_from s k)) (add-one n) ∙ ap (map f) (numbers-more s n) ∙ map-append f (numbers_from s n) ((s + n) ∷ [])
+
+pub number-found : (s n i : ℕ) → i < n → slice_get (numbers_from s n) i ≡ Some (s + i)
+number-found s zero i h = absurd (omega (arith, h))
+number-found s (suc n) zero h = let e : s ≡ s + 0 = omega arith in ap Some e
+number-found s (suc n) (suc i) h = let e : suc s + i ≡ s + suc i = omega arith in number-found (suc s) n i (omega (arith, h)) ∙ ap Some e
+
+-- Loops over a list.
+
+pub flat_map-push : {A B : Type 0} (f : A → List B) (xs : List A) (x : A) → flat_map f (xs ++ x ∷ []) ≡ flat_map f xs ++ f x
+flat_map-push f [] x = append-nil (f x)
+flat_map-push f (y ∷ ys) x = ap (λ r. f y ++ r) (flat_map-push f ys x) ∙ sym (append_assoc (f y) (flat_map f ys) (f x))
+
+-- Filters, fronts, maps and joins.
+
+pub each-passes : {A : Type 0} (t : A → Bool) (xs : List A) → Each (λ x. t x ≡ true) (filter t xs)
+each-passes t [] = tt
+each-passes t (x ∷ xs) = by_bool (each-passes t xs) (t x) refl
+  where
+    by_bool : Each (λ x. t x ≡ true) (filter t xs) → (b : Bool) → t x ≡ b → Each (λ x. t x ≡ true) (cond b (x ∷ filter t xs) (filter t xs))
+    by_bool ih true q = (q, ih)
+    by_bool ih false q = ih
+
+pub each-filter : {A : Type 0} (P : A → Type 0) (t : A → Bool) (xs : List A) → Each P xs → Each P (filter t xs)
+each-filter P t [] h = tt
+each-filter P t (x ∷ xs) h = by_bool (each-filter P t xs h.1) (t x)
+  where
+    by_bool : Each P (filter t xs) → (b : Bool) → Each P (cond b (x ∷ filter t xs) (filter t xs))
+    by_bool ih true = (h.0, ih)
+    by_bool ih false = ih
+
+pub each-front : {A : Type 0} (P : A → Type 0) (xs ys : List A) → Each P (xs ++ ys) → Each P xs
+each-front P [] ys h = tt
+each-front P (x ∷ xs) ys h = (h.0, each-front P xs ys h.1)
+
+pub each-back : {A : Type 0} (P : A → Type 0) (xs ys : List A) → Each P (xs ++ ys) → Each P ys
+each-back P [] ys h = h
+each-back P (x ∷ xs) ys h = each-back P xs ys h.1
+
+pub each-both-of : {A : Type 0} (P Q R : A → Type 0) (xs : List A) → ((x : A) → P x → Q x → R x) → Each P xs → Each Q xs → Each R xs
+each-both-of P Q R [] f p q = tt
+each-both-of P Q R (x ∷ xs) f p q = (f x p.0 q.0, each-both-of P Q R xs f p.1 q.1)
+
+-- of the numbers below n that pass
+pub each-member : (P : ℕ → Type 0) (t : ℕ → Bool) (start n i : ℕ) → Each P (filter t (numbers_from start n)) → start ≤ i → i < start + n → t i ≡ true → P i
+each-member P t start zero i e p q h = absurd (omega arith)
+each-member P t start (suc n) i e p q h = by_tells (λ e k. each-member P t (suc start) n i e k (omega arith) h) (t start) refl e (eqb_tells i start)
+  where
+    by_tells : (Each P (filter t (numbers_from (suc start) n)) → suc start ≤ i → P i) → (b : Bool) → t start ≡ b → Each P (cond b (start ∷ filter t (numbers_from (suc start) n)) (filter t (numbers_from (suc start) n)))
+        → ((nat_eq i start ≡ true) × (i ≡ start)) ⊎ ((nat_eq i start ≡ false) × (i ≡ start → ⊥)) → P i
+    by_tells ih true z e (inl x) = subst P (sym x.1) e.0
+    by_tells ih true z e (inr x) = ih e.1 (let k : (i ≡ start → ⊥) = x.1 in omega arith)
+    by_tells ih false z e (inl x) = absurd (let k : true ≡ false = sym h ∙ ap t x.1 ∙ z in cc)
+    by_tells ih false z e (inr x) = ih e (let k : (i ≡ start → ⊥) = x.1 in omega arith)
+
+-- Members.
+
+pub member-of-map : {A B : Type 0} (f : A → B) (b : B) (xs : List A) → Member b (map f xs) → (a : A) × Member a xs × (b ≡ f a)
+member-of-map f b [] m = absurd m
+member-of-map f b (x ∷ xs) (inl q) = (x, inl refl, q)
+member-of-map f b (x ∷ xs) (inr m) = let r = member-of-map f b xs m in (r.0, inr r.1, r.2)
+
+pub member-of-flat : {A B : Type 0} (f : A → List B) (b : B) (xs : List A) → Member b (flat_map f xs) → (a : A) × Member a xs × Member b (f a)
+member-of-flat f b [] m = absurd m
+member-of-flat f b (x ∷ xs) m = by_parts (member-of-flat f b xs) (member-parts b (f x) (flat_map f xs) m)
+  where
+    by_parts : (Member b (flat_map f xs) → (a : _) × Member a xs × Member b (f a)) → Member b (f x) ⊎ Member b (flat_map f xs) → (a : _) × Member a (x ∷ xs) × Member b (f a)
+    by_parts ih (inl n) = (x, inl refl, n)
+    by_parts ih (inr n) = let r = ih n in (r.0, inr r.1, r.2)
+
+-- the place of a member
+pub place-of-member : {A : Type 0} (x : A) (xs : List A) → Member x xs → (i : ℕ) × (i < length xs) × ((d : A) → get_or xs i d ≡ x)
+place-of-member x [] m = absurd m
+place-of-member x (y ∷ ys) (inl q) = (0, omega arith, λ d. sym q)
+place-of-member x (y ∷ ys) (inr m) = let r = place-of-member x ys m in let p : r.0 < length ys = r.1 in (suc r.0, omega arith, r.2)
+
+-- No element twice.
+
+pub distinct-map : {A B : Type 0} (f : A → B) (xs : List A) → ((x y : A) → Member x xs → Member y xs → f x ≡ f y → x ≡ y) → Distinct xs → Distinct (map f xs)
+distinct-map f [] k d = tt
+distinct-map f (x ∷ xs) k d = ((λ m. let r = member-of-map f (f x) xs m in d.0 (subst (λ y. Member y xs) (sym (k x r.0 (inl refl) (inr r.1) r.2)) r.1)), distinct-map f xs (λ y z p q. k y z (inr p) (inr q)) d.1)
+
+pub distinct-joined : {A B : Type 0} (f : A → List B) (xs : List A) → ((x y : A) (b : B) → Member x xs → Member y xs → Member b (f x) → Member b (f y) → x ≡ y) → Distinct xs → Each (λ x. Distinct (f x)) xs → Distinct (flat_map f xs)
+distinct-joined f [] k d e = tt
+distinct-joined f (x ∷ xs) k d e = distinct-append (f x) (flat_map f xs) e.0 (distinct-joined f xs (λ y z b p q. k y z b (inr p) (inr q)) d.1 e.1)
+    (λ b p q. let r = member-of-flat f b xs q in d.0 (subst (λ y. Member y xs) (sym (k x r.0 b (inl refl) (inr r.1) p r.2)) r.1))
+
+-- where no element stands twice, equal elements stand at one place
+pub one-place : {A : Type 0} (xs : List A) (i j : ℕ) (d : A) → Distinct xs → i < length xs → j < length xs → get_or xs i d ≡ get_or xs j d → i ≡ j
+one-place [] i j d e p q h = absurd (omega arith)
+one-place (x ∷ xs) zero zero d e p q h = refl
+one-place (x ∷ xs) zero (suc j) d e p q h = absurd (e.0 (subst (λ y. Member y xs) (sym h) (inside xs j d (omega arith))))
+one-place (x ∷ xs) (suc i) zero d e p q h = absurd (e.0 (subst (λ y. Member y xs) h (inside xs i d (omega arith))))
+one-place (x ∷ xs) (suc i) (suc j) d e p q h = ap suc (one-place xs i j d e.1 (omega arith) (omega arith) h)
+
+-- a list of one element
+pub only-one : {A : Type 0} (x : A) (xs : List A) → Distinct xs → Member x xs → Each (λ y. y ≡ x) xs → xs ≡ x ∷ []
+only-one x [] d m e = absurd m
+only-one x (y ∷ []) d m e = ap (λ z. z ∷ []) e.0
+only-one x (y ∷ z ∷ zs) d m e = absurd (d.0 (inl (e.0 ∙ sym e.1.0)))
+
+-- a filter of a filter
+pub filter-and : {A : Type 0} (p q : A → Bool) (xs : List A) → filter q (filter p xs) ≡ filter (λ x. p x && q x) xs
+filter-and p q [] = refl
+filter-and p q (x ∷ xs) = elim (p x) as (λ b. filter q (cond b (x ∷ filter p xs) (filter p xs)) ≡ cond (b && q x) (x ∷ filter (λ y. p y && q y) xs) (filter (λ y. p y && q y) xs))
+    [ true ↦ ap (λ r. cond (q x) (x ∷ r) r) (filter-and p q xs) | false ↦ filter-and p q xs ]
+
+-- Lengths.
+
+pub length_filter_le : {A : Type 0} (t : A → Bool) (xs : List A) → length (filter t xs) ≤ length xs
+length_filter_le t [] = omega arith
+length_filter_le t (x ∷ xs) = by_bool (t x) (length_filter_le t xs)
+  where
+    by_bool : (b : Bool) → length (filter t xs) ≤ length xs → length (cond b (x ∷ filter t xs) (filter t xs)) ≤ suc (length xs)
+    by_bool true h = omega arith
+    by_bool false h = omega arith
+
+pub length_flat_le : {A B : Type 0} (f : A → List B) (m : ℕ) (xs : List A) → Each (λ x. length (f x) ≤ m) xs → length (flat_map f xs) ≤ m * length xs
+length_flat_le f m [] e = omega arith
+length_flat_le f m (x ∷ xs) e = omega (arith, e.0, length-append (f x) (flat_map f xs), length_flat_le f m xs e.1)
+
+pub filter-map : {A B : Type 0} (t : B → Bool) (f : A → B) (xs : List A) → filter t (map f xs) ≡ map f (filter (λ x. t (f x)) xs)
+filter-map t f [] = refl
+filter-map t f (x ∷ xs) = by_bool (t (f x)) (filter-map t f xs)
+  where
+    by_bool : (b : Bool) → filter t (map f xs) ≡ map f (filter (λ x. t (f x)) xs) → cond b (f x ∷ filter t (map f xs)) (filter t (map f xs)) ≡ map f (cond b (x ∷ filter (λ x. t (f x)) xs) (filter (λ x. t (f x)) xs))
+    by_bool true h = ap (λ r. f x ∷ r) h
+    by_bool false h = h

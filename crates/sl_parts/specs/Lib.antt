@@ -4,3 +4,4 @@ pub mod Number
 pub mod Fault
 pub mod Valid
 pub mod Ports
+pub mod Lists

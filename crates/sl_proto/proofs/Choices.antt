@@ -6,13 +6,13 @@ use Rattle.std.proofs.lemmas.List.{get_or-map}
 use Rattle.sl_machine.specs.Plan.{HasChoice}
 use Rattle.sl_layout.specs.declared.actor.ActorId.{ActorId}
 use Rattle.sl_layout.specs.declared.actor.ActorId.TheVariants.{Observer, Control, Unit as OfUnit, Host as OfHost}
-use Rattle.sl_net.specs.Parts.{Parts}
-use Rattle.sl_net.specs.Net.{Net, net_of, nobody, actors_of, actor_of, links_into}
-use Rattle.sl_net.specs.Wiring.{plan_of, actions_of}
-use Rattle.sl_net.proofs.Lists.{Each, all-from_each, each-append, each-map, each-flat, each-below}
-use Rattle.sl_net.proofs.Counting.{at_below, length_below}
-use Rattle.sl_cut.specs.World.{Entry}
-use Rattle.sl_cut.specs.Schedule.{of_actors, link_entries, first_action, pass_actions, pass_of, sweep_of, sweeps, resend_entry}
+use Rattle.sl_parts.specs.Parts.{Parts}
+use Rattle.sl_layout.specs.Net.{Net, net_of, nobody, actors_of, actor_of, links_into}
+use Rattle.sl_layout.specs.Wiring.{plan_of, actions_of}
+use Rattle.sl_parts.specs.Lists.{Each}
+use Rattle.sl_parts.proofs.Lists.{all-from_each, each-append, each-map, each-flat, each-below, at_below, length_below}
+use Rattle.sl_model.specs.World.{Entry}
+use Rattle.sl_model.specs.Schedule.{of_actors, link_entries, first_action, pass_actions, pass_of, sweep_of, sweeps, resend_entry}
 
 abbrev IsChoice : Net → Entry → Type 0
 IsChoice net e = HasChoice (plan_of net) e.0 e.1

@@ -1,8 +1,9 @@
 -- The numbers of the links and actions of the nodes.
-use Rattle.std.proofs.Common.{◌≡◌, ℕ, suc, ◌+◌, ◌-◌, ◌<◌, ◌≤◌, List, [], ◌∷◌, ◌++◌, length, refl, sym, ap, subst, ◌∙◌, Option, None, get_or, map, arith, inl, inr}
+use Rattle.std.proofs.Common.{◌≡◌, ℕ, suc, ◌+◌, ◌-◌, ◌<◌, ◌≤◌, List, [], ◌∷◌, ◌++◌, length, refl, sym, ap, subst, ◌∙◌, Option, Some, None, get_or, map, arith, inl, inr}
 use Rattle.std.specs.Prelude.{◌⊎◌, true, false, if◌then◌else◌, nat_eq, slice_index}
 use Rattle.std.proofs.lemmas.Bool.Decides.{eqb_tells}
 use Rattle.std.proofs.lemmas.List.{length-map, map_push}
+use Rattle.std.proofs.lemmas.Option.{slice_get-get_or}
 use Rattle.std.proofs.lemmas.List.Elements.{All-push}
 use Rattle.sl_machine.specs.Machine.{Counts}
 use Rattle.sl_machine.specs.Fit.{HasCounts}
@@ -12,24 +13,23 @@ use Rattle.sl_layout.specs.declared.actor.UnitId.{UnitId}
 use Rattle.sl_layout.specs.declared.actor.Side.{Side}
 use Rattle.sl_layout.specs.declared.actor.Side.TheVariants.{Ingress, Egress}
 use Rattle.sl_net.specs.Input.{Input}
-use Rattle.sl_net.specs.Parts.{Parts, below}
-use Rattle.sl_net.specs.Fault.{fault_of}
-use Rattle.sl_net.specs.Net.{Net, net_of, actor_of, nobody, actors_of, place_of, links_into, links_from, link_numbers, place_in, units, unit_place}
-use Rattle.sl_net.specs.Roster.{IsActor}
+use Rattle.sl_parts.specs.Parts.{Parts, below}
+use Rattle.sl_parts.specs.Fault.{fault_of}
+use Rattle.sl_layout.specs.Net.{Net, net_of, actor_of, nobody, actors_of, place_of, links_into, links_from, link_numbers, place_in, units, unit_place}
+use Rattle.sl_layout.specs.Roster.{IsActor}
 use Rattle.sl_net.specs.Wired.{IsWired}
-use Rattle.sl_net.specs.Wiring.{plan_of, actions_of, wired_link, wired_links}
-use Rattle.sl_net.proofs.Lists.{Member}
-use Rattle.sl_net.proofs.Counting.{length_numbers, map_below_more}
+use Rattle.sl_layout.specs.Wiring.{plan_of, actions_of, wired_link, wired_links}
+use Rattle.sl_parts.specs.Lists.{Member}
+use Rattle.sl_parts.proofs.Lists.{numbers-suc, length_numbers, map_below_more}
 use Rattle.sl_net.proofs.ReportWays.{unit-listed}
-use Rattle.sl_net.proofs.Actors.{place-at}
-use Rattle.sl_net.proofs.NetWired.{map-map, numbers-suc}
+use Rattle.sl_layout.proofs.Actors.{place-at}
+use Rattle.std.proofs.lemmas.Simd.{map-map}
 use Rattle.sl_unit.specs.Step.{UnitState, counts_of}
 use Rattle.sl_unit.specs.Made.{wires_of, entrance_by, exit_by, device_of, ports_of, ingress_state, egress_state}
 use Rattle.sl_host.specs.Host.{host_counts}
 use Rattle.sl_proto.specs.declared.node.Node.{Node}
 use Rattle.sl_proto.specs.Nodes.{UnitNode, node_state, node_counts, node_ready}
 use Rattle.sl_proto.specs.Built.{counts_at, first_unit, first_at, AreNodes}
-use Rattle.sl_proto.proofs.HostLinks.{one_into, one_from}
 
 -- an actor's place is its number
 pub place_is : (net : Net) (a : ℕ) (x : ActorId) → net ≡ net_of net.parts → a < length net.actors → actor_of net a ≡ x → place_of x net.actors ≡ a
@@ -52,16 +52,13 @@ unit_counts_are input a u Egress s q e =
     let z : s ≡ egress_state input.net a input.snapshot = cc in
     ap (λ t. counts_of t.wires) z ∙ unit_fits input.net a u [] input.snapshot.width q
 
-host_fits_at : (parts : Parts) (a h : ℕ) → fault_of parts ≡ None → IsActor parts (OfHost h) → a < length (actors_of parts) → actor_of (net_of parts) a ≡ OfHost h → host_counts ≡ counts_at (net_of parts) a
-host_fits_at parts a h right k low q =
-    let place : place_of (OfHost h) (actors_of parts) ≡ a = ap (λ y. place_of y (actors_of parts)) (sym q) ∙ place-at parts a low in
-    let ins : 1 ≡ length (links_into (net_of parts) a) = sym (one_into parts h k) ∙ ap (λ n. length (links_into (net_of parts) n)) place in
-    let outs : 1 ≡ length (links_from (net_of parts) a) = sym (one_from parts h right k) ∙ ap (λ n. length (links_from (net_of parts) n)) place in
-    let actions : 1 ≡ actions_of (actor_of (net_of parts) a) = sym (ap actions_of q) in
+pub host_fits : (net : Net) (a h : ℕ) → IsWired net → a < length net.actors → actor_of net a ≡ OfHost h → host_counts ≡ counts_at net a
+host_fits net a h t low q =
+    let links = t.host_links a h (slice_get-get_or net.actors a nobody low ∙ ap Some q) in
+    let ins : 1 ≡ length (links_into net a) = sym links.one_in in
+    let outs : 1 ≡ length (links_from net a) = sym (ap length links.outs) in
+    let actions : 1 ≡ actions_of (actor_of net a) = sym (ap actions_of q) in
     λ i. record { ins = ins i; outs = outs i; actions = actions i }
-
-pub host_fits : (net : Net) (a h : ℕ) → net ≡ net_of net.parts → fault_of net.parts ≡ None → IsActor net.parts (OfHost h) → a < length net.actors → actor_of net a ≡ OfHost h → host_counts ≡ counts_at net a
-host_fits net a h made right k = subst (λ n. a < length n.actors → actor_of n a ≡ OfHost h → host_counts ≡ counts_at n a) (sym made) (host_fits_at net.parts a h right k)
 
 -- The numbers of all of them.
 

@@ -4,17 +4,16 @@
 use Rattle.std.proofs.Common.{◌≡◌, ℕ, suc, ◌+◌, ◌^◌, ◌<◌, List, [], ◌∷◌, ◌++◌, length, refl, sym, ap, subst, ◌∙◌, arith, inl, inr, length-append, append-nil, append_assoc, length-set, get_or-set_same, get_or-set_other, drop}
 use Rattle.std.specs.Prelude.{◌⊎◌, true, false, Bool, ◌==◌, cond, nat_eq, map}
 use Rattle.std.proofs.lemmas.Bool.Decides.{eqb_tells}
-use Rattle.sl_net.specs.Net.{Net, link_of}
-use Rattle.sl_net.specs.Wires.{out_of}
+use Rattle.sl_layout.specs.Net.{Net, link_of}
+use Rattle.sl_layout.specs.Wires.{out_of}
 use Rattle.sl_wire.specs.declared.message.Msg.{Msg}
-use Rattle.sl_history.specs.declared.message.Message.{Message}
-use Rattle.sl_history.specs.declared.message.Message.TheVariants.{Done as DoneMsg}
-use Rattle.sl_history.specs.declared.message.Put.{Put}
-use Rattle.sl_cut.specs.Words.{Each}
-use Rattle.sl_cut.specs.History.{History, Losses, put, on_link, without_lost}
+use Rattle.sl_model.specs.declared.message.Message.{Message}
+use Rattle.sl_model.specs.declared.message.Message.TheVariants.{Done as DoneMsg}
+use Rattle.sl_model.specs.declared.message.Put.{Put}
+use Rattle.sl_parts.specs.Lists.{Each, Member, Distinct}
+use Rattle.sl_model.specs.History.{History, Losses, put, on_link, without_lost}
 use Rattle.sl_image.specs.Messages.{IsMessage}
 use Rattle.sl_world.specs.Scene.{Line, line_at, empty_line, line_put, put_at, put_each}
-use Rattle.sl_net.proofs.Lists.{Member, Distinct}
 use Rattle.sl_proto.specs.Image.{tell_all, told_on, ArePut}
 use Rattle.sl_proto.specs.Spread.{ArePutFrom}
 use Rattle.sl_proto.proofs.Spread.{link_in_put}

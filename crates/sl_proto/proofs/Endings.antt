@@ -7,21 +7,21 @@ use Rattle.std.proofs.lemmas.List.{length-map}
 use Rattle.sl_machine.specs.declared.wiring.Entry.{Entry as BookEntry}
 use Rattle.sl_layout.specs.declared.actor.ActorId.{ActorId}
 use Rattle.sl_layout.specs.declared.actor.ActorId.TheVariants.{Observer}
-use Rattle.sl_net.specs.Net.{Net, actor_of}
+use Rattle.sl_layout.specs.Net.{Net, actor_of}
 use Rattle.sl_net.specs.Wired.{IsNet}
 use Rattle.sl_wire.specs.declared.message.Msg.{Msg}
 use Rattle.sl_observe.specs.Observer.{ObserverState}
 use Rattle.sl_image.specs.ObserverImage.{IsObserverOf}
-use Rattle.sl_cut.specs.History.{World, Losses}
-use Rattle.sl_cut.specs.Setup.{Setup}
-use Rattle.sl_cut.specs.Knowledge.{floor, issued, observer}
-use Rattle.sl_cut.specs.World.{Entry, IsLossTable, world, run, kept_from}
-use Rattle.sl_cut.specs.Schedule.{settling_pass, sweeps, resend_entry}
-use Rattle.sl_cut.specs.End.{settle, finish, again_from, sweep_round, is_collected, rose, Settled, IsFin, IsFinished}
-use Rattle.sl_cut.specs.Books.{schedule_of}
-use Rattle.sl_finish.proofs.Finished.{settle-settled}
-use Rattle.sl_finish.proofs.Idle.{issued-within}
-use Rattle.sl_finish.proofs.NetWiring.{wiring}
+use Rattle.sl_model.specs.History.{World, Losses}
+use Rattle.sl_model.specs.Setup.{Setup}
+use Rattle.sl_model.specs.Knowledge.{floor, issued, observer}
+use Rattle.sl_model.specs.World.{Entry, IsLossTable, world, run, kept_from}
+use Rattle.sl_model.specs.Schedule.{settling_pass, sweeps, resend_entry}
+use Rattle.sl_model.specs.End.{settle, finish, again_from, sweep_round, is_collected, rose, Settled, IsFin, IsFinished}
+use Rattle.sl_model.specs.Books.{schedule_of}
+use Rattle.sl_model.proofs.Finished.{settle-settled}
+use Rattle.sl_model.proofs.Idle.{issued-within}
+use Rattle.sl_model.proofs.NetWiring.{wiring}
 use Rattle.sl_world.specs.Scene.{Scene}
 use Rattle.sl_proto.specs.declared.finishing.Round.{Round}
 use Rattle.sl_proto.specs.declared.finishing.Round.TheVariants.{Ended, Again, Short}

@@ -4,13 +4,13 @@ use Rattle.std.specs.Prelude.{◌⊎◌, ◌==◌, nat_eq, if◌then◌else◌, 
 use Rattle.std.proofs.lemmas.Bool.Decides.{eqb_tells}
 use Rattle.std.proofs.lemmas.List.{take_more}
 use Rattle.sl_loss.specs.Loss.{Loss, IsFresh}
-use Rattle.sl_net.specs.Wiring.{is_lossy}
+use Rattle.sl_layout.specs.Wiring.{is_lossy}
 use Rattle.sl_net.specs.declared.input.Drop1.{Drop1}
 use Rattle.sl_net.specs.Input.{Input}
-use Rattle.sl_net.specs.Parts.{below, numbers_from}
-use Rattle.sl_net.specs.Net.{link_numbers}
-use Rattle.sl_net.proofs.Counting.{at_below, length_below, filter-push}
-use Rattle.sl_cut.specs.Losses.{kind_at, asked_loss, loss_on, loses, losses}
+use Rattle.sl_parts.specs.Parts.{below, numbers_from}
+use Rattle.sl_layout.specs.Net.{link_numbers}
+use Rattle.sl_parts.proofs.Lists.{at_below, length_below, filter-push}
+use Rattle.sl_model.specs.Losses.{kind_at, asked_loss, loss_on, loses, losses}
 use Rattle.sl_proto.specs.Image.{GoesOn}
 
 -- the listed numbers of a link's puts, of these drops

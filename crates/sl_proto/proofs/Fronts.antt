@@ -4,18 +4,18 @@ use Rattle.std.specs.Prelude.{◌≢◌, true, false}
 use Rattle.std.proofs.lemmas.Grind.{flat_map-append}
 use Rattle.std.proofs.lemmas.List.{take_more}
 use Rattle.sl_net.specs.declared.input.Script1.{Script1}
-use Rattle.sl_net.specs.Net.{Net}
+use Rattle.sl_layout.specs.Net.{Net}
 use Rattle.sl_net.specs.Wired.{IsNet}
 use Rattle.sl_wire.specs.declared.message.Msg.{Msg}
-use Rattle.sl_cut.specs.History.{World, Losses}
-use Rattle.sl_cut.specs.Setup.{Setup}
-use Rattle.sl_cut.specs.World.{Entry, run, world, kept_from}
-use Rattle.sl_cut.specs.Books.{schedule_of}
-use Rattle.sl_cut.specs.Schedule.{settling_pass, sweeps, resend_entry, passes_of, expand_one, expand}
-use Rattle.sl_cut.specs.End.{settle, finish, then_from, again_from, sweep_round, after_sweeps, is_collected, rose, IsFin}
-use Rattle.sl_cut.proofs.ForwardLists.{flat_map-snoc, flat_map_below_more}
-use Rattle.sl_cut.proofs.Trails.{kept-append}
-use Rattle.sl_finish.proofs.Finished.{append-splits, then-splits}
+use Rattle.sl_model.specs.History.{World, Losses}
+use Rattle.sl_model.specs.Setup.{Setup}
+use Rattle.sl_model.specs.World.{Entry, run, world, kept_from}
+use Rattle.sl_model.specs.Books.{schedule_of}
+use Rattle.sl_model.specs.Schedule.{settling_pass, sweeps, resend_entry, passes_of, expand_one, expand}
+use Rattle.sl_model.specs.End.{settle, finish, then_from, again_from, sweep_round, after_sweeps, is_collected, rose, IsFin}
+use Rattle.sl_parts.proofs.Lists.{flat_map-push, flat_map_below_more}
+use Rattle.sl_model.proofs.Trails.{kept-append}
+use Rattle.sl_model.proofs.Finished.{append-splits, then-splits}
 use Rattle.sl_world.specs.Scene.{Scene}
 use Rattle.sl_proto.specs.Nodes.{NodeState}
 use Rattle.sl_proto.specs.Standing.{Case, world_of, run_at, StandsFor}
@@ -72,7 +72,7 @@ pub front-script : (s : Setup) (lost : Losses) (old mid new : Run) (net : Net) (
 front-script s lost old mid new net script i d h f g =
     front-longer s lost old new (expand net (take (i + 1) script)) (expand net script) (expand net (drop (i + 1) script))
     (ap (expand net) (sym (take-append-drop (i + 1) script)) ∙ flat_map-append (expand_one net) (take (i + 1) script) (drop (i + 1) script))
-    (subst (λ xs. FollowsFront s lost old xs new) (sym (ap (expand net) (take_more script i d h) ∙ flat_map-snoc (expand_one net) (take i script) (get_or script i d)))
+    (subst (λ xs. FollowsFront s lost old xs new) (sym (ap (expand net) (take_more script i d h) ∙ flat_map-push (expand_one net) (take i script) (get_or script i d)))
     (front-after s lost old mid new (expand net (take i script)) (expand_one net (get_or script i d)) f g))
 
 -- One after the other.

@@ -8,29 +8,27 @@ use Rattle.sl_machine.specs.Machine.{After}
 use Rattle.sl_machine.specs.Plan.{IsSound, link_in, link_out, link_at}
 use Rattle.sl_layout.specs.declared.actor.Sort.{Sort}
 use Rattle.sl_layout.specs.declared.actor.Sort.TheVariants.{Done}
-use Rattle.sl_net.specs.Net.{Net, link_of, links_into, choice_of}
-use Rattle.sl_net.specs.Wires.{out_of}
-use Rattle.sl_net.specs.Wiring.{kind_of, wired_link, plan_of}
+use Rattle.sl_layout.specs.Net.{Net, link_of, links_into, choice_of}
+use Rattle.sl_layout.specs.Wires.{out_of}
+use Rattle.sl_layout.specs.Wiring.{kind_of, wired_link, plan_of}
 use Rattle.sl_net.specs.Wired.{IsWired}
 use Rattle.sl_wire.specs.declared.message.Msg.{Msg}
-use Rattle.sl_history.specs.declared.message.Message.{Message}
-use Rattle.sl_history.specs.declared.message.Message.TheVariants.{Done as DoneMsg}
-use Rattle.sl_history.specs.declared.message.Put.{Put}
-use Rattle.sl_history.specs.declared.message.Step.{Step}
-use Rattle.sl_cut.specs.Words.{Each}
-use Rattle.sl_cut.specs.History.{History, World, Losses, history, done_of, taken, takes, put, on_link, without_lost}
-use Rattle.sl_cut.specs.Setup.{Setup}
-use Rattle.sl_cut.specs.World.{Entry, IsLossTable, start, next_step, after, world, carried}
-use Rattle.sl_cut.specs.Made.{Took, Acted, IsMade, Fifo, Ran}
-use Rattle.sl_cut.specs.Fit.{fits}
-use Rattle.sl_cut.specs.Window.{on_way}
-use Rattle.sl_net.proofs.Lists.{each-imp}
-use Rattle.sl_net.proofs.Filters.{each-both-of}
+use Rattle.sl_model.specs.declared.message.Message.{Message}
+use Rattle.sl_model.specs.declared.message.Message.TheVariants.{Done as DoneMsg}
+use Rattle.sl_model.specs.declared.message.Put.{Put}
+use Rattle.sl_model.specs.declared.message.Step.{Step}
+use Rattle.sl_parts.specs.Lists.{Each}
+use Rattle.sl_parts.proofs.Lists.{each-imp, each-both-of, at_below, length_below}
+use Rattle.sl_model.specs.History.{History, World, Losses, history, done_of, taken, takes, put, on_link, without_lost}
+use Rattle.sl_model.specs.Setup.{Setup}
+use Rattle.sl_model.specs.World.{Entry, IsLossTable, start, next_step, after, world, carried}
+use Rattle.sl_model.specs.Made.{Took, Acted, IsMade, Fifo, Ran}
+use Rattle.sl_model.specs.Fit.{fits}
+use Rattle.sl_model.specs.Window.{on_way}
 use Rattle.sl_net.proofs.Sorts.{choice-takes, choice-is, is-into}
-use Rattle.sl_net.proofs.Counting.{at_below, length_below}
-use Rattle.sl_cut.proofs.Turns.{kept_by_run, GrowsAt, taken-other}
-use Rattle.sl_cut.proofs.Said.{PutBy}
-use Rattle.sl_cut.proofs.Stamps.{StepSaid, step-said}
+use Rattle.sl_model.proofs.Turns.{kept_by_run, GrowsAt, taken-other}
+use Rattle.sl_model.proofs.Said.{PutBy}
+use Rattle.sl_model.proofs.Stamps.{StepSaid, step-said}
 use Rattle.sl_world.specs.Scene.{Line, Scene, line_at, done, put_each}
 use Rattle.sl_world.specs.Keeping.{length-put_each}
 use Rattle.sl_world.proofs.LinkLemmas.{link_in_is}

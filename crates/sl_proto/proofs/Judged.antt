@@ -6,19 +6,20 @@ use Rattle.std.proofs.lemmas.Bool.{ne_eqb}
 use Rattle.std.proofs.lemmas.Bool.Decides.{leb_tells, eqb_tells}
 use Rattle.std.proofs.lemmas.List.{at_drop_more, get_or-map, length-map, take_more, map_push}
 use Rattle.std.proofs.lemmas.Option.{slice_get-get_or}
-use Rattle.sl_net.specs.Net.{Net, units}
-use Rattle.sl_net.proofs.NetWired.{map-map}
+use Rattle.sl_layout.specs.Net.{Net, units}
+use Rattle.std.proofs.lemmas.Simd.{map-map}
 use Rattle.sl_saves.specs.declared.entry.Saved.{Saved}
 use Rattle.sl_saves.specs.declared.entry.Saved.TheVariants.{Value, Skipped, Miscredited}
 use Rattle.sl_wire.specs.Reach.{least_of as least_of_there}
 use Rattle.sl_observe.specs.Observer.{UnitState, ObserverState, new_unit, unit_at, saved_of, floor_of}
-use Rattle.sl_cut.specs.declared.verdict.Cause.{Cause}
-use Rattle.sl_cut.specs.declared.verdict.Lag.{Lag}
-use Rattle.sl_cut.specs.declared.verdict.Lag.TheVariants.{Id}
-use Rattle.sl_cut.specs.declared.verdict.Verdict.TheVariants.{Consistent, NotIssued}
-use Rattle.sl_cut.specs.Words.{Each, first_from, first_told, or_later, least as least_here}
-use Rattle.sl_cut.specs.Verdict.{lag_at, judged, place_or_zero}
-use Rattle.sl_image.specs.Accounts.{Account, row_of, behind, lag_by, cause_in, cause_by, floor_by, holds, verdict_by}
+use Rattle.sl_model.specs.declared.verdict.Cause.{Cause}
+use Rattle.sl_model.specs.declared.verdict.Lag.{Lag}
+use Rattle.sl_model.specs.declared.verdict.Lag.TheVariants.{Id}
+use Rattle.sl_model.specs.declared.verdict.Verdict.TheVariants.{Consistent, NotIssued}
+use Rattle.sl_parts.specs.Lists.{Each}
+use Rattle.sl_model.specs.Words.{first_from, first_told, or_later, least as least_here}
+use Rattle.sl_model.specs.Verdict.{lag_at, judged, place_or_zero}
+use Rattle.sl_model.specs.Accounts.{Account, row_of, behind, lag_by, cause_in, cause_by, floor_by, holds, verdict_by}
 use Rattle.sl_image.specs.ObserverImage.{account_of}
 use Rattle.sl_image.proofs.ObserverLists.{least-same}
 use Rattle.sl_proto.specs.Told.{HasRows, HasAllRows, accounts_of, IsValue}

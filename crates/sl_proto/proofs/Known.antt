@@ -9,31 +9,31 @@ use Rattle.sl_layout.specs.declared.actor.ActorId.{ActorId}
 use Rattle.sl_layout.specs.declared.actor.ActorId.TheVariants.{Observer, Control, Unit as OfUnit, Host as OfHost}
 use Rattle.sl_layout.specs.declared.actor.Sort.{Sort}
 use Rattle.sl_layout.specs.declared.actor.Sort.TheVariants.{Init, Poll, Dump, Done}
-use Rattle.sl_net.specs.Net.{Net, actor_of, link_of, links_out, choice_of, action_choice, units, unit_place, place_in}
-use Rattle.sl_net.specs.Serving.{Served, serving, served}
+use Rattle.sl_layout.specs.Net.{Net, actor_of, link_of, links_out, choice_of, action_choice, units, unit_place, place_in}
+use Rattle.sl_layout.specs.Serving.{Served, serving, served}
 use Rattle.sl_net.specs.Wired.{Reports, IsWired, sends}
-use Rattle.sl_history.specs.declared.message.Message.{Message}
-use Rattle.sl_history.specs.declared.message.Message.TheVariants.{Init as InitMsg, Poll as PollMsg, Notice as NoticeMsg, Dump as DumpMsg, Begin as BeginMsg, Done as DoneMsg}
-use Rattle.sl_history.specs.declared.message.Put.{Put}
-use Rattle.sl_history.specs.declared.message.Step.{Step}
-use Rattle.sl_cut.specs.Words.{Each, Rises, listed, numbers}
-use Rattle.sl_cut.specs.History.{History, World, Losses, history, dump_of, done_of, takes, put, on_link}
-use Rattle.sl_cut.specs.Setup.{Setup}
-use Rattle.sl_cut.specs.Knowledge.{is_outstanding, is_again, is_swept}
-use Rattle.sl_cut.specs.Puts.{send, send_all, poll_puts, dump_answer, control_puts, guarded, action}
-use Rattle.sl_cut.specs.Made.{Took, Acted, IsMade, Ran}
-use Rattle.sl_cut.specs.Fit.{fits, fits_link}
-use Rattle.sl_cut.specs.Window.{on_way}
-use Rattle.sl_net.proofs.Lists.{Member, each-append, each-imp, each-map, each-flat, each-of, each-at}
-use Rattle.sl_net.proofs.Filters.{each-back}
+use Rattle.sl_model.specs.declared.message.Message.{Message}
+use Rattle.sl_model.specs.declared.message.Message.TheVariants.{Init as InitMsg, Poll as PollMsg, Notice as NoticeMsg, Dump as DumpMsg, Begin as BeginMsg, Done as DoneMsg}
+use Rattle.sl_model.specs.declared.message.Put.{Put}
+use Rattle.sl_model.specs.declared.message.Step.{Step}
+use Rattle.sl_parts.specs.Lists.{Each, Member}
+use Rattle.sl_parts.proofs.Lists.{each-append, each-imp, each-map, each-flat, each-of, each-at, each-back}
+use Rattle.sl_model.specs.Words.{Rises, listed, numbers}
+use Rattle.sl_model.specs.History.{History, World, Losses, history, dump_of, done_of, takes, put, on_link}
+use Rattle.sl_model.specs.Setup.{Setup}
+use Rattle.sl_model.specs.Knowledge.{is_outstanding, is_again, is_swept}
+use Rattle.sl_model.specs.Puts.{send, send_all, poll_puts, dump_answer, control_puts, guarded, action}
+use Rattle.sl_model.specs.Made.{Took, Acted, IsMade, Ran}
+use Rattle.sl_model.specs.Fit.{fits, fits_link}
+use Rattle.sl_model.specs.Window.{on_way}
 use Rattle.sl_net.proofs.Sorts.{IsOut, each-out, choice-takes}
 use Rattle.sl_net.proofs.EndKinds.{poll-to, done-from}
 use Rattle.sl_net.proofs.ReportWays.{unit-listed, only-is-out, only-out}
-use Rattle.sl_cut.proofs.Numbers.{rises-le, put-rises}
-use Rattle.sl_cut.proofs.Stamps.{acted-by, took-by, each-on-link, each-lost, each-taken, put-fits, unit-dumps}
-use Rattle.sl_cut.proofs.Reported.{dumps-into}
-use Rattle.sl_cut.proofs.Near.{on-way-is}
-use Rattle.sl_image.proofs.Polls.{dones-are}
+use Rattle.sl_model.proofs.Numbers.{rises-le, put-rises}
+use Rattle.sl_model.proofs.Stamps.{acted-by, took-by, each-on-link, each-lost, each-taken, put-fits, unit-dumps}
+use Rattle.sl_model.proofs.Reported.{dumps-into}
+use Rattle.sl_model.proofs.Near.{on-way-is}
+use Rattle.sl_model.proofs.Polls.{dones-are}
 use Rattle.sl_proto.specs.Image.{told_by}
 use Rattle.sl_proto.proofs.Queues.{Told, IsThere, heard-told, told-all, untold}
 

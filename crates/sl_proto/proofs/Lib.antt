@@ -8,7 +8,6 @@ pub mod Turned
 pub mod Schedules
 pub mod Sent
 pub mod Fresh
-pub mod HostLinks
 pub mod Counts
 pub mod NodeTells
 pub mod NodeSteps

@@ -3,12 +3,12 @@
 use Rattle.std.proofs.Common.{◌≡◌, ℕ, zero, suc, ◌+◌, ◌^◌, ◌<◌, ◌≤◌, List, [], ◌∷◌, ◌++◌, length, refl, sym, ap, subst, ◌∙◌, Option, Some, None, arith, length-append, append-nil, drop}
 use Rattle.std.specs.Prelude.{true, false, Bool, if◌then◌else◌}
 use Rattle.sl_loss.specs.Loss.{Loss, is_lost, loses_next, after_put, one_more}
-use Rattle.sl_net.specs.Parts.{numbers_from}
-use Rattle.sl_net.specs.Net.{Net}
+use Rattle.sl_parts.specs.Parts.{numbers_from}
+use Rattle.sl_layout.specs.Net.{Net}
 use Rattle.sl_wire.specs.declared.message.Msg.{Msg}
-use Rattle.sl_history.specs.declared.message.Message.{Message}
-use Rattle.sl_cut.specs.Words.{tally}
-use Rattle.sl_cut.specs.History.{History, without_lost}
+use Rattle.sl_model.specs.declared.message.Message.{Message}
+use Rattle.sl_model.specs.Words.{tally}
+use Rattle.sl_model.specs.History.{History, without_lost}
 use Rattle.sl_image.specs.Messages.{IsMessage}
 use Rattle.sl_world.specs.Scene.{Line, line_put}
 use Rattle.sl_proto.specs.Image.{tell_all, AreQueued, GoesOn}

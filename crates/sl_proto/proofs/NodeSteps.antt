@@ -3,11 +3,11 @@ use Rattle.std.proofs.Common.{◌≡◌, ℕ, sym, subst, Option, Some}
 use Rattle.sl_machine.specs.Machine.{After}
 use Rattle.sl_layout.specs.declared.actor.ActorId.{ActorId}
 use Rattle.sl_net.specs.declared.input.Snapshot.{Snapshot}
-use Rattle.sl_net.specs.Net.{actor_of}
+use Rattle.sl_layout.specs.Net.{actor_of}
 use Rattle.sl_wire.specs.declared.message.Msg.{Msg}
-use Rattle.sl_history.specs.declared.message.Step.{Step}
-use Rattle.sl_cut.specs.History.{World, history}
-use Rattle.sl_cut.specs.Setup.{Setup}
+use Rattle.sl_model.specs.declared.message.Step.{Step}
+use Rattle.sl_model.specs.History.{World, history}
+use Rattle.sl_model.specs.Setup.{Setup}
 use Rattle.sl_proto.specs.Nodes.{NodeState}
 use Rattle.sl_proto.specs.Meaning.{StandsAs, NodeStands}
 use Rattle.sl_proto.specs.Image.{ArePut}

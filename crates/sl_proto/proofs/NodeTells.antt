@@ -6,29 +6,29 @@ use Rattle.std.specs.Prelude.{◌⊎◌, true, slice_get, slice_index}
 use Rattle.sl_machine.specs.Machine.{After}
 use Rattle.sl_layout.specs.declared.actor.ActorId.TheVariants.{Observer, Control, Host as OfHost}
 use Rattle.sl_layout.specs.declared.actor.Sort.TheVariants.{Dump, Done}
-use Rattle.sl_net.specs.Net.{Net, actor_of, action_choice, link_of, links_into, choice_of, units, unit_place}
-use Rattle.sl_net.specs.Serving.{choice_from}
+use Rattle.sl_layout.specs.Net.{Net, actor_of, action_choice, link_of, links_into, choice_of, units, unit_place}
+use Rattle.sl_layout.specs.Serving.{choice_from}
 use Rattle.sl_net.specs.Wired.{IsWired}
 use Rattle.sl_wire.specs.declared.message.Msg.{Msg}
-use Rattle.sl_history.specs.declared.message.Message.{Message}
-use Rattle.sl_history.specs.declared.message.Message.TheVariants.{Done as DoneMsg}
-use Rattle.sl_history.specs.declared.message.Put.{Put}
-use Rattle.sl_history.specs.declared.message.Step.{Step}
-use Rattle.sl_cut.specs.Words.{Each}
-use Rattle.sl_cut.specs.History.{History, World, Losses, history, taken, put}
-use Rattle.sl_cut.specs.Setup.{Setup}
-use Rattle.sl_cut.specs.Knowledge.{observer, dumped, known}
-use Rattle.sl_cut.specs.Puts.{action}
-use Rattle.sl_cut.specs.Made.{Took, Acted, Ran}
-use Rattle.sl_cut.specs.Fit.{fits, fits_link}
-use Rattle.sl_cut.specs.World.{next_step, front, carried}
-use Rattle.sl_net.proofs.Lists.{Member, each-imp, each-of, each-at}
+use Rattle.sl_model.specs.declared.message.Message.{Message}
+use Rattle.sl_model.specs.declared.message.Message.TheVariants.{Done as DoneMsg}
+use Rattle.sl_model.specs.declared.message.Put.{Put}
+use Rattle.sl_model.specs.declared.message.Step.{Step}
+use Rattle.sl_parts.specs.Lists.{Each, Member}
+use Rattle.sl_parts.proofs.Lists.{each-imp, each-of, each-at}
+use Rattle.sl_model.specs.History.{History, World, Losses, history, taken, put}
+use Rattle.sl_model.specs.Setup.{Setup}
+use Rattle.sl_model.specs.Knowledge.{observer, dumped, known}
+use Rattle.sl_model.specs.Puts.{action}
+use Rattle.sl_model.specs.Made.{Took, Acted, Ran}
+use Rattle.sl_model.specs.Fit.{fits, fits_link}
+use Rattle.sl_model.specs.World.{next_step, front, carried}
 use Rattle.sl_net.proofs.Sorts.{is-into, choice-is}
 use Rattle.sl_net.proofs.EndKinds.{done-from}
 use Rattle.sl_net.proofs.ReportWays.{choice-from-is}
-use Rattle.sl_cut.proofs.Ran.{Takes, Acts, next-view, made-of}
-use Rattle.sl_cut.proofs.Said.{PutBy}
-use Rattle.sl_cut.proofs.Stamps.{step-said, acted-by, each-lost, put-fits}
+use Rattle.sl_model.proofs.Ran.{Takes, Acts, next-view, made-of}
+use Rattle.sl_model.proofs.Said.{PutBy}
+use Rattle.sl_model.proofs.Stamps.{step-said, acted-by, each-lost, put-fits}
 use Rattle.sl_image.specs.ControlImage.{told_at}
 use Rattle.sl_image.specs.Leaves.{Does}
 use Rattle.sl_image.specs.Messages.{AreSent}

@@ -4,15 +4,16 @@
 use Rattle.std.proofs.Common.{◌≡◌, ℕ, ◌≤◌, List, [], ◌∷◌, ◌++◌, length, refl, sym, ap, subst, ◌∙◌, Option, Some, None, inl, inr, eq-eqb}
 use Rattle.std.specs.Prelude.{◌⊎◌, true, false, Bool, ◌==◌, if◌then◌else◌, nat_eq, slice_index, unwrap_or, option_and_then}
 use Rattle.std.proofs.lemmas.Bool.Decides.{eqb_tells}
-use Rattle.sl_net.specs.Net.{Net, units}
+use Rattle.sl_layout.specs.Net.{Net, units}
 use Rattle.sl_wire.specs.declared.message.Msg.{Msg}
-use Rattle.sl_history.specs.declared.message.Message.{Message}
-use Rattle.sl_history.specs.declared.message.Message.TheVariants.{Dump as DumpMsg, Done as DoneMsg}
-use Rattle.sl_history.specs.declared.message.Step.{Step}
-use Rattle.sl_cut.specs.Words.{Each, listed}
-use Rattle.sl_cut.specs.History.{History, World, history, first, done_of, takes}
-use Rattle.sl_cut.proofs.Turns.{GrowsAt}
-use Rattle.sl_cut.proofs.Numbers.{first-grown}
+use Rattle.sl_model.specs.declared.message.Message.{Message}
+use Rattle.sl_model.specs.declared.message.Message.TheVariants.{Dump as DumpMsg, Done as DoneMsg}
+use Rattle.sl_model.specs.declared.message.Step.{Step}
+use Rattle.sl_parts.specs.Lists.{Each}
+use Rattle.sl_model.specs.Words.{listed}
+use Rattle.sl_model.specs.History.{History, World, history, first, done_of, takes}
+use Rattle.sl_model.proofs.Turns.{GrowsAt}
+use Rattle.sl_model.proofs.Numbers.{first-grown}
 use Rattle.sl_image.specs.Messages.{IsMessage, SaysDump, SaysDone}
 use Rattle.sl_proto.specs.Image.{tell, tell_all, told_by, AreQueued}
 

@@ -5,18 +5,18 @@ use Rattle.std.specs.Option.{option_and_then}
 use Rattle.std.proofs.lemmas.List.{length-map, get_or-map}
 use Rattle.sl_machine.specs.Machine.{Rules}
 use Rattle.sl_loss.specs.Loss.{Loss}
-use Rattle.sl_net.specs.Net.{link_of, choice_of}
-use Rattle.sl_net.specs.Wiring.{plan_of}
+use Rattle.sl_layout.specs.Net.{link_of, choice_of}
+use Rattle.sl_layout.specs.Wiring.{plan_of}
 use Rattle.sl_wire.specs.declared.message.Msg.{Msg}
-use Rattle.sl_history.specs.declared.message.Message.{Message}
-use Rattle.sl_history.specs.declared.message.Step.{Step}
-use Rattle.sl_cut.specs.History.{World, Losses, history, taken, put, without_lost}
-use Rattle.sl_cut.specs.Words.{tally}
-use Rattle.sl_net.specs.Parts.{numbers_from}
-use Rattle.sl_cut.specs.Setup.{Setup}
-use Rattle.sl_cut.specs.World.{Entry, start, next_step, turn, after, run, world, IsLegalFrom, kept_from}
-use Rattle.sl_cut.specs.Window.{on_way}
-use Rattle.sl_cut.proofs.Turns.{run-append, start-empty}
+use Rattle.sl_model.specs.declared.message.Message.{Message}
+use Rattle.sl_model.specs.declared.message.Step.{Step}
+use Rattle.sl_model.specs.History.{World, Losses, history, taken, put, without_lost}
+use Rattle.sl_model.specs.Words.{tally}
+use Rattle.sl_parts.specs.Parts.{numbers_from}
+use Rattle.sl_model.specs.Setup.{Setup}
+use Rattle.sl_model.specs.World.{Entry, start, next_step, turn, after, run, world, IsLegalFrom, kept_from}
+use Rattle.sl_model.specs.Window.{on_way}
+use Rattle.sl_model.proofs.Turns.{run-append, start-empty}
 use Rattle.sl_world.specs.Scene.{Scene, empty_line, new_line, first_scene, turn_of, after_turn, after_all, run_of, kept, last_number}
 use Rattle.sl_world.specs.Legal.{numbered_from, book-after_all}
 use Rattle.sl_proto.specs.Image.{told_by, AreQueued, GoesOn, IsLineOf, IsImage, IsTurned, IsFirst}

@@ -3,21 +3,22 @@ use Rattle.std.proofs.Common.{◌≡◌, ℕ, List, [], ◌∷◌, ◌++◌, ref
 use Rattle.std.specs.Prelude.{unwrap_or}
 use Rattle.sl_layout.specs.declared.actor.UnitId.{UnitId}
 use Rattle.sl_layout.specs.declared.actor.ActorId.TheVariants.{Unit as OfUnit}
-use Rattle.sl_net.specs.Net.{Net, actor_of, choice_of, unit_place}
+use Rattle.sl_layout.specs.Net.{Net, actor_of, choice_of, unit_place}
 use Rattle.sl_net.specs.Wired.{Reports, IsWired}
 use Rattle.sl_wire.specs.declared.message.Msg.{Msg}
-use Rattle.sl_history.specs.declared.message.Message.{Message}
-use Rattle.sl_history.specs.declared.message.Message.TheVariants.{Done as DoneMsg}
-use Rattle.sl_history.specs.declared.message.Put.{Put}
-use Rattle.sl_cut.specs.Words.{Each, listed, numbers}
-use Rattle.sl_cut.specs.History.{History, World, Losses, history, dump_of, done_of, put}
-use Rattle.sl_cut.specs.Setup.{Setup}
-use Rattle.sl_cut.specs.Knowledge.{observer, dumped, known}
-use Rattle.sl_cut.specs.Made.{Ran}
-use Rattle.sl_cut.proofs.Numbers.{last_of, heard-takes}
-use Rattle.sl_cut.proofs.Reported.{knows}
+use Rattle.sl_model.specs.declared.message.Message.{Message}
+use Rattle.sl_model.specs.declared.message.Message.TheVariants.{Done as DoneMsg}
+use Rattle.sl_model.specs.declared.message.Put.{Put}
+use Rattle.sl_parts.specs.Lists.{Each}
+use Rattle.sl_model.specs.Words.{listed, numbers}
+use Rattle.sl_model.specs.History.{History, World, Losses, history, dump_of, done_of, put}
+use Rattle.sl_model.specs.Setup.{Setup}
+use Rattle.sl_model.specs.Knowledge.{observer, dumped, known}
+use Rattle.sl_model.specs.Made.{Ran}
+use Rattle.sl_model.proofs.Numbers.{last_of, heard-takes}
+use Rattle.sl_model.proofs.Reported.{knows}
 use Rattle.sl_image.specs.Messages.{AreSent}
-use Rattle.sl_image.proofs.Polls.{dones-are}
+use Rattle.sl_model.proofs.Polls.{dones-are}
 use Rattle.sl_proto.specs.Image.{tell, tell_all, told_on, told_by, ArePut}
 use Rattle.sl_proto.proofs.Queues.{retold, untold}
 

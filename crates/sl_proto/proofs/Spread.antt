@@ -12,29 +12,28 @@ use Rattle.sl_layout.specs.declared.actor.ActorId.TheVariants.{Observer, Control
 use Rattle.sl_layout.specs.declared.actor.Sort.{Sort}
 use Rattle.sl_layout.specs.declared.actor.Sort.TheVariants.{FromHost, ToHost, Cable, Crossbar, Init, Poll, Notice, Dump, Begin, Done}
 use Rattle.sl_net.specs.declared.input.Packet.{Packet}
-use Rattle.sl_net.specs.Net.{Net, same_actor, same_sort, sort_number, egress, actor_of, link_of, links_from, link_numbers, links_out, links_into, choice_of, action_choice, unit_place}
-use Rattle.sl_net.specs.Serving.{Served, serving, served, choice_from}
+use Rattle.sl_layout.specs.Net.{Net, same_actor, same_sort, sort_number, egress, actor_of, link_of, links_from, link_numbers, links_out, links_into, choice_of, action_choice, unit_place}
+use Rattle.sl_layout.specs.Serving.{Served, serving, served, choice_from}
 use Rattle.sl_net.specs.Wired.{Reports, IsWired}
 use Rattle.sl_route.specs.Route.{next_port}
-use Rattle.sl_history.specs.declared.message.Message.{Message}
-use Rattle.sl_history.specs.declared.message.Message.TheVariants.{Host as HostMsg, Data, Probe as ProbeMsg, Init as InitMsg, Poll as PollMsg, Notice as NoticeMsg, Dump as DumpMsg, Begin as BeginMsg, Done as DoneMsg}
-use Rattle.sl_history.specs.declared.message.Put.{Put}
-use Rattle.sl_history.specs.declared.message.Step.{Step}
-use Rattle.sl_cut.specs.Words.{Each}
-use Rattle.sl_cut.specs.History.{History, World, Losses, history, last, stamp_of, taken, on_link}
-use Rattle.sl_cut.specs.Setup.{Setup, frames_of}
-use Rattle.sl_cut.specs.Frame.{plain_frame, packet_of}
-use Rattle.sl_cut.specs.Knowledge.{is_outstanding, is_again, is_swept, issued, can_issue, can_resend}
-use Rattle.sl_cut.specs.Puts.{send, send_all, crossbar_to, onward, route, route_frame, ingress_puts, is_own_port, egress_puts, side_puts, notice_puts, dump_puts, id_after, unit_puts, poll_puts, dump_answer, control_puts, guarded, begin_all, puts_of, action}
-use Rattle.sl_cut.specs.World.{Entry, next_step}
-use Rattle.sl_cut.specs.Made.{Took, Acted}
-use Rattle.sl_net.proofs.Lists.{Member, Distinct, each-append, each-imp, each-flat, each-at, distinct-append, distinct-filter, distinct-from}
-use Rattle.sl_net.proofs.Filters.{each-filter, distinct-joined}
+use Rattle.sl_model.specs.declared.message.Message.{Message}
+use Rattle.sl_model.specs.declared.message.Message.TheVariants.{Host as HostMsg, Data, Probe as ProbeMsg, Init as InitMsg, Poll as PollMsg, Notice as NoticeMsg, Dump as DumpMsg, Begin as BeginMsg, Done as DoneMsg}
+use Rattle.sl_model.specs.declared.message.Put.{Put}
+use Rattle.sl_model.specs.declared.message.Step.{Step}
+use Rattle.sl_parts.specs.Lists.{Each, Member, Distinct}
+use Rattle.sl_parts.proofs.Lists.{each-append, each-imp, each-flat, each-at, distinct-append, distinct-filter, distinct-from, each-filter, distinct-joined}
+use Rattle.sl_model.specs.History.{History, World, Losses, history, last, stamp_of, taken, on_link}
+use Rattle.sl_model.specs.Setup.{Setup, frames_of}
+use Rattle.sl_model.specs.Frame.{plain_frame, packet_of}
+use Rattle.sl_model.specs.Knowledge.{is_outstanding, is_again, is_swept, issued, can_issue, can_resend}
+use Rattle.sl_model.specs.Puts.{send, send_all, crossbar_to, onward, route, route_frame, ingress_puts, is_own_port, egress_puts, side_puts, notice_puts, dump_puts, id_after, unit_puts, poll_puts, dump_answer, control_puts, guarded, begin_all, puts_of, action}
+use Rattle.sl_model.specs.World.{Entry, next_step}
+use Rattle.sl_model.specs.Made.{Took, Acted}
 use Rattle.sl_net.proofs.Sorts.{IsOut, each-out}
 use Rattle.sl_net.proofs.EndKinds.{poll-to}
 use Rattle.sl_net.proofs.ReportWays.{choice-from-is, only-is-out}
-use Rattle.sl_cut.proofs.Ran.{made-of, next-view}
-use Rattle.sl_cut.proofs.Reported.{dumps-into}
+use Rattle.sl_model.proofs.Ran.{made-of, next-view}
+use Rattle.sl_model.proofs.Reported.{dumps-into}
 use Rattle.sl_proto.specs.Spread.{ArePutFrom}
 
 -- a link from the actor, of a sort with one of these numbers

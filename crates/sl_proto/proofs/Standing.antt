@@ -2,17 +2,17 @@
 use Rattle.std.proofs.Common.{◌≡◌, ℕ, zero, suc, ◌+◌, ◌-◌, ◌^◌, ◌<◌, List, [], ◌∷◌, ◌++◌, length, refl, sym, ap, subst, ◌∙◌, arith, get_or, length-append, append-nil}
 use Rattle.std.proofs.lemmas.List.{length-map, map-append, get_or-map}
 use Rattle.sl_machine.specs.declared.wiring.Entry.{Entry as BookEntry}
-use Rattle.sl_net.specs.Parts.{numbers_from}
-use Rattle.sl_net.specs.Net.{Net}
-use Rattle.sl_net.proofs.Counting.{number_at}
+use Rattle.sl_parts.specs.Parts.{numbers_from}
+use Rattle.sl_layout.specs.Net.{Net}
+use Rattle.sl_parts.proofs.Lists.{number_at}
 use Rattle.sl_wire.specs.declared.message.Msg.{Msg}
-use Rattle.sl_cut.specs.History.{Losses}
-use Rattle.sl_cut.specs.Setup.{Setup}
-use Rattle.sl_cut.specs.World.{Entry, start, run, world, IsLegal, kept_from}
-use Rattle.sl_cut.specs.Books.{schedule_of, numbers_of}
-use Rattle.sl_cut.proofs.Turns.{run-append}
-use Rattle.sl_cut.proofs.Trails.{run-kept}
-use Rattle.sl_cut.proofs.Legal.{kept_legal, legal_append}
+use Rattle.sl_model.specs.History.{Losses}
+use Rattle.sl_model.specs.Setup.{Setup}
+use Rattle.sl_model.specs.World.{Entry, start, run, world, IsLegal, kept_from}
+use Rattle.sl_model.specs.Books.{schedule_of, numbers_of}
+use Rattle.sl_model.proofs.Turns.{run-append}
+use Rattle.sl_model.proofs.Trails.{run-kept}
+use Rattle.sl_model.proofs.Legal.{kept_legal, legal_append}
 use Rattle.sl_world.specs.Scene.{Scene, after_all, last_number}
 use Rattle.sl_world.specs.Legal.{numbered_from, schedule_of-numbered_from}
 use Rattle.sl_proto.specs.Image.{IsImage}

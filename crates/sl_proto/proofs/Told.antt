@@ -11,35 +11,33 @@ use Rattle.sl_layout.specs.declared.actor.Side.TheVariants.{Ingress, Egress}
 use Rattle.sl_layout.specs.declared.actor.Sort.{Sort}
 use Rattle.sl_layout.specs.declared.actor.Sort.TheVariants.{Cable, Crossbar, Init, Notice}
 use Rattle.sl_net.specs.declared.input.Snapshot.{Snapshot}
-use Rattle.sl_net.specs.Parts.{numbers_from, below}
-use Rattle.sl_net.specs.Net.{Net, same_side, same_sort, actor_of, link_of, link_numbers, is_unit, is_host, units, hosts, data_channels}
+use Rattle.sl_parts.specs.Parts.{numbers_from, below}
+use Rattle.sl_layout.specs.Net.{Net, same_side, same_sort, actor_of, link_of, link_numbers, is_unit, is_host, units, hosts, data_channels}
 use Rattle.sl_net.specs.Input.{Input}
 use Rattle.sl_net.specs.Wired.{IsNet, IsWired}
-use Rattle.sl_net.proofs.Counting.{length_numbers}
-use Rattle.sl_net.proofs.Sizes.{length_map-is}
+use Rattle.sl_parts.proofs.Lists.{length_numbers, filter-and}
+use Rattle.std.proofs.lemmas.List.{length-map}
 use Rattle.sl_saves.specs.Views.{held_saved}
 use Rattle.sl_wire.specs.declared.message.Msg.{Msg}
 use Rattle.sl_wire.specs.Reach.{least_of as least_of_there}
 use Rattle.sl_observe.specs.Observer.{ObserverState, new_unit, floor_of}
-use Rattle.sl_cut.specs.Words.{listed, numbers, weigh, tally}
-use Rattle.sl_cut.specs.History.{History, World, Losses, history, put}
-use Rattle.sl_cut.specs.Counting.{bad, expired, noroute}
-use Rattle.sl_cut.specs.Books.{schedule_of}
-use Rattle.sl_cut.specs.Setup.{Setup, setup_of}
-use Rattle.sl_cut.specs.Knowledge.{observer, issued, resent, floor, collected, upto_of}
-use Rattle.sl_cut.specs.World.{Entry, world, sender}
-use Rattle.sl_cut.specs.Findings.{is_ingress, device_of, ingress_units, drops_of, lost_on, sent_by, delivered_to, findings}
-use Rattle.sl_cut.proofs.ForwardFindings.{weigh_more, weigh_take, weigh_below_more}
-use Rattle.sl_cut.proofs.ForwardLists.{filter-and}
-use Rattle.sl_cut.proofs.Ran.{ran}
-use Rattle.sl_cut.proofs.Steps.{history_size}
-use Rattle.sl_cut.proofs.Sizes.{world_size, ingress_size}
-use Rattle.sl_image.specs.Accounts.{finding_by}
+use Rattle.sl_model.specs.Words.{listed, numbers, weigh, tally}
+use Rattle.sl_model.specs.History.{History, World, Losses, history, put}
+use Rattle.sl_model.specs.Counting.{bad, expired, noroute}
+use Rattle.sl_model.specs.Books.{schedule_of}
+use Rattle.sl_model.specs.Setup.{Setup, setup_of}
+use Rattle.sl_model.specs.Knowledge.{observer, issued, resent, floor, collected, upto_of}
+use Rattle.sl_model.specs.World.{Entry, world, sender}
+use Rattle.sl_model.specs.Findings.{is_ingress, device_of, ingress_units, drops_of, lost_on, sent_by, delivered_to, findings}
+use Rattle.sl_model.proofs.Weighed.{weigh_more, weigh_take, weigh_below_more}
+use Rattle.sl_model.proofs.Ran.{ran}
+use Rattle.sl_model.proofs.Steps.{history_size}
+use Rattle.sl_model.proofs.Sizes.{world_size, ingress_size}
+use Rattle.sl_model.specs.Accounts.{finding_by}
 use Rattle.sl_image.specs.ObserverImage.{unit_of, observer_of, IsObserverOf}
 use Rattle.sl_image.specs.Messages.{lasts}
-use Rattle.sl_image.specs.Rows.{row}
+use Rattle.sl_model.specs.Rows.{row}
 use Rattle.sl_image.specs.UnitImage.{dropped}
-use Rattle.sl_image.proofs.Channels.{few-channels}
 use Rattle.sl_image.proofs.ObserverLists.{least-of-same}
 use Rattle.sl_image.proofs.ObserverUnits.{channels-are}
 use Rattle.sl_image.proofs.ObserverWorlds.{unit-at}
@@ -195,15 +193,15 @@ first-actor net n = subst (λ m. (actor_of m 0 ≡ Observer) × (0 < length m.ac
 unit-collected : (net : Net) (u : ℕ) (g : History) → length (data_channels net u) ≤ 8 → HasRows net u (unit_of net u g)
 unit-collected net u g few = record {
   channels = refl;
-  rows = length_map-is (λ k. held_saved (row (data_channels net u) k g)) (numbers_from 1 (upto_of net u g)) ∙ length_numbers 1 (upto_of net u g)
+  rows = length-map (numbers_from 1 (upto_of net u g)) (λ k. held_saved (row (data_channels net u) k g)) ∙ length_numbers 1 (upto_of net u g)
       ∙ sym (ap (least_of_there (unit_of net u g).id) (channels-are net u g few) ∙ least-of-same (unit_of net u g).id (lasts net u g));
 }
 
-has-collected : (net : Net) (table : Snapshot) (w : World) → IsNet net → HasAllRows net (observer_of net table w)
+has-collected : (net : Net) (table : Snapshot) (w : World) → IsWired net → HasAllRows net (observer_of net table w)
 has-collected net table w n = let f = λ (u : ℕ). unit_of net u (collected net w u) in record {
-  count = length_map-is f (units net);
+  count = length-map (units net) f;
   each = λ place p. let t = unit-at net place p in let u = get_or (units net) place 0 in
-      subst (HasRows net u) (sym (get_or-map f (units net) place 0 (new_unit 0 0) p)) (unit-collected net u (collected net w u) (few-channels net u t.0 n t.1));
+      subst (HasRows net u) (sym (get_or-map f (units net) place 0 (new_unit 0 0) p)) (unit-collected net u (collected net w u) (n.few_channels u t.0 t.1));
 }
 
 -- A scene that stands for the world of a schedule.
@@ -272,7 +270,7 @@ module _ (s : Setup) (table : Snapshot) (lost : Losses) (es : List Entry) (v : S
   tells o e wired links few = record {
     nodes = image.states_each;
     links = ap (λ p. length p.links) image.plan ∙ wires-each s.net;
-    collected = subst (HasAllRows s.net) (sym (observed o e)) (has-collected s.net table (world s lost es) net);
+    collected = subst (HasAllRows s.net) (sym (observed o e)) (has-collected s.net table (world s lost es) wired);
     bad = subst (λ n. n < 2 ^ 64) (sym bad-is) (few-drops (λ u h. bad h) (λ u h. tally-most _ h) few);
     expired = subst (λ n. n < 2 ^ 64) (sym expired-is) (few-drops (λ u h. expired h) (λ u h. tally-most _ h) few);
     noroute = subst (λ n. n < 2 ^ 64) (sym noroute-is) (few-drops (λ u h. noroute s.net.parts (device_of (actor_of s.net u)) h) (λ u h. tally-most _ h) few);
@@ -296,7 +294,7 @@ module _ (s : Setup) (table : Snapshot) (lost : Losses) (es : List Entry) (v : S
 
 module _ (i : Input) (lost : Losses) (v : Scene NodeState Msg) (h : StandsFor i.net (case_of i lost) v) where
   pub few_entries : length v.book < 2 ^ 40 → length (schedule_of v.book) < 2 ^ 40
-  few_entries few = let n = length_map-is {B = Entry} (λ (e : BookEntry). (e.actor, e.choice)) v.book in omega (arith, n, few)
+  few_entries few = let n = length-map {B = Entry} v.book (λ (e : BookEntry). (e.actor, e.choice)) in omega (arith, n, few)
 
   pub has_observer : HasObserver v
   has_observer = let x = first_node (setup_of i) i.snapshot lost (schedule_of v.book) v h.runnable.net h.image in

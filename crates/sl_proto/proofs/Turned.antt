@@ -7,23 +7,23 @@ use Rattle.std.proofs.lemmas.Option.{slice_get-get_or, slice_get_past}
 use Rattle.sl_machine.specs.Machine.{Rules}
 use Rattle.sl_machine.specs.Plan.{IsSound, link_in}
 use Rattle.sl_layout.specs.declared.actor.ActorId.{ActorId}
-use Rattle.sl_net.specs.Net.{Net, action_choice, link_of, links_into, choice_of}
-use Rattle.sl_net.specs.Wiring.{plan_of}
+use Rattle.sl_layout.specs.Net.{Net, action_choice, link_of, links_into, choice_of}
+use Rattle.sl_layout.specs.Wiring.{plan_of}
 use Rattle.sl_net.specs.Wired.{IsWired}
 use Rattle.sl_wire.specs.declared.message.Msg.{Msg}
-use Rattle.sl_history.specs.declared.message.Message.{Message}
-use Rattle.sl_history.specs.declared.message.Step.{Step}
-use Rattle.sl_cut.specs.History.{World, Losses, history, taken}
-use Rattle.sl_cut.specs.Setup.{Setup}
-use Rattle.sl_history.specs.declared.message.Put.{Put}
-use Rattle.sl_cut.specs.Puts.{puts_of, action}
-use Rattle.sl_cut.specs.World.{Entry, IsLossTable, next_step, step_by, front, taking, acting, floor_for, turn, after, world, carried}
-use Rattle.sl_cut.specs.Window.{on_way}
+use Rattle.sl_model.specs.declared.message.Message.{Message}
+use Rattle.sl_model.specs.declared.message.Step.{Step}
+use Rattle.sl_model.specs.History.{World, Losses, history, taken}
+use Rattle.sl_model.specs.Setup.{Setup}
+use Rattle.sl_model.specs.declared.message.Put.{Put}
+use Rattle.sl_model.specs.Puts.{puts_of, action}
+use Rattle.sl_model.specs.World.{Entry, IsLossTable, next_step, step_by, front, taking, acting, floor_for, turn, after, world, carried}
+use Rattle.sl_model.specs.Window.{on_way}
 use Rattle.sl_net.proofs.Sorts.{choice-takes, choice-is, is-into}
-use Rattle.sl_cut.proofs.Turns.{GrowsAt, grows-after, next-within, stepped, taken-this}
-use Rattle.sl_cut.proofs.Ran.{ran, made-of, next-view}
-use Rattle.sl_cut.proofs.Steps.{history_size}
-use Rattle.sl_cut.proofs.Sizes.{world_size}
+use Rattle.sl_model.proofs.Turns.{GrowsAt, grows-after, next-within, stepped, taken-this}
+use Rattle.sl_model.proofs.Ran.{ran, made-of, next-view}
+use Rattle.sl_model.proofs.Steps.{history_size}
+use Rattle.sl_model.proofs.Sizes.{world_size}
 use Rattle.sl_image.specs.Messages.{IsMessage}
 use Rattle.sl_world.specs.Scene.{Line, Scene, line_at, empty_line, done, without_first, take_first, take_turn, act_turn, turn_of}
 use Rattle.sl_proto.specs.Image.{tell, tell_all, told_by, AreQueued, IsImage, IsTurned}

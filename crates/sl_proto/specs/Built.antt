@@ -7,10 +7,10 @@ use Rattle.sl_layout.specs.declared.actor.Side.{Side}
 use Rattle.sl_layout.specs.declared.actor.Side.TheVariants.{Ingress, Egress}
 use Rattle.sl_layout.specs.declared.actor.ActorId.{ActorId}
 use Rattle.sl_layout.specs.declared.actor.ActorId.TheVariants.{Observer, Control, Unit as OfUnit, Host as OfHost}
-use Rattle.sl_net.specs.Parts.{below}
-use Rattle.sl_net.specs.Net.{Net, actor_of, links_into, links_from}
+use Rattle.sl_parts.specs.Parts.{below}
+use Rattle.sl_layout.specs.Net.{Net, actor_of, links_into, links_from}
 use Rattle.sl_net.specs.Input.{Input}
-use Rattle.sl_net.specs.Wiring.{actions_of}
+use Rattle.sl_layout.specs.Wiring.{actions_of}
 use Rattle.sl_flow.specs.Flow.{HasAddresses}
 use Rattle.sl_observe.specs.Observer.{first_state}
 use Rattle.sl_control.specs.Wires.{first_control}

@@ -5,11 +5,11 @@
 --     SettlesBy, SweepsBy, ResendsBy s lost w es    es is what settling takes from the world w; what finishing takes from where it
 --         has settled, and from where it resends
 use Rattle.std.specs.Prelude.{◌≡◌, ℕ, suc, List, [], ◌∷◌, ◌++◌, Some}
-use Rattle.sl_cut.specs.History.{World, Losses}
-use Rattle.sl_cut.specs.Setup.{Setup}
-use Rattle.sl_cut.specs.World.{Entry, kept_from}
-use Rattle.sl_cut.specs.Schedule.{resend_entry}
-use Rattle.sl_cut.specs.End.{settle, finish, again_from, sweep_round, is_collected, IsFin}
+use Rattle.sl_model.specs.History.{World, Losses}
+use Rattle.sl_model.specs.Setup.{Setup}
+use Rattle.sl_model.specs.World.{Entry, kept_from}
+use Rattle.sl_model.specs.Schedule.{resend_entry}
+use Rattle.sl_model.specs.End.{settle, finish, again_from, sweep_round, is_collected, IsFin}
 use Rattle.sl_proto.specs.Runs.{Run, Follows, Goes}
 
 pub record FollowsFront (s : Setup) (lost : Losses) (old : Run) (schedule : List Entry) (new : Run) : Type 0 where

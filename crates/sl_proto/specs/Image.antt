@@ -9,17 +9,17 @@
 use Rattle.std.specs.Prelude.{◌≡◌, ℕ, ◌<◌, Bool, false, List, [], ◌∷◌, length, Option, Some, None, slice_get, slice_index_or, unwrap_or}
 use Rattle.sl_loss.specs.Loss.{Loss, is_lost}
 use Rattle.sl_wire.specs.declared.message.Msg.{Msg}
-use Rattle.sl_net.specs.Net.{Net, link_of, choice_of}
-use Rattle.sl_net.specs.Wires.{out_of}
-use Rattle.sl_net.specs.Wiring.{plan_of}
-use Rattle.sl_history.specs.declared.message.Message.{Message}
-use Rattle.sl_history.specs.declared.message.Put.{Put}
-use Rattle.sl_history.specs.declared.message.Step.{Step}
-use Rattle.sl_cut.specs.History.{History, World, Losses, history, done_of, heard, put}
-use Rattle.sl_cut.specs.Setup.{Setup}
-use Rattle.sl_cut.specs.World.{start, sender, receiver}
-use Rattle.sl_cut.specs.Window.{on_way}
-use Rattle.sl_cut.specs.Findings.{lost_on}
+use Rattle.sl_layout.specs.Net.{Net, link_of, choice_of}
+use Rattle.sl_layout.specs.Wires.{out_of}
+use Rattle.sl_layout.specs.Wiring.{plan_of}
+use Rattle.sl_model.specs.declared.message.Message.{Message}
+use Rattle.sl_model.specs.declared.message.Put.{Put}
+use Rattle.sl_model.specs.declared.message.Step.{Step}
+use Rattle.sl_model.specs.History.{History, World, Losses, history, done_of, heard, put}
+use Rattle.sl_model.specs.Setup.{Setup}
+use Rattle.sl_model.specs.World.{start, sender, receiver}
+use Rattle.sl_model.specs.Window.{on_way}
+use Rattle.sl_model.specs.Findings.{lost_on}
 use Rattle.sl_image.specs.Messages.{IsMessage}
 use Rattle.sl_world.specs.Scene.{Line, Scene, line_at}
 

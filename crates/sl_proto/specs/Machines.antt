@@ -5,15 +5,15 @@
 use Rattle.std.specs.Prelude.{◌≡◌, ℕ, ◌^◌, ◌<◌, length, List, Option, Some, None, slice_get}
 use Rattle.sl_machine.specs.Machine.{After, Rules}
 use Rattle.sl_machine.specs.Plan.{IsSound}
-use Rattle.sl_net.specs.Wiring.{plan_of}
+use Rattle.sl_layout.specs.Wiring.{plan_of}
 use Rattle.sl_net.specs.Wired.{IsNet}
 use Rattle.sl_wire.specs.declared.message.Msg.{Msg}
-use Rattle.sl_net.specs.Net.{link_of, links_into}
-use Rattle.sl_history.specs.declared.message.Message.{Message}
-use Rattle.sl_history.specs.declared.message.Step.{Step}
-use Rattle.sl_cut.specs.History.{World, Losses, history}
-use Rattle.sl_cut.specs.Setup.{Setup}
-use Rattle.sl_cut.specs.World.{Entry, IsLossTable, next_step, turn, world}
+use Rattle.sl_layout.specs.Net.{link_of, links_into}
+use Rattle.sl_model.specs.declared.message.Message.{Message}
+use Rattle.sl_model.specs.declared.message.Step.{Step}
+use Rattle.sl_model.specs.History.{World, Losses, history}
+use Rattle.sl_model.specs.Setup.{Setup}
+use Rattle.sl_model.specs.World.{Entry, IsLossTable, next_step, turn, world}
 use Rattle.sl_image.specs.Messages.{IsMessage}
 use Rattle.sl_proto.specs.Image.{told_by, ArePut}
 

@@ -6,16 +6,16 @@ use Rattle.sl_machine.specs.Plan.{IsSound}
 use Rattle.sl_layout.specs.declared.actor.ActorId.{ActorId}
 use Rattle.sl_layout.specs.declared.actor.ActorId.TheVariants.{Observer, Control, Unit as OfUnit, Host as OfHost}
 use Rattle.sl_net.specs.declared.input.Snapshot.{Snapshot}
-use Rattle.sl_net.specs.Net.{actor_of}
+use Rattle.sl_layout.specs.Net.{actor_of}
 use Rattle.sl_net.specs.Wired.{IsNet}
-use Rattle.sl_net.specs.Wiring.{plan_of}
-use Rattle.sl_cut.specs.History.{World, Losses, history}
-use Rattle.sl_cut.specs.Setup.{Setup}
-use Rattle.sl_cut.specs.World.{IsLossTable}
+use Rattle.sl_layout.specs.Wiring.{plan_of}
+use Rattle.sl_model.specs.History.{World, Losses, history}
+use Rattle.sl_model.specs.Setup.{Setup}
+use Rattle.sl_model.specs.World.{IsLossTable}
 use Rattle.sl_image.specs.ControlImage.{IsControlOf}
 use Rattle.sl_image.specs.HostImage.{IsHostOf}
 use Rattle.sl_image.specs.ObserverImage.{IsObserverOf, IsTableOf}
-use Rattle.sl_image.specs.Short.{SendsShort}
+use Rattle.sl_model.specs.Short.{SendsShort}
 use Rattle.sl_image.specs.UnitImage.{IsUnitOf}
 use Rattle.sl_proto.specs.Nodes.{NodeState, ObserverNode, ControlNode, UnitNode, HostNode}
 

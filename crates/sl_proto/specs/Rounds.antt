@@ -5,10 +5,10 @@
 --     HasReached x w told             what the observer tells in the world w
 use Rattle.std.specs.Prelude.{◌≡◌, Bool, true, false, List, Option, Some, None}
 use Rattle.sl_wire.specs.declared.message.Msg.{Msg}
-use Rattle.sl_cut.specs.History.{World, Losses}
-use Rattle.sl_cut.specs.Setup.{Setup}
-use Rattle.sl_cut.specs.Knowledge.{floor, issued, observer}
-use Rattle.sl_cut.specs.World.{Entry}
+use Rattle.sl_model.specs.History.{World, Losses}
+use Rattle.sl_model.specs.Setup.{Setup}
+use Rattle.sl_model.specs.Knowledge.{floor, issued, observer}
+use Rattle.sl_model.specs.World.{Entry}
 use Rattle.sl_world.specs.Scene.{Scene}
 use Rattle.sl_proto.specs.declared.finishing.Round.{Round}
 use Rattle.sl_proto.specs.declared.finishing.Round.TheVariants.{Ended, Again, Short}

@@ -3,11 +3,11 @@
 --     IsBookOfTurns b es              the book of a run whose turns are these
 use Rattle.std.specs.Prelude.{◌≡◌, List, ◌++◌, length}
 use Rattle.sl_machine.specs.Book.{Book}
-use Rattle.sl_net.specs.Parts.{numbers_from}
-use Rattle.sl_cut.specs.History.{World, Losses}
-use Rattle.sl_cut.specs.Setup.{Setup}
-use Rattle.sl_cut.specs.World.{Entry, run, kept_from}
-use Rattle.sl_cut.specs.Books.{schedule_of, numbers_of}
+use Rattle.sl_parts.specs.Parts.{numbers_from}
+use Rattle.sl_model.specs.History.{World, Losses}
+use Rattle.sl_model.specs.Setup.{Setup}
+use Rattle.sl_model.specs.World.{Entry, run, kept_from}
+use Rattle.sl_model.specs.Books.{schedule_of, numbers_of}
 
 pub record Run : Type 0 where
   pub world : World

@@ -6,16 +6,16 @@
 --     SettlesTo, FinishesTo    from one scene to another by settling, by finishing
 use Rattle.std.specs.Prelude.{◌≡◌, ℕ, List, length, Some, slice_get}
 use Rattle.sl_net.specs.declared.input.Snapshot.{Snapshot}
-use Rattle.sl_net.specs.Parts.{numbers_from}
-use Rattle.sl_net.specs.Net.{Net}
+use Rattle.sl_parts.specs.Parts.{numbers_from}
+use Rattle.sl_layout.specs.Net.{Net}
 use Rattle.sl_net.specs.Input.{Input}
 use Rattle.sl_wire.specs.declared.message.Msg.{Msg}
 use Rattle.sl_observe.specs.Observer.{ObserverState}
-use Rattle.sl_cut.specs.History.{World, Losses}
-use Rattle.sl_cut.specs.Setup.{Setup, setup_of}
-use Rattle.sl_cut.specs.World.{Entry, world, IsLegal}
-use Rattle.sl_cut.specs.Books.{schedule_of, numbers_of}
-use Rattle.sl_cut.specs.End.{settle, Settled, IsFin, IsFinished}
+use Rattle.sl_model.specs.History.{World, Losses}
+use Rattle.sl_model.specs.Setup.{Setup, setup_of}
+use Rattle.sl_model.specs.World.{Entry, world, IsLegal}
+use Rattle.sl_model.specs.Books.{schedule_of, numbers_of}
+use Rattle.sl_model.specs.End.{settle, Settled, IsFin, IsFinished}
 use Rattle.sl_world.specs.Scene.{Scene}
 use Rattle.sl_proto.specs.Runs.{Run, Goes}
 use Rattle.sl_proto.specs.Nodes.{NodeState, ObserverNode}

@@ -6,17 +6,17 @@
 use Rattle.std.specs.Prelude.{◌≡◌, ℕ, ◌<◌, ◌^◌, List, map, filter, length, take, Option, Some, None, slice_index}
 use Rattle.sl_layout.specs.declared.actor.Sort.{Sort}
 use Rattle.sl_layout.specs.declared.actor.Sort.TheVariants.{Cable, Crossbar, Init, Notice}
-use Rattle.sl_net.specs.Parts.{numbers_from}
-use Rattle.sl_net.specs.Net.{Net, same_sort, link_of, link_numbers, units, data_channels}
+use Rattle.sl_parts.specs.Parts.{numbers_from}
+use Rattle.sl_layout.specs.Net.{Net, same_sort, link_of, link_numbers, units, data_channels}
 use Rattle.sl_saves.specs.declared.entry.Saved.{Saved}
 use Rattle.sl_saves.specs.declared.entry.Saved.TheVariants.{Value}
 use Rattle.sl_wire.specs.declared.message.Msg.{Msg}
 use Rattle.sl_wire.specs.Reach.{least_of}
 use Rattle.sl_observe.specs.Observer.{UnitState, ObserverState, unit_at, floor_of}
-use Rattle.sl_cut.specs.declared.findings.Drops.{Drops}
-use Rattle.sl_cut.specs.declared.findings.Findings.{Findings}
-use Rattle.sl_cut.specs.Words.{numbers, weigh}
-use Rattle.sl_image.specs.Accounts.{Account, finding_by}
+use Rattle.sl_model.specs.declared.findings.Drops.{Drops}
+use Rattle.sl_model.specs.declared.findings.Findings.{Findings}
+use Rattle.sl_model.specs.Words.{numbers, weigh}
+use Rattle.sl_model.specs.Accounts.{Account, finding_by}
 use Rattle.sl_image.specs.ObserverImage.{account_of}
 use Rattle.sl_world.specs.Scene.{Scene, line_at}
 use Rattle.sl_proto.specs.Nodes.{NodeState, UnitNode, HostNode}

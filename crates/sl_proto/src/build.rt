@@ -2,9 +2,9 @@
 ghost use Rattle.std.specs.Prelude.{◌≡◌, ◌<◌, ◌++◌, ◌∷◌, [], IfOk, OnOk, None, Some, length, map, slice_index};
 ghost use Rattle.std.specs.List.{All};
 ghost use Rattle.sl_machine.specs.Fit.{HasCounts};
-ghost use Rattle.sl_net.specs.Net.{actor_of, units};
-ghost use Rattle.sl_net.specs.Roster.{IsActor};
-ghost use Rattle.sl_net.specs.Wiring.{plan_of};
+ghost use Rattle.sl_layout.specs.Net.{actor_of, units};
+ghost use Rattle.sl_layout.specs.Roster.{IsActor};
+ghost use Rattle.sl_layout.specs.Wiring.{plan_of};
 ghost use Rattle.sl_route.specs.Routes.{IsRoutesOf};
 ghost use Rattle.sl_loss.specs.Loss.{IsFresh};
 ghost use Rattle.sl_unit.specs.Made.{side_of, unit_at};
@@ -102,12 +102,12 @@ fn make_unit(
 fn make_host(alloc: Global, input: &Input, actor: u32, host: u32) -> Result<Node, Memory>
     requires below { actor < length input.now.net.actors }
     requires actor { actor_of input.now.net actor ≡ ActorId.Host host }
-    requires part { IsActor input.now.net.parts (ActorId.Host host) }
     requires input { IsBuildable input.now }
     ensures state { IfOk result (λ node. node_state node ≡ first_node input.now actor (ActorId.Host host)) }
     ensures counts { IfOk result (λ node. node_counts node ≡ counts_at input.now.net actor) }
     ensures ready { IfOk result (λ node. node_ready node ≡ None) }
 {
+    nets_are_wired();
     let _parts = input.net.parts();
     let node = Host::new(alloc, host, input)?;
     Ok(Node::Host(node))

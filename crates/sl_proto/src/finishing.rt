@@ -1,20 +1,20 @@
 // Settling and finishing, over whoever takes turns.
 ghost use Rattle.std.specs.Prelude.{◌≡◌, ◌<◌, List, [], ◌∷◌, true, All, OnOk, IfOk};
 ghost use Rattle.sl_machine.specs.Plan.{HasChoice};
-ghost use Rattle.sl_net.specs.Net.{Net};
+ghost use Rattle.sl_layout.specs.Net.{Net};
 ghost use Rattle.sl_net.specs.Wired.{IsNet};
-ghost use Rattle.sl_net.specs.Wiring.{plan_of};
-ghost use Rattle.sl_cut.specs.History.{World};
-ghost use Rattle.sl_cut.specs.World.{Entry, world, kept_from};
-ghost use Rattle.sl_cut.specs.Schedule.{settling_pass, sweeps, resend_entry};
-ghost use Rattle.sl_cut.specs.End.{settle, finish, is_collected, rose, sweep_round, again_from, Settled, IsFin};
+ghost use Rattle.sl_layout.specs.Wiring.{plan_of};
+ghost use Rattle.sl_model.specs.History.{World};
+ghost use Rattle.sl_model.specs.World.{Entry, world, kept_from};
+ghost use Rattle.sl_model.specs.Schedule.{settling_pass, sweeps, resend_entry};
+ghost use Rattle.sl_model.specs.End.{settle, finish, is_collected, rose, sweep_round, again_from, Settled, IsFin};
 ghost use Rattle.sl_proto.specs.Standing.{Case, world_of, run_at, StandsFor, HasObserver, SettlesTo, FinishesTo};
 ghost use Rattle.sl_proto.specs.Rounds.{EndsAt, RoundAt, HasReached};
 ghost use Rattle.sl_proto.specs.Fronts.{Leads, Whatever, SettlesBy, SweepsBy, ResendsBy, SettlesTowards, FinishesTowards};
 
 use crate::schedule::{all_sweeps, pass_of, passes_are_choices};
 use crate::taker::{Taker, drive_within};
-use sl_finish::{finishing_ends, finishing_finishes, idle_passes_settle};
+use sl_model::{finishing_ends, finishing_finishes, idle_passes_settle};
 use sl_image::observers_tell;
 use sl_machine::Memory;
 use sl_net::{Net, nets_are_wired};

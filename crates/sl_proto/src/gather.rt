@@ -1,12 +1,12 @@
 // The findings of a finished world of nodes.
 ghost use Rattle.std.specs.Prelude.{◌≡◌, ◌<◌, ◌^◌, [], ◌∷◌, ◌++◌, length, cond, IfOk, OnOk, Some};
-ghost use Rattle.sl_net.specs.Net.{same_sort, link_of};
-ghost use Rattle.sl_cut.specs.Words.{listed, numbers, weigh};
-ghost use Rattle.sl_cut.specs.History.{Losses};
-ghost use Rattle.sl_cut.specs.Setup.{setup_of};
-ghost use Rattle.sl_cut.specs.Books.{schedule_of};
-ghost use Rattle.sl_cut.specs.End.{IsFinished};
-ghost use Rattle.sl_cut.specs.Findings.{findings};
+ghost use Rattle.sl_layout.specs.Net.{same_sort, link_of};
+ghost use Rattle.sl_model.specs.Words.{listed, numbers, weigh};
+ghost use Rattle.sl_model.specs.History.{Losses};
+ghost use Rattle.sl_model.specs.Setup.{setup_of};
+ghost use Rattle.sl_model.specs.Books.{schedule_of};
+ghost use Rattle.sl_model.specs.End.{IsFinished};
+ghost use Rattle.sl_model.specs.Findings.{findings};
 ghost use Rattle.sl_world.specs.World.{scene};
 ghost use Rattle.sl_proto.specs.Nodes.{node_state};
 ghost use Rattle.sl_proto.specs.Standing.{case_of, world_of, StandsFor};
@@ -15,7 +15,7 @@ ghost use Rattle.sl_proto.specs.Told.{sent_told, delivered_told, drops_told, all
 use crate::node::Node;
 use crate::taker::Taker;
 use crate::verdicts::finding_list;
-use sl_cut::{Counts, Drops, Findings, Lost};
+use sl_model::{Counts, Drops, Findings, Lost};
 use sl_image::{observers_give_findings, observers_tell};
 use sl_machine::Memory;
 use sl_net::{Input, Net, Sort, nets_are_wired};

@@ -1,9 +1,9 @@
 // The losses of an input's links.
 ghost use Rattle.std.specs.Prelude.{◌≡◌, ℕ, ◌<◌, ◌++◌, ◌∷◌, [], None, length, map, slice_index_or, slice_set, All, IfOk, OnOk};
-ghost use Rattle.sl_net.specs.Parts.{below};
-ghost use Rattle.sl_net.specs.Net.{link_numbers};
+ghost use Rattle.sl_parts.specs.Parts.{below};
+ghost use Rattle.sl_layout.specs.Net.{link_numbers};
 ghost use Rattle.sl_loss.specs.Loss.{IsFresh};
-ghost use Rattle.sl_cut.specs.Losses.{drops_on, loss_on, losses};
+ghost use Rattle.sl_model.specs.Losses.{drops_on, loss_on, losses};
 ghost use Rattle.sl_proto.specs.Image.{GoesOn};
 
 use sl_loss::Loss;

@@ -3,15 +3,15 @@
 ghost use Rattle.std.specs.Prelude.{◌≡◌, ℕ, ◌+◌, ◌^◌, ◌<◌, List, length, Option, Some, None, slice_get, slice_index_or};
 ghost use Rattle.sl_loss.specs.Loss.{Loss};
 ghost use Rattle.sl_net.specs.declared.input.Snapshot.{Snapshot};
-ghost use Rattle.sl_net.specs.Net.{Net};
+ghost use Rattle.sl_layout.specs.Net.{Net};
 ghost use Rattle.sl_net.specs.Input.{Input};
 ghost use Rattle.sl_net.specs.Wired.{IsNet};
-ghost use Rattle.sl_net.specs.Wiring.{plan_of};
+ghost use Rattle.sl_layout.specs.Wiring.{plan_of};
 ghost use Rattle.sl_wire.specs.declared.message.Msg.{Msg};
-ghost use Rattle.sl_cut.specs.History.{Losses};
+ghost use Rattle.sl_model.specs.History.{Losses};
 ghost use Rattle.sl_unit.specs.Made.{IsRanged};
-ghost use Rattle.sl_cut.specs.Setup.{Setup, setup_of};
-ghost use Rattle.sl_cut.specs.World.{Entry, start, world, IsLegal, kept};
+ghost use Rattle.sl_model.specs.Setup.{Setup, setup_of};
+ghost use Rattle.sl_model.specs.World.{Entry, start, world, IsLegal, kept};
 ghost use Rattle.sl_world.specs.Scene.{Scene, first_scene, after_all, run_of};
 ghost use Rattle.sl_world.specs.Scene.{kept as scene_kept};
 ghost use Rattle.sl_proto.specs.Machines.{FollowHistories};
@@ -22,11 +22,7 @@ ghost use Rattle.sl_proto.specs.Nodes.{NodeState, node_rules};
 ghost use Rattle.sl_proto.specs.Runs.{Follows, IsBookOfTurns};
 ghost use Rattle.sl_proto.specs.Standing.{Case, case_of, run_at, StandsFor, HasObserver};
 
-use sl_image::{
-    controls_act, controls_start, controls_stay, controls_take, hosts_act, hosts_have_two_links,
-    hosts_start, hosts_stay, hosts_take, new_units_stand, observers_act, observers_start,
-    observers_stay, observers_take, units_stay, units_take_messages,
-};
+use sl_image::{controls_act, controls_start, controls_stay, controls_take, hosts_act, hosts_have_two_links, hosts_start, hosts_stay, hosts_take, new_units_stand, observers_act, observers_start, observers_stay, observers_take, units_stay, units_take_messages};
 use sl_net::nets_are_wired;
 
 /// Each turn of a node does the step of its actor, and is idle where this has none.

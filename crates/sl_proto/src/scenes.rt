@@ -3,11 +3,11 @@
 ghost use Rattle.std.specs.Prelude.{◌≡◌, ℕ, ◌+◌, ◌^◌, ◌<◌, List, ◌++◌, length, Option, Some};
 ghost use Rattle.sl_loss.specs.Loss.{Loss};
 ghost use Rattle.sl_machine.specs.Machine.{Rules};
-ghost use Rattle.sl_net.specs.Wiring.{plan_of};
+ghost use Rattle.sl_layout.specs.Wiring.{plan_of};
 ghost use Rattle.sl_wire.specs.declared.message.Msg.{Msg};
-ghost use Rattle.sl_cut.specs.History.{World, Losses};
-ghost use Rattle.sl_cut.specs.Setup.{Setup};
-ghost use Rattle.sl_cut.specs.World.{Entry, start, next_step, turn, run, world, IsLegalFrom, IsLegal, kept_from, kept};
+ghost use Rattle.sl_model.specs.History.{World, Losses};
+ghost use Rattle.sl_model.specs.Setup.{Setup};
+ghost use Rattle.sl_model.specs.World.{Entry, start, next_step, turn, run, world, IsLegalFrom, IsLegal, kept_from, kept};
 ghost use Rattle.sl_world.specs.Scene.{Scene, first_scene, turn_of, after_all, run_of, last_number};
 ghost use Rattle.sl_world.specs.Scene.{kept as scene_kept};
 ghost use Rattle.sl_world.specs.Legal.{numbered_from};

@@ -1,11 +1,11 @@
 // The schedules of scripts and passes.
 ghost use Rattle.std.specs.Prelude.{◌≡◌, ℕ, ◌<◌, [], ◌∷◌, ◌++◌, Bool, length, All, OnOk, IfOk, if◌then◌else◌};
 ghost use Rattle.sl_machine.specs.Plan.{HasChoice};
-ghost use Rattle.sl_net.specs.Net.{Net, actor_of};
+ghost use Rattle.sl_layout.specs.Net.{Net, actor_of};
 ghost use Rattle.sl_net.specs.Spelling as spelling;
 ghost use Rattle.sl_net.specs.Wired.{IsNet};
-ghost use Rattle.sl_net.specs.Wiring.{plan_of};
-ghost use Rattle.sl_cut.specs.Schedule.{link_entries, first_action, pass_actions, sweep_of, pass, pass_of, passes_of, sweeps, resend_entry, expand_one, expand};
+ghost use Rattle.sl_layout.specs.Wiring.{plan_of};
+ghost use Rattle.sl_model.specs.Schedule.{link_entries, first_action, pass_actions, sweep_of, pass, pass_of, passes_of, sweeps, resend_entry, expand_one, expand};
 
 use sl_machine::Memory;
 use sl_net::{ActorId, Net, Script1, nets_are_wired};

@@ -1,8 +1,8 @@
 // Scripts, over whoever takes turns.
 ghost use Rattle.std.specs.Prelude.{◌≡◌, All, OnOk};
 ghost use Rattle.sl_machine.specs.Plan.{HasChoice};
-ghost use Rattle.sl_net.specs.Wiring.{plan_of};
-ghost use Rattle.sl_cut.specs.Schedule.{pass, passes_of, expand_one, expand};
+ghost use Rattle.sl_layout.specs.Wiring.{plan_of};
+ghost use Rattle.sl_model.specs.Schedule.{pass, passes_of, expand_one, expand};
 ghost use Rattle.sl_proto.specs.Runs.{Follows};
 ghost use Rattle.sl_proto.specs.Fronts.{FollowsFront};
 ghost use Rattle.sl_proto.specs.Standing.{Case, run_at, StandsFor, HasObserver};

@@ -1,7 +1,7 @@
 // Whoever takes turns: a world of nodes, as data, and schedules of its turns.
 ghost use Rattle.std.specs.Prelude.{◌≡◌, ◌+◌, ◌<◌, ◌≤◌, ◌^◌, length, All, Ok, Some, None, OnOk, OnErr, slice_get};
 ghost use Rattle.sl_machine.specs.Plan.{HasChoice};
-ghost use Rattle.sl_net.specs.Wiring.{plan_of};
+ghost use Rattle.sl_layout.specs.Wiring.{plan_of};
 ghost use Rattle.sl_wire.specs.declared.message.Msg.{Msg};
 ghost use Rattle.sl_world.specs.Scene.{Scene, turn_of, after_turn, after_all, IsFront};
 ghost use Rattle.sl_proto.specs.Nodes.{NodeState, ObserverNode, node_rules};

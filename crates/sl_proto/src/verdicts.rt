@@ -1,15 +1,15 @@
 // The finding of a number, from what the observer collected.
 ghost use Rattle.std.specs.Prelude.{◌≡◌, ℕ, ◌<◌, ◌≤◌, length, take, map, [], ◌∷◌, ◌++◌, IfOk, OnOk};
-ghost use Rattle.sl_net.specs.Parts.{numbers_from};
-ghost use Rattle.sl_net.specs.Net.{units};
+ghost use Rattle.sl_parts.specs.Parts.{numbers_from};
+ghost use Rattle.sl_layout.specs.Net.{units};
 ghost use Rattle.sl_observe.specs.Observer.{unit_at, saved_of};
-ghost use Rattle.sl_cut.specs.Words.{first_told};
-ghost use Rattle.sl_cut.specs.Verdict.{place_or_zero};
-ghost use Rattle.sl_image.specs.Accounts.{behind, lag_by, cause_by, row_of, value_row, floor_by, holds, verdict_by, rows_by, finding_by};
+ghost use Rattle.sl_model.specs.Words.{first_told};
+ghost use Rattle.sl_model.specs.Verdict.{place_or_zero};
+ghost use Rattle.sl_model.specs.Accounts.{behind, lag_by, cause_by, row_of, value_row, floor_by, holds, verdict_by, rows_by, finding_by};
 ghost use Rattle.sl_image.specs.ObserverImage.{account_of};
 ghost use Rattle.sl_proto.specs.Told.{HasAllRows, accounts_of, IsValue};
 
-use sl_cut::{Cause, Finding, FindingList, Lag, Row, Rows1, Verdict};
+use sl_model::{Cause, Finding, FindingList, Lag, Row, Rows1, Verdict};
 use sl_machine::Memory;
 use sl_net::Net;
 use sl_observe::Observer;

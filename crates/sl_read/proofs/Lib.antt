@@ -1,13 +1,9 @@
-pub use Rattle.sl_form.proofs.FieldLemmas
-pub use Rattle.sl_form.proofs.FormLemmas
 pub mod RowLemmas
 pub mod TextLemmas
 pub mod EachLemmas
 pub mod ScriptLemmas
 pub mod OneChoice
 pub mod Steps
-pub use Rattle.sl_form.proofs.Shorter
-pub use Rattle.sl_form.proofs.Arrays
 pub mod Entries
 pub mod Ranges
 pub mod Settled

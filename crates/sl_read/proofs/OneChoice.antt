@@ -2,10 +2,11 @@
 use Rattle.std.proofs.Common.{◌≡◌, ℕ, List, [], ◌∷◌, length, map, Bool, true, false, Some, None, refl, sym, ap, ◌∙◌, arith, inl, inr}
 use Rattle.std.specs.Prelude.{◌⊎◌, if◌then◌else◌, bytes_eq}
 use Rattle.std.proofs.lemmas.Slice.Eq.{bytes_eq-Decides}
-use Rattle.sl_net.specs.Parts.{below}
-use Rattle.sl_net.specs.Net.{Net}
+use Rattle.sl_parts.specs.Parts.{below}
+use Rattle.sl_layout.specs.Net.{Net}
 use Rattle.sl_net.specs.Spelling.{choice_text, choice_count, HasChoice}
-use Rattle.sl_net.proofs.Lists.{Each, each-map, each-flat, each-below, each-at, Member, member-flat, member-map, member-from}
+use Rattle.sl_parts.specs.Lists.{Each, Member}
+use Rattle.sl_parts.proofs.Lists.{each-map, each-flat, each-below, each-at, member-flat, member-map, member-from}
 use Rattle.sl_spell.specs.Spelled.{HasOneSpelling}
 use Rattle.sl_read.specs.Choices.{choices, first, choice_named}
 

@@ -3,7 +3,7 @@ use Rattle.std.proofs.Common.{◌≡◌, ℕ, suc, ◌+◌, ◌-◌, ◌<◌, �
 use Rattle.std.specs.Prelude.{nat_lt, nat_le, ◌&&◌, ◌*◌, if◌then◌else◌, option_map, IfSome}
 use Rattle.std.proofs.lemmas.Bool.{ltb-false, leb-true, and_parts}
 use Rattle.toml.specs.Data.{Items, Members}
-use Rattle.sl_net.proofs.Lists.{Each}
+use Rattle.sl_parts.specs.Lists.{Each}
 use Rattle.sl_net.specs.declared.input.Snapshot.{Snapshot}
 use Rattle.sl_form.specs.declared.path.TableName.TheVariants.{Top}
 use Rattle.sl_form.specs.declared.path.TableName.TheVariants as table

@@ -1,6 +1,6 @@
 -- Entries of a script that are read from the front.
 use Rattle.std.proofs.Common.{◌≡◌, ℕ, ◌+◌, ◌<◌, List, [], ◌∷◌, ◌++◌, length, get_or, drop, Ok, Err, refl, ap, sym, ◌∙◌, add-one, drop-cons}
-use Rattle.sl_net.specs.Net.{Net}
+use Rattle.sl_layout.specs.Net.{Net}
 use Rattle.sl_net.specs.declared.input.Script1.{Script1}
 use Rattle.sl_form.specs.declared.refusal.Refusal.{Refusal}
 use Rattle.sl_read.specs.Choices.{fitting, passes, entries_of}

@@ -16,16 +16,17 @@ use Rattle.sl_net.specs.declared.input.Flow.{Flow}
 use Rattle.sl_net.specs.declared.input.RawPart.{RawPart}
 use Rattle.sl_net.specs.declared.input.Script1.{Script1}
 use Rattle.sl_net.specs.declared.input.Script1.TheVariants.{Pass}
-use Rattle.sl_net.specs.Parts.{Parts}
-use Rattle.sl_net.specs.Fault.{fault_of}
-use Rattle.sl_net.specs.Net.{Net, net_of, link_of, link_at, action_choice}
-use Rattle.sl_net.specs.Wiring.{kind_of, is_lossy}
+use Rattle.sl_parts.specs.Parts.{Parts}
+use Rattle.sl_parts.specs.Fault.{fault_of}
+use Rattle.sl_layout.specs.Net.{Net, net_of, link_of, link_at, action_choice}
+use Rattle.sl_layout.specs.Wiring.{kind_of, is_lossy}
 use Rattle.sl_net.specs.Spelling.{HasChoice, choice_text}
 use Rattle.sl_net.specs.Input.{Input}
-use Rattle.sl_net.specs.Number.{plain_number}
-use Rattle.sl_net.proofs.Lists.{Each, all-from_each, each-at, Member}
-use Rattle.sl_net.proofs.UnitLists.{low_filter}
-use Rattle.sl_net.proofs.NumberLemmas.{is_plain_number}
+use Rattle.sl_parts.specs.Number.{plain_number}
+use Rattle.sl_parts.specs.Lists.{Each, Member}
+use Rattle.sl_parts.proofs.Lists.{all-from_each, each-at}
+use Rattle.sl_layout.proofs.UnitLists.{low_filter}
+use Rattle.sl_parts.proofs.NumberLemmas.{is_plain_number}
 use Rattle.sl_form.specs.declared.path.TableName.TheVariants as table
 use Rattle.sl_form.specs.declared.path.Key.TheVariants.{From, To, Link}
 use Rattle.sl_form.specs.declared.path.Path.{Path}

@@ -4,7 +4,7 @@ use Rattle.std.specs.Prelude.{ℤ, pos, negsuc, ◌&&◌, nat_le, if◌then◌el
 use Rattle.std.proofs.lemmas.Bool.{and_parts}
 use Rattle.std.proofs.lemmas.Bool.Decides.{nat_tests}
 use Rattle.toml.specs.Data.{Data, string, integer, float, boolean, datetime, array, table, Items, no_items, item, Members}
-use Rattle.sl_net.proofs.Lists.{Each}
+use Rattle.sl_parts.specs.Lists.{Each}
 use Rattle.sl_form.specs.declared.path.TableName.{TableName}
 use Rattle.sl_form.specs.declared.path.Key.{Key}
 use Rattle.sl_form.specs.declared.path.Path.{Path}

@@ -7,10 +7,10 @@ use Rattle.sl_net.specs.declared.input.Flow.{Flow}
 use Rattle.sl_net.specs.declared.input.RawPart.{RawPart}
 use Rattle.sl_net.specs.declared.input.Script1.{Script1}
 use Rattle.sl_net.specs.declared.input.Script1.TheVariants.{Pass, Choice}
-use Rattle.sl_net.specs.Parts.{Parts}
-use Rattle.sl_net.specs.Fault.{fault_of}
-use Rattle.sl_net.specs.Net.{Net, net_of, link_of}
-use Rattle.sl_net.specs.Wiring.{kind_of, is_lossy}
+use Rattle.sl_parts.specs.Parts.{Parts}
+use Rattle.sl_parts.specs.Fault.{fault_of}
+use Rattle.sl_layout.specs.Net.{Net, net_of, link_of}
+use Rattle.sl_layout.specs.Wiring.{kind_of, is_lossy}
 use Rattle.sl_net.specs.Spelling.{HasChoice}
 use Rattle.sl_net.specs.Input.{Input, LossSpec}
 use Rattle.sl_read.specs.Choices.{passes}

@@ -3,9 +3,9 @@ use Rattle.std.specs.Prelude.{ℕ, ◌+◌, Bool, ◌&&◌, nat_lt, nat_le, if�
 use Rattle.sl_net.specs.declared.input.Drop1.{Drop1}
 use Rattle.sl_net.specs.declared.input.Script1.{Script1}
 use Rattle.sl_net.specs.declared.input.Script1.TheVariants.{Pass, Choice}
-use Rattle.sl_net.specs.Parts.{below}
-use Rattle.sl_net.specs.Net.{Net, link_of, link_at, action_choice}
-use Rattle.sl_net.specs.Wiring.{kind_of, is_lossy}
+use Rattle.sl_parts.specs.Parts.{below}
+use Rattle.sl_layout.specs.Net.{Net, link_of, link_at, action_choice}
+use Rattle.sl_layout.specs.Wiring.{kind_of, is_lossy}
 use Rattle.sl_net.specs.Spelling.{choice_text, choice_count}
 use Rattle.sl_form.specs.declared.path.TableName.TheVariants as table
 use Rattle.sl_form.specs.declared.path.Key.TheVariants.{Link}

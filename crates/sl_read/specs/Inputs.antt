@@ -10,9 +10,9 @@ use Rattle.sl_parts.specs.declared.parts.HostPart.{HostPart}
 use Rattle.sl_net.specs.declared.input.Flow.{Flow}
 use Rattle.sl_net.specs.declared.input.RawPart.{RawPart}
 use Rattle.sl_net.specs.declared.input.Drop1.{Drop1}
-use Rattle.sl_net.specs.Parts.{Parts}
-use Rattle.sl_net.specs.Fault.{fault_of}
-use Rattle.sl_net.specs.Net.{Net, net_of}
+use Rattle.sl_parts.specs.Parts.{Parts}
+use Rattle.sl_parts.specs.Fault.{fault_of}
+use Rattle.sl_layout.specs.Net.{Net, net_of}
 use Rattle.sl_net.specs.Input.{Input, LossSpec}
 use Rattle.sl_form.specs.declared.refusal.Refusal.{Refusal}
 use Rattle.sl_form.specs.declared.refusal.Refusal.TheVariants.{TooLong, NotToml, Absent, Unlisted, Form, Range, Unknown, Entry, Net as WrongNet, TooMany}

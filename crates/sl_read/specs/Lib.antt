@@ -1,7 +1,3 @@
-pub use Rattle.sl_form.specs.Paths
-pub use Rattle.sl_form.specs.Refusals
-pub use Rattle.sl_form.specs.Fields
-pub use Rattle.sl_form.specs.Forms
 pub mod Rows
 pub mod Tables
 pub mod Sections

@@ -7,7 +7,7 @@ use Rattle.sl_parts.specs.declared.parts.DevicePart.{DevicePart}
 use Rattle.sl_parts.specs.declared.parts.HostPart.{HostPart}
 use Rattle.sl_net.specs.declared.input.Flow.{Flow}
 use Rattle.sl_net.specs.declared.input.RawPart.{RawPart}
-use Rattle.sl_net.specs.Parts.{Parts}
+use Rattle.sl_parts.specs.Parts.{Parts}
 use Rattle.sl_form.specs.declared.path.TableName.TheVariants as table
 use Rattle.sl_form.specs.declared.path.Key.TheVariants.{A, B, At, From, To}
 use Rattle.sl_form.specs.declared.path.Path.{Path}

@@ -3,16 +3,16 @@ use Rattle.std.specs.Prelude.{◌≡◌, ℕ, List, [], ◌∷◌, ◌++◌, cod
 use Rattle.std.specs.Fmt.{digits}
 use Rattle.sl_net.specs.declared.input.Script1.TheVariants.{Pass}
 use Rattle.sl_layout.specs.declared.actor.Sort.TheVariants.{Cable, Notice}
-use Rattle.sl_net.specs.Net.{link_of, same_sort}
-use Rattle.sl_cut.specs.History.{Losses}
-use Rattle.sl_cut.specs.Frame.{plain_frame, packet_of}
+use Rattle.sl_layout.specs.Net.{link_of, same_sort}
+use Rattle.sl_model.specs.History.{Losses}
+use Rattle.sl_model.specs.Frame.{plain_frame, packet_of}
 use Rattle.sl_route.specs.Route.{next_port}
-use Rattle.sl_cut.specs.Setup.{Setup}
-use Rattle.sl_cut.specs.World.{Entry}
-use Rattle.sl_cut.specs.Schedule.{expand}
-use Rattle.sl_cut.specs.Findings.{findings}
-use Rattle.sl_cut.specs.Losses.{no_loss}
-use Rattle.sl_cut.proofs.Nets.{net_a, net_b, net_c, net_d, flow, setup, form, drop_one, book_of}
+use Rattle.sl_model.specs.Setup.{Setup}
+use Rattle.sl_model.specs.World.{Entry}
+use Rattle.sl_model.specs.Schedule.{expand}
+use Rattle.sl_model.specs.Findings.{findings}
+use Rattle.sl_model.specs.Losses.{no_loss}
+use Rattle.sl_model.proofs.Nets.{net_a, net_b, net_c, net_d, flow, setup, form, drop_one, book_of}
 use Rattle.sl_report.specs.Report.{port_text, verdict_line, row_line, network_line, observer_line, host_line, drops_line, lost_line, report_text}
 
 -- lines, each ended by a newline

@@ -7,12 +7,12 @@ use Rattle.std.specs.List.{flat_map}
 use Rattle.sl_parts.specs.declared.parts.HostPart.{HostPart}
 use Rattle.sl_layout.specs.declared.actor.Sort.{Sort}
 use Rattle.sl_layout.specs.declared.actor.Sort.TheVariants.{Cable, Crossbar}
-use Rattle.sl_net.specs.Parts.{numbers_from}
-use Rattle.sl_cut.specs.Findings.{channel_links}
-use Rattle.sl_net.specs.Net.{Net, net_of, units, link_of, link_at, links_into, choices_of, same_sort}
+use Rattle.sl_parts.specs.Parts.{numbers_from}
+use Rattle.sl_model.specs.Findings.{channel_links}
+use Rattle.sl_layout.specs.Net.{Net, net_of, units, link_of, link_at, links_into, choices_of, same_sort}
 use Rattle.sl_saves.specs.declared.entry.Total.{Total}
-use Rattle.sl_cut.specs.declared.findings.Row.{Row}
-use Rattle.sl_cut.specs.declared.findings.Finding.{Finding}
+use Rattle.sl_model.specs.declared.findings.Row.{Row}
+use Rattle.sl_model.specs.declared.findings.Finding.{Finding}
 use Rattle.sl_machine.specs.declared.wiring.Entry.{Entry}
 use Rattle.sl_report.specs.TraceText.{entry_line}
 use Rattle.sl_report.specs.Report.{network_line, channel_text, totals_text, row_line, rows_text, finding_text, hosts_text, host_line}

@@ -11,19 +11,19 @@ use Rattle.sl_layout.specs.declared.actor.Side.TheVariants.{Ingress, Egress}
 use Rattle.sl_layout.specs.declared.actor.ActorId.{ActorId}
 use Rattle.sl_layout.specs.declared.actor.ActorId.TheVariants.{Observer, Control, Unit as OfUnit, Host as OfHost}
 use Rattle.sl_net.specs.declared.input.Script1.TheVariants.{Choice}
-use Rattle.sl_net.specs.Net.{Net, nobody, actor_of, links_into, action_choice}
-use Rattle.sl_net.specs.Wiring.{actions_of}
+use Rattle.sl_layout.specs.Net.{Net, nobody, actor_of, links_into, action_choice}
+use Rattle.sl_layout.specs.Wiring.{actions_of}
 use Rattle.sl_net.specs.Spelling.{side_text, device_name, actor_text, choice_word, choice_text, choice_count, HasChoice}
 use Rattle.sl_spell.specs.Spelled.{HasOneSpelling}
-use Rattle.sl_read.specs.Forms.{pass_of}
+use Rattle.sl_form.specs.Forms.{pass_of}
 use Rattle.sl_read.specs.Choices.{choice_named, pass_or, passes, as_choice, entry_of, fits, fitting, entries_of}
-use Rattle.sl_read.specs.Refusals.{◌>>=◌}
+use Rattle.sl_form.specs.Refusals.{◌>>=◌}
 use Rattle.sl_read.proofs.OneChoice.{one_choice}
-use Rattle.sl_cut.specs.History.{History, World, Losses, history}
-use Rattle.sl_cut.specs.Setup.{Setup}
-use Rattle.sl_cut.specs.Puts.{action}
-use Rattle.sl_cut.specs.Books.{schedule_of}
-use Rattle.sl_cut.specs.World.{acting, floor_for, step_by, next_step, turn, start, IsLegalFrom, IsLegal}
+use Rattle.sl_model.specs.History.{History, World, Losses, history}
+use Rattle.sl_model.specs.Setup.{Setup}
+use Rattle.sl_model.specs.Puts.{action}
+use Rattle.sl_model.specs.Books.{schedule_of}
+use Rattle.sl_model.specs.World.{acting, floor_for, step_by, next_step, turn, start, IsLegalFrom, IsLegal}
 use Rattle.sl_report.specs.TraceText.{IsEntryOf, entry_text, in_script, ReadsBack}
 
 of_side : (side : Side) (rest word : List ℕ) → pass_of ((side_text side ++ (codes " " ++ rest)) ++ word) ≡ None

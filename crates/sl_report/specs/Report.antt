@@ -5,22 +5,22 @@ use Rattle.sl_layout.specs.declared.actor.Sort.TheVariants.{Cable}
 use Rattle.sl_layout.specs.declared.actor.UnitId.{UnitId}
 use Rattle.sl_layout.specs.declared.actor.ActorId.{ActorId}
 use Rattle.sl_layout.specs.declared.actor.ActorId.TheVariants.{Unit as OfUnit}
-use Rattle.sl_net.specs.Parts.{Parts}
-use Rattle.sl_net.specs.Net.{Net, actor_of, link_of, units}
+use Rattle.sl_parts.specs.Parts.{Parts}
+use Rattle.sl_layout.specs.Net.{Net, actor_of, link_of, units}
 use Rattle.sl_net.specs.Spelling.{actor_text, port_of}
 use Rattle.sl_saves.specs.declared.entry.Total.{Total}
-use Rattle.sl_cut.specs.declared.verdict.Cause.{Cause}
-use Rattle.sl_cut.specs.declared.verdict.Cause.TheVariants.{Skipped, Miscredited}
-use Rattle.sl_cut.specs.declared.verdict.Lag.{Lag}
-use Rattle.sl_cut.specs.declared.verdict.Lag.TheVariants.{Id, Channel}
-use Rattle.sl_cut.specs.declared.verdict.Verdict.{Verdict}
-use Rattle.sl_cut.specs.declared.verdict.Verdict.TheVariants.{Consistent, Inconsistent, Pending, NotIssued}
-use Rattle.sl_cut.specs.declared.findings.Row.{Row}
-use Rattle.sl_cut.specs.declared.findings.Finding.{Finding}
-use Rattle.sl_cut.specs.declared.findings.Drops.{Drops}
-use Rattle.sl_cut.specs.declared.findings.Lost.{Lost}
-use Rattle.sl_cut.specs.declared.findings.Findings.{Findings}
-use Rattle.sl_cut.specs.Findings.{channel_links}
+use Rattle.sl_model.specs.declared.verdict.Cause.{Cause}
+use Rattle.sl_model.specs.declared.verdict.Cause.TheVariants.{Skipped, Miscredited}
+use Rattle.sl_model.specs.declared.verdict.Lag.{Lag}
+use Rattle.sl_model.specs.declared.verdict.Lag.TheVariants.{Id, Channel}
+use Rattle.sl_model.specs.declared.verdict.Verdict.{Verdict}
+use Rattle.sl_model.specs.declared.verdict.Verdict.TheVariants.{Consistent, Inconsistent, Pending, NotIssued}
+use Rattle.sl_model.specs.declared.findings.Row.{Row}
+use Rattle.sl_model.specs.declared.findings.Finding.{Finding}
+use Rattle.sl_model.specs.declared.findings.Drops.{Drops}
+use Rattle.sl_model.specs.declared.findings.Lost.{Lost}
+use Rattle.sl_model.specs.declared.findings.Findings.{Findings}
+use Rattle.sl_model.specs.Findings.{channel_links}
 
 -- Units and channels.
 

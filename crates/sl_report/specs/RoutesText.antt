@@ -1,7 +1,7 @@
 -- The text of the routes of a net. Each line ends with a newline; numbers are decimal.
 use Rattle.std.specs.Prelude.{ℕ, List, ◌++◌, flat_map, length, Option, Some, codes, decimal}
-use Rattle.sl_net.specs.Parts.{Parts, below}
-use Rattle.sl_net.specs.Net.{Net}
+use Rattle.sl_parts.specs.Parts.{Parts, below}
+use Rattle.sl_layout.specs.Net.{Net}
 use Rattle.sl_route.specs.Route.{next_port, hops}
 use Rattle.sl_net.specs.Spelling.{device_name, host_name}
 

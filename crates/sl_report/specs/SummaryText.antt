@@ -1,11 +1,11 @@
 -- The text of the summary of a sample: the sizes of its net, and sums over its hosts, snapshots and links. Each line ends with a newline; numbers are decimal.
 use Rattle.std.specs.Prelude.{ℕ, ◌+◌, Bool, true, false, List, ◌++◌, filter, length, sum, codes, decimal}
-use Rattle.sl_net.specs.Net.{Net, units}
-use Rattle.sl_cut.specs.declared.verdict.Verdict.{Verdict}
-use Rattle.sl_cut.specs.declared.verdict.Verdict.TheVariants.{Consistent, Inconsistent, Pending, NotIssued}
-use Rattle.sl_cut.specs.declared.findings.Finding.{Finding}
-use Rattle.sl_cut.specs.declared.findings.Lost.{Lost}
-use Rattle.sl_cut.specs.declared.findings.Findings.{Findings}
+use Rattle.sl_layout.specs.Net.{Net, units}
+use Rattle.sl_model.specs.declared.verdict.Verdict.{Verdict}
+use Rattle.sl_model.specs.declared.verdict.Verdict.TheVariants.{Consistent, Inconsistent, Pending, NotIssued}
+use Rattle.sl_model.specs.declared.findings.Finding.{Finding}
+use Rattle.sl_model.specs.declared.findings.Lost.{Lost}
+use Rattle.sl_model.specs.declared.findings.Findings.{Findings}
 
 abbrev pub is_consistent : Verdict → Bool
 is_consistent Consistent = true

@@ -3,7 +3,7 @@ use Rattle.std.specs.Prelude.{◌≡◌, ℕ, List, ◌++◌, map, flat_map, len
 use Rattle.sl_machine.specs.declared.wiring.Entry.{Entry}
 use Rattle.sl_net.specs.declared.input.Script1.{Script1}
 use Rattle.sl_net.specs.declared.input.Script1.TheVariants.{Choice}
-use Rattle.sl_net.specs.Net.{Net}
+use Rattle.sl_layout.specs.Net.{Net}
 use Rattle.sl_net.specs.Spelling.{choice_text, HasChoice}
 use Rattle.sl_read.specs.Choices.{entries_of}
 

@@ -1,8 +1,8 @@
 // The units of a net and their data channels, by number.
 ghost use Rattle.std.specs.Prelude.{◌≡◌, ◌++◌, ◌<◌, IfOk, OnOk, length, filter};
 ghost use Rattle.std.specs.List.{All};
-ghost use Rattle.sl_net.specs.Net.{link_of, same_sort};
-ghost use Rattle.sl_cut.specs.Findings.{channel_links};
+ghost use Rattle.sl_layout.specs.Net.{link_of, same_sort};
+ghost use Rattle.sl_model.specs.Findings.{channel_links};
 
 use sl_net::{Net, Sort, push_if};
 use std::alloc::{AllocError, Global};

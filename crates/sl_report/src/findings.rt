@@ -1,13 +1,14 @@
 // The findings of each snapshot as text.
 ghost use Rattle.std.specs.Prelude.{◌≡◌, ◌++◌, OnOk, string_bytes, flat_map, codes, decimal, length, ◌<◌};
 ghost use Rattle.std.specs.List.{All};
-ghost use Rattle.sl_cut.specs.Findings.{channel_links};
+ghost use Rattle.sl_model.specs.Findings.{channel_links};
 ghost use Rattle.sl_report.specs.Report.{unit_text, unit_at, channel_text, channel_at, cause_text, lag_text, verdict_text, verdict_line, totals_text, row_line, rows_text, finding_text};
 
 use crate::channels::channel_links;
 use crate::units::{push_channel, push_unit};
-use sl_cut::{Cause, Finding, Lag, Row, Total, Verdict};
+use sl_model::{Cause, Finding, Lag, Row, Verdict};
 use sl_net::Net;
+use sl_saves::Total;
 use std::alloc::{AllocError, Global};
 
 fn push_cause(out: &mut String, cause: Cause) -> Result<(), AllocError>

@@ -3,10 +3,10 @@
 ghost use Rattle.std.specs.Prelude.{List};
 ghost use Rattle.std.specs.List.{All};
 ghost use Rattle.sl_machine.specs.declared.wiring.Entry.{Entry};
-ghost use Rattle.sl_cut.specs.History.{Losses};
-ghost use Rattle.sl_cut.specs.Setup.{Setup};
-ghost use Rattle.sl_cut.specs.Books.{schedule_of};
-ghost use Rattle.sl_cut.specs.World.{IsLegal};
+ghost use Rattle.sl_model.specs.History.{Losses};
+ghost use Rattle.sl_model.specs.Setup.{Setup};
+ghost use Rattle.sl_model.specs.Books.{schedule_of};
+ghost use Rattle.sl_model.specs.World.{IsLegal};
 ghost use Rattle.sl_report.specs.TraceText.{IsEntryOf, ReadsBack};
 
 use sl_net::Net;

@@ -1,9 +1,9 @@
 // The single lines of a report.
 ghost use Rattle.std.specs.Prelude.{◌≡◌, ◌++◌, OnOk, length, map, string_bytes};
-ghost use Rattle.sl_net.specs.Net.{units};
+ghost use Rattle.sl_layout.specs.Net.{units};
 ghost use Rattle.sl_report.specs.Report.{network_line, observer_line, host_line, hosts_text, drops_line, lost_line};
 
-use sl_cut::{Drops, Findings, Lost};
+use sl_model::{Drops, Findings, Lost};
 use sl_net::{HostPart, Name, Net, Parts};
 use std::alloc::AllocError;
 

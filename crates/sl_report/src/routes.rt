@@ -1,6 +1,6 @@
 // The text of routes.
 ghost use Rattle.std.specs.Prelude.{◌≡◌, ◌<◌, ◌++◌, IfOk, OnOk, length, string_bytes, flat_map};
-ghost use Rattle.sl_net.specs.Parts.{below};
+ghost use Rattle.sl_parts.specs.Parts.{below};
 ghost use Rattle.sl_route.specs.Routes.{IsRoutesOf};
 ghost use Rattle.sl_report.specs.RoutesText.{way_text, route_line, route_text, device_routes, routes_text};
 

@@ -1,6 +1,6 @@
 // Units and channels as text.
 ghost use Rattle.std.specs.Prelude.{◌≡◌, ◌++◌, OnOk, string_bytes};
-ghost use Rattle.sl_net.specs.Net.{actor_of, link_of};
+ghost use Rattle.sl_layout.specs.Net.{actor_of, link_of};
 ghost use Rattle.sl_net.specs.Spelling.{side_text, port_of};
 ghost use Rattle.sl_report.specs.Report.{port_text, unit_text, channel_text};
 

@@ -9,10 +9,10 @@ use Rattle.std.proofs.lemmas.List.Elements.{All-weaker, All-map, All-append, All
 use Rattle.std.proofs.lemmas.List.Folds.{list_any-append}
 use Rattle.sl_parts.specs.declared.parts.PortRef.{PortRef}
 use Rattle.sl_parts.specs.declared.parts.CablePart.{CablePart}
-use Rattle.sl_net.specs.Parts.{Parts, numbers_from, below}
-use Rattle.sl_net.specs.Ports.{IsNear}
-use Rattle.sl_net.specs.Valid.{IsPort, IsValid}
-use Rattle.sl_net.proofs.Counting.{at_below, length_below}
+use Rattle.sl_parts.specs.Parts.{Parts, numbers_from, below}
+use Rattle.sl_parts.specs.Ports.{IsNear}
+use Rattle.sl_parts.specs.Valid.{IsPort, IsValid}
+use Rattle.sl_parts.proofs.Lists.{at_below, length_below}
 use Rattle.sl_route.specs.declared.neighbours.Neighbour.{Neighbour}
 use Rattle.sl_route.specs.Route.{Walk, turned, cables_from, walks_between}
 use Rattle.sl_route.specs.Graph.{Graph, neighbour_by, neighbours_of, neighbours_at, leads, reaches, IsGraph}

@@ -7,8 +7,8 @@ use Rattle.std.proofs.lemmas.List.Elements.{recursion_from_All, All-contains_its
 use Rattle.std.proofs.lemmas.List.Folds.{list_any_at}
 use Rattle.sl_parts.specs.declared.parts.PortRef.{PortRef}
 use Rattle.sl_parts.specs.declared.parts.CablePart.{CablePart}
-use Rattle.sl_net.specs.Parts.{Parts, below}
-use Rattle.sl_net.specs.Valid.{IsValid}
+use Rattle.sl_parts.specs.Parts.{Parts, below}
+use Rattle.sl_parts.specs.Valid.{IsValid}
 use Rattle.sl_route.specs.Least.{least, least_in}
 use Rattle.sl_route.specs.Route.{cables_from, walks_between, first_nonempty, least_walks, length_of, first_port, host_port, hops, next_port}
 use Rattle.sl_route.specs.Graph.{reaches, within, is_at}

@@ -5,9 +5,9 @@ use Rattle.std.proofs.lemmas.List.{length-map}
 use Rattle.std.proofs.lemmas.Option.{slice_get_past}
 use Rattle.sl_parts.specs.declared.parts.PortRef.{PortRef}
 use Rattle.sl_parts.specs.declared.parts.HostPart.{HostPart}
-use Rattle.sl_net.specs.Parts.{Parts, below}
-use Rattle.sl_net.specs.Net.{Net}
-use Rattle.sl_net.proofs.Counting.{at_below, length_below}
+use Rattle.sl_parts.specs.Parts.{Parts, below}
+use Rattle.sl_layout.specs.Net.{Net}
+use Rattle.sl_parts.proofs.Lists.{at_below, length_below}
 use Rattle.sl_route.specs.Least.{least}
 use Rattle.sl_route.specs.Route.{least_walks, length_of, first_port, host_port, hops, next_port}
 use Rattle.sl_route.specs.Ways.{Ways}

@@ -8,9 +8,9 @@ use Rattle.std.proofs.lemmas.List.Folds.{list_any_at}
 use Rattle.sl_parts.specs.declared.parts.PortRef.{PortRef}
 use Rattle.sl_parts.specs.declared.parts.CablePart.{CablePart}
 use Rattle.sl_parts.specs.declared.parts.HostPart.{HostPart}
-use Rattle.sl_net.specs.Parts.{Parts, below}
-use Rattle.sl_net.specs.Valid.{IsPort, IsValid}
-use Rattle.sl_net.proofs.Counting.{number_at, length_numbers, length_below}
+use Rattle.sl_parts.specs.Parts.{Parts, below}
+use Rattle.sl_parts.specs.Valid.{IsPort, IsValid}
+use Rattle.sl_parts.proofs.Lists.{number_at, length_numbers, length_below}
 use Rattle.sl_route.specs.declared.neighbours.Neighbour.{Neighbour}
 use Rattle.sl_route.specs.Route.{Walk, cables_from, host_port, hops}
 use Rattle.sl_route.specs.Graph.{Graph, neighbours_of, neighbours_at, reaches, within, IsGraph, is_at}

@@ -7,10 +7,10 @@ use Rattle.std.proofs.lemmas.List.Elements.{All-same, filter_more, recursion_fro
 use Rattle.sl_parts.specs.declared.parts.PortRef.{PortRef}
 use Rattle.sl_parts.specs.declared.parts.CablePart.{CablePart}
 use Rattle.sl_parts.specs.declared.parts.HostPart.{HostPart}
-use Rattle.sl_net.specs.Parts.{Parts, below}
-use Rattle.sl_net.specs.Valid.{IsValid}
-use Rattle.sl_net.proofs.Counting.{numbers-more, length_below}
-use Rattle.sl_net.proofs.Grouping.{map_same}
+use Rattle.sl_parts.specs.Parts.{Parts, below}
+use Rattle.sl_parts.specs.Valid.{IsValid}
+use Rattle.sl_parts.proofs.Lists.{numbers-more, length_below}
+use Rattle.sl_layout.proofs.Grouping.{map_same}
 use Rattle.sl_route.specs.declared.neighbours.Neighbour.{Neighbour}
 use Rattle.sl_route.specs.Least.{least, least_in}
 use Rattle.sl_route.specs.Route.{Walk, cables_from, walks_between, first_nonempty, least_walks, length_of, first_port, host_port, hops, next_port}

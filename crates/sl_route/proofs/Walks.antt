@@ -7,7 +7,7 @@ use Rattle.std.proofs.lemmas.Bool.Decides.{eqb_tells}
 use Rattle.std.proofs.lemmas.List.{map-append}
 use Rattle.std.proofs.lemmas.List.Elements.{filter-append}
 use Rattle.sl_parts.specs.declared.parts.CablePart.{CablePart}
-use Rattle.sl_net.specs.Parts.{Parts}
+use Rattle.sl_parts.specs.Parts.{Parts}
 use Rattle.sl_route.specs.Least.{least_in}
 use Rattle.sl_route.specs.Route.{Walk, turned, cables_from, walks, end_of, walks_between, first_port}
 

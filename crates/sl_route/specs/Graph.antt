@@ -5,7 +5,7 @@
 use Rattle.std.specs.Prelude.{◌≡◌, ℕ, zero, suc, ◌<◌, ◌≤◌, Bool, false, ◌&&◌, ◌||◌, ◌==◌, List, [], map, filter, length, Option, Some, None, is_none, slice_index_or, if◌then◌else◌}
 use Rattle.std.specs.List.{All, list_any}
 use Rattle.sl_parts.specs.declared.parts.CablePart.{CablePart}
-use Rattle.sl_net.specs.Parts.{Parts}
+use Rattle.sl_parts.specs.Parts.{Parts}
 use Rattle.sl_route.specs.declared.neighbours.Neighbour.{Neighbour}
 use Rattle.sl_route.specs.Least.{least}
 use Rattle.sl_route.specs.Route.{cables_from}

@@ -6,7 +6,7 @@
 use Rattle.std.specs.Prelude.{ℕ, suc, zero, List, [], ◌∷◌, ◌++◌, map, filter, flat_map, length, ◌==◌, Option, Some, None, slice_get, option_and_then}
 use Rattle.sl_parts.specs.declared.parts.PortRef.{PortRef}
 use Rattle.sl_parts.specs.declared.parts.CablePart.{CablePart}
-use Rattle.sl_net.specs.Parts.{Parts, below}
+use Rattle.sl_parts.specs.Parts.{Parts, below}
 use Rattle.sl_route.specs.Least.{least}
 
 abbrev pub Walk : Type 0

@@ -1,7 +1,7 @@
 -- The routes of a net: the ways to each of its hosts.
 use Rattle.std.specs.Prelude.{◌≡◌, ℕ, List, map, length}
-use Rattle.sl_net.specs.Parts.{Parts, below}
-use Rattle.sl_net.specs.Net.{Net}
+use Rattle.sl_parts.specs.Parts.{Parts, below}
+use Rattle.sl_layout.specs.Net.{Net}
 use Rattle.sl_route.specs.Route.{next_port, hops}
 use Rattle.sl_route.specs.Ways.{Ways}
 

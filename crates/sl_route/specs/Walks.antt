@@ -3,7 +3,7 @@
 use Rattle.std.specs.Prelude.{◌≡◌, ℕ, ◌≤◌, [], ◌∷◌, ◌++◌, map, length, Option, Some, None}
 use Rattle.std.specs.List.{Contains}
 use Rattle.sl_parts.specs.declared.parts.CablePart.{CablePart}
-use Rattle.sl_net.specs.Parts.{Parts}
+use Rattle.sl_parts.specs.Parts.{Parts}
 use Rattle.sl_route.specs.Route.{Walk, turned, hops, next_port}
 
 -- a cable of the net, in one of its two directions

@@ -2,8 +2,8 @@
 // proofs/.
 ghost use Rattle.std.specs.Prelude.{ℕ, suc, ◌≡◌, ◌<◌, Some, length};
 ghost use Rattle.sl_parts.specs.declared.parts.PortRef.{PortRef};
-ghost use Rattle.sl_net.specs.Parts.{Parts};
-ghost use Rattle.sl_net.specs.Valid.{IsValid};
+ghost use Rattle.sl_parts.specs.Parts.{Parts};
+ghost use Rattle.sl_parts.specs.Valid.{IsValid};
 ghost use Rattle.sl_route.specs.Route.{host_port, hops};
 ghost use Rattle.sl_route.specs.Walks.{AreHops, LeadsNearer};
 

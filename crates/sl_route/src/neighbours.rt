@@ -1,7 +1,7 @@
 // The neighbours of each device.
 ghost use Rattle.std.specs.Prelude.{ℕ, ◌≡◌, ◌<◌, ◌++◌, ◌∷◌, [], OnOk, IfOk, length, map, slice_index_or, slice_set};
-ghost use Rattle.sl_net.specs.Parts.{below};
-ghost use Rattle.sl_net.specs.Valid.{IsValid};
+ghost use Rattle.sl_parts.specs.Parts.{below};
+ghost use Rattle.sl_parts.specs.Valid.{IsValid};
 ghost use Rattle.sl_route.specs.Route.{turned};
 ghost use Rattle.sl_route.specs.Graph.{neighbour_by, neighbours_of};
 

@@ -1,8 +1,8 @@
 // The routes of a net.
 ghost use Rattle.std.specs.Prelude.{◌≡◌, ◌<◌, IfOk, length, map};
-ghost use Rattle.sl_net.specs.Net.{Net};
-ghost use Rattle.sl_net.specs.Parts.{below};
-ghost use Rattle.sl_net.specs.Valid.{IsValid};
+ghost use Rattle.sl_layout.specs.Net.{Net};
+ghost use Rattle.sl_parts.specs.Parts.{below};
+ghost use Rattle.sl_parts.specs.Valid.{IsValid};
 ghost use Rattle.sl_route.specs.Route.{next_port, hops};
 ghost use Rattle.sl_route.specs.Routes.{ways_of, IsRoutesOf};
 

@@ -1,7 +1,7 @@
 // The ways to one host.
 ghost use Rattle.std.specs.Prelude.{◌≡◌, ◌<◌, IfOk, Some, None, length, map, cond, min, unwrap_or, slice_index_or};
 ghost use Rattle.std.specs.List.{All};
-ghost use Rattle.sl_net.specs.Parts.{below};
+ghost use Rattle.sl_parts.specs.Parts.{below};
 ghost use Rattle.sl_route.specs.Least.{least};
 ghost use Rattle.sl_route.specs.Graph.{neighbours_at, IsGraph, IsFar, is_at, ports_to, port_toward};
 

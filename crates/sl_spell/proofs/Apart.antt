@@ -10,19 +10,18 @@ use Rattle.sl_layout.specs.declared.actor.Sort.TheVariants.{FromHost, ToHost, Ca
 use Rattle.std.specs.List.{All}
 use Rattle.sl_parts.specs.declared.parts.DevicePart.{DevicePart}
 use Rattle.sl_parts.specs.declared.parts.HostPart.{HostPart}
-use Rattle.sl_net.specs.Text.{IsName}
-use Rattle.sl_net.specs.Fault.{fault_of}
-use Rattle.sl_net.specs.Parts.{Parts}
-use Rattle.sl_net.specs.Net.{Net, net_of, actor_of, nobody, actors_of, Incoming, incoming, place_of, links_to, link_of, link_at, links_into, action_choice, no_link}
-use Rattle.sl_net.specs.Valid.{IsValid}
-use Rattle.sl_net.specs.Roster.{IsActor}
+use Rattle.sl_parts.specs.Text.{IsName}
+use Rattle.sl_parts.specs.Fault.{fault_of}
+use Rattle.sl_parts.specs.Parts.{Parts}
+use Rattle.sl_layout.specs.Net.{Net, net_of, actor_of, nobody, actors_of, Incoming, incoming, place_of, links_to, link_of, link_at, links_into, action_choice, no_link}
+use Rattle.sl_parts.specs.Valid.{IsValid}
+use Rattle.sl_layout.specs.Roster.{IsActor}
 use Rattle.sl_net.specs.Wired.{receives}
-use Rattle.sl_net.specs.Wiring.{actions_of}
+use Rattle.sl_layout.specs.Wiring.{actions_of}
 use Rattle.sl_net.specs.Spelling.{link_word, link_rest, link_text, action_text, choice_word, choice_text, choice_count, HasChoice}
-use Rattle.sl_net.proofs.Lists.{each-index}
-use Rattle.sl_net.proofs.Actors.{actor-at, place-at, each-actor}
-use Rattle.sl_net.proofs.Filters.{one-place}
-use Rattle.sl_net.proofs.Senders.{IsSender, each-sender}
+use Rattle.sl_parts.proofs.Lists.{each-index, one-place}
+use Rattle.sl_layout.proofs.Actors.{actor-at, place-at, each-actor}
+use Rattle.sl_layout.proofs.Senders.{IsSender, each-sender}
 use Rattle.sl_net.proofs.Linked.{Joined, each-joined, link_from, incoming-distinct}
 use Rattle.sl_net.proofs.NetWired.{into-links}
 use Rattle.sl_spell.proofs.Texts.{at_map, differ}

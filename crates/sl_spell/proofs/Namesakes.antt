@@ -9,9 +9,9 @@ use Rattle.std.proofs.lemmas.List.Folds.{list_any_at}
 use Rattle.std.proofs.lemmas.Slice.Eq.{bytes_eq-Decides}
 use Rattle.sl_parts.specs.declared.parts.DevicePart.{DevicePart}
 use Rattle.sl_parts.specs.declared.parts.HostPart.{HostPart}
-use Rattle.sl_net.specs.Text.{IsName}
-use Rattle.sl_net.specs.Parts.{Parts}
-use Rattle.sl_net.specs.Fault.{fault_of, first_clash}
+use Rattle.sl_parts.specs.Text.{IsName}
+use Rattle.sl_parts.specs.Parts.{Parts}
+use Rattle.sl_parts.specs.Fault.{fault_of, first_clash}
 use Rattle.sl_net.specs.Spelling.{device_name, host_name}
 use Rattle.sl_net.proofs.NetWired.{no-reason}
 use Rattle.sl_spell.proofs.Texts.{at_map}

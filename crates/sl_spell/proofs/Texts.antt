@@ -3,7 +3,7 @@ use Rattle.std.proofs.Common.{◌≡◌, ℕ, ◌<◌, List, [], ◌∷◌, ◌+
 use Rattle.std.specs.Prelude.{◌==◌}
 use Rattle.std.specs.List.{list_all}
 use Rattle.std.proofs.lemmas.Bool.{and_parts, eq-eqb}
-use Rattle.sl_net.specs.Text.{IsName, is_name_byte}
+use Rattle.sl_parts.specs.Text.{IsName, is_name_byte}
 
 -- the byte doesn't stand in the text
 abbrev pub Lacks : ℕ → List ℕ → Type 0

@@ -1,6 +1,6 @@
 -- That a text spells one choice at most.
 use Rattle.std.specs.Prelude.{◌≡◌, ℕ}
-use Rattle.sl_net.specs.Net.{Net}
+use Rattle.sl_layout.specs.Net.{Net}
 use Rattle.sl_net.specs.Spelling.{choice_text, HasChoice}
 
 -- no two choices of the net have one spelling

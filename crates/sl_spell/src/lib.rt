@@ -2,7 +2,7 @@
 #![tactic(auto)]
 
 ghost use Rattle.std.specs.List.{All};
-ghost use Rattle.sl_net.specs.Text.{IsName};
+ghost use Rattle.sl_parts.specs.Text.{IsName};
 ghost use Rattle.sl_spell.specs.Spelled.{HasOneSpelling};
 
 use sl_net::{DevicePart, HostPart, Net};

@@ -11,14 +11,16 @@ use Rattle.sl_layout.specs.declared.actor.Sort.{Sort}
 use Rattle.sl_layout.specs.declared.actor.Sort.TheVariants.{FromHost, ToHost, Cable, Crossbar, Init, Poll, Notice, Dump, Begin, Done}
 use Rattle.sl_layout.specs.declared.actor.LinkPart.{LinkPart}
 use Rattle.sl_parts.specs.declared.parts.PortRef.{PortRef}
-use Rattle.sl_net.specs.Parts.{Parts, below, used_ports, host_at, other_end}
-use Rattle.sl_net.specs.Net.{Net, net_of, Incoming, incoming, ingress, from_host_or_cable, from_outside, unit_incoming, links_into, link_of, link_at, place_of, place_in, actors_of, actor_of, same_sort, sort_number, choices_of, data_channels}
-use Rattle.sl_net.specs.Valid.{IsValid}
-use Rattle.sl_net.specs.Roster.{IsActor}
-use Rattle.sl_net.proofs.NetWired.{numbers-suc, filter-map, into-links}
-use Rattle.sl_net.proofs.Sizes.{length_map-is, few_used}
-use Rattle.sl_net.proofs.Actors.{place-at}
-use Rattle.sl_net.proofs.Lists.{Member, member-filter, member-from, member-left, member-right, all-from_each, each-map, each-below}
+use Rattle.sl_parts.specs.Parts.{Parts, below, used_ports, host_at, other_end}
+use Rattle.sl_layout.specs.Net.{Net, net_of, Incoming, incoming, ingress, from_host_or_cable, from_outside, unit_incoming, links_into, link_of, link_at, place_of, place_in, actors_of, actor_of, same_sort, sort_number, choices_of, data_channels}
+use Rattle.sl_parts.specs.Valid.{IsValid}
+use Rattle.sl_layout.specs.Roster.{IsActor}
+use Rattle.sl_net.proofs.NetWired.{into-links}
+use Rattle.std.proofs.lemmas.List.{length-map}
+use Rattle.sl_layout.proofs.Sizes.{few_used}
+use Rattle.sl_layout.proofs.Actors.{place-at}
+use Rattle.sl_parts.specs.Lists.{Member}
+use Rattle.sl_parts.proofs.Lists.{numbers-suc, filter-map, member-filter, member-from, member-left, member-right, all-from_each, each-map, each-below}
 use Rattle.sl_unit.specs.Wires.{IsSmall}
 use Rattle.sl_unit.specs.Made.{side_of, entrance, entrance_by, entrances_of, is_own}
 use Rattle.sl_unit.proofs.Ways.{three, one_number}
@@ -29,7 +31,7 @@ use Rattle.sl_unit.proofs.Ways.{three, one_number}
 count_at : {A : Type 0} (t : A → Bool) (d : A) (xs : List A) → length (filter (λ c. t (get_or xs c d)) (below (length xs))) ≡ length (filter t xs)
 count_at t d [] = refl
 count_at t d (x ∷ xs) = ap (λ ns. length (cond (t x) (0 ∷ ns) ns)) (ap (filter (λ c. t (get_or (x ∷ xs) c d))) (numbers-suc 0 (length xs)) ∙ filter-map (λ c. t (get_or (x ∷ xs) c d)) suc (below (length xs)))
-    ∙ by_bool (t x) (length_map-is suc (filter (λ c. t (get_or xs c d)) (below (length xs))) ∙ count_at t d xs)
+    ∙ by_bool (t x) (length-map (filter (λ c. t (get_or xs c d)) (below (length xs))) suc ∙ count_at t d xs)
   where
     by_bool : (b : Bool) → length (map suc (filter (λ c. t (get_or xs c d)) (below (length xs)))) ≡ length (filter t xs)
         → length (cond b (0 ∷ map suc (filter (λ c. t (get_or xs c d)) (below (length xs)))) (map suc (filter (λ c. t (get_or xs c d)) (below (length xs))))) ≡ length (cond b (x ∷ filter t xs) (filter t xs))
@@ -47,11 +49,11 @@ choices-many parts x s h =
     let u : LinkPart → Bool = λ k. same_sort k.sort s in
     let g : Incoming → LinkPart = λ i. record { from = place_of i.0 (actors_of parts); to = a; sort = i.1 } in
     count_at (λ l. u (link_of net l)) 0 (links_into net a)
-    ∙ sym (length_map-is (link_of net) (filter (λ l. u (link_of net l)) (links_into net a)))
+    ∙ sym (length-map (filter (λ l. u (link_of net l)) (links_into net a)) (link_of net))
     ∙ sym (ap length (filter-map u (link_of net) (links_into net a)))
     ∙ ap (λ ks. length (filter u ks)) (into-links parts x h)
     ∙ ap length (filter-map u g (incoming parts x))
-    ∙ length_map-is g (filter (of s) (incoming parts x))
+    ∙ length-map (filter (of s) (incoming parts x)) g
 
 abbrev data_in : List Incoming → ℕ
 data_in is = length (filter (of Cable) is) + length (filter (of Crossbar) is)
@@ -79,7 +81,7 @@ unit_few parts d p Ingress v = let at : PortRef = record { device = d; port = p 
     omega (arith, joined (of Cable) first rest, joined (of Crossbar) first rest, few_data first, outside_few (host_at parts at) (other_end parts.cables at))
 unit_few parts d p Egress v =
     let first : List Incoming = map (λ q. (ingress d q, Crossbar)) (used_ports parts d) in let rest : List Incoming = (Control d, Poll) ∷ [] in
-    let many : length first ≡ length (used_ports parts d) = length_map-is (λ q. (ingress d q, Crossbar)) (used_ports parts d) in
+    let many : length first ≡ length (used_ports parts d) = length-map (used_ports parts d) (λ q. (ingress d q, Crossbar)) in
     omega (arith, joined (of Cable) first rest, joined (of Crossbar) first rest, few_data first, many, few_used parts d v)
 
 actor_few : (parts : Parts) (x : ActorId) → IsValid parts → IsSome (side_of x) → data_in (incoming parts x) ≤ 8

@@ -4,10 +4,10 @@ use Rattle.std.specs.Prelude.{cond, true, false, Bool, filter, nat_lt, not, â—Œâ
 use Rattle.std.proofs.lemmas.Bool.{lt-ltb}
 use Rattle.std.proofs.lemmas.Bool.Decides.{eqb_tells}
 use Rattle.sl_machine.specs.Machine.{After, is_fitting, puts_on, send_all}
-use Rattle.sl_net.specs.Parts.{below, numbers_from}
+use Rattle.sl_parts.specs.Parts.{below, numbers_from}
 use Rattle.sl_layout.specs.declared.actor.Sort.TheVariants as sort
 use Rattle.sl_net.specs.declared.input.Packet.{Packet}
-use Rattle.sl_net.specs.Net.{same_sort}
+use Rattle.sl_layout.specs.Net.{same_sort}
 use Rattle.sl_wire.specs.declared.message.Msg.{Msg}
 use Rattle.sl_wire.specs.declared.message.Msg.TheVariants.{Host, Data, Probe, Notice}
 use Rattle.sl_unit.specs.declared.wires.Way.{Way}

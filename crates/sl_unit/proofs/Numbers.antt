@@ -5,13 +5,12 @@ use Rattle.std.proofs.lemmas.Bool.{eq-eqb}
 use Rattle.std.proofs.lemmas.Bool.Decides.{eqb_tells}
 use Rattle.sl_layout.specs.declared.actor.Sort.{Sort}
 use Rattle.sl_layout.specs.declared.actor.Sort.TheVariants.{Crossbar}
-use Rattle.sl_net.specs.Parts.{below}
-use Rattle.sl_net.specs.Net.{Net, actor_of, egress, link_of, link_numbers, links_from, links_into, links_out, place_in, same_actor, same_sort}
-use Rattle.sl_net.specs.Wires.{out_of}
-use Rattle.sl_net.proofs.Counting.{at_below}
-use Rattle.sl_net.proofs.Filters.{each-passes}
-use Rattle.sl_net.proofs.Lists.{Distinct, Each, Member, distinct-filter, distinct-from, each-at, each-of, kept-member}
-use Rattle.sl_net.proofs.NetWired.{filter-map, map-map, numbers-suc}
+use Rattle.sl_parts.specs.Parts.{below}
+use Rattle.sl_layout.specs.Net.{Net, actor_of, egress, link_of, link_numbers, links_from, links_into, links_out, place_in, same_actor, same_sort}
+use Rattle.sl_layout.specs.Wires.{out_of}
+use Rattle.sl_parts.specs.Lists.{Distinct, Each, Member}
+use Rattle.sl_parts.proofs.Lists.{filter-map, numbers-suc, at_below, each-passes, distinct-filter, distinct-from, each-at, each-of, kept-member}
+use Rattle.std.proofs.lemmas.Simd.{map-map}
 use Rattle.sl_net.proofs.Sorts.{told}
 use Rattle.sl_unit.specs.declared.wires.Way.{Way}
 use Rattle.sl_unit.specs.declared.wires.Way.TheVariants.{All, Toward}

@@ -2,8 +2,8 @@
 use Rattle.std.proofs.Common.{◌≡◌, ℕ, zero, suc, ◌+◌, ◌-◌, ◌<◌, List, [], ◌∷◌, ◌++◌, length, refl, sym, ap, subst, ◌∙◌, arith, append_assoc, length-append}
 use Rattle.std.specs.Prelude.{cond, true, false, Bool, filter}
 use Rattle.std.proofs.lemmas.List.{length-map}
-use Rattle.sl_net.specs.Parts.{below, numbers_from}
-use Rattle.sl_net.proofs.Counting.{filter_below_more}
+use Rattle.sl_parts.specs.Parts.{below, numbers_from}
+use Rattle.sl_parts.proofs.Lists.{filter_below_more}
 use Rattle.sl_wire.specs.declared.message.Msg.{Msg}
 use Rattle.sl_machine.specs.Machine.{send_all}
 

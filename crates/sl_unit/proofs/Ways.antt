@@ -2,13 +2,12 @@
 use Rattle.std.proofs.Common.{◌≡◌, ℕ, suc, ◌+◌, ◌-◌, ◌≤◌, List, [], ◌∷◌, length, refl, sym, subst, ◌∙◌, Option, Some, None, arith, length-append, get_or, inl, inr}
 use Rattle.std.specs.Prelude.{cond, true, false, Bool, filter, ◌⊎◌, ◌==◌, ◌&&◌, if◌then◌else◌}
 use Rattle.std.proofs.lemmas.Bool.Decides.{eqb_tells}
-use Rattle.sl_net.specs.Parts.{below}
+use Rattle.sl_parts.specs.Parts.{below}
 use Rattle.sl_layout.specs.declared.actor.Sort.{Sort}
 use Rattle.sl_layout.specs.declared.actor.Sort.TheVariants as sort
 use Rattle.sl_net.specs.declared.input.Packet.{Packet}
-use Rattle.sl_net.specs.Net.{same_sort, sort_number, same_actor, egress}
-use Rattle.sl_net.proofs.Counting.{length_numbers}
-use Rattle.sl_net.proofs.Sizes.{length_filter_le}
+use Rattle.sl_layout.specs.Net.{same_sort, sort_number, same_actor, egress}
+use Rattle.sl_parts.proofs.Lists.{length_numbers, length_filter_le}
 use Rattle.sl_unit.specs.declared.wires.Exit.{Exit}
 use Rattle.sl_unit.specs.declared.wires.Way.{Way}
 use Rattle.sl_unit.specs.declared.wires.Way.TheVariants.{All, Toward}

@@ -6,8 +6,8 @@ use Rattle.sl_layout.specs.declared.actor.ActorId.TheVariants.{Unit as OfUnit}
 use Rattle.sl_layout.specs.declared.actor.Sort.{Sort}
 use Rattle.sl_layout.specs.declared.actor.Sort.TheVariants.{FromHost, Cable as CableSort, Crossbar as CrossbarSort, Init as InitSort, Poll as PollSort}
 use Rattle.sl_net.specs.declared.input.Snapshot.{Snapshot}
-use Rattle.sl_net.specs.Parts.{below}
-use Rattle.sl_net.specs.Net.{Net, same_actor, ingress, actor_of, link_of, link_at, links_into, links_from, place_in, data_channels, units}
+use Rattle.sl_parts.specs.Parts.{below}
+use Rattle.sl_layout.specs.Net.{Net, same_actor, ingress, actor_of, link_of, link_at, links_into, links_from, place_in, data_channels, units}
 use Rattle.sl_route.specs.Route.{next_port}
 use Rattle.sl_unit.specs.declared.wires.Entrance.{Entrance}
 use Rattle.sl_unit.specs.declared.wires.Entrance.TheVariants.{Host, Cable, Crossbar, Init, Poll, Other}

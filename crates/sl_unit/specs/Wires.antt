@@ -4,8 +4,8 @@ use Rattle.std.specs.Prelude.{ℕ, ◌<◌, ◌^◌, Bool, true, false, ◌&&◌
 use Rattle.std.specs.List.{All as AllEach}
 use Rattle.sl_layout.specs.declared.actor.Sort.TheVariants.{Crossbar, FromHost}
 use Rattle.sl_layout.specs.declared.actor.ActorId.TheVariants.{Observer}
-use Rattle.sl_net.specs.Parts.{below}
-use Rattle.sl_net.specs.Net.{same_sort, same_actor, egress}
+use Rattle.sl_parts.specs.Parts.{below}
+use Rattle.sl_layout.specs.Net.{same_sort, same_actor, egress}
 use Rattle.sl_unit.specs.declared.wires.Entrance.{Entrance}
 use Rattle.sl_unit.specs.declared.wires.Entrance.TheVariants.{Cable, Crossbar as FromCrossbar, Poll, Other}
 use Rattle.sl_unit.specs.declared.wires.Exit.{Exit}

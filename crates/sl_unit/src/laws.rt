@@ -2,8 +2,8 @@
 ghost use Rattle.std.specs.Prelude.{◌≡◌, ◌<◌, ℕ, Some, filter, length, map, slice_index_or};
 ghost use Rattle.sl_layout.specs.declared.actor.Sort.{Sort};
 ghost use Rattle.sl_layout.specs.declared.actor.Sort.TheVariants.{Crossbar};
-ghost use Rattle.sl_net.specs.Net.{Net, actor_of, egress, link_of, links_into, links_out, same_actor, units};
-ghost use Rattle.sl_net.specs.Wires.{out_of};
+ghost use Rattle.sl_layout.specs.Net.{Net, actor_of, egress, link_of, links_into, links_out, same_actor, units};
+ghost use Rattle.sl_layout.specs.Wires.{out_of};
 ghost use Rattle.sl_unit.specs.declared.wires.Entrance.TheVariants.{Other};
 ghost use Rattle.sl_unit.specs.declared.wires.Way.TheVariants.{All, Toward};
 ghost use Rattle.sl_unit.specs.Wires.{outs};

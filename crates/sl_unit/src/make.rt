@@ -1,7 +1,7 @@
 // The links of a unit in a net.
 ghost use Rattle.std.specs.Prelude.{◌≡◌, ◌<◌, ◌≤◌, ◌^◌, ◌++◌, OnOk, IfOk, IsSome, length};
 ghost use Rattle.std.specs.List.{All};
-ghost use Rattle.sl_net.specs.Net.{actor_of, choices_of, data_channels, place_in};
+ghost use Rattle.sl_layout.specs.Net.{actor_of, choices_of, data_channels, place_in};
 ghost use Rattle.sl_route.specs.Routes.{IsRoutesOf};
 ghost use Rattle.sl_unit.specs.Wires.{IsSmall};
 ghost use Rattle.sl_unit.specs.Made.{side_of, device_of, is_own, entrance, entrances_of, exits_of, ports_of, wires_of};

@@ -47,7 +47,7 @@ pub struct UnitCounts {
 }
 
 impl Unit {
-    ghost use Rattle.sl_net.specs.Net.{units};
+    ghost use Rattle.sl_layout.specs.Net.{units};
     ghost use Rattle.sl_route.specs.Routes.{IsRoutesOf};
     ghost use Rattle.sl_unit.specs.Registers.{dump_of};
     ghost use Rattle.sl_unit.specs.Made.{IsRanged, side_of, unit_at, first_state, ingress_state, egress_state};

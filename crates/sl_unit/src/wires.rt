@@ -1,6 +1,6 @@
 // What a unit knows of its links.
 ghost use Rattle.std.specs.Prelude.{◌≡◌, ◌<◌, ◌^◌, length};
-ghost use Rattle.sl_net.specs.Net.{same_actor, egress};
+ghost use Rattle.sl_layout.specs.Net.{same_actor, egress};
 ghost use Rattle.sl_unit.specs.Wires.{IsSmall, entrance_at, leads, port_to};
 
 use sl_ids::Width;

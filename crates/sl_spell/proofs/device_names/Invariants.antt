@@ -1,6 +1,6 @@
 use Rattle.std.proofs.Common.{ℕ, ◌<◌, get_or}
 use Rattle.sl_parts.specs.declared.parts.DevicePart.{DevicePart}
-use Rattle.sl_net.specs.Text.{IsName}
+use Rattle.sl_parts.specs.Text.{IsName}
 use Rattle.sl_spell.proofs.device_names.Given as goal
 
 abbrev pub invariant-loop-device : goal.invariant-loop-device

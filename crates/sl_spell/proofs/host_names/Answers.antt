@@ -1,7 +1,7 @@
 use Rattle.std.proofs.Common.{get_or, subst, ◌∙◌, arith, below_more}
 use Rattle.std.proofs.lemmas.List.{get_or_default}
 use Rattle.sl_parts.specs.declared.parts.HostPart.{HostPart}
-use Rattle.sl_net.specs.Text.{IsName}
+use Rattle.sl_parts.specs.Text.{IsName}
 use Rattle.sl_spell.proofs.host_names.Goals as goal
 
 pub loop-host-preserved : goal.loop-host-preserved

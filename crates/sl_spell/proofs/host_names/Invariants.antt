@@ -1,6 +1,6 @@
 use Rattle.std.proofs.Common.{ℕ, ◌<◌, get_or}
 use Rattle.sl_parts.specs.declared.parts.HostPart.{HostPart}
-use Rattle.sl_net.specs.Text.{IsName}
+use Rattle.sl_parts.specs.Text.{IsName}
 use Rattle.sl_spell.proofs.host_names.Given as goal
 
 abbrev pub invariant-loop-host : goal.invariant-loop-host

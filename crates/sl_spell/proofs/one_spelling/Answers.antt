@@ -2,8 +2,8 @@ use Rattle.std.proofs.Common.{◌≡◌, ap, subst, ◌∙◌}
 use Rattle.std.specs.List.{All}
 use Rattle.sl_parts.specs.declared.parts.DevicePart.{DevicePart}
 use Rattle.sl_parts.specs.declared.parts.HostPart.{HostPart}
-use Rattle.sl_net.specs.Text.{IsName}
-use Rattle.sl_net.specs.Parts.{Parts}
+use Rattle.sl_parts.specs.Text.{IsName}
+use Rattle.sl_parts.specs.Parts.{Parts}
 use Rattle.sl_spell.proofs.Apart.{one_spelled}
 use Rattle.sl_spell.proofs.one_spelling.Goals as goal
 

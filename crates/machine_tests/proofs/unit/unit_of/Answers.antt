@@ -1,5 +1,5 @@
 use Rattle.std.specs.Prelude.{slice_index}
-use Rattle.sl_net.specs.Net.{units}
+use Rattle.sl_layout.specs.Net.{units}
 use Rattle.machine_tests.proofs.Links.{ingress_links, egress_links}
 use Rattle.machine_tests.proofs.unit.unit_of.Goals as goal
 

@@ -1,9 +1,9 @@
 use Rattle.std.proofs.Common.{sym, subst, ap, rules}
 use Rattle.std.specs.List.{All}
 use Rattle.sl_net.specs.Input.{Input}
-use Rattle.sl_net.specs.Net.{Net}
-use Rattle.sl_cut.specs.Losses.{losses}
-use Rattle.sl_cut.specs.Setup.{setup_of}
+use Rattle.sl_layout.specs.Net.{Net}
+use Rattle.sl_model.specs.Losses.{losses}
+use Rattle.sl_model.specs.Setup.{setup_of}
 use Rattle.sl_report.specs.TraceText.{IsEntryOf}
 use borrow.Author.Tests.{tests}
 use Rattle.sl_app.proofs.run.serve_run.Goals as goal

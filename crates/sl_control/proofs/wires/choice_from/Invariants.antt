@@ -1,6 +1,6 @@
 use Rattle.std.proofs.Common.{◌≡◌, take}
 use Rattle.std.specs.Prelude.{filter, slice_index_or, ◌==◌}
-use Rattle.sl_net.specs.Net.{link_of}
+use Rattle.sl_layout.specs.Net.{link_of}
 use Rattle.sl_control.proofs.wires.choice_from.Given as goal
 
 abbrev pub invariant-loop-choice : goal.invariant-loop-choice

@@ -2,11 +2,10 @@ use Rattle.std.proofs.Common.{◌≡◌, ◌<◌, ◌≤◌, ℕ, List, ap, subs
 use Rattle.std.specs.Prelude.{slice_index_or}
 use Rattle.std.specs.List.{All}
 use Rattle.std.proofs.lemmas.Grind.{common_steps}
-use Rattle.sl_net.specs.Parts.{below}
-use Rattle.sl_net.specs.Net.{link_of, same_sort}
-use Rattle.sl_net.proofs.Counting.{filter_below_more, length_numbers}
-use Rattle.sl_net.proofs.Sizes.{length_filter_le}
-use Rattle.sl_net.proofs.UnitLists.{low_filter}
+use Rattle.sl_parts.specs.Parts.{below}
+use Rattle.sl_layout.specs.Net.{link_of, same_sort}
+use Rattle.sl_parts.proofs.Lists.{filter_below_more, length_numbers, length_filter_le}
+use Rattle.sl_layout.proofs.UnitLists.{low_filter}
 use Rattle.sl_control.proofs.wires.choices_of.Goals as goal
 
 pub loop-choice-preserved : goal.loop-choice-preserved

@@ -1,7 +1,7 @@
 use Rattle.std.proofs.Common.{◌≡◌}
 use Rattle.std.specs.Prelude.{filter, slice_index_or}
-use Rattle.sl_net.specs.Parts.{below}
-use Rattle.sl_net.specs.Net.{link_of, same_sort}
+use Rattle.sl_parts.specs.Parts.{below}
+use Rattle.sl_layout.specs.Net.{link_of, same_sort}
 use Rattle.sl_control.proofs.wires.choices_of.Given as goal
 
 abbrev pub invariant-loop-choice : goal.invariant-loop-choice

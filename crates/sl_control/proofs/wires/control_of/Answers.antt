@@ -1,7 +1,7 @@
 use Rattle.std.proofs.Common.{◌<◌, ℕ, List, ap, subst, sym, ◌∙◌, length}
 use Rattle.sl_layout.specs.declared.actor.ActorId.{ActorId}
 use Rattle.sl_layout.specs.declared.actor.ActorId.TheVariants.{Control}
-use Rattle.sl_net.specs.Net.{place_of, actor_of}
+use Rattle.sl_layout.specs.Net.{place_of, actor_of}
 use Rattle.sl_control.proofs.Joining.{control-low, control-is}
 use Rattle.sl_control.proofs.wires.control_of.Goals as goal
 

@@ -2,8 +2,8 @@ use Rattle.std.proofs.Common.{◌≡◌, List, ap, ◌∙◌, arith, length}
 use Rattle.std.specs.Prelude.{slice_index_or}
 use Rattle.sl_machine.specs.declared.wiring.Link.{Link}
 use Rattle.sl_machine.specs.Plan.{Plan}
-use Rattle.sl_net.specs.Wiring.{wired_link, wired_links}
-use Rattle.sl_net.proofs.Counting.{at_below, length_below}
+use Rattle.sl_layout.specs.Wiring.{wired_link, wired_links}
+use Rattle.sl_parts.proofs.Lists.{at_below, length_below}
 use Rattle.sl_control.proofs.wires.out_of.Goals as goal
 
 pub index-requires : goal.index-requires

@@ -1,6 +1,6 @@
 use Rattle.std.proofs.Common.{◌≡◌, ◌+◌, drop}
 use Rattle.sl_layout.specs.declared.actor.ActorId.TheVariants.{Control}
-use Rattle.sl_net.specs.Net.{place_of}
+use Rattle.sl_layout.specs.Net.{place_of}
 use Rattle.sl_control.proofs.wires.place_of.Given as goal
 
 abbrev pub invariant-loop-actor : goal.invariant-loop-actor

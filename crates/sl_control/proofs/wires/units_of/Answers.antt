@@ -2,9 +2,9 @@ use Rattle.std.proofs.Common.{◌≡◌, ℕ, List, sym, ap, ◌∙◌, map, ari
 use Rattle.std.specs.Prelude.{filter}
 use Rattle.std.proofs.lemmas.List.{take_all}
 use Rattle.sl_layout.specs.declared.actor.Sort.TheVariants.{Poll}
-use Rattle.sl_net.specs.Net.{link_of, links_out, same_sort}
-use Rattle.sl_net.specs.Serving.{serving}
-use Rattle.sl_net.proofs.NetWired.{map-map}
+use Rattle.sl_layout.specs.Net.{link_of, links_out, same_sort}
+use Rattle.sl_layout.specs.Serving.{serving}
+use Rattle.std.proofs.lemmas.Simd.{map-map}
 use Rattle.sl_control.specs.Wires.{unit_wires, unheard}
 use Rattle.sl_control.proofs.wires.units_of.Goals as goal
 

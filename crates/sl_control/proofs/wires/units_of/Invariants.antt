@@ -1,8 +1,8 @@
 use Rattle.std.proofs.Common.{◌≡◌, map, take}
 use Rattle.std.specs.Prelude.{filter}
 use Rattle.sl_layout.specs.declared.actor.Sort.TheVariants.{Poll}
-use Rattle.sl_net.specs.Net.{link_of, same_sort}
-use Rattle.sl_net.specs.Serving.{serving}
+use Rattle.sl_layout.specs.Net.{link_of, same_sort}
+use Rattle.sl_layout.specs.Serving.{serving}
 use Rattle.sl_control.specs.Wires.{unit_wires, unheard}
 use Rattle.sl_control.proofs.wires.units_of.Given as goal
 

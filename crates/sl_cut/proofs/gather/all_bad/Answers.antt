@@ -1,7 +1,7 @@
-use Rattle.sl_cut.proofs.ForwardFindings.{weigh_more, weigh_take}
-use Rattle.sl_history.proofs.Steps.{length_steps}
-use Rattle.sl_history.specs.Counting.{bad}
-use Rattle.sl_history.specs.History.{history}
+use Rattle.sl_model.proofs.Weighed.{weigh_more, weigh_take}
+use Rattle.sl_model.proofs.Steps.{length_steps}
+use Rattle.sl_model.specs.Counting.{bad}
+use Rattle.sl_model.specs.History.{history}
 use Rattle.std.proofs.Common.{ap, arith, get_or, length, ℕ, ◌+◌, ◌∙◌, ◌≡◌}
 use Rattle.sl_cut.proofs.gather.all_bad.Goals as goal
 

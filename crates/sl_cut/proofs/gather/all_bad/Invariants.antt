@@ -1,6 +1,6 @@
-use Rattle.sl_history.specs.Counting.{bad}
-use Rattle.sl_history.specs.History.{history}
-use Rattle.sl_history.specs.Words.{weigh}
+use Rattle.sl_model.specs.Counting.{bad}
+use Rattle.sl_model.specs.History.{history}
+use Rattle.sl_model.specs.Words.{weigh}
 use Rattle.std.proofs.Common.{length, take, ◌≡◌, ◌≤◌}
 use Rattle.sl_cut.proofs.gather.all_bad.Given as goal
 

@@ -1,9 +1,9 @@
-use Rattle.sl_cut.proofs.ForwardFindings.{weigh_more, weigh_take}
-use Rattle.sl_history.proofs.Steps.{length_steps}
-use Rattle.sl_history.specs.Counting.{noroute}
-use Rattle.sl_cut.specs.Findings.{device_of}
-use Rattle.sl_history.specs.History.{history}
-use Rattle.sl_net.specs.Net.{actor_of}
+use Rattle.sl_model.proofs.Weighed.{weigh_more, weigh_take}
+use Rattle.sl_model.proofs.Steps.{length_steps}
+use Rattle.sl_model.specs.Counting.{noroute}
+use Rattle.sl_model.specs.Findings.{device_of}
+use Rattle.sl_model.specs.History.{history}
+use Rattle.sl_layout.specs.Net.{actor_of}
 use Rattle.std.proofs.Common.{ap, arith, get_or, length, ℕ, ◌+◌, ◌∙◌, ◌≡◌, ◌≤◌}
 use Rattle.std.specs.Prelude.{reverse}
 use Rattle.sl_cut.proofs.gather.all_noroute.Goals as goal

@@ -1,8 +1,8 @@
-use Rattle.sl_history.specs.Counting.{noroute}
-use Rattle.sl_cut.specs.Findings.{device_of}
-use Rattle.sl_history.specs.History.{history}
-use Rattle.sl_history.specs.Words.{weigh}
-use Rattle.sl_net.specs.Net.{actor_of}
+use Rattle.sl_model.specs.Counting.{noroute}
+use Rattle.sl_model.specs.Findings.{device_of}
+use Rattle.sl_model.specs.History.{history}
+use Rattle.sl_model.specs.Words.{weigh}
+use Rattle.sl_layout.specs.Net.{actor_of}
 use Rattle.std.proofs.Common.{length, take, ◌≡◌, ◌≤◌}
 use Rattle.sl_cut.proofs.gather.all_noroute.Given as goal
 

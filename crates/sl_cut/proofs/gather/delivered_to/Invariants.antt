@@ -1,4 +1,4 @@
-use Rattle.sl_cut.specs.Findings.{delivered_to}
+use Rattle.sl_model.specs.Findings.{delivered_to}
 use Rattle.std.proofs.Common.{take, ◌≡◌}
 use Rattle.std.specs.Prelude.{map}
 use Rattle.sl_cut.proofs.gather.delivered_to.Given as goal

@@ -1,14 +1,14 @@
-use Rattle.sl_cut.proofs.Sizes.{ingress_size}
-use Rattle.sl_history.specs.Counting.{bad, expired}
-use Rattle.sl_cut.specs.Findings.{ingress_units, over_ingress}
-use Rattle.sl_history.specs.History.{history}
-use Rattle.sl_history.specs.Words.{weigh}
+use Rattle.sl_model.proofs.Sizes.{ingress_size}
+use Rattle.sl_model.specs.Counting.{bad, expired}
+use Rattle.sl_model.specs.Findings.{ingress_units, over_ingress}
+use Rattle.sl_model.specs.History.{history}
+use Rattle.sl_model.specs.Words.{weigh}
 use Rattle.std.proofs.Common.{ap, arith, length, subst, sym, ◌<◌, ◌∙◌, ◌≡◌}
 use Rattle.std.specs.Prelude.{◌^◌}
 use Rattle.std.proofs.Common.{refl}
-use Rattle.sl_history.specs.Counting.{noroute}
-use Rattle.sl_cut.specs.Findings.{device_of}
-use Rattle.sl_net.specs.Net.{actor_of}
+use Rattle.sl_model.specs.Counting.{noroute}
+use Rattle.sl_model.specs.Findings.{device_of}
+use Rattle.sl_layout.specs.Net.{actor_of}
 use Rattle.sl_cut.proofs.gather.drops_of.Goals as goal
 
 pub all_bad-requires : goal.all_bad-requires

@@ -1,6 +1,6 @@
-use Rattle.sl_history.proofs.ForwardLists.{map_numbers_more}
-use Rattle.sl_cut.specs.Findings.{finding}
-use Rattle.sl_step.specs.Losses.{losses}
+use Rattle.sl_parts.proofs.Lists.{map_numbers_more}
+use Rattle.sl_model.specs.Findings.{finding}
+use Rattle.sl_model.specs.Losses.{losses}
 use Rattle.std.proofs.Common.{arith, ℕ, ◌+◌, ◌≡◌}
 use Rattle.std.proofs.lemmas.Grind.{common_steps}
 use Rattle.sl_cut.proofs.gather.finding_list.Goals as goal

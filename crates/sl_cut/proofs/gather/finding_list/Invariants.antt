@@ -1,6 +1,6 @@
-use Rattle.sl_cut.specs.Findings.{finding}
-use Rattle.sl_step.specs.Losses.{losses}
-use Rattle.sl_net.specs.Parts.{numbers_from}
+use Rattle.sl_model.specs.Findings.{finding}
+use Rattle.sl_model.specs.Losses.{losses}
+use Rattle.sl_parts.specs.Parts.{numbers_from}
 use Rattle.std.proofs.Common.{◌≡◌}
 use Rattle.std.specs.Prelude.{map}
 use Rattle.sl_cut.proofs.gather.finding_list.Given as goal

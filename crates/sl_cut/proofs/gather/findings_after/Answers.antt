@@ -1,6 +1,6 @@
-use Rattle.sl_cut.proofs.Sizes.{world_size}
-use Rattle.sl_step.specs.Losses.{losses}
-use Rattle.sl_history.specs.Setup.{setup_of}
+use Rattle.sl_model.proofs.Sizes.{world_size}
+use Rattle.sl_model.specs.Losses.{losses}
+use Rattle.sl_model.specs.Setup.{setup_of}
 use Rattle.std.proofs.Common.{arith}
 use Rattle.sl_cut.proofs.gather.findings_after.Goals as goal
 

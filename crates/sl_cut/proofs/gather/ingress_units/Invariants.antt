@@ -1,5 +1,5 @@
-use Rattle.sl_cut.specs.Findings.{is_ingress}
-use Rattle.sl_net.specs.Net.{actor_of}
+use Rattle.sl_model.specs.Findings.{is_ingress}
+use Rattle.sl_layout.specs.Net.{actor_of}
 use Rattle.std.proofs.Common.{take, ◌≡◌}
 use Rattle.std.specs.Prelude.{filter}
 use Rattle.sl_cut.proofs.gather.ingress_units.Given as goal

@@ -1,5 +1,5 @@
-use Rattle.sl_cut.specs.Findings.{row}
-use Rattle.sl_step.specs.Losses.{losses}
+use Rattle.sl_model.specs.Findings.{row}
+use Rattle.sl_model.specs.Losses.{losses}
 use Rattle.std.proofs.Common.{take, ◌≡◌}
 use Rattle.std.specs.Prelude.{map}
 use Rattle.sl_cut.proofs.gather.rows.Given as goal

@@ -1,4 +1,4 @@
-use Rattle.sl_cut.specs.Findings.{sent_by}
+use Rattle.sl_model.specs.Findings.{sent_by}
 use Rattle.std.proofs.Common.{take, ◌≡◌}
 use Rattle.std.specs.Prelude.{map}
 use Rattle.sl_cut.proofs.gather.sent_by.Given as goal

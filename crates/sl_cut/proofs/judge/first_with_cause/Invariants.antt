@@ -1,6 +1,6 @@
-use Rattle.sl_history.specs.History.{history}
-use Rattle.sl_cut.specs.Verdict.{cause}
-use Rattle.sl_history.specs.Words.{first_from}
+use Rattle.sl_model.specs.History.{history}
+use Rattle.sl_model.specs.Verdict.{cause}
+use Rattle.sl_model.specs.Words.{first_from}
 use Rattle.std.proofs.Common.{drop, ◌≡◌}
 use Rattle.sl_cut.proofs.judge.first_with_cause.Given as goal
 

@@ -1,5 +1,5 @@
-use Rattle.sl_cut.specs.Verdict.{holds_floor}
-use Rattle.sl_history.specs.Words.{first_from}
+use Rattle.sl_model.specs.Verdict.{holds_floor}
+use Rattle.sl_model.specs.Words.{first_from}
 use Rattle.std.proofs.Common.{drop, ◌≡◌}
 use Rattle.sl_cut.proofs.judge.holder_of.Given as goal
 

@@ -1,5 +1,5 @@
-use Rattle.sl_cut.specs.Verdict.{channel_lag}
-use Rattle.sl_history.specs.Words.{first_from}
+use Rattle.sl_model.specs.Verdict.{channel_lag}
+use Rattle.sl_model.specs.Words.{first_from}
 use Rattle.std.proofs.Common.{drop, ◌≡◌}
 use Rattle.std.specs.Prelude.{reverse}
 use Rattle.sl_cut.proofs.judge.lagging_channel.Given as goal

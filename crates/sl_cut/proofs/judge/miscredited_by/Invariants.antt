@@ -1,6 +1,6 @@
-use Rattle.sl_history.specs.History.{id}
-use Rattle.sl_cut.specs.Verdict.{miscredits}
-use Rattle.sl_history.specs.Words.{least}
+use Rattle.sl_model.specs.History.{id}
+use Rattle.sl_model.specs.Verdict.{miscredits}
+use Rattle.sl_route.specs.Least.{least}
 use Rattle.std.proofs.Common.{take, ◌≡◌}
 use Rattle.std.specs.Prelude.{reverse}
 use Rattle.sl_cut.proofs.judge.miscredited_by.Given as goal

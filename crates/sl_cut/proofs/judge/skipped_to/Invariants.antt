@@ -1,5 +1,5 @@
-use Rattle.sl_history.specs.History.{id}
-use Rattle.sl_cut.specs.Verdict.{skipped_to}
+use Rattle.sl_model.specs.History.{id}
+use Rattle.sl_model.specs.Verdict.{skipped_to}
 use Rattle.std.proofs.Common.{take, ◌≡◌}
 use Rattle.std.specs.Prelude.{reverse}
 use Rattle.sl_cut.proofs.judge.skipped_to.Given as goal

@@ -1,9 +1,9 @@
 use Rattle.std.proofs.Common.{arith}
 use Rattle.std.proofs.lemmas.Grind.{common_steps}
-use Rattle.sl_net.specs.Net.{link_of, same_sort}
-use Rattle.sl_cut.specs.Findings.{lost_on}
-use Rattle.sl_step.specs.Losses.{losses}
-use Rattle.sl_cut.proofs.ForwardFindings.{weigh_below_more}
+use Rattle.sl_layout.specs.Net.{link_of, same_sort}
+use Rattle.sl_model.specs.Findings.{lost_on}
+use Rattle.sl_model.specs.Losses.{losses}
+use Rattle.sl_model.proofs.Weighed.{weigh_below_more}
 use Rattle.sl_cut.proofs.lost.lost_of.Goals as goal
 
 pub loop-link-preserved : goal.loop-link-preserved

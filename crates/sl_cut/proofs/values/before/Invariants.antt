@@ -1,5 +1,5 @@
-use Rattle.sl_cut.specs.Cut.{before}
-use Rattle.sl_history.specs.History.{id}
+use Rattle.sl_model.specs.Cut.{before}
+use Rattle.sl_model.specs.History.{id}
 use Rattle.std.proofs.Common.{take, ◌≡◌, ◌≤◌}
 use Rattle.std.specs.Prelude.{reverse}
 use Rattle.sl_cut.proofs.values.before.Given as goal

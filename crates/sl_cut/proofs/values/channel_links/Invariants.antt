@@ -1,4 +1,4 @@
-use Rattle.sl_net.specs.Net.{link_at}
+use Rattle.sl_layout.specs.Net.{link_at}
 use Rattle.std.proofs.Common.{take, ◌≡◌}
 use Rattle.std.specs.Prelude.{map}
 use Rattle.sl_cut.proofs.values.channel_links.Given as goal

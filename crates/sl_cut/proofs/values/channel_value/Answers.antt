@@ -1,10 +1,10 @@
 use Rattle.sl_cut.proofs.ForwardFindings.{total-same}
-use Rattle.sl_cut.specs.Cut.{before, crossing, data_bytes, data_count}
-use Rattle.sl_history.specs.History.{carried_by, history, taken}
-use Rattle.sl_step.specs.Losses.{losses}
-use Rattle.sl_history.specs.Words.{weigh}
-use Rattle.sl_step.specs.World.{receiver, sender, taken_by}
-use Rattle.sl_net.specs.Net.{link_of, choice_of}
+use Rattle.sl_model.specs.Cut.{before, crossing, data_bytes, data_count}
+use Rattle.sl_model.specs.History.{carried_by, history, taken}
+use Rattle.sl_model.specs.Losses.{losses}
+use Rattle.sl_model.specs.Words.{weigh}
+use Rattle.sl_model.specs.World.{receiver, sender, taken_by}
+use Rattle.sl_layout.specs.Net.{link_of, choice_of}
 use Rattle.sl_net.specs.Input.{Input}
 use Rattle.std.proofs.Common.{ap, drop, take, ◌∙◌, ◌≡◌}
 use Rattle.std.specs.Prelude.{reverse}

@@ -1,5 +1,5 @@
-use Rattle.sl_cut.specs.Cut.{channel_value}
-use Rattle.sl_step.specs.Losses.{losses}
+use Rattle.sl_model.specs.Cut.{channel_value}
+use Rattle.sl_model.specs.Losses.{losses}
 use Rattle.std.proofs.Common.{take, ◌≡◌}
 use Rattle.std.specs.Prelude.{map}
 use Rattle.sl_cut.proofs.values.channel_values.Given as goal

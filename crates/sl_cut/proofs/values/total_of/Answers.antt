@@ -1,6 +1,6 @@
-use Rattle.sl_cut.proofs.ForwardFindings.{weigh_more}
-use Rattle.sl_cut.specs.Cut.{data_bytes, data_count}
-use Rattle.sl_history.specs.Words.{weigh}
+use Rattle.sl_model.proofs.Weighed.{weigh_more}
+use Rattle.sl_model.specs.Cut.{data_bytes, data_count}
+use Rattle.sl_model.specs.Words.{weigh}
 use Rattle.std.proofs.Common.{ap, arith, sym, take, ◌+◌, ◌∙◌, ◌≡◌}
 use Rattle.sl_cut.proofs.values.total_of.Goals as goal
 

@@ -1,5 +1,5 @@
-use Rattle.sl_cut.specs.Cut.{data_bytes, data_count}
-use Rattle.sl_history.specs.Words.{weigh}
+use Rattle.sl_model.specs.Cut.{data_bytes, data_count}
+use Rattle.sl_model.specs.Words.{weigh}
 use Rattle.std.proofs.Common.{take, ◌*◌, ◌≡◌, ◌≤◌}
 use Rattle.sl_cut.proofs.values.total_of.Given as goal
 

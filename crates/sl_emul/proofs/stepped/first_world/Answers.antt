@@ -2,8 +2,8 @@ use Rattle.std.proofs.Common.{sym, subst, ap, ◌∙◌}
 use Rattle.std.proofs.lemmas.Result.{IfOk-weaker}
 use Rattle.sl_machine.specs.Plan.{IsSound}
 use Rattle.sl_net.specs.Input.{Input}
-use Rattle.sl_net.specs.Wiring.{plan_of}
-use Rattle.sl_cut.specs.Losses.{losses}
+use Rattle.sl_layout.specs.Wiring.{plan_of}
+use Rattle.sl_model.specs.Losses.{losses}
 use Rattle.sl_proto.specs.Standing.{case_of, StandsFor}
 use Rattle.sl_emul.proofs.Books.{runnable}
 use Rattle.sl_emul.proofs.stepped.first_world.Goals as goal

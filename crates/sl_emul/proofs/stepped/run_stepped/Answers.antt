@@ -1,11 +1,11 @@
 use Rattle.std.proofs.Common.{◌≡◌, List, sym, subst, ap, ◌∙◌}
 use Rattle.std.specs.List.{All}
 use Rattle.sl_net.specs.declared.input.Script1.{Script1}
-use Rattle.sl_net.specs.Net.{Net}
+use Rattle.sl_layout.specs.Net.{Net}
 use Rattle.sl_net.specs.Input.{Input}
-use Rattle.sl_cut.specs.Losses.{losses}
-use Rattle.sl_cut.specs.Schedule.{expand}
-use Rattle.sl_cut.specs.Setup.{setup_of}
+use Rattle.sl_model.specs.Losses.{losses}
+use Rattle.sl_model.specs.Schedule.{expand}
+use Rattle.sl_model.specs.Setup.{setup_of}
 use Rattle.sl_world.specs.World.{scene}
 use Rattle.sl_proto.specs.Script.{IsScriptEntry}
 use Rattle.sl_proto.specs.Runs.{Follows}

@@ -1,5 +1,5 @@
 use Rattle.std.proofs.Common.{◌≡◌, map}
-use Rattle.sl_net.specs.Parts.{below}
+use Rattle.sl_parts.specs.Parts.{below}
 use Rattle.sl_flow.specs.Sample.{cable}
 use Rattle.sl_flow.proofs.leaf_spine.cables.Given as goal
 

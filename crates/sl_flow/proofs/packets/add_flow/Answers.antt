@@ -1,6 +1,6 @@
 use Rattle.std.proofs.Common.{◌++◌, ◌∷◌, [], map, sym, ap, ◌∙◌, append_assoc}
-use Rattle.sl_net.specs.Parts.{below}
-use Rattle.sl_net.proofs.Counting.{map_below_more}
+use Rattle.sl_parts.specs.Parts.{below}
+use Rattle.sl_parts.proofs.Lists.{map_below_more}
 use Rattle.sl_flow.specs.Flow.{packet_in}
 use Rattle.sl_flow.proofs.packets.add_flow.Goals as goal
 

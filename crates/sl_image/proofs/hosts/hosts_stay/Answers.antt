@@ -1,5 +1,5 @@
 use Rattle.std.proofs.Common.{sym, ◌∙◌}
-use Rattle.sl_cut.specs.World.{world}
+use Rattle.sl_model.specs.World.{world}
 use Rattle.sl_image.proofs.HostSteps.{host-stays}
 use Rattle.sl_image.proofs.hosts.hosts_stay.Goals as goal
 

@@ -1,7 +1,7 @@
 use Rattle.std.proofs.Common.{◌≡◌, sym, subst, None}
 use Rattle.sl_observe.specs.Observer.{observer_act}
-use Rattle.sl_cut.specs.History.{history}
-use Rattle.sl_cut.specs.World.{turn, world}
+use Rattle.sl_model.specs.History.{history}
+use Rattle.sl_model.specs.World.{turn, world}
 use Rattle.sl_image.specs.Leaves.{Does}
 use Rattle.sl_image.specs.ObserverImage.{IsObserverOf}
 use Rattle.sl_image.proofs.ObserverActs.{acts, idle}

@@ -1,7 +1,7 @@
 use Rattle.std.proofs.Common.{sym, subst}
 use Rattle.sl_observe.specs.Observer.{observer_take}
-use Rattle.sl_cut.specs.History.{history}
-use Rattle.sl_cut.specs.World.{turn, world}
+use Rattle.sl_model.specs.History.{history}
+use Rattle.sl_model.specs.World.{turn, world}
 use Rattle.sl_image.specs.Leaves.{Leaves}
 use Rattle.sl_image.specs.ObserverImage.{IsObserverOf}
 use Rattle.sl_image.proofs.ObserverTakes.{takes}

@@ -1,11 +1,11 @@
 use Rattle.std.proofs.Common.{length, ap, ◌∙◌}
-use Rattle.sl_net.specs.Net.{units, unit_place, data_channels}
-use Rattle.sl_net.proofs.Sizes.{length_map-is}
+use Rattle.sl_layout.specs.Net.{units, unit_place, data_channels}
+use Rattle.std.proofs.lemmas.List.{length-map}
 use Rattle.sl_observe.specs.Observer.{unit_at, seen_of, saved_of}
 use Rattle.sl_observe.specs.Observer.{floor_of as floor_told}
-use Rattle.sl_cut.specs.Knowledge.{observer, known, collected}
-use Rattle.sl_cut.specs.World.{world}
-use Rattle.sl_cut.proofs.Ran.{ran}
+use Rattle.sl_model.specs.Knowledge.{observer, known, collected}
+use Rattle.sl_model.specs.World.{world}
+use Rattle.sl_model.proofs.Ran.{ran}
 use Rattle.sl_image.specs.ObserverImage.{unit_of}
 use Rattle.sl_image.proofs.ObserverAccounts.{unit-there, saved-there, none-past}
 use Rattle.sl_image.proofs.ObserverActs.{floor-same}
@@ -21,7 +21,7 @@ pub returns-clause-resent : goal.returns-clause-resent
 returns-clause-resent c s lost table es o h = ap (λ o. o.resent) h
 
 pub returns-clause-units : goal.returns-clause-units
-returns-clause-units c s lost table es o h = ap (λ o. length o.units) h ∙ length_map-is (λ u. unit_of s.net u (collected s.net (world s lost es) u)) (units s.net)
+returns-clause-units c s lost table es o h = ap (λ o. length o.units) h ∙ length-map (units s.net) (λ u. unit_of s.net u (collected s.net (world s lost es) u))
 
 pub returns-clause-seen : goal.returns-clause-seen
 returns-clause-seen c s lost table es o u i h q = ap (λ o. seen_of (unit_at o.units (unit_place s.net u))) h ∙ ap seen_of (unit-there s.net table (world s lost es) u i q)

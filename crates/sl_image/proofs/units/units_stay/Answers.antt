@@ -1,5 +1,5 @@
 use Rattle.std.proofs.Common.{subst, sym}
-use Rattle.sl_cut.specs.World.{world}
+use Rattle.sl_model.specs.World.{world}
 use Rattle.sl_image.specs.UnitImage.{IsUnitOf}
 use Rattle.sl_image.proofs.UnitWorlds.{stays}
 use Rattle.sl_image.proofs.units.units_stay.Goals as goal

@@ -1,8 +1,8 @@
 use Rattle.std.proofs.Common.{sym, ap, subst, ◌∙◌, refl}
 use Rattle.std.specs.Prelude.{slice_get, IsSome}
-use Rattle.sl_net.specs.Net.{links_into}
-use Rattle.sl_cut.specs.World.{world}
-use Rattle.sl_cut.proofs.Ran.{next-view}
+use Rattle.sl_layout.specs.Net.{links_into}
+use Rattle.sl_model.specs.World.{world}
+use Rattle.sl_model.proofs.Ran.{next-view}
 use Rattle.sl_image.proofs.UnitWorlds.{takes-follow, choice-is-entry, unit-takes}
 use Rattle.sl_image.proofs.units.units_take_messages.Goals as goal
 

@@ -2,7 +2,7 @@ use Rattle.std.proofs.Common.{◌≡◌, ◌++◌, ◌∷◌, [], arith, ap, sym
 use Rattle.std.specs.Prelude.{slice_index}
 use Rattle.sl_parts.specs.Parts.{below}
 use Rattle.sl_layout.specs.Groups.{grouped}
-use Rattle.sl_parts.proofs.Counting.{at_below, length_below, map_below_more}
+use Rattle.sl_parts.proofs.Lists.{at_below, length_below, map_below_more}
 use Rattle.sl_layout.proofs.Grouping.{before_in_group, group_grows, places-are, few_in_group}
 use Rattle.sl_layout.proofs.groups.group.Goals as goal
 

@@ -1,7 +1,7 @@
 use Rattle.std.proofs.Common.{ℕ, ◌<◌, ◌++◌, ◌∷◌, [], ap, sym, ◌∙◌, arith}
 use Rattle.std.specs.Prelude.{filter, cond}
 use Rattle.sl_parts.specs.Parts.{below, is_used}
-use Rattle.sl_parts.proofs.Counting.{filter_below_more}
+use Rattle.sl_parts.proofs.Lists.{filter_below_more}
 use Rattle.sl_parts.proofs.Tables.{used-is}
 use Rattle.sl_layout.proofs.layout.device_ports.Goals as goal
 

@@ -4,7 +4,7 @@ use Rattle.std.proofs.lemmas.List.{map-append}
 use Rattle.sl_layout.specs.declared.actor.ActorId.TheVariants.{Control}
 use Rattle.sl_layout.specs.declared.actor.Sort.TheVariants.{Done}
 use Rattle.sl_layout.specs.Net.{Incoming}
-use Rattle.sl_parts.proofs.Counting.{map_below_more}
+use Rattle.sl_parts.proofs.Lists.{map_below_more}
 use Rattle.sl_layout.proofs.links.add_to_observer.Goals as goal
 
 pub loop-device-preserved : goal.loop-device-preserved

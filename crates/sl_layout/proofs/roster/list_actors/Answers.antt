@@ -2,7 +2,7 @@ use Rattle.std.proofs.Common.{◌∷◌, arith}
 use Rattle.std.proofs.lemmas.Grind.{common_steps}
 use Rattle.sl_layout.specs.declared.actor.ActorId.TheVariants.{Control, Host}
 use Rattle.sl_layout.specs.Net.{units_of}
-use Rattle.sl_parts.proofs.Counting.{flat_map_below_more, map_below_more}
+use Rattle.sl_parts.proofs.Lists.{flat_map_below_more, map_below_more}
 use Rattle.sl_layout.proofs.roster.list_actors.Goals as goal
 
 pub loop-device-preserved : goal.loop-device-preserved

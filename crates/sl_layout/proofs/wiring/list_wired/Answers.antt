@@ -3,7 +3,7 @@ use Rattle.sl_parts.specs.Parts.{below}
 use Rattle.sl_layout.specs.Net.{choice_of}
 use Rattle.sl_layout.specs.Wires.{out_of}
 use Rattle.sl_layout.specs.Wiring.{wired_link}
-use Rattle.sl_parts.proofs.Counting.{map_below_more, at_below}
+use Rattle.sl_parts.proofs.Lists.{map_below_more, at_below}
 use Rattle.sl_layout.proofs.wiring.list_wired.Goals as goal
 
 pub loop-i-preserved : goal.loop-i-preserved

@@ -1,5 +1,5 @@
 use Rattle.std.proofs.Common.{◌<◌, ap, ◌∙◌, length, arith}
-use Rattle.sl_net.specs.Net.{units}
+use Rattle.sl_layout.specs.Net.{units}
 use Rattle.sl_observe.specs.Kept.{states}
 use Rattle.sl_observe.proofs.UnitLists.{listed_more}
 use Rattle.sl_observe.proofs.units.list_units.Goals as goal

@@ -1,5 +1,5 @@
 use Rattle.std.proofs.Common.{◌≡◌, map, take}
-use Rattle.sl_net.specs.Net.{units}
+use Rattle.sl_layout.specs.Net.{units}
 use Rattle.sl_observe.specs.Observer.{first_unit}
 use Rattle.sl_observe.specs.Kept.{states}
 use Rattle.sl_observe.proofs.units.list_units.Given as goal

@@ -1,7 +1,7 @@
 use Rattle.std.proofs.Common.{◌≡◌, ap, ◌∙◌}
 use Rattle.std.specs.Prelude.{slice_index}
 use Rattle.sl_net.specs.Input.{Input}
-use Rattle.sl_net.specs.Net.{units, unit_place}
+use Rattle.sl_layout.specs.Net.{units, unit_place}
 use Rattle.sl_unit.specs.Units.{unit_state}
 use Rattle.sl_proto.specs.Built.{first_unit}
 use Rattle.sl_proto.proofs.Counts.{unit_stands, unit_counts_are}

@@ -1,6 +1,6 @@
 use Rattle.std.proofs.Common.{rules, subst, ◌≡◌}
 use Rattle.std.specs.Prelude.{true}
-use Rattle.sl_cut.specs.End.{finish}
+use Rattle.sl_model.specs.End.{finish}
 use Rattle.sl_proto.specs.Rounds.{EndsAt}
 use Rattle.sl_proto.specs.Standing.{world_of}
 use Rattle.sl_proto.proofs.Endings.{finishes-to}

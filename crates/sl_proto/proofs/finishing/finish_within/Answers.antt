@@ -1,6 +1,6 @@
 use Rattle.std.proofs.Common.{arith, rules, subst, ◌≡◌}
 use Rattle.std.specs.Prelude.{true, false}
-use Rattle.sl_cut.specs.End.{settle, IsFin}
+use Rattle.sl_model.specs.End.{settle, IsFin}
 use Rattle.sl_proto.specs.Rounds.{EndsAt, RoundAt}
 use Rattle.sl_proto.specs.Standing.{world_of, run_at}
 use Rattle.sl_proto.specs.Fronts.{SweepsBy, Whatever}

@@ -1,6 +1,6 @@
 use Rattle.std.proofs.Common.{◌≡◌, ◌<◌}
-use Rattle.sl_net.specs.Wiring.{plan_of}
-use Rattle.sl_cut.specs.End.{IsFin}
+use Rattle.sl_layout.specs.Wiring.{plan_of}
+use Rattle.sl_model.specs.End.{IsFin}
 use Rattle.sl_proto.specs.Standing.{Case, world_of, run_at, StandsFor, HasObserver}
 use Rattle.sl_proto.specs.Fronts.{Leads}
 use Rattle.sl_proto.proofs.Endings.{IsFinishingAt}

@@ -1,6 +1,6 @@
 use Rattle.std.proofs.Common.{arith, ap}
 use Rattle.std.specs.Prelude.{[], ◌∷◌}
-use Rattle.sl_cut.specs.Schedule.{resend_entry}
+use Rattle.sl_model.specs.Schedule.{resend_entry}
 use Rattle.sl_proto.specs.Standing.{run_at}
 use Rattle.sl_proto.specs.Runs.{Follows}
 use Rattle.sl_proto.specs.Fronts.{FollowsFront}

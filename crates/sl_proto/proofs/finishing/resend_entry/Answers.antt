@@ -1,4 +1,4 @@
-use Rattle.sl_finish.proofs.NetWiring.{wiring}
+use Rattle.sl_model.proofs.NetWiring.{wiring}
 use Rattle.sl_proto.proofs.finishing.resend_entry.Goals as goal
 
 pub links_into-requires : goal.links_into-requires

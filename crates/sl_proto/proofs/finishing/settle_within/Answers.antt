@@ -1,7 +1,7 @@
 use Rattle.std.proofs.Common.{arith, subst, sym, All}
 use Rattle.sl_machine.specs.Plan.{HasChoice}
-use Rattle.sl_net.specs.Wiring.{plan_of}
-use Rattle.sl_cut.specs.Schedule.{settling_pass}
+use Rattle.sl_layout.specs.Wiring.{plan_of}
+use Rattle.sl_model.specs.Schedule.{settling_pass}
 use Rattle.sl_proto.specs.Standing.{world_of, run_at}
 use Rattle.sl_proto.specs.Runs.{Follows}
 use Rattle.sl_proto.specs.Fronts.{FollowsFront, SettlesBy, Whatever}

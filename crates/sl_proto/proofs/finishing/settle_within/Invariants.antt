@@ -1,5 +1,5 @@
 use Rattle.std.proofs.Common.{◌≡◌}
-use Rattle.sl_net.specs.Wiring.{plan_of}
+use Rattle.sl_layout.specs.Wiring.{plan_of}
 use Rattle.sl_proto.specs.Standing.{Case, world_of, run_at, StandsFor, HasObserver}
 use Rattle.sl_proto.specs.Fronts.{Leads, SettlesBy}
 use Rattle.sl_proto.proofs.Endings.{IsSettlingAt}

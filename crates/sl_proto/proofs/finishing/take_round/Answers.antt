@@ -1,9 +1,9 @@
 use Rattle.std.proofs.Common.{rules, subst, sym, ◌∙◌, ◌≡◌}
 use Rattle.std.proofs.lemmas.Result.{IfOk-weaker}
 use Rattle.std.specs.Prelude.{true, false}
-use Rattle.sl_cut.specs.End.{settle, is_collected, rose, IsFin}
-use Rattle.sl_cut.specs.Books.{schedule_of}
-use Rattle.sl_cut.specs.Schedule.{sweeps}
+use Rattle.sl_model.specs.End.{settle, is_collected, rose, IsFin}
+use Rattle.sl_model.specs.Books.{schedule_of}
+use Rattle.sl_model.specs.Schedule.{sweeps}
 use Rattle.sl_proto.specs.Rounds.{EndsAt}
 use Rattle.sl_proto.specs.Standing.{world_of, run_at}
 use Rattle.sl_proto.specs.Runs.{Follows}

@@ -1,5 +1,5 @@
 use Rattle.std.proofs.Common.{◌∙◌}
-use Rattle.sl_cut.specs.Books.{schedule_of}
+use Rattle.sl_model.specs.Books.{schedule_of}
 use Rattle.sl_proto.proofs.Endings.{stands-first}
 use Rattle.sl_proto.proofs.finishing.tell.Goals as goal
 

@@ -1,5 +1,5 @@
 use Rattle.std.proofs.Common.{◌≡◌, take}
-use Rattle.sl_cut.specs.Words.{numbers}
+use Rattle.sl_model.specs.Words.{numbers}
 use Rattle.sl_world.specs.World.{scene}
 use Rattle.sl_proto.specs.Told.{delivered_told}
 use Rattle.sl_proto.proofs.gather.delivered.Given as goal

@@ -1,6 +1,6 @@
 use Rattle.std.proofs.Common.{◌≡◌, ℕ, ◌+◌, List, Some, ap, arith, take}
 use Rattle.std.specs.Prelude.{slice_get}
-use Rattle.sl_cut.specs.Words.{weigh}
+use Rattle.sl_model.specs.Words.{weigh}
 use Rattle.sl_world.specs.World.{scene}
 use Rattle.sl_proto.specs.Nodes.{NodeState, node_state}
 use Rattle.sl_proto.specs.Told.{drops_told}

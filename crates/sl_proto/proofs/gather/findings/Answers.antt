@@ -1,9 +1,9 @@
 use Rattle.std.proofs.Common.{◌≡◌, ◌≤◌, ap, sym, subst, ◌∙◌, length}
 use Rattle.std.proofs.lemmas.Result.{IfOk-weaker}
 use Rattle.sl_net.specs.Input.{Input}
-use Rattle.sl_cut.specs.Books.{schedule_of}
-use Rattle.sl_cut.specs.Setup.{setup_of}
-use Rattle.sl_cut.specs.Findings.{findings}
+use Rattle.sl_model.specs.Books.{schedule_of}
+use Rattle.sl_model.specs.Setup.{setup_of}
+use Rattle.sl_model.specs.Findings.{findings}
 use Rattle.sl_world.specs.World.{scene}
 use Rattle.sl_proto.specs.Told.{CanTell, told}
 use Rattle.sl_proto.proofs.Told.{few_entries, has_observer, tells_it, observed_as, told_is}

@@ -1,5 +1,5 @@
 use Rattle.std.proofs.Common.{◌++◌, ap, sym, ◌∙◌, take}
-use Rattle.sl_cut.specs.Words.{numbers, listed}
+use Rattle.sl_model.specs.Words.{numbers, listed}
 use Rattle.sl_world.specs.World.{scene}
 use Rattle.sl_proto.specs.Nodes.{node_state}
 use Rattle.sl_proto.specs.Told.{sent_told}

@@ -1,5 +1,5 @@
-use Rattle.sl_cut.specs.World.{world}
-use Rattle.sl_cut.proofs.Ran.{ran}
+use Rattle.sl_model.specs.World.{world}
+use Rattle.sl_model.proofs.Ran.{ran}
 use Rattle.sl_proto.proofs.Sent.{told-is-dumped, told-is-known}
 use Rattle.sl_proto.proofs.laws.dones_told_what_is_known.Goals as goal
 

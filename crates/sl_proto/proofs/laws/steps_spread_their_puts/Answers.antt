@@ -1,4 +1,4 @@
-use Rattle.sl_cut.specs.World.{world}
+use Rattle.sl_model.specs.World.{world}
 use Rattle.sl_proto.proofs.Spread.{spread-from, spread-one}
 use Rattle.sl_proto.proofs.laws.steps_spread_their_puts.Goals as goal
 

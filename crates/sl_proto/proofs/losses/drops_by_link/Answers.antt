@@ -1,5 +1,5 @@
 use Rattle.std.proofs.Common.{◌≡◌, ◌++◌, ◌∷◌, [], ◌+◌, ap, sym, subst, ◌∙◌, take, set, get_or, map}
-use Rattle.sl_net.specs.Parts.{below}
+use Rattle.sl_parts.specs.Parts.{below}
 use Rattle.sl_net.specs.declared.input.Drop1.{Drop1}
 use Rattle.sl_proto.proofs.Fresh.{drops_of, drop-added}
 use Rattle.sl_proto.proofs.losses.drops_by_link.Goals as goal

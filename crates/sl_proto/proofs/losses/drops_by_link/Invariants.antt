@@ -1,5 +1,5 @@
 use Rattle.std.proofs.Common.{◌≡◌, map, take}
-use Rattle.sl_net.specs.Parts.{below}
+use Rattle.sl_parts.specs.Parts.{below}
 use Rattle.sl_proto.proofs.Fresh.{drops_of}
 use Rattle.sl_proto.proofs.losses.drops_by_link.Given as goal
 

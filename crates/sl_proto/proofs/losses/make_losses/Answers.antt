@@ -1,7 +1,7 @@
 use Rattle.std.proofs.Common.{◌≡◌, ◌++◌, ◌∷◌, [], ap, sym, ◌∙◌, arith, get_or, map, length}
-use Rattle.sl_net.specs.Parts.{below}
-use Rattle.sl_net.proofs.Counting.{at_below, length_below, map_below_more}
-use Rattle.sl_cut.specs.Losses.{drops_on, loss_on}
+use Rattle.sl_parts.specs.Parts.{below}
+use Rattle.sl_parts.proofs.Lists.{at_below, length_below, map_below_more}
+use Rattle.sl_model.specs.Losses.{drops_on, loss_on}
 use Rattle.sl_proto.proofs.Fresh.{all-fresh, all-go, all-listed}
 use Rattle.sl_proto.proofs.losses.make_losses.Goals as goal
 

@@ -1,6 +1,6 @@
 use Rattle.std.proofs.Common.{◌≡◌, map}
-use Rattle.sl_net.specs.Parts.{below}
-use Rattle.sl_cut.specs.Losses.{loss_on}
+use Rattle.sl_parts.specs.Parts.{below}
+use Rattle.sl_model.specs.Losses.{loss_on}
 use Rattle.sl_proto.proofs.losses.make_losses.Given as goal
 
 abbrev pub invariant-loop-link : goal.invariant-loop-link

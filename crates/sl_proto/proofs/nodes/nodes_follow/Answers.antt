@@ -4,19 +4,19 @@ use Rattle.std.proofs.lemmas.Bool.{cases_lt, lt-ltb, le-ltb}
 use Rattle.std.proofs.lemmas.Option.{slice_get-get_or, get_or_from_slice_get}
 use Rattle.sl_layout.specs.declared.actor.ActorId.{ActorId}
 use Rattle.sl_layout.specs.declared.actor.ActorId.TheVariants.{Observer, Control, Unit as OfUnit, Host as OfHost}
-use Rattle.sl_net.specs.Net.{nobody, actor_of, action_choice, link_of, link_at, links_into}
+use Rattle.sl_layout.specs.Net.{nobody, actor_of, action_choice, link_of, link_at, links_into}
 use Rattle.sl_net.specs.Wired.{IsWired}
 use Rattle.sl_wire.specs.declared.message.Msg.{Msg}
 use Rattle.sl_observe.specs.Observer.{ObserverState, observer_take, observer_act}
 use Rattle.sl_control.specs.Control.{control_take}
 use Rattle.sl_unit.specs.Step.{unit_rules}
 use Rattle.sl_host.specs.Host.{host_take, host_act}
-use Rattle.sl_history.specs.declared.message.Message.{Message}
-use Rattle.sl_history.specs.declared.message.Step.{Step}
-use Rattle.sl_cut.specs.History.{history}
-use Rattle.sl_cut.specs.World.{Entry, next_step, turn, world}
-use Rattle.sl_cut.proofs.Ran.{ran}
-use Rattle.sl_cut.proofs.Turns.{next-within}
+use Rattle.sl_model.specs.declared.message.Message.{Message}
+use Rattle.sl_model.specs.declared.message.Step.{Step}
+use Rattle.sl_model.specs.History.{history}
+use Rattle.sl_model.specs.World.{Entry, next_step, turn, world}
+use Rattle.sl_model.proofs.Ran.{ran}
+use Rattle.sl_model.proofs.Turns.{next-within}
 use Rattle.sl_image.specs.ControlImage.{told_at}
 use Rattle.sl_image.specs.HostImage.{IsHostOf}
 use Rattle.sl_image.specs.Messages.{IsMessage}

@@ -1,8 +1,8 @@
 use Rattle.std.proofs.Common.{◌<◌, length, refl, ap, ◌∙◌, Some, arith}
 use Rattle.std.proofs.lemmas.Option.{slice_get-get_or}
-use Rattle.sl_net.proofs.Counting.{at_below, length_below}
+use Rattle.sl_parts.proofs.Lists.{at_below, length_below}
 use Rattle.sl_observe.specs.Observer.{first_state}
-use Rattle.sl_cut.specs.Setup.{setup_of}
+use Rattle.sl_model.specs.Setup.{setup_of}
 use Rattle.sl_proto.specs.Built.{first_node, first_at, first_states}
 use Rattle.sl_proto.specs.Meaning.{NodeStands}
 use Rattle.sl_proto.specs.Nodes.{NodeState, ObserverNode}

@@ -1,7 +1,7 @@
 use Rattle.std.proofs.Common.{[], arith}
-use Rattle.sl_cut.specs.World.{kept}
+use Rattle.sl_model.specs.World.{kept}
 use Rattle.sl_world.specs.Scene.{first_scene}
-use Rattle.sl_net.specs.Wiring.{plan_of}
+use Rattle.sl_layout.specs.Wiring.{plan_of}
 use Rattle.sl_proto.specs.Meaning.{NodeStands}
 use Rattle.sl_proto.specs.Nodes.{node_rules}
 use Rattle.sl_proto.proofs.Standing.{numbered_book}

@@ -6,11 +6,11 @@ use Rattle.sl_layout.specs.declared.actor.ActorId.TheVariants.{Observer, Control
 use Rattle.sl_layout.specs.declared.actor.Side.{Side}
 use Rattle.sl_layout.specs.declared.actor.Side.TheVariants.{Ingress, Egress}
 use Rattle.sl_layout.specs.declared.actor.UnitId.{UnitId}
-use Rattle.sl_net.specs.Net.{actor_of}
-use Rattle.sl_net.proofs.Counting.{at_below, length_below}
-use Rattle.sl_cut.specs.Setup.{setup_of}
-use Rattle.sl_cut.specs.World.{start}
-use Rattle.sl_cut.proofs.Turns.{start-empty}
+use Rattle.sl_layout.specs.Net.{actor_of}
+use Rattle.sl_parts.proofs.Lists.{at_below, length_below}
+use Rattle.sl_model.specs.Setup.{setup_of}
+use Rattle.sl_model.specs.World.{start}
+use Rattle.sl_model.proofs.Turns.{start-empty}
 use Rattle.sl_image.specs.UnitImage.{IsUnitOf}
 use Rattle.sl_unit.specs.Made.{ingress_state, egress_state}
 use Rattle.sl_proto.specs.Built.{first_unit, first_node, first_at, first_states}

@@ -1,7 +1,7 @@
 use Rattle.std.proofs.Common.{[], arith}
-use Rattle.sl_cut.specs.World.{kept}
+use Rattle.sl_model.specs.World.{kept}
 use Rattle.sl_world.specs.Scene.{first_scene}
-use Rattle.sl_net.specs.Wiring.{plan_of}
+use Rattle.sl_layout.specs.Wiring.{plan_of}
 use Rattle.sl_proto.proofs.Standing.{numbered_book}
 use Rattle.sl_proto.proofs.Schedules.{first-image, all-image, same-kept, grown-book, legal-run, run-legal}
 use Rattle.sl_proto.proofs.scenes.machines_stand_for_histories.Goals as goal

@@ -1,4 +1,4 @@
-use Rattle.sl_cut.proofs.ForwardLists.{map_below_more}
+use Rattle.sl_parts.proofs.Lists.{map_below_more}
 use Rattle.std.proofs.Common.{arith, ℕ}
 use Rattle.std.proofs.lemmas.Grind.{common_steps}
 use Rattle.sl_proto.proofs.schedule.add_links.Goals as goal

@@ -1,4 +1,4 @@
-use Rattle.sl_net.specs.Parts.{below}
+use Rattle.sl_parts.specs.Parts.{below}
 use Rattle.std.proofs.Common.{◌++◌, ◌≡◌}
 use Rattle.std.specs.Prelude.{map}
 use Rattle.sl_proto.proofs.schedule.add_links.Given as goal

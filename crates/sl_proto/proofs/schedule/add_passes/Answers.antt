@@ -1,6 +1,6 @@
 use Rattle.std.proofs.Common.{ℕ, arith}
 use Rattle.std.proofs.lemmas.Grind.{common_steps}
-use Rattle.sl_cut.proofs.ForwardLists.{flat_map_below_more}
+use Rattle.sl_parts.proofs.Lists.{flat_map_below_more}
 use Rattle.sl_proto.proofs.schedule.add_passes.Goals as goal
 
 pub loop-done-preserved : goal.loop-done-preserved

@@ -1,6 +1,6 @@
-use Rattle.sl_cut.specs.Schedule.{sweep_of}
-use Rattle.sl_net.specs.Net.{actor_of}
-use Rattle.sl_net.specs.Parts.{below}
+use Rattle.sl_model.specs.Schedule.{sweep_of}
+use Rattle.sl_layout.specs.Net.{actor_of}
+use Rattle.sl_parts.specs.Parts.{below}
 use Rattle.std.proofs.Common.{◌≡◌}
 use Rattle.std.specs.Prelude.{flat_map}
 use Rattle.sl_proto.proofs.schedule.all_sweeps.Given as goal

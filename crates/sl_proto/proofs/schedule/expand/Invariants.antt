@@ -1,5 +1,5 @@
 use Rattle.std.proofs.Common.{◌≡◌, take}
-use Rattle.sl_cut.specs.Schedule.{expand}
+use Rattle.sl_model.specs.Schedule.{expand}
 use Rattle.sl_proto.proofs.schedule.expand.Given as goal
 
 abbrev pub invariant-loop-line : goal.invariant-loop-line

@@ -1,6 +1,6 @@
-use Rattle.sl_cut.proofs.ForwardLists.{flat_map_below_more}
-use Rattle.sl_cut.specs.Schedule.{link_entries, pass_actions}
-use Rattle.sl_net.specs.Net.{actor_of}
+use Rattle.sl_parts.proofs.Lists.{flat_map_below_more}
+use Rattle.sl_model.specs.Schedule.{link_entries, pass_actions}
+use Rattle.sl_layout.specs.Net.{actor_of}
 use Rattle.std.proofs.Common.{arith, ◌++◌}
 use Rattle.std.proofs.lemmas.Grind.{common_steps}
 use Rattle.sl_proto.proofs.schedule.pass_of.Goals as goal

@@ -1,6 +1,6 @@
-use Rattle.sl_cut.specs.Schedule.{link_entries, pass_actions}
-use Rattle.sl_net.specs.Net.{actor_of}
-use Rattle.sl_net.specs.Parts.{below}
+use Rattle.sl_model.specs.Schedule.{link_entries, pass_actions}
+use Rattle.sl_layout.specs.Net.{actor_of}
+use Rattle.sl_parts.specs.Parts.{below}
 use Rattle.std.proofs.Common.{◌++◌, ◌≡◌}
 use Rattle.std.specs.Prelude.{flat_map}
 use Rattle.sl_proto.proofs.schedule.pass_of.Given as goal

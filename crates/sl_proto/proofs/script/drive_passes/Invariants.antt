@@ -1,6 +1,6 @@
 use Rattle.std.proofs.Common.{◌≡◌}
-use Rattle.sl_net.specs.Wiring.{plan_of}
-use Rattle.sl_cut.specs.Schedule.{passes_of}
+use Rattle.sl_layout.specs.Wiring.{plan_of}
+use Rattle.sl_model.specs.Schedule.{passes_of}
 use Rattle.sl_proto.specs.Runs.{Follows}
 use Rattle.sl_proto.specs.Standing.{Case, run_at, StandsFor, HasObserver}
 use Rattle.sl_proto.proofs.script.drive_passes.Given as goal

@@ -1,7 +1,7 @@
 use Rattle.std.proofs.Common.{arith, ◌+◌, ◌≡◌}
 use Rattle.std.proofs.lemmas.Grind.{common_steps}
-use Rattle.sl_cut.proofs.ForwardLists.{map_numbers_more}
-use Rattle.sl_image.specs.Accounts.{finding_by}
+use Rattle.sl_parts.proofs.Lists.{map_numbers_more}
+use Rattle.sl_model.specs.Accounts.{finding_by}
 use Rattle.sl_proto.specs.Told.{accounts_of}
 use Rattle.sl_proto.proofs.verdicts.finding_list.Goals as goal
 

@@ -1,6 +1,6 @@
 use Rattle.std.proofs.Common.{◌≡◌, map}
-use Rattle.sl_net.specs.Parts.{numbers_from}
-use Rattle.sl_image.specs.Accounts.{finding_by}
+use Rattle.sl_parts.specs.Parts.{numbers_from}
+use Rattle.sl_model.specs.Accounts.{finding_by}
 use Rattle.sl_proto.specs.Told.{accounts_of}
 use Rattle.sl_proto.proofs.verdicts.finding_list.Given as goal
 

@@ -1,6 +1,6 @@
 use Rattle.std.proofs.Common.{◌≡◌, drop}
-use Rattle.sl_cut.specs.Words.{first_from}
-use Rattle.sl_image.specs.Accounts.{behind}
+use Rattle.sl_model.specs.Words.{first_from}
+use Rattle.sl_model.specs.Accounts.{behind}
 use Rattle.sl_proto.proofs.verdicts.first_behind.Given as goal
 
 abbrev pub invariant-loop-number : goal.invariant-loop-number

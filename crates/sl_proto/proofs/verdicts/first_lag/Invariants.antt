@@ -1,6 +1,6 @@
 use Rattle.std.proofs.Common.{◌≡◌, drop}
-use Rattle.sl_cut.specs.Words.{first_from}
-use Rattle.sl_image.specs.Accounts.{lag_by}
+use Rattle.sl_model.specs.Words.{first_from}
+use Rattle.sl_model.specs.Accounts.{lag_by}
 use Rattle.sl_proto.specs.Told.{accounts_of}
 use Rattle.sl_proto.proofs.verdicts.first_lag.Given as goal
 

@@ -1,5 +1,5 @@
 use Rattle.std.proofs.Common.{◌++◌, ◌∷◌, [], ◌<◌, length, map, take, sym, ap, ◌∙◌, arith}
-use Rattle.sl_image.specs.Accounts.{row_of, value_row}
+use Rattle.sl_model.specs.Accounts.{row_of, value_row}
 use Rattle.sl_proto.specs.Told.{accounts_of}
 use Rattle.sl_proto.proofs.Judged.{more_made}
 use Rattle.sl_proto.proofs.verdicts.rows.Goals as goal

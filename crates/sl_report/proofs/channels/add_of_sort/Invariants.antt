@@ -1,6 +1,6 @@
 use Rattle.std.proofs.Common.{◌≡◌, ◌++◌, drop}
 use Rattle.std.specs.Prelude.{filter}
-use Rattle.sl_net.specs.Net.{link_of, same_sort}
+use Rattle.sl_layout.specs.Net.{link_of, same_sort}
 use Rattle.sl_report.proofs.channels.add_of_sort.Given as goal
 
 abbrev pub invariant-loop-link : goal.invariant-loop-link

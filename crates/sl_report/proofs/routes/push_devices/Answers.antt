@@ -1,7 +1,7 @@
 use Rattle.std.proofs.Common.{◌++◌, string_bytes, sym, ap, ◌∙◌, append_assoc}
 use Rattle.std.specs.List.{flat_map}
-use Rattle.sl_net.specs.Parts.{below}
-use Rattle.sl_net.proofs.Counting.{flat_map_below_more}
+use Rattle.sl_parts.specs.Parts.{below}
+use Rattle.sl_parts.proofs.Lists.{flat_map_below_more}
 use Rattle.sl_report.specs.RoutesText.{device_routes}
 use Rattle.sl_report.proofs.routes.push_devices.Goals as goal
 

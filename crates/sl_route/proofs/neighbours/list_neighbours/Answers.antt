@@ -1,8 +1,8 @@
 use Rattle.std.proofs.Common.{◌≡◌, ◌++◌, ◌∷◌, [], length, get_or, set, take, map, ap, ◌∙◌, arith}
 use Rattle.std.proofs.lemmas.List.Elements.{All-same}
 use Rattle.sl_parts.specs.declared.parts.CablePart.{CablePart}
-use Rattle.sl_net.specs.Parts.{Parts, below}
-use Rattle.sl_net.proofs.Counting.{length_below}
+use Rattle.sl_parts.specs.Parts.{Parts, below}
+use Rattle.sl_parts.proofs.Lists.{length_below}
 use Rattle.sl_route.specs.Route.{turned}
 use Rattle.sl_route.proofs.Walks.{directed}
 use Rattle.sl_route.proofs.Graphs.{IsJoined, all-joined, listed_of, table-more}

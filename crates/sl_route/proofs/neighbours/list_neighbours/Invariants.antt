@@ -1,6 +1,6 @@
 use Rattle.std.proofs.Common.{◌≡◌, take, length, map}
 use Rattle.std.specs.Prelude.{filter, ◌==◌}
-use Rattle.sl_net.specs.Parts.{below}
+use Rattle.sl_parts.specs.Parts.{below}
 use Rattle.sl_route.specs.Graph.{neighbour_by}
 use Rattle.sl_route.proofs.neighbours.list_neighbours.Given as goal
 

@@ -1,6 +1,6 @@
 use Rattle.std.proofs.Common.{List, [], arith}
 use Rattle.std.proofs.lemmas.Grind.{common_steps}
-use Rattle.sl_net.proofs.Counting.{map_below_more}
+use Rattle.sl_parts.proofs.Lists.{map_below_more}
 use Rattle.sl_route.specs.declared.neighbours.Neighbour.{Neighbour}
 use Rattle.sl_route.proofs.neighbours.no_neighbours.Goals as goal
 

@@ -1,5 +1,5 @@
 use Rattle.std.proofs.Common.{◌≡◌, ℕ, [], map}
-use Rattle.sl_net.specs.Parts.{below}
+use Rattle.sl_parts.specs.Parts.{below}
 use Rattle.sl_route.proofs.neighbours.no_neighbours.Given as goal
 
 abbrev pub invariant-loop-place : goal.invariant-loop-place

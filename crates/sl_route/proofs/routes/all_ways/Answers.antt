@@ -1,9 +1,9 @@
 use Rattle.std.proofs.Common.{◌≡◌, ◌<◌, ◌++◌, ◌∷◌, [], length, get_or, map, sym, ap, subst, ◌∙◌, arith}
 use Rattle.std.specs.Prelude.{List, None}
 use Rattle.sl_parts.specs.declared.parts.HostPart.{HostPart}
-use Rattle.sl_net.specs.Parts.{Parts, below}
-use Rattle.sl_net.specs.Valid.{IsPort}
-use Rattle.sl_net.proofs.Counting.{length_below, map_below_more}
+use Rattle.sl_parts.specs.Parts.{Parts, below}
+use Rattle.sl_parts.specs.Valid.{IsPort}
+use Rattle.sl_parts.proofs.Lists.{length_below, map_below_more}
 use Rattle.sl_route.specs.Graph.{neighbours_of, neighbours_at, IsGraph, IsFar, port_toward}
 use Rattle.sl_route.specs.Routes.{ways_of}
 use Rattle.sl_route.proofs.Graphs.{graph_of, is-graph}

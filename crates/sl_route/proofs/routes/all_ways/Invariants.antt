@@ -1,5 +1,5 @@
 use Rattle.std.proofs.Common.{◌≡◌, map}
-use Rattle.sl_net.specs.Parts.{below}
+use Rattle.sl_parts.specs.Parts.{below}
 use Rattle.sl_route.specs.Routes.{ways_of}
 use Rattle.sl_route.proofs.routes.all_ways.Given as goal
 

@@ -1,6 +1,6 @@
 use Rattle.std.proofs.Common.{◌≡◌, map, None}
 use Rattle.std.specs.Prelude.{slice_index_or}
-use Rattle.sl_net.specs.Parts.{below}
+use Rattle.sl_parts.specs.Parts.{below}
 use Rattle.sl_route.specs.Graph.{neighbours_at, port_toward}
 use Rattle.sl_route.proofs.ways.ports_toward.Given as goal
 

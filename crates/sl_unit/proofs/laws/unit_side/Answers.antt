@@ -3,7 +3,7 @@ use Rattle.std.proofs.lemmas.List.{get_or-map}
 use Rattle.sl_layout.specs.declared.actor.ActorId.TheVariants.{Unit as OfUnit}
 use Rattle.sl_layout.specs.declared.actor.UnitId.{UnitId}
 use Rattle.sl_layout.specs.declared.actor.Side.TheVariants.{Ingress}
-use Rattle.sl_net.specs.Net.{actor_of, nobody, units}
+use Rattle.sl_layout.specs.Net.{actor_of, nobody, units}
 use Rattle.sl_unit.specs.Made.{side_of, unit_at}
 use Rattle.sl_unit.proofs.laws.unit_side.Goals as goal
 

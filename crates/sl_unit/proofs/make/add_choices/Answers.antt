@@ -1,8 +1,8 @@
 use Rattle.std.proofs.Common.{◌≡◌, ℕ, Bool, ◌++◌, ◌∷◌, [], ap, sym, ◌∙◌, append_assoc, get_or}
 use Rattle.std.specs.Prelude.{cond, filter}
-use Rattle.sl_net.specs.Parts.{below}
-use Rattle.sl_net.specs.Net.{same_sort, link_of, link_at}
-use Rattle.sl_net.proofs.Counting.{filter_below_more}
+use Rattle.sl_parts.specs.Parts.{below}
+use Rattle.sl_layout.specs.Net.{same_sort, link_of, link_at}
+use Rattle.sl_parts.proofs.Lists.{filter_below_more}
 use Rattle.sl_unit.proofs.make.add_choices.Goals as goal
 
 pub loop-choice-preserved : goal.loop-choice-preserved

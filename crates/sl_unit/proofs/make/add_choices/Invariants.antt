@@ -1,7 +1,7 @@
 use Rattle.std.proofs.Common.{◌≡◌, ◌++◌}
 use Rattle.std.specs.Prelude.{filter}
-use Rattle.sl_net.specs.Parts.{below}
-use Rattle.sl_net.specs.Net.{same_sort, link_of, link_at}
+use Rattle.sl_parts.specs.Parts.{below}
+use Rattle.sl_layout.specs.Net.{same_sort, link_of, link_at}
 use Rattle.sl_unit.proofs.make.add_choices.Given as goal
 
 abbrev pub invariant-loop-choice : goal.invariant-loop-choice

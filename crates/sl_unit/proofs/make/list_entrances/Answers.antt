@@ -1,8 +1,8 @@
 use Rattle.std.proofs.Common.{◌≡◌, ◌++◌, ◌∷◌, [], ap, sym, ◌∙◌, map, get_or}
 use Rattle.sl_layout.specs.declared.actor.LinkPart.{LinkPart}
-use Rattle.sl_net.specs.Parts.{below}
-use Rattle.sl_net.specs.Net.{actor_of, data_channels, link_at, link_of, place_in}
-use Rattle.sl_net.proofs.Counting.{map_below_more}
+use Rattle.sl_parts.specs.Parts.{below}
+use Rattle.sl_layout.specs.Net.{actor_of, data_channels, link_at, link_of, place_in}
+use Rattle.sl_parts.proofs.Lists.{map_below_more}
 use Rattle.sl_unit.specs.Made.{entrance, entrance_by, is_own}
 use Rattle.sl_unit.proofs.make.list_entrances.Goals as goal
 

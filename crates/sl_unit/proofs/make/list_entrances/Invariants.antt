@@ -1,5 +1,5 @@
 use Rattle.std.proofs.Common.{◌≡◌, map}
-use Rattle.sl_net.specs.Parts.{below}
+use Rattle.sl_parts.specs.Parts.{below}
 use Rattle.sl_unit.specs.Made.{entrance_by}
 use Rattle.sl_unit.proofs.make.list_entrances.Given as goal
 

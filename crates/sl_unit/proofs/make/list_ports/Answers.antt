@@ -1,6 +1,6 @@
 use Rattle.std.proofs.Common.{◌++◌, ◌∷◌, [], ap, sym, ◌∙◌, map}
-use Rattle.sl_net.specs.Parts.{below}
-use Rattle.sl_net.proofs.Counting.{map_below_more}
+use Rattle.sl_parts.specs.Parts.{below}
+use Rattle.sl_parts.proofs.Lists.{map_below_more}
 use Rattle.sl_route.specs.Route.{next_port}
 use Rattle.sl_unit.proofs.make.list_ports.Goals as goal
 

@@ -1,5 +1,5 @@
 use Rattle.std.proofs.Common.{◌≡◌, drop}
-use Rattle.sl_net.specs.Net.{place_in}
+use Rattle.sl_layout.specs.Net.{place_in}
 use Rattle.sl_unit.proofs.make.place_in.Given as goal
 
 abbrev pub invariant-loop-other : goal.invariant-loop-other

@@ -2,7 +2,7 @@ use Rattle.std.proofs.Common.{◌≡◌, ◌++◌, ◌+◌, length}
 use Rattle.std.specs.Prelude.{filter}
 use Rattle.std.specs.List.{All}
 use Rattle.sl_layout.specs.declared.actor.Sort.TheVariants as sort
-use Rattle.sl_net.specs.Parts.{below}
+use Rattle.sl_parts.specs.Parts.{below}
 use Rattle.sl_wire.specs.declared.message.PlainDump.{PlainDump}
 use Rattle.sl_wire.specs.declared.message.Msg.TheVariants.{Dump}
 use Rattle.sl_unit.specs.declared.wires.Way.TheVariants.{All as AllOf}

@@ -1,6 +1,6 @@
 use Rattle.std.proofs.Common.{◌≡◌, ◌≤◌, length}
 use Rattle.std.specs.Prelude.{filter}
-use Rattle.sl_net.specs.Parts.{below}
+use Rattle.sl_parts.specs.Parts.{below}
 use Rattle.sl_unit.specs.Wires.{is_out}
 use Rattle.sl_unit.proofs.room.count_outs.Given as goal
 

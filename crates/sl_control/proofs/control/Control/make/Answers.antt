@@ -1,7 +1,7 @@
 use Rattle.std.proofs.Common.{◌≡◌, ℕ, List, ap, subst, sym, length, rules}
 use Rattle.std.specs.Prelude.{slice_index_or}
 use Rattle.sl_layout.specs.declared.actor.Sort.TheVariants.{Init, Done}
-use Rattle.sl_net.specs.Net.{links_from}
+use Rattle.sl_layout.specs.Net.{links_from}
 use Rattle.sl_control.specs.declared.known.Known.{Known}
 use Rattle.sl_control.specs.Wires.{outs_of}
 use Rattle.sl_control.specs.Joined.{IsJoined}

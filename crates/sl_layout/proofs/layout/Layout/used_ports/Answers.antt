@@ -3,7 +3,7 @@ use Rattle.sl_parts.specs.Valid.{IsValid}
 use Rattle.sl_layout.proofs.Sizes.{small_ports}
 use Rattle.std.proofs.Common.{◌<◌, subst, sym, [], ap, ◌∙◌, length, get_or, arith}
 use Rattle.sl_parts.specs.Parts.{used_ports}
-use Rattle.sl_parts.proofs.Counting.{at_below, length_below}
+use Rattle.sl_parts.proofs.Lists.{at_below, length_below}
 use Rattle.sl_layout.proofs.layout.Layout.used_ports.Goals as goal
 
 pub row-requires : goal.row-requires

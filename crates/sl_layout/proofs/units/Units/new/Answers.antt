@@ -5,8 +5,7 @@ use Rattle.sl_layout.specs.declared.actor.ActorId.{ActorId}
 use Rattle.sl_parts.specs.Parts.{below}
 use Rattle.sl_layout.specs.Net.{is_unit, nobody, actor_of, units}
 use Rattle.sl_layout.specs.Units.{HasPlaces}
-use Rattle.sl_parts.proofs.Counting.{length_numbers}
-use Rattle.sl_layout.proofs.Sizes.{length_filter_le}
+use Rattle.sl_parts.proofs.Lists.{length_numbers, length_filter_le}
 use Rattle.sl_layout.proofs.UnitLists.{low_filter}
 use Rattle.sl_layout.proofs.units.Units.new.Goals as goal
 

@@ -1,7 +1,7 @@
 use Rattle.std.proofs.Common.{arith, ap, ◌∙◌, length, map}
 use Rattle.sl_layout.specs.Net.{link_numbers}
 use Rattle.sl_layout.specs.Net.{choice_of}
-use Rattle.sl_parts.proofs.Counting.{length_below}
+use Rattle.sl_parts.proofs.Lists.{length_below}
 use Rattle.sl_layout.proofs.wires.Wires.choices.Goals as goal
 
 pub returns-clause-len : goal.returns-clause-len

@@ -3,10 +3,9 @@ use Rattle.std.specs.List.{All}
 use Rattle.sl_parts.specs.Parts.{below}
 use Rattle.sl_layout.specs.Net.{link_of}
 use Rattle.sl_layout.proofs.UnitLists.{low_filter}
-use Rattle.sl_layout.proofs.Sizes.{length_filter_le}
+use Rattle.sl_parts.proofs.Lists.{length_filter_le, at_below, length_below, length_numbers}
 use Rattle.std.proofs.Common.{◌<◌, subst, sym, [], ap, ◌∙◌, length, get_or, arith}
 use Rattle.sl_layout.specs.Net.{net_of, links_into}
-use Rattle.sl_parts.proofs.Counting.{at_below, length_below, length_numbers}
 use Rattle.sl_layout.proofs.wires.Wires.links_into.Goals as goal
 
 pub list-requires : goal.list-requires

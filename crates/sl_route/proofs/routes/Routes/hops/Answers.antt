@@ -1,7 +1,7 @@
 use Rattle.std.proofs.Common.{◌≡◌, ◌≤◌, length, get_or, map, sym, ap, ◌∙◌, arith}
 use Rattle.std.specs.Prelude.{None}
-use Rattle.sl_net.specs.Parts.{below}
-use Rattle.sl_net.proofs.Counting.{at_below, length_below}
+use Rattle.sl_parts.specs.Parts.{below}
+use Rattle.sl_parts.proofs.Lists.{at_below, length_below}
 use Rattle.sl_route.specs.Route.{hops}
 use Rattle.sl_route.specs.Ways.{Ways}
 use Rattle.sl_route.specs.Routes.{ways_of, routes_of}

@@ -1,5 +1,5 @@
 use Rattle.std.proofs.Common.{ap, ◌∙◌, length, map}
-use Rattle.sl_net.specs.Parts.{Parts, below}
+use Rattle.sl_parts.specs.Parts.{Parts, below}
 use Rattle.sl_route.specs.Routes.{ways_of, routes_of}
 use Rattle.sl_route.proofs.routes.Routes.make.Goals as goal
 

@@ -1,5 +1,0 @@
-use Rattle.sl_cut.proofs.laws.cuts_are_consistent.Goals as goal
-use Rattle.sl_cut.proofs.Consistent.{always-consistent}
-
-pub returns : goal.returns
-returns c s lost es k n = always-consistent s lost es k (c.nets_are_wired.ensures s.net n)

@@ -1,9 +1,0 @@
-use Rattle.std.proofs.Common.{ap, ◌∙◌}
-use Rattle.sl_history.specs.History.{history, first}
-use Rattle.sl_step.specs.World.{start, world}
-use Rattle.sl_cut.proofs.laws.histories_only_grow.Goals as goal
-use Rattle.sl_step.proofs.Turns.{run-append}
-use Rattle.sl_cut.proofs.Floors.{extends-run}
-
-pub returns : goal.returns
-returns c s lost es fs a n p = ap (λ v. first n (history v a)) (run-append s lost (start s.net) es fs) ∙ (extends-run s lost (world s lost es) fs a).steps n p

@@ -1,5 +1,0 @@
-use Rattle.sl_cut.proofs.laws.worlds_are_in_window.Goals as goal
-use Rattle.sl_cut.proofs.Near.{in-window}
-
-pub returns : goal.returns
-returns c s lost es n = in-window s lost es (c.nets_are_wired.ensures s.net n)

@@ -1,5 +1,0 @@
-use Rattle.sl_cut.proofs.laws.worlds_are_runs.Goals as goal
-use Rattle.sl_cut.proofs.Ran.{ran}
-
-pub returns : goal.returns
-returns c s lost es = ran s lost es

@@ -1,5 +1,0 @@
-use Rattle.sl_finish.proofs.laws.bounds_are_small.Goals as goal
-use Rattle.sl_finish.proofs.Small.{small-bound}
-
-pub returns : goal.returns
-returns c s sweeps n k t p h = small-bound s sweeps n k t p h

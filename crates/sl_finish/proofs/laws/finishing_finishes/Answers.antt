@@ -1,8 +1,0 @@
-use Rattle.std.proofs.Common.{refl}
-use Rattle.sl_cut.specs.World.{world}
-use Rattle.sl_finish.proofs.laws.finishing_finishes.Goals as goal
-use Rattle.sl_finish.proofs.NetWiring.{wiring}
-use Rattle.sl_finish.proofs.Finished.{fin-is-finished}
-
-pub returns : goal.returns
-returns c s lost es fs n t p f = fin-is-finished s lost (wiring s.net n) t p (world s lost es) (es, refl) fs f

@@ -1,6 +1,0 @@
-use Rattle.sl_cut.specs.World.{world}
-use Rattle.sl_finish.proofs.laws.finishing_is_one_schedule.Goals as goal
-use Rattle.sl_finish.proofs.Fuel.{one-finishing}
-
-pub returns : goal.returns
-returns c s lost es fs gs e f = one-finishing s lost (world s lost es) fs gs e f

@@ -1,8 +1,0 @@
-use Rattle.std.proofs.Common.{refl}
-use Rattle.sl_cut.specs.World.{world}
-use Rattle.sl_finish.proofs.laws.turns_lower_the_potential.Goals as goal
-use Rattle.sl_finish.proofs.NetWiring.{wiring}
-use Rattle.sl_finish.proofs.TurnPays.{potential-turn}
-
-pub returns : goal.returns
-returns c s lost es e step n h = potential-turn s lost (wiring s.net n) (world s lost es) (es, refl) e step h

@@ -1,6 +1,0 @@
-pub mod Flight
-pub mod Fare
-pub mod Potential
-pub mod Sweeps
-pub mod FirstNet
-pub mod Ended

@@ -1,9 +1,0 @@
-use Rattle.sl_history.proofs.ForwardLists.{filter_below_more}
-use Rattle.sl_net.specs.Net.{link_of, same_sort}
-use Rattle.std.proofs.Common.{arith}
-use Rattle.std.proofs.lemmas.Grind.{common_steps}
-use Rattle.std.specs.Prelude.{slice_index_or}
-use Rattle.sl_history.proofs.wires.choices_of.Goals as goal
-
-pub loop-choice-preserved : goal.loop-choice-preserved
-loop-choice-preserved c = rw (filter_below_more (λ k. same_sort (link_of c.args.net.now (slice_index_or c.links_into-links.result.now k 0)).sort c.args.sort) c.loop-choice.choice) (grind (arith, common_steps))

@@ -1,8 +1,0 @@
-use Rattle.sl_net.specs.Net.{link_of, same_sort}
-use Rattle.sl_net.specs.Parts.{below}
-use Rattle.std.proofs.Common.{◌≡◌}
-use Rattle.std.specs.Prelude.{filter, slice_index_or}
-use Rattle.sl_history.proofs.wires.choices_of.Given as goal
-
-abbrev pub invariant-loop-choice : goal.invariant-loop-choice
-invariant-loop-choice l = l.choices.items ≡ filter (λ k. same_sort (link_of l.net (slice_index_or l.links k 0)).sort l.sort) (below l.choice)

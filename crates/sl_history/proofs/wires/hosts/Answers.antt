@@ -1,8 +1,0 @@
-use Rattle.sl_history.proofs.ForwardLists.{filter_below_more}
-use Rattle.sl_net.specs.Net.{actor_of, is_host}
-use Rattle.std.proofs.Common.{arith}
-use Rattle.std.proofs.lemmas.Grind.{common_steps}
-use Rattle.sl_history.proofs.wires.hosts.Goals as goal
-
-pub loop-actor-preserved : goal.loop-actor-preserved
-loop-actor-preserved c = rw (filter_below_more (λ a. is_host (actor_of c.args.net.now a)) c.loop-actor.actor) (grind (arith, common_steps))

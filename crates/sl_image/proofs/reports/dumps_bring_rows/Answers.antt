@@ -1,8 +1,0 @@
-use Rattle.sl_cut.specs.World.{world}
-use Rattle.sl_cut.proofs.Ran.{ran, next-view}
-use Rattle.sl_cut.proofs.Near.{in-window}
-use Rattle.sl_image.proofs.Brought.{next-dump}
-use Rattle.sl_image.proofs.reports.dumps_bring_rows.Goals as goal
-
-pub returns : goal.returns
-returns c s lost es e n step t q m = let z = c.nets_are_wired.ensures s.net t in next-dump s lost (world s lost es) e.0 n step z (ran s lost es) (in-window s lost es z) (next-view s lost (world s lost es) e step q) m

@@ -1,0 +1,5 @@
+use Rattle.sl_model.proofs.Brought.{unit-done}
+use Rattle.sl_model.proofs.report_laws.dones_bring_rows.Goals as goal
+
+pub returns : goal.returns
+returns c s lost es d u n i step t e q m = unit-done s lost es d n step (c.nets_are_wired.ensures s.net t) e u i q m

@@ -1,0 +1,42 @@
+// What a run means: histories, worlds, cuts, verdicts, the end of a run and its findings, as
+// definitions, with their types and their laws.
+#![tactic(auto)]
+
+mod cut_laws;
+mod end_laws;
+mod findings;
+mod finish_laws;
+mod message;
+mod report_laws;
+mod row_laws;
+mod saved_laws;
+mod verdict;
+
+pub use cut_laws::{
+    channel_values_are_late_data, collected_rows_stay, collected_verdicts_are_known,
+    collected_verdicts_stay, cuts_are_consistent, finished_verdicts_are_known, floor_never_falls,
+    histories_only_grow, inputs_spare_reliable_links, messages_fit_links, numbers_are_near,
+    numbers_past_floor_are_near, uncollected_numbers_are_near, worlds_are_in_window,
+    worlds_are_runs,
+};
+pub use end_laws::finishing_is_legal;
+pub use findings::{Counts, Drops, Finding, FindingList, Findings, Lost, Row, Rows1};
+pub use finish_laws::{
+    bound_is_enough_fuel, bounds_are_small, finishing_ends, finishing_finishes,
+    finishing_is_one_schedule, first_net_is_bounded, idle_passes_settle,
+    input_bound_is_enough_fuel, input_bounds_are_small, inputs_are_bounded,
+    more_fuel_changes_nothing, runs_are_bounded, runs_end, turns_lower_the_potential,
+};
+pub use message::{Message, Put, Puts, Step};
+pub use report_laws::{
+    brought_rows_are_read, dones_bring_rows, dones_tell_dumps, dumps_answer_polls, dumps_bring_rows,
+};
+pub use row_laws::{
+    accounts_give_findings, calls_are_in_window, packets_are_short, packets_have_fields,
+    rows_are_final, rows_are_held, rows_are_of_the_world, stamps_are_in_window,
+};
+pub use saved_laws::{
+    calls_follow_steps, calls_lead_to_id, counts_fit, entries_are_values, late_is_credited,
+    read_is_row, row_stays, saved_is_row,
+};
+pub use verdict::{Cause, Lag, Verdict};

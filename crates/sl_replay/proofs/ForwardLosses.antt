@@ -1,0 +1,63 @@
+-- Loops that leave out what is lost.
+use Rattle.std.proofs.Common.{Some, None, ◌≡◌, ℕ, suc, ◌+◌, ◌<◌, ◌^◌, List, [], ◌∷◌, ◌++◌, length, refl, ap, ◌∙◌, take, get_or, arith, length-take}
+use Rattle.std.specs.Prelude.{Bool, true, false, cond, if◌then◌else◌}
+use Rattle.std.proofs.lemmas.List.{take_more}
+use Rattle.sl_loss.specs.Loss.{loses_next, after_put, one_more}
+use Rattle.sl_parts.specs.Parts.{numbers_from}
+use Rattle.sl_layout.specs.declared.actor.LinkKind.{LinkKind}
+use Rattle.sl_layout.specs.Wiring.{is_lossy}
+use Rattle.sl_net.specs.Input.{Input}
+use Rattle.sl_model.specs.World.{IsLossTable}
+use Rattle.sl_model.specs.declared.message.Message.{Message}
+use Rattle.sl_model.specs.Words.{tally}
+use Rattle.sl_model.specs.History.{without_lost}
+use Rattle.sl_model.specs.Losses.{kind_at, asked_loss, loss_after, loses, losses}
+
+without-snoc : (lost : ℕ → Bool) (n : ℕ) (xs : List Message) (x : Message) → without_lost lost n (xs ++ x ∷ []) ≡ without_lost lost n xs ++ cond (lost (suc n + length xs)) [] (x ∷ [])
+without-snoc lost n [] x = let e : suc n ≡ suc n + 0 = omega arith in one (lost (suc n)) ∙ ap (λ k. cond (lost k) [] (x ∷ [])) e
+  where
+    one : (b : Bool) → (if b then [] else x ∷ []) ≡ cond b [] (x ∷ [])
+    one true = refl
+    one false = refl
+without-snoc lost n (y ∷ ys) x = let e : suc (suc n) + length ys ≡ suc n + suc (length ys) = omega arith in
+    by_bool (lost (suc n)) (without-snoc lost (suc n) ys x ∙ ap (λ k. without_lost lost (suc n) ys ++ cond (lost k) [] (x ∷ [])) e)
+  where
+    by_bool : (b : Bool) → without_lost lost (suc n) (ys ++ x ∷ []) ≡ without_lost lost (suc n) ys ++ cond (lost (suc n + suc (length ys))) [] (x ∷ [])
+        → (if b then without_lost lost (suc n) (ys ++ x ∷ []) else y ∷ without_lost lost (suc n) (ys ++ x ∷ []))
+        ≡ (if b then without_lost lost (suc n) ys else y ∷ without_lost lost (suc n) ys) ++ cond (lost (suc n + suc (length ys))) [] (x ∷ [])
+    by_bool true q = q
+    by_bool false q = ap (λ r. y ∷ r) q
+
+pub without_more : (lost : ℕ → Bool) (xs : List Message) (i : ℕ) (d : Message) → i < length xs
+    → without_lost lost 0 (take (i + 1) xs) ≡ without_lost lost 0 (take i xs) ++ cond (lost (i + 1)) [] (get_or xs i d ∷ [])
+without_more lost xs i d h = let few : 1 + length (take i xs) ≡ i + 1 = omega (arith, length-take i xs, h) in
+    ap (without_lost lost 0) (take_more xs i d h) ∙ without-snoc lost 0 (take i xs) (get_or xs i d) ∙ ap (λ k. without_lost lost 0 (take i xs) ++ cond (lost k) [] (get_or xs i d ∷ [])) few
+
+-- what is kept and what is lost is all
+pub lost_and_kept : (lost : ℕ → Bool) (n : ℕ) (xs : List Message) → length (without_lost lost n xs) + tally lost (numbers_from (suc n) (length xs)) ≡ length xs
+lost_and_kept lost n [] = refl
+lost_and_kept lost n (x ∷ xs) = by_bool (lost (suc n)) (lost_and_kept lost (suc n) xs)
+  where
+    by_bool : (b : Bool) → length (without_lost lost (suc n) xs) + tally lost (numbers_from (suc (suc n)) (length xs)) ≡ length xs
+        → length (if b then without_lost lost (suc n) xs else x ∷ without_lost lost (suc n) xs) + ((if b then 1 else 0) + tally lost (numbers_from (suc (suc n)) (length xs))) ≡ suc (length xs)
+    by_bool true q = omega (arith, q)
+    by_bool false q = omega (arith, q)
+
+-- The answers of a link's loss, one after the other.
+
+pub next_lost : (i : Input) (l n : ℕ) → loses_next (loss_after i l n) ≡ losses i l (n + 1)
+next_lost i l n = by_bool (is_lossy (kind_at i.net l))
+  where
+    by_bool : (b : Bool) → loses_next (if b then Some (asked_loss i.loss (kind_at i.net l) l n) else None) ≡ loses (if b then Some (asked_loss i.loss (kind_at i.net l) l 0) else None) (n + 1)
+    by_bool true = refl
+    by_bool false = refl
+
+pub next_after : (i : Input) (l n : ℕ) → n + 1 < 2 ^ 64 → after_put (loss_after i l n) ≡ loss_after i l (n + 1)
+next_after i l n h = by_bool (is_lossy (kind_at i.net l))
+  where
+    few : one_more n ≡ n + 1
+    few = omega (arith, h)
+
+    by_bool : (b : Bool) → after_put (if b then Some (asked_loss i.loss (kind_at i.net l) l n) else None) ≡ (if b then Some (asked_loss i.loss (kind_at i.net l) l (n + 1)) else None)
+    by_bool true = ap (λ k. Some (asked_loss i.loss (kind_at i.net l) l k)) few
+    by_bool false = refl

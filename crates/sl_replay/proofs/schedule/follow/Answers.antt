@@ -1,0 +1,11 @@
+use Rattle.sl_model.proofs.Trails.{world-more}
+use Rattle.sl_model.specs.Losses.{losses}
+use Rattle.sl_model.specs.Setup.{setup_of}
+use Rattle.std.proofs.Common.{arith, refl, rules, ℕ}
+use Rattle.sl_replay.proofs.schedule.follow.Goals as goal
+
+pub loop-actor-preserved : goal.loop-actor-preserved
+loop-actor-preserved c = let z : ℕ × ℕ = (0, 0) in record {
+  reached = world-more (setup_of c.args.input.now) (losses c.args.input.now) c.args.schedule.now c.loop-actor.actor-index _ z _ _ (omega arith) refl c.loop-actor.invariant.reached c.in_ok-take_turn.ensures.after;
+  actors = search rules;
+}

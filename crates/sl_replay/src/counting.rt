@@ -1,0 +1,146 @@
+// What a unit counts, and what it drops.
+ghost use Rattle.std.specs.Prelude.{◌≡◌, ◌*◌, ◌≤◌, ◌<◌, ◌^◌, length, reverse, IfOk, unwrap_or, option_map};
+ghost use Rattle.sl_model.specs.Counting.{counted_in, counted, packets, bytes, is_bad, is_expired, is_noroute, bad, expired, noroute};
+
+use crate::frames::packet_of;
+use sl_model::{Message, Step};
+use crate::route::next_port;
+use sl_net::{Packet, Parts};
+use std::alloc::{AllocError, Global};
+
+fn counted_in(message: &Message) -> Option<Packet>
+    ensures { result ≡ counted_in message.now }
+{
+    match message {
+        Message::Host(bytes) => packet_of(bytes),
+        Message::Data(_, packet) => Some(*packet),
+        _ => None,
+    }
+}
+
+/// The data packet that a step counts, if there is one.
+fn counted(step: &Step) -> Option<Packet>
+    ensures { result ≡ counted step.now }
+{
+    match &step.taken {
+        Some(message) => counted_in(message),
+        None => None,
+    }
+}
+
+/// How many data packets a unit took.
+#[tactic(auto, using(crate::proofs::ForwardSteps::reverse_more))]
+pub fn packets(steps: &[Step]) -> u64
+    ensures value { result ≡ packets (reverse steps.now) }
+    ensures bound { result ≤ length steps.now }
+{
+    let mut packets = 0;
+    for step in steps {
+        if counted(step).is_some() {
+            packets += 1;
+        }
+    }
+    packets
+}
+
+fn len_counted(step: &Step) -> u64
+    ensures value { result ≡ unwrap_or (option_map (λ p. p.len) (counted step.now)) 0 }
+    ensures bound { result ≤ 65535 }
+{
+    match counted(step) {
+        Some(packet) => packet.len as u64,
+        None => 0,
+    }
+}
+
+/// The bytes of the data packets that a unit took.
+#[tactic(auto, using(crate::proofs::ForwardSteps::reverse_more))]
+pub fn bytes(steps: &[Step]) -> u64
+    requires { length steps.now < 2 ^ 40 }
+    ensures { result ≡ bytes (reverse steps.now) }
+{
+    let mut bytes = 0;
+    for step in steps {
+        bytes += len_counted(step);
+    }
+    bytes
+}
+
+fn is_bad(step: &Step) -> bool
+    ensures { result ≡ is_bad step.now.taken }
+{
+    match &step.taken {
+        Some(Message::Host(bytes)) => packet_of(bytes).is_none(),
+        _ => false,
+    }
+}
+
+fn is_expired(packet: Option<Packet>) -> bool
+    ensures { result ≡ is_expired packet }
+{
+    match packet {
+        Some(packet) => packet.hops == 0,
+        None => false,
+    }
+}
+
+fn is_noroute(
+    alloc: Global,
+    parts: &Parts,
+    device: u32,
+    packet: Option<Packet>,
+) -> Result<bool, AllocError>
+    ensures { IfOk result (λ yes. yes ≡ is_noroute parts.now device packet) }
+{
+    match packet {
+        Some(packet) => Ok(
+            packet.hops != 0 && next_port(alloc, parts, device, packet.dst as u32)?.is_none(),
+        ),
+        None => Ok(false),
+    }
+}
+
+/// How many frames from its host an ingress unit dropped for their form.
+#[tactic(auto, using(crate::proofs::ForwardSteps::reverse_more))]
+pub fn bad(steps: &[Step]) -> u64
+    ensures value { result ≡ bad (reverse steps.now) }
+    ensures bound { result ≤ length steps.now }
+{
+    let mut bad = 0;
+    for step in steps {
+        if is_bad(step) {
+            bad += 1;
+        }
+    }
+    bad
+}
+
+/// How many packets an ingress unit dropped for their hop limit.
+#[tactic(auto, using(crate::proofs::ForwardSteps::reverse_more))]
+pub fn expired(steps: &[Step]) -> u64
+    ensures value { result ≡ expired (reverse steps.now) }
+    ensures bound { result ≤ length steps.now }
+{
+    let mut expired = 0;
+    for step in steps {
+        if is_expired(counted(step)) {
+            expired += 1;
+        }
+    }
+    expired
+}
+
+/// How many packets an ingress unit of a device dropped for want of a route.
+#[tactic(auto, using(crate::proofs::ForwardSteps::reverse_more))]
+pub fn noroute(alloc: Global, parts: &Parts, device: u32, steps: &[Step]) -> Result<u64, AllocError>
+    ensures value { IfOk result (λ count. count ≡ noroute parts.now device (reverse steps.now)) }
+    ensures bound { IfOk result (λ count. count ≤ length steps.now) }
+{
+    let mut noroute = 0;
+    for step in steps {
+        if is_noroute(alloc, parts, device, counted(step))? {
+            noroute += 1;
+        }
+    }
+    Ok(noroute)
+}

@@ -1,0 +1,114 @@
+// What is lost of the messages that are put on a link.
+ghost use Rattle.std.specs.Prelude.{◌≡◌, [], ◌∷◌, ◌++◌, ◌==◌, cond, reverse, map, filter, IfOk, OnOk};
+ghost use Rattle.sl_loss.specs.Loss.{loses_next, after_put};
+ghost use Rattle.sl_model.specs.History.{carried_by, without_lost};
+ghost use Rattle.sl_model.specs.Losses.{kind_at, drops_on, loss_on, losses};
+
+use crate::message::copy_message;
+use crate::tell::put;
+use sl_loss::Loss;
+use sl_model::{Message, Step};
+use sl_net::{Drop1, Input, LinkKind, LossSpec, Net};
+use std::alloc::{AllocError, Global};
+
+/// The kind of a link; a number that is none has no losses.
+fn kind_at(net: &Net, link: u32) -> LinkKind
+    ensures { result ≡ kind_at net.now link }
+{
+    if (link as usize) < net.links().len() {
+        net.kind(link)
+    } else {
+        LinkKind::Reliable
+    }
+}
+
+fn add_drop(numbers: &mut Vec<u64>, drop: Drop1, link: u32) -> Result<(), AllocError>
+    ensures { OnOk result (numbers.new.items ≡ numbers.old.items ++ map (λ d. d.n) (filter (λ d. d.link == link) (drop ∷ []))) }
+{
+    if drop.link == link {
+        numbers.push(drop.n)?;
+    }
+    Ok(())
+}
+
+/// The numbers of a link's puts that are listed.
+fn drops_on(alloc: Global, loss: &LossSpec, link: u32) -> Result<Vec<u64>, AllocError>
+    ensures { IfOk result (λ numbers. numbers.items ≡ drops_on loss.now link) }
+{
+    let mut numbers = Vec::new(alloc);
+    for drop in &loss.drops {
+        add_drop(&mut numbers, *drop, link)?;
+    }
+    Ok(numbers)
+}
+
+/// The loss of a link before any put, or none where it is reliable.
+fn loss_on(alloc: Global, input: &Input, link: u32) -> Result<Option<Loss>, AllocError>
+    ensures { IfOk result (λ loss. loss ≡ loss_on input.now link) }
+{
+    let kind = kind_at(&input.net, link);
+    if !kind.is_lossy() {
+        return Ok(None);
+    }
+    let drops = drops_on(alloc, &input.loss, link)?;
+    let rate = input.loss.rate_of(kind);
+    match Loss::new(alloc, input.loss.seed, link as u64, rate, drops.as_slice()) {
+        Ok(loss) => Ok(Some(loss)),
+        Err(_) => Err(AllocError),
+    }
+}
+
+/// Whether the next put on a link with this loss is lost.
+fn loses_next(loss: &mut Option<Loss>) -> bool
+    ensures lost { result ≡ loses_next loss.old }
+    ensures after { loss.new ≡ after_put loss.old }
+{
+    match loss {
+        Some(loss) => loss.next(),
+        None => false,
+    }
+}
+
+fn add_unless(
+    alloc: Global,
+    kept: &mut Vec<Message>,
+    lost: bool,
+    message: &Message,
+) -> Result<(), AllocError>
+    ensures { OnOk result (kept.new.items ≡ kept.old.items ++ cond lost [] (message.now ∷ [])) }
+{
+    if !lost {
+        kept.push(copy_message(alloc, message)?)?;
+    }
+    Ok(())
+}
+
+/// The messages that are put on a link of an input, without the lost ones.
+pub fn without_lost(
+    alloc: Global,
+    input: &Input,
+    link: u32,
+    messages: &[Message],
+) -> Result<Vec<Message>, AllocError>
+    ensures { IfOk result (λ kept. kept.items ≡ without_lost (losses input.now link) 0 messages.now) }
+{
+    let mut loss = loss_on(alloc, input, link)?;
+    let mut kept = Vec::new(alloc);
+    for message in messages {
+        add_unless(alloc, &mut kept, loses_next(&mut loss), message)?;
+    }
+    Ok(kept)
+}
+
+/// The messages that a sender with these steps put on a link and that are not lost.
+pub fn carried(
+    alloc: Global,
+    input: &Input,
+    link: u32,
+    steps: &[Step],
+) -> Result<Vec<Message>, AllocError>
+    ensures { IfOk result (λ kept. kept.items ≡ carried_by (losses input.now) link (reverse steps.now)) }
+{
+    let messages = put(alloc, link, steps)?;
+    without_lost(alloc, input, link, messages.as_slice())
+}

@@ -1,7 +1,0 @@
-use Rattle.sl_net.specs.Serving.{serving}
-use Rattle.std.proofs.Common.{take, ◌≡◌}
-use Rattle.std.specs.Prelude.{map}
-use Rattle.sl_step.proofs.control.served.Given as goal
-
-abbrev pub invariant-loop-poll : goal.invariant-loop-poll
-invariant-loop-poll l = l.list.items ≡ map (serving l.net l.actor) (take l.poll-index l.poll-items)

@@ -1,6 +1,10 @@
 -- How a call of the program ends, and the cause of each ending.
-use Rattle.std.specs.Prelude.{◌≡◌, ℕ, ◌<◌, ◌^◌, Bool, ◌⊎◌, List, take, Option, Some, None, Ok, Err}
+use Rattle.std.specs.Prelude.{◌≡◌, ℕ, ◌<◌, ◌^◌, Bool, ◌⊎◌, List, map, take, Option, Some, None, Result, Ok, Err, string_bytes}
+use Rattle.std.specs.declared.string.String.{String}
+use Rattle.std.specs.Global.{Global}
 use Rattle.std.specs.Io.KnownBytes.{Appends, Keeps}
+use Rattle.sl_io.specs.declared.streams.Source.{Ghosts as Source}
+use Rattle.sl_io.specs.declared.streams.Sink.{Ghosts as Sink}
 use Rattle.sl_io.specs.Faults.{Rose}
 use Rattle.sl_io.specs.Pieces.{IsReadUpTo, AppendsPart}
 use Rattle.sl_machine.specs.declared.wiring.Entry.{Entry}
@@ -11,10 +15,12 @@ use Rattle.sl_words.specs.Words.{words_of}
 use Rattle.sl_app.specs.declared.ended.Refusal.{Refusal}
 use Rattle.sl_app.specs.declared.ended.Refusal.TheVariants.{Usage, NotBuilt, Input as InputRefused, ReadFault, Memory}
 use Rattle.sl_app.specs.declared.ended.Ended.{Ended}
+use Rattle.sl_app.specs.declared.run.Served.{Served}
 use Rattle.sl_app.specs.Texts.{status_of, refusal_text, write_fault_text}
 use Rattle.sl_net.specs.Input.{Input}
 use Rattle.sl_read.specs.declared.fault.InputFault.{InputFault}
 use Rattle.sl_read.specs.Inputs.{input_of}
+use Rattle.sl_read.specs.Accepted.{IsAccepted}
 use Rattle.sl_model.specs.Bound.{input_bound}
 use Rattle.sl_model.specs.Losses.{losses}
 use Rattle.sl_report.specs.FaultText.{fault_text}
@@ -36,6 +42,23 @@ pub record Writing : Type 0 where
   pub after : Option (List ℕ)
   pub faults_before : ℕ
   pub faults_after : ℕ
+
+-- these words and what a source, or a sink, went through, by the members of its trait
+abbrev pub reading : {S : Type 0} → Source S → List (List ℕ) → S → S → Reading
+reading source words old new = record {
+  words = words;
+  before = source.left old;
+  after = source.left new;
+  faults_before = source.faults old;
+  faults_after = source.faults new;
+}
+
+abbrev pub writing : {S : Type 0} → Sink S → S → S → Writing
+writing sink old new = record { before = sink.written old; after = sink.written new; faults_before = sink.faults old; faults_after = sink.faults new }
+
+-- words as lists of bytes
+abbrev pub texts_of : List (String Global) → List (List ℕ)
+texts_of words = map (λ w. string_bytes w) words
 
 pub record IsUnread (r : Reading) : Type 0 where
   pub bytes : Keeps r.before r.after
@@ -80,13 +103,13 @@ abbrev pub asks_for_run : Option Command → Type 0
 asks_for_run (Some (command.Run trace)) = Unit {0}
 asks_for_run _ = ⊥
 
--- the cause of a refusal; want of memory has none
+-- the cause of a refusal; want of memory has none, but where the words ask for no input, nothing was read then either
 abbrev pub HasCause : Reading → Refusal → Type 0
 HasCause r Usage = (words_of r.words ≡ None) × IsUnread r
 HasCause r NotBuilt = asks_for_run (words_of r.words) × IsUnread r
 HasCause r (InputRefused line) = reads (words_of r.words) × IsRefusedInput r line.items
 HasCause r ReadFault = reads (words_of r.words) × Rose r.faults_before r.faults_after
-HasCause r Memory = Unit {0}
+HasCause r Memory = ¬ reads (words_of r.words) → IsUnread r
 
 -- an input was run, with this book, these nodes and this text: its report, and where it was asked for, the trace of the book; no input has a bound on
 -- the turns of its run of 2^27 or more
@@ -119,6 +142,20 @@ IsServed r (Some book) front (Some nodes) text = IsStepped r book.entries front 
 IsServed r None front None text = (IsRouted r text ⊎ IsSampled r text) × (front ≡ 0)
 IsServed r _ front _ text = ⊥
 
+-- what a command comes to: what is served, or a refusal with its cause
+abbrev pub Serves : Reading → Result Served Refusal → Type 0
+Serves r (Ok s) = IsServed r s.book s.front (states_of s.nodes) s.text.items
+Serves r (Err refusal) = HasCause r refusal
+
+-- the same of an input that is read, and of a sample
+abbrev pub Accepts : Reading → Result Input Refusal → Type 0
+Accepts r (Ok i) = WasRead r i × IsAccepted i
+Accepts r (Err refusal) = HasCause r refusal
+
+abbrev pub ServesSample : ℕ → Bool → Result Served Refusal → Type 0
+ServesSample number text (Ok s) = IsSampleText number text s.text.items × (s.book ≡ None) × (s.front ≡ 0) × (states_of s.nodes ≡ None)
+ServesSample number text (Err refusal) = refusal ≡ Memory
+
 -- the whole line for status 5 was appended, or a part of it where the sink's count rose
 abbrev pub TellsWriteFault : Writing → Type 0
 TellsWriteFault err = Appends err.before err.after write_fault_text ⊎ (AppendsPart err.before err.after write_fault_text × Rose err.faults_before err.faults_after)
@@ -144,6 +181,9 @@ pub record Reports (out err : Writing) (book : Option Book) (front : ℕ) (nodes
   pub front_kept : e.front ≡ front
   pub nodes_kept : states_of e.nodes ≡ nodes
   pub ending : IsWhole out err text e ⊎ IsOutFault out err text e
+
+abbrev pub ReportsServed : Writing → Writing → Served → Ended → Type 0
+ReportsServed out err s e = Reports out err s.book s.front (states_of s.nodes) s.text.items e
 
 -- the line for a refusal was written whole
 pub record IsTold (err : Writing) (refusal : Refusal) (e : Ended) : Type 0 where

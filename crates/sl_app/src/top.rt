@@ -1,11 +1,9 @@
 // The top call.
-ghost use Rattle.std.specs.Prelude.{◌≡◌, ◌≤◌, Some, None, map, string_bytes, MatchResult};
+ghost use Rattle.std.specs.Prelude.{◌≡◌, ◌≤◌, Some, None};
 ghost use Rattle.sl_flow.specs.Sample.{IsSampleNumber};
 ghost use Rattle.sl_words.specs.Words.{words_of};
 ghost use Rattle.sl_words.specs.declared.command.Command.TheVariants as command;
-ghost use Rattle.sl_read.specs.Accepted.{IsAccepted};
-ghost use Rattle.sl_app.specs.Served.{IsSampleText, states_of};
-ghost use Rattle.sl_app.specs.Ends.{Ends, Reading, Writing, HasCause, WasRead, IsServed, reads, TellsFault, TellsWriteFault, Refuses, Reports};
+ghost use Rattle.sl_app.specs.Ends.{reading, writing, texts_of, reads, TellsFault, Accepts, Serves, ServesSample, TellsWriteFault, Refuses, ReportsServed, Ends};
 
 use crate::ended::{Ended, Refusal};
 use crate::run::{Served, only_text, serve_routes, serve_run};
@@ -34,8 +32,8 @@ fn refused(alloc: Global, fault: &InputFault) -> Refusal
 
 /// Reads an input, or says why there is none.
 fn accept<I: Source>(alloc: Global, words: &[String], input: &mut I) -> Result<Input, Refusal>
-    requires { reads (words_of (map (λ w. string_bytes w) words.now)) }
-    ensures { let r : Reading = record { words = map (λ w. string_bytes w) words.now; before = I.left input.old; after = I.left input.new; faults_before = I.faults input.old; faults_after = I.faults input.new } in MatchResult result (λ i. WasRead r i × IsAccepted i) (HasCause r) }
+    requires { reads (words_of (texts_of words.now)) }
+    ensures { Accepts (reading I.Source (texts_of words.now) input.old input.new) result }
 {
     let bytes = match read_all(alloc, input, LIMIT) {
         Ok(bytes) => bytes,
@@ -55,8 +53,8 @@ fn step<I: Source>(
     trace: bool,
     input: &mut I,
 ) -> Result<Served, Refusal>
-    requires { words_of (map (λ w. string_bytes w) words.now) ≡ Some (command.Step trace) }
-    ensures { let r : Reading = record { words = map (λ w. string_bytes w) words.now; before = I.left input.old; after = I.left input.new; faults_before = I.faults input.old; faults_after = I.faults input.new } in MatchResult result (λ s. IsServed r s.book s.front (states_of s.nodes) s.text.items) (HasCause r) }
+    requires { words_of (texts_of words.now) ≡ Some (command.Step trace) }
+    ensures { Serves (reading I.Source (texts_of words.now) input.old input.new) result }
 {
     passes_are_choices();
     input_bounds_are_small();
@@ -71,8 +69,8 @@ fn step<I: Source>(
 }
 
 fn routes<I: Source>(alloc: Global, words: &[String], input: &mut I) -> Result<Served, Refusal>
-    requires { words_of (map (λ w. string_bytes w) words.now) ≡ Some command.Routes }
-    ensures { let r : Reading = record { words = map (λ w. string_bytes w) words.now; before = I.left input.old; after = I.left input.new; faults_before = I.faults input.old; faults_after = I.faults input.new } in MatchResult result (λ s. IsServed r s.book s.front (states_of s.nodes) s.text.items) (HasCause r) }
+    requires { words_of (texts_of words.now) ≡ Some command.Routes }
+    ensures { Serves (reading I.Source (texts_of words.now) input.old input.new) result }
 {
     let accepted = match accept(alloc, words, input) {
         Ok(accepted) => accepted,
@@ -86,7 +84,7 @@ fn routes<I: Source>(alloc: Global, words: &[String], input: &mut I) -> Result<S
 
 fn sample(alloc: Global, number: u8, text: bool) -> Result<Served, Refusal>
     requires { IsSampleNumber number }
-    ensures { MatchResult result (λ s. IsSampleText number text s.text.items × (s.book ≡ None) × (s.front ≡ 0) × (states_of s.nodes ≡ None)) (λ e. e ≡ Refusal.Memory) }
+    ensures { ServesSample number text result }
 {
     match sample_bytes(alloc, number, text) {
         Ok(bytes) => Ok(only_text(bytes)),
@@ -95,7 +93,7 @@ fn sample(alloc: Global, number: u8, text: bool) -> Result<Served, Refusal>
 }
 
 fn serve<I: Source>(alloc: Global, words: &[String], input: &mut I) -> Result<Served, Refusal>
-    ensures { let r : Reading = record { words = map (λ w. string_bytes w) words.now; before = I.left input.old; after = I.left input.new; faults_before = I.faults input.old; faults_after = I.faults input.new } in MatchResult result (λ s. IsServed r s.book s.front (states_of s.nodes) s.text.items) (HasCause r) }
+    ensures { Serves (reading I.Source (texts_of words.now) input.old input.new) result }
 {
     match words_of(alloc, words) {
         Ok(Some(Command::Step(trace))) => step(alloc, words, trace, input),
@@ -110,7 +108,7 @@ fn serve<I: Source>(alloc: Global, words: &[String], input: &mut I) -> Result<Se
 /// Appends the line for status 5. Its own failure changes nothing.
 #[tactic(auto, unfolding(crate::specs::Texts::write_fault_text))]
 fn tell_write_fault<E: Sink>(err: &mut E)
-    ensures told { let w : Writing = record { before = E.written err.old; after = E.written err.new; faults_before = E.faults err.old; faults_after = E.faults err.new } in TellsWriteFault w }
+    ensures told { TellsWriteFault (writing E.Sink err.old err.new) }
     ensures never_falls { E.faults err.old ≤ E.faults err.new }
 {
     let _ = write_all(err, b"speedlight: write fault\n");
@@ -130,7 +128,7 @@ fn ended_without(status: u8) -> Ended
 
 /// Ends with a refusal: writes its line, or that it could not be written.
 pub fn refuse<E: Sink>(refusal: &Refusal, err: &mut E) -> Ended
-    ensures { let w : Writing = record { before = E.written err.old; after = E.written err.new; faults_before = E.faults err.old; faults_after = E.faults err.new } in Refuses w refusal.now result }
+    ensures { Refuses (writing E.Sink err.old err.new) refusal.now result }
 {
     match write_all(err, refusal.text()) {
         Ok(()) => ended_without(refusal.status()),
@@ -143,7 +141,7 @@ pub fn refuse<E: Sink>(refusal: &Refusal, err: &mut E) -> Ended
 
 /// Writes what is served, or that it could not be written.
 fn report<O: Sink, E: Sink>(served: Served, out: &mut O, err: &mut E) -> Ended
-    ensures { let o : Writing = record { before = O.written out.old; after = O.written out.new; faults_before = O.faults out.old; faults_after = O.faults out.new } in let w : Writing = record { before = E.written err.old; after = E.written err.new; faults_before = E.faults err.old; faults_after = E.faults err.new } in Reports o w served.book served.front (states_of served.nodes) served.text.items result }
+    ensures { ReportsServed (writing O.Sink out.old out.new) (writing E.Sink err.old err.new) served result }
 {
     let status = match write_all(out, &served.text) {
         Ok(()) => 0,
@@ -169,7 +167,7 @@ pub fn speedlight<I: Source, O: Sink, E: Sink>(
     out: &mut O,
     err: &mut E,
 ) -> Ended
-    ensures { let r : Reading = record { words = map (λ w. string_bytes w) words.now; before = I.left input.old; after = I.left input.new; faults_before = I.faults input.old; faults_after = I.faults input.new } in let o : Writing = record { before = O.written out.old; after = O.written out.new; faults_before = O.faults out.old; faults_after = O.faults out.new } in let w : Writing = record { before = E.written err.old; after = E.written err.new; faults_before = E.faults err.old; faults_after = E.faults err.new } in Ends r o w result }
+    ensures { Ends (reading I.Source (texts_of words.now) input.old input.new) (writing O.Sink out.old out.new) (writing E.Sink err.old err.new) result }
 {
     match serve(alloc, words, input) {
         Ok(served) => report(served, out, err),

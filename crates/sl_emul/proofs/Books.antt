@@ -4,6 +4,7 @@ use Rattle.std.proofs.lemmas.List.{length-map}
 use Rattle.std.proofs.Math.Seq.{take-append_seam, drop-append_seam}
 use Rattle.sl_machine.specs.declared.wiring.Entry.{Entry as BookEntry}
 use Rattle.sl_machine.specs.Plan.{IsSound}
+use Rattle.sl_parts.specs.Parts.{numbers_from}
 use Rattle.sl_layout.specs.Net.{Net}
 use Rattle.sl_net.specs.Input.{Input}
 use Rattle.sl_net.specs.Wired.{IsNet}
@@ -14,7 +15,7 @@ use Rattle.sl_model.specs.Setup.{Setup, setup_of}
 use Rattle.sl_model.specs.World.{Entry, IsLossTable, start, world, kept, kept_from}
 use Rattle.sl_model.specs.Schedule.{expand}
 use Rattle.sl_model.specs.End.{IsFin}
-use Rattle.sl_model.specs.Books.{schedule_of}
+use Rattle.sl_model.specs.Books.{schedule_of, numbers_of}
 use Rattle.sl_model.specs.Finished.{IsBookOfRun}
 use Rattle.sl_model.specs.Bound.{input_bound}
 use Rattle.sl_model.specs.declared.findings.Findings.{Findings}
@@ -25,7 +26,7 @@ use Rattle.sl_model.proofs.Trails.{run-kept}
 use Rattle.sl_world.specs.Scene.{Scene}
 use Rattle.sl_proto.specs.Nodes.{NodeState}
 use Rattle.sl_proto.specs.Meaning.{IsRunnable}
-use Rattle.sl_proto.specs.Runs.{Follows}
+use Rattle.sl_proto.specs.Runs.{grown, Follows, IsBookOfTurns}
 use Rattle.sl_proto.specs.Standing.{case_of, world_of, run_at, StandsFor, FinishesTo}
 use Rattle.sl_emul.specs.Run.{CanRun, IsRunBook, AreNodesOf, IsOutcome}
 
@@ -48,18 +49,31 @@ runnable i lost can sound table = record {
   is_table = record { window = refl; count = refl; retries = refl; room = can.snapshot.some_ring };
 }
 
+-- the laws of books that grow by turns
+abbrev pub Grows : Type 0
+Grows = (book : List BookEntry) (es fs : List Entry) → grown (grown book es) fs ≡ grown book (es ++ fs)
+
+abbrev pub Numbers : Type 0
+Numbers = (es : List Entry) → IsBookOfTurns (record { entries = grown [] es }) es
+
 -- from the first scene v, whose book is empty, by the script to u and by finishing to t
-module _ (i : Input) (lost : Losses) (v u t : Scene NodeState Msg) (empty : v.book ≡ [])
+module _ (i : Input) (lost : Losses) (v u t : Scene NodeState Msg) (grows : Grows) (numbers : Numbers) (empty : v.book ≡ [])
     (script : Follows (setup_of i) lost (run_at (case_of i lost) v) (expand i.net i.script) (run_at (case_of i lost) u))
     (ends : FinishesTo (case_of i lost) u t) where
   abbrev first : List Entry
   first = kept (setup_of i) lost (expand i.net i.script)
 
+  first-book : u.book ≡ grown [] first
+  first-book = subst (λ (b : List BookEntry). u.book ≡ grown b (kept_from (setup_of i) lost (world (setup_of i) lost (schedule_of b)) (expand i.net i.script))) empty script.book
+
   script-book : schedule_of u.book ≡ first
-  script-book = subst (λ es. schedule_of u.book ≡ es ++ kept_from (setup_of i) lost (world (setup_of i) lost es) (expand i.net i.script)) (ap schedule_of empty) script.book
+  script-book = ap schedule_of first-book ∙ (numbers first).schedule
+
+  whole-book : t.book ≡ grown [] (first ++ ends.turns)
+  whole-book = ends.goes.book ∙ ap (λ (b : List BookEntry). grown b ends.turns) first-book ∙ grows [] first ends.turns
 
   whole : schedule_of t.book ≡ first ++ ends.turns
-  whole = ends.goes.book ∙ ap (λ es. es ++ ends.turns) script-book
+  whole = ap schedule_of whole-book ∙ (numbers (first ++ ends.turns)).schedule
 
   count : length u.book ≡ length first
   count = sym (length-map u.book (λ (e : BookEntry). (e.actor, e.choice))) ∙ ap length script-book
@@ -77,7 +91,7 @@ module _ (i : Input) (lost : Losses) (v u t : Scene NodeState Msg) (empty : v.bo
     finishing = subst (λ es. IsFin (setup_of i) lost (world (setup_of i) lost es) (drop (length u.book) (schedule_of t.book))) (script-book ∙ sym front-is)
         (subst (IsFin (setup_of i) lost (world_of (case_of i lost) u)) (sym rest-is) ends.finishes);
     legal = stands.legal;
-    numbers = stands.numbers;
+    numbers = subst (λ (b : List BookEntry). numbers_of b ≡ numbers_from 1 (length b)) (sym whole-book) (numbers (first ++ ends.turns)).numbers;
   }
 
   reached : world_of (case_of i lost) u ≡ world (setup_of i) lost (expand i.net i.script)

@@ -11,7 +11,8 @@ use sl_model::{Findings, cuts_are_consistent, inputs_spare_reliable_links, input
 use sl_machine::{Book, Memory};
 use sl_net::Input;
 use sl_proto::{
-    Node, Taker, build_world, drive_script, findings, finish, make_losses, nodes_stand_at_first,
+    Node, Taker, books_grow_by_turns, build_world, drive_script, findings, finish, make_losses,
+    nodes_stand_at_first,
 };
 use sl_world::World;
 use std::alloc::Global;
@@ -48,6 +49,7 @@ pub fn run_stepped(alloc: Global, input: &Input) -> Result<Run, Memory>
 {
     inputs_are_bounded();
     cuts_are_consistent();
+    books_grow_by_turns();
     let mut world = first_world(alloc, input)?;
     drive_script(alloc, &input.net, &mut world, input.script.as_slice())?;
     let front = world.entries();

@@ -43,7 +43,7 @@ use Rattle.sl_model.specs.Rows.{row}
 use Rattle.sl_model.specs.Brought.{IsBrought}
 use Rattle.sl_model.specs.Polls.{IsAsked}
 use Rattle.sl_image.specs.Messages.{IsDumpOf, IsMessage, AreSent}
-use Rattle.sl_image.specs.ControlImage.{known_of, IsControlOf, IsControlTurn, IsControlAct, told_at}
+use Rattle.sl_image.specs.ControlImage.{known_of, IsControlOf, ControlSimulates, ControlActSimulates, told_at}
 use Rattle.sl_model.proofs.Polls.{IsServed, all-asked, next-asked}
 use Rattle.sl_model.proofs.Brought.{world-length, next-dump}
 use Rattle.sl_image.proofs.ControlWays.{dump-from, is_heard, heard, begin-sort, notice-sort, step-choice}
@@ -60,42 +60,42 @@ is-at net ring us a t s = let x = s.wires in let y = s.units in λ i. record { w
 -- Takes.
 
 take-begin : (net : Net) (ring : ℕ) (us ws : ℕ → History) (a d k b : ℕ) (step : Step) → IsWired net → actor_of net a ≡ Control d → Turns us ws a step → slice_get (links_into net a) step.choice ≡ Some k → (link_of net k).sort ≡ Begin
-    → step.taken ≡ Some (BeginMsg b) → step.puts ≡ control_puts net a (us a) step.choice (BeginMsg b) → IsControlTurn net ring us ws a step.puts (control_take (control_at net ring us a) step.choice (wire.Begin b))
+    → step.taken ≡ Some (BeginMsg b) → step.puts ≡ control_puts net a (us a) step.choice (BeginMsg b) → ControlSimulates net ring us ws a step.puts (control_take (control_at net ring us a) step.choice (wire.Begin b))
 take-begin net ring us ws a d k b step z q t i o e p = record {
-  state = record {
+  stands = record {
     wires = refl;
     units = same-units (known_of net us a) (known_of net ws a) (serving net a) (links_out net a Poll)
         (each-of (λ l. known_of net us a (serving net a l) ≡ known_of net ws a (serving net a l)) (links_out net a Poll) (λ l m. begin-one net us ws a d l k b step z q t m i o e p));
   };
-  puts = let c : step.choice ≡ 0 = z.begin_first a step.choice k i o in
+  sent = let c : step.choice ≡ 0 = z.begin_first a step.choice k i o in
       subst (λ y. AreSent net ring ws a (told_at net us a) step.puts (cond y (send_each (wire.Init b) (outs_of net a Init)) [])) (sym (eq-eqb step.choice 0 c))
       (subst (λ ps. AreSent net ring ws a (told_at net us a) ps (send_each (wire.Init b) (outs_of net a Init))) (sym p) (sent-inits net ring ws a (told_at net us a) b (links_out net a Init)));
 }
 
 take-notice : (net : Net) (ring : ℕ) (us ws : ℕ → History) (a d k : ℕ) (step : Step) → IsWired net → actor_of net a ≡ Control d → Turns us ws a step → Each (λ l. IsAsked (serving net a l) (us a)) (links_out net a Poll)
     → slice_get (links_into net a) step.choice ≡ Some k → (link_of net k).sort ≡ Notice → step.taken ≡ Some NoticeMsg → step.puts ≡ control_puts net a (us a) step.choice NoticeMsg
-    → IsControlTurn net ring us ws a step.puts (control_take (control_at net ring us a) step.choice wire.Notice)
+    → ControlSimulates net ring us ws a step.puts (control_take (control_at net ring us a) step.choice wire.Notice)
 take-notice net ring us ws a d k step z q t b i o e p = record {
-  state = record {
+  stands = record {
     wires = refl;
     units = units-are (ask_by (Some step.choice)) (known_of net us a) (known_of net ws a) (serving net a) (links_out net a Poll)
         (each-of (λ l. ask_by (Some step.choice) (known_of net us a (serving net a l)) ≡ known_of net ws a (serving net a l)) (links_out net a Poll)
         (λ l m. notice-one net us ws a d l k step z q t m (each-at (λ l. IsAsked (serving net a l) (us a)) l (links_out net a Poll) b m) i o e p));
   };
-  puts = subst (λ ps. AreSent net ring ws a (told_at net us a) ps (flat_map (ask_puts (Some step.choice)) (map (known_of net us a) (served net a)))) (sym p) (notice-sent net ring us ws a step.choice (served net a));
+  sent = subst (λ ps. AreSent net ring ws a (told_at net us a) ps (flat_map (ask_puts (Some step.choice)) (map (known_of net us a) (served net a)))) (sym p) (notice-sent net ring us ws a step.choice (served net a));
 }
 
 take-dump : (net : Net) (ring : ℕ) (us ws : ℕ → History) (a c n : ℕ) (step : Step) (d : PlainDump) → IsWired net → actor_of net a ≡ Control c → Turns us ws a step → Each (λ l. IsAsked (serving net a l) (us a)) (links_out net a Poll)
     → ((l : ℕ) → Member l (links_out net a Poll) → step.choice ≡ (serving net a l).dump → Answers net ring us a l n d) → step.taken ≡ Some (DumpMsg n) → step.puts ≡ control_puts net a (us a) step.choice (DumpMsg n)
-    → IsControlTurn net ring us ws a step.puts (control_take (control_at net ring us a) step.choice (wire.Dump d))
+    → ControlSimulates net ring us ws a step.puts (control_take (control_at net ring us a) step.choice (wire.Dump d))
 take-dump net ring us ws a c n step d z q t b f e p = record {
-  state = record {
+  stands = record {
     wires = refl;
     units = units-are (dump_by ring step.choice d) (known_of net us a) (known_of net ws a) (serving net a) (links_out net a Poll)
         (each-of (λ l. dump_by ring step.choice d (known_of net us a (serving net a l)) ≡ known_of net ws a (serving net a l)) (links_out net a Poll)
         (λ l m. dump-one net ring us ws a c l n step d z q t m (each-at (λ l. IsAsked (serving net a l) (us a)) l (links_out net a Poll) b m) (f l m) e p));
   };
-  puts = subst (λ ps. AreSent net ring ws a (told_at net us a) ps (flat_map out (map (known_of net us a) (served net a)))) (sym (p ∙ flat-map answer (serving net a) (links_out net a Poll)))
+  sent = subst (λ ps. AreSent net ring ws a (told_at net us a) ps (flat_map out (map (known_of net us a) (served net a)))) (sym (p ∙ flat-map answer (serving net a) (links_out net a Poll)))
       (subst (AreSent net ring ws a (told_at net us a) (flat_map (λ l. answer (serving net a l)) (links_out net a Poll)))
       (sym (flat-map out (known_of net us a) (served net a) ∙ flat-map (λ v. out (known_of net us a v)) (serving net a) (links_out net a Poll)))
       (sent-each net ring ws a (told_at net us a) (λ l. answer (serving net a l)) (λ l. out (known_of net us a (serving net a l))) (links_out net a Poll)
@@ -117,18 +117,18 @@ swept-is net us a (v ∷ vs) = ap (λ b. (is_outstanding v (us a) && is_again (a
 
 sweep-acts : (net : Net) (ring : ℕ) (us ws : ℕ → History) (a d : ℕ) (step : Step) → IsWired net → actor_of net a ≡ Control d → Turns us ws a step → Each (λ l. IsAsked (serving net a l) (us a)) (links_out net a Poll)
     → slice_get (links_into net a) step.choice ≡ None → step.choice ≡ action_choice net a → is_swept net a (us a) ≡ false → step.taken ≡ None → step.puts ≡ flat_map (λ v. poll_puts v (us a)) (served net a)
-    → IsControlAct net ring us ws a step.puts (control_act (control_at net ring us a) step.choice)
+    → ControlActSimulates net ring us ws a step.puts (control_act (control_at net ring us a) step.choice)
 sweep-acts net ring us ws a d step z q t b i c n e p = record {
-  turn = asked_all None (control_at net ring us a);
+  after = asked_all None (control_at net ring us a);
   is = let x = eq-eqb step.choice (action_choice net a) c in let y = swept-is net us a (served net a) ∙ n in λ j. cond (x j && not (y j)) (Some (asked_all None (control_at net ring us a))) None;
-  stands = record {
-    state = record {
+  simulates = record {
+    stands = record {
       wires = refl;
       units = units-are (ask_by None) (known_of net us a) (known_of net ws a) (serving net a) (links_out net a Poll)
           (each-of (λ l. ask_by None (known_of net us a (serving net a l)) ≡ known_of net ws a (serving net a l)) (links_out net a Poll)
           (λ l m. sweep-one net us ws a d l step z q t m (each-at (λ l. IsAsked (serving net a l) (us a)) l (links_out net a Poll) b m) i c e p));
     };
-    puts = subst (λ ps. AreSent net ring ws a (told_at net us a) ps (flat_map (ask_puts None) (map (known_of net us a) (served net a)))) (sym p) (sweep-sent net ring us ws a (served net a));
+    sent = subst (λ ps. AreSent net ring ws a (told_at net us a) ps (flat_map (ask_puts None) (map (known_of net us a) (served net a)))) (sym p) (sweep-sent net ring us ws a (served net a));
   };
 }
 
@@ -208,22 +208,22 @@ message-heard s a d c k m z q i f = let x = is-into s.net a c k i in
 take-of : (s : Setup) (lost : Losses) (es : List Entry) (e : Entry) (d ring k : ℕ) (step : Step) (m : Message) (told : ℕ → ℕ) (x : Msg) → AreLive → AreRead → IsNet s.net → IsWired s.net → actor_of s.net e.0 ≡ Control d → s.window ≤ ring
     → next_step s lost (world s lost es) e ≡ Some step → step.taken ≡ Some m → slice_get (links_into s.net e.0) step.choice ≡ Some k → step.puts ≡ control_puts s.net e.0 (history (world s lost es) e.0) step.choice m → fits_link s.net k m ≡ true → is_heard m ≡ true
     → IsMessage s.net ring (history (world s lost es)) (link_of s.net k).from told m x
-    → IsControlTurn s.net ring (history (world s lost es)) (history (turn s lost (world s lost es) e)) e.0 step.puts (control_take (control_at s.net ring (history (world s lost es)) e.0) step.choice x)
+    → ControlSimulates s.net ring (history (world s lost es)) (history (turn s lost (world s lost es) e)) e.0 step.puts (control_take (control_at s.net ring (history (world s lost es)) e.0) step.choice x)
 take-of s lost es e d ring k step (BeginMsg b) told x live reads i z q p n t g o f y is =
-    subst (λ x. IsControlTurn s.net ring (history (world s lost es)) (history (turn s lost (world s lost es) e)) e.0 step.puts (control_take (control_at s.net ring (history (world s lost es)) e.0) step.choice x)) (sym is)
+    subst (λ x. ControlSimulates s.net ring (history (world s lost es)) (history (turn s lost (world s lost es) e)) e.0 step.puts (control_take (control_at s.net ring (history (world s lost es)) e.0) step.choice x)) (sym is)
     (take-begin s.net ring (history (world s lost es)) (history (turn s lost (world s lost es) e)) e.0 d k b step z q (turns s lost es e step n) g (begin-sort (link_of s.net k).sort b f) t o)
 take-of s lost es e d ring k step NoticeMsg told x live reads i z q p n t g o f y is =
-    subst (λ x. IsControlTurn s.net ring (history (world s lost es)) (history (turn s lost (world s lost es) e)) e.0 step.puts (control_take (control_at s.net ring (history (world s lost es)) e.0) step.choice x)) (sym is)
+    subst (λ x. ControlSimulates s.net ring (history (world s lost es)) (history (turn s lost (world s lost es) e)) e.0 step.puts (control_take (control_at s.net ring (history (world s lost es)) e.0) step.choice x)) (sym is)
     (take-notice s.net ring (history (world s lost es)) (history (turn s lost (world s lost es) e)) e.0 d k step z q (turns s lost es e step n) (asked-at s lost es e.0 d z q) g (notice-sort (link_of s.net k).sort f) t o)
 take-of s lost es e d ring k step (DumpMsg b) told x live reads i z q p n t g o f y is =
-    subst (λ x. IsControlTurn s.net ring (history (world s lost es)) (history (turn s lost (world s lost es) e)) e.0 step.puts (control_take (control_at s.net ring (history (world s lost es)) e.0) step.choice x)) (sym is.is)
+    subst (λ x. ControlSimulates s.net ring (history (world s lost es)) (history (turn s lost (world s lost es) e)) e.0 step.puts (control_take (control_at s.net ring (history (world s lost es)) e.0) step.choice x)) (sym is.is)
     (take-dump s.net ring (history (world s lost es)) (history (turn s lost (world s lost es) e)) e.0 d b step is.dump z q (turns s lost es e step n) (asked-at s lost es e.0 d z q)
     (λ l m. answers s lost es e ring k b l step is.dump live reads i z p n t g is.of m) t o)
 take-of s lost es e d ring k step _ told x live reads i z q p n t g o f y is = absurd cc
 
 pub takes-message : (s : Setup) (lost : Losses) (es : List Entry) (e : Entry) (d ring : ℕ) (step : Step) (m : Message) (told : ℕ → ℕ) (x : Msg) (t : ControlState) → AreLive → AreRead → IsNet s.net → IsWired s.net → actor_of s.net e.0 ≡ Control d → s.window ≤ ring
     → next_step s lost (world s lost es) e ≡ Some step → step.taken ≡ Some m → IsMessage s.net ring (history (world s lost es)) (link_of s.net (link_at s.net e.0 e.1)).from told m x → IsControlOf s.net ring (history (world s lost es)) e.0 t
-    → IsControlTurn s.net ring (history (world s lost es)) (history (turn s lost (world s lost es) e)) e.0 step.puts (control_take t e.1 x)
+    → ControlSimulates s.net ring (history (world s lost es)) (history (turn s lost (world s lost es) e)) e.0 step.puts (control_take t e.1 x)
 takes-message s lost es e d ring step m told x t live reads i z q p n k is r = by_view (next-view s lost (world s lost es) e step n)
   where
     us : ℕ → History
@@ -235,14 +235,14 @@ takes-message s lost es e d ring step m told x t live reads i z q p n k is r = b
     c : step.choice ≡ e.1
     c = step-choice s lost (world s lost es) e step n
 
-    by_view : Takes s lost (world s lost es) e.0 step ⊎ Acts s (world s lost es) e.0 step → IsControlTurn s.net ring us ws e.0 step.puts (control_take t e.1 x)
+    by_view : Takes s lost (world s lost es) e.0 step ⊎ Acts s (world s lost es) e.0 step → ControlSimulates s.net ring us ws e.0 step.puts (control_take t e.1 x)
     by_view (inr y) = absurd (let o : None ≡ Some m = sym y.acted.taken ∙ k in cc)
     by_view (inl y) = let same : y.took.message ≡ m = of_message (sym y.took.taken ∙ k) in
         let at : link_at s.net e.0 e.1 ≡ y.took.link = get_or_from_slice_get (links_into s.net e.0) e.1 y.took.link 0 (ap (slice_get (links_into s.net e.0)) (sym c) ∙ y.took.into) in
         let f : fits_link s.net y.took.link m ≡ true = ap (fits_link s.net y.took.link) (sym same) ∙ message-fits s lost es e step n y in
         let puts : step.puts ≡ control_puts s.net e.0 (us e.0) step.choice m = took-by s e.0 (us e.0) step (Control d) q y.took ∙ ap (control_puts s.net e.0 (us e.0) step.choice) same in
-        subst (λ b. IsControlTurn s.net ring us ws e.0 step.puts (control_take t b x)) c
-        (subst (λ t. IsControlTurn s.net ring us ws e.0 step.puts (control_take t step.choice x)) (sym (is-at s.net ring us e.0 t r))
+        subst (λ b. ControlSimulates s.net ring us ws e.0 step.puts (control_take t b x)) c
+        (subst (λ t. ControlSimulates s.net ring us ws e.0 step.puts (control_take t step.choice x)) (sym (is-at s.net ring us e.0 t r))
         (take-of s lost es e d ring y.took.link step m told x live reads i z q p n k y.took.into puts f (message-heard s e.0 d step.choice y.took.link m z q y.took.into f)
         (subst (λ l. IsMessage s.net ring us (link_of s.net l).from told m x) at is)))
       where
@@ -258,7 +258,7 @@ get-none (x ∷ xs) (suc n) h = omega (arith, get-none xs n h)
 
 pub acts : (s : Setup) (lost : Losses) (es : List Entry) (e : Entry) (d ring : ℕ) (step : Step) (t : ControlState) → IsWired s.net → actor_of s.net e.0 ≡ Control d
     → next_step s lost (world s lost es) e ≡ Some step → step.taken ≡ None → IsControlOf s.net ring (history (world s lost es)) e.0 t
-    → IsControlAct s.net ring (history (world s lost es)) (history (turn s lost (world s lost es) e)) e.0 step.puts (control_act t e.1)
+    → ControlActSimulates s.net ring (history (world s lost es)) (history (turn s lost (world s lost es) e)) e.0 step.puts (control_act t e.1)
 acts s lost es e d ring step t z q n k r = by_view (next-view s lost (world s lost es) e step n)
   where
     us : ℕ → History
@@ -270,18 +270,18 @@ acts s lost es e d ring step t z q n k r = by_view (next-view s lost (world s lo
     c : step.choice ≡ e.1
     c = step-choice s lost (world s lost es) e step n
 
-    by_view : Takes s lost (world s lost es) e.0 step ⊎ Acts s (world s lost es) e.0 step → IsControlAct s.net ring us ws e.0 step.puts (control_act t e.1)
+    by_view : Takes s lost (world s lost es) e.0 step ⊎ Acts s (world s lost es) e.0 step → ControlActSimulates s.net ring us ws e.0 step.puts (control_act t e.1)
     by_view (inl y) = absurd (let o : None ≡ Some y.took.message = sym k ∙ y.took.taken in cc)
     by_view (inr y) = of_choice (step.choice - action_choice s.net e.0) refl (acted-by s e.0 (us e.0) step (Control d) q y.acted)
       where
-        of_guard : step.choice ≡ action_choice s.net e.0 → (b : Bool) → is_swept s.net e.0 (us e.0) ≡ b → guarded (not b) (flat_map (λ v. poll_puts v (us e.0)) (served s.net e.0)) ≡ Some step.puts → IsControlAct s.net ring us ws e.0 step.puts (control_act t e.1)
+        of_guard : step.choice ≡ action_choice s.net e.0 → (b : Bool) → is_swept s.net e.0 (us e.0) ≡ b → guarded (not b) (flat_map (λ v. poll_puts v (us e.0)) (served s.net e.0)) ≡ Some step.puts → ControlActSimulates s.net ring us ws e.0 step.puts (control_act t e.1)
         of_guard at true g h = absurd cc
         of_guard at false g h = let p : flat_map (λ v. poll_puts v (us e.0)) (served s.net e.0) ≡ step.puts = cc in
-            subst (λ b. IsControlAct s.net ring us ws e.0 step.puts (control_act t b)) c
-            (subst (λ t. IsControlAct s.net ring us ws e.0 step.puts (control_act t step.choice)) (sym (is-at s.net ring us e.0 t r))
+            subst (λ b. ControlActSimulates s.net ring us ws e.0 step.puts (control_act t b)) c
+            (subst (λ t. ControlActSimulates s.net ring us ws e.0 step.puts (control_act t step.choice)) (sym (is-at s.net ring us e.0 t r))
             (sweep-acts s.net ring us ws e.0 d step z q (turns s lost es e step n) (asked-at s lost es e.0 d z q) y.acted.past at g k (sym p)))
 
-        of_choice : (j : ℕ) → step.choice - action_choice s.net e.0 ≡ j → action s y.acted.floor e.0 (Control d) (us e.0) j ≡ Some step.puts → IsControlAct s.net ring us ws e.0 step.puts (control_act t e.1)
+        of_choice : (j : ℕ) → step.choice - action_choice s.net e.0 ≡ j → action s y.acted.floor e.0 (Control d) (us e.0) j ≡ Some step.puts → ControlActSimulates s.net ring us ws e.0 step.puts (control_act t e.1)
         of_choice zero j h = let l : action_choice s.net e.0 ≤ step.choice = get-none (links_into s.net e.0) step.choice y.acted.past in of_guard (omega (arith, j, l)) (is_swept s.net e.0 (us e.0)) refl h
         of_choice (suc i) j h = absurd cc
 

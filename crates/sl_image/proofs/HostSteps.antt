@@ -28,7 +28,7 @@ use Rattle.sl_model.proofs.Sizes.{world_size}
 use Rattle.sl_model.proofs.Stamps.{took-by, acted-by, each-lost, put-fits}
 use Rattle.sl_model.proofs.Turns.{Steps, turn-cases, taken-this, taken-other, taken-step}
 use Rattle.sl_image.specs.HostImage.{host_of, IsHostOf}
-use Rattle.sl_image.specs.Leaves.{Leaves, Does}
+use Rattle.sl_image.specs.Simulates.{Simulates, ActSimulates}
 use Rattle.sl_image.specs.Messages.{IsMessage, AreSent}
 use Rattle.sl_image.proofs.ObserverActs.{past-end, get-past}
 use Rattle.sl_image.proofs.ObserverWorlds.{grows-turn}
@@ -86,10 +86,10 @@ few-taken c [] = omega arith
 few-taken c (step ∷ h) = let p = few-taken c h in let q = taken-step c step h in omega (arith, p, q)
 
 module _ (s : Setup) (lost : Losses) (es : List Entry) (a c i ring : ℕ) (told : ℕ → ℕ) (step : Step) (z : IsWired s.net) (q : actor_of s.net a ≡ OfHost i) (k : HostLinks s.net a) (x : next_step s lost (world s lost es) (a, c) ≡ Some step) where
-  abbrev LeavesIt : After HostState Msg → Type 0
-  LeavesIt y = Leaves (IsHostOf s a i (turn s lost (world s lost es) (a, c))) s.net ring (λ u. history (turn s lost (world s lost es) (a, c)) u) a told step.puts y
+  abbrev SimulatesIt : After HostState Msg → Type 0
+  SimulatesIt y = Simulates (IsHostOf s a i (turn s lost (world s lost es) (a, c))) s.net ring (λ u. history (turn s lost (world s lost es) (a, c)) u) a told step.puts y
 
-  takes-frame : (b : List ℕ) → step.choice ≡ 0 → step.puts ≡ [] → length es < 2 ^ 40 → LeavesIt (host_take (host_of s a i (history (world s lost es) a)) c (wire.Host b))
+  takes-frame : (b : List ℕ) → step.choice ≡ 0 → step.puts ≡ [] → length es < 2 ^ 40 → SimulatesIt (host_take (host_of s a i (history (world s lost es) a)) c (wire.Host b))
   takes-frame b e ps l =
       let w = world s lost es in let h = history w a in let g = grows-turn s lost es (a, c) step x in
       let n = few-taken 0 h in let m = history_size w a in let size = world_size s lost w es refl in let one = k.one_in in
@@ -102,16 +102,16 @@ module _ (s : Setup) (lost : Losses) (es : List Entry) (a c i ring : ℕ) (told 
       }
 
   pub host-takes : (b : ℕ) (before : ℕ → ℕ) (m : Message) (y : Msg) → step.taken ≡ Some m → length es < 2 ^ 40 → IsMessage s.net ring (λ u. history (world s lost es) u) b before m y
-      → LeavesIt (host_take (host_of s a i (history (world s lost es) a)) c y)
+      → SimulatesIt (host_take (host_of s a i (history (world s lost es) a)) c y)
   host-takes b before m y e l is = by_view (next-view s lost (world s lost es) (a, c) step x)
     where
-      by_view : Takes s lost (world s lost es) a step ⊎ Acts s (world s lost es) a step → LeavesIt (host_take (host_of s a i (history (world s lost es) a)) c y)
+      by_view : Takes s lost (world s lost es) a step ⊎ Acts s (world s lost es) a step → SimulatesIt (host_take (host_of s a i (history (world s lost es) a)) c y)
       by_view (inl t) =
           let f = comes-frame s lost (world s lost es) a i step z (ran s lost es) q t in
           let same : m ≡ HostMsg f.0 = (let u : Some m ≡ Some t.took.message = sym e ∙ t.took.taken in let v : m ≡ t.took.message = cc in v ∙ f.1) in
           let frame : y ≡ wire.Host f.0 = subst (λ m. IsMessage s.net ring (λ u. history (world s lost es) u) b before m y) same is in
           let low = slice_get_within (links_into s.net a) step.choice t.took.link t.took.into in let one = k.one_in in
-          subst (λ y. LeavesIt (host_take (host_of s a i (history (world s lost es) a)) c y)) (sym frame)
+          subst (λ y. SimulatesIt (host_take (host_of s a i (history (world s lost es) a)) c y)) (sym frame)
           (takes-frame f.0 (omega (arith, low, one)) (took-by s a (history (world s lost es) a) step (OfHost i) q t.took) l)
       by_view (inr t) = absurd (let u : None ≡ Some m = sym t.acted.taken ∙ e in cc)
 
@@ -131,11 +131,11 @@ module _ (s : Setup) (lost : Losses) (es : List Entry) (a c i ring : ℕ) (told 
       by_frame (Some bytes) f p = record { bytes = bytes; found = f; puts = (let y : send_all (HostMsg bytes) (links_out s.net a FromHost) ≡ step.puts = cc in sym y); choice = d }
   injects fl (suc n) d p = absurd cc
 
-  pub host-acts : step.taken ≡ None → Does (IsHostOf s a i (turn s lost (world s lost es) (a, c))) s.net ring (λ u. history (turn s lost (world s lost es) (a, c)) u) a told step.puts (host_act (host_of s a i (history (world s lost es) a)) c)
+  pub host-acts : step.taken ≡ None → ActSimulates (IsHostOf s a i (turn s lost (world s lost es) (a, c))) s.net ring (λ u. history (turn s lost (world s lost es) (a, c)) u) a told step.puts (host_act (host_of s a i (history (world s lost es) a)) c)
   host-acts e = by_view (next-view s lost (world s lost es) (a, c) step x)
     where
       of_frame : length (links_into s.net a) ≤ step.choice → Injects
-          → Does (IsHostOf s a i (turn s lost (world s lost es) (a, c))) s.net ring (λ u. history (turn s lost (world s lost es) (a, c)) u) a told step.puts (host_act (host_of s a i (history (world s lost es) a)) c)
+          → ActSimulates (IsHostOf s a i (turn s lost (world s lost es) (a, c))) s.net ring (λ u. history (turn s lost (world s lost es) (a, c)) u) a told step.puts (host_act (host_of s a i (history (world s lost es) a)) c)
       of_frame p f =
           let w = world s lost es in let h = history w a in let g = grows-turn s lost es (a, c) step x in let d = f.choice in let one = k.one_in in
           let here : step.choice ≡ action_choice s.net a = omega (arith, p, d) in
@@ -144,14 +144,14 @@ module _ (s : Setup) (lost : Losses) (es : List Entry) (a c i ring : ℕ) (told 
           record {
             after = sending (host_of s a i h) f.bytes;
             is = ap (option_map (sending (host_of s a i h))) f.found;
-            leaves = record {
+            simulates = record {
               stands = λ j. record { messages = frames_of s i; sent = sent j; delivered = delivered j };
               sent = subst (λ ps. AreSent s.net ring (λ u. history (turn s lost w (a, c)) u) a told ps ((0, wire.Host f.bytes) ∷ [])) (sym (f.puts ∙ ap (send_all (HostMsg f.bytes)) k.puts_on)) ((sym k.is_out, refl), tt);
             };
           }
 
       by_view : Takes s lost (world s lost es) a step ⊎ Acts s (world s lost es) a step
-          → Does (IsHostOf s a i (turn s lost (world s lost es) (a, c))) s.net ring (λ u. history (turn s lost (world s lost es) (a, c)) u) a told step.puts (host_act (host_of s a i (history (world s lost es) a)) c)
+          → ActSimulates (IsHostOf s a i (turn s lost (world s lost es) (a, c))) s.net ring (λ u. history (turn s lost (world s lost es) (a, c)) u) a told step.puts (host_act (host_of s a i (history (world s lost es) a)) c)
       by_view (inl t) = absurd (let u : None ≡ Some t.took.message = sym e ∙ t.took.taken in cc)
       by_view (inr t) = of_frame (past-end (links_into s.net a) step.choice t.acted.past)
           (injects t.acted.floor (step.choice - action_choice s.net a) refl (acted-by s a (history (world s lost es) a) step (OfHost i) q t.acted))

@@ -93,4 +93,4 @@ accounts-are net table w n h = map-map account_of (λ u. unit_of net u (collecte
     one : (u : ℕ) (i : UnitId) → actor_of net u ≡ OfUnit i → account_of (unit_of net u (collected net w u)) ≡ account net u (collected net w u)
     one u i q = let g = collected net w u in let l = channels-are net u g (n.few_channels u i q) in
         let r = map-numbers (λ k. held_saved (row (data_channels net u) k g)) (λ k. row (data_channels net u) k g) 1 (upto_of net u g) (λ k a b. h u k) in
-        λ j. record { number = id g; lasts = l j; floor = floor_of net u g; rows = r j }
+        λ j. record { id = id g; last = l j; floor = floor_of net u g; rows = r j }

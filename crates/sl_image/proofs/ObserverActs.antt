@@ -30,7 +30,7 @@ use Rattle.sl_model.proofs.Turns.{taken-this, taken-other}
 use Rattle.sl_model.proofs.Ran.{Takes, Acts, next-view}
 use Rattle.sl_model.proofs.Said.{Begins, observer-acts}
 use Rattle.sl_model.proofs.Stamps.{acted-by}
-use Rattle.sl_image.specs.Leaves.{Does}
+use Rattle.sl_image.specs.Simulates.{ActSimulates}
 use Rattle.sl_image.specs.Messages.{AreSent}
 use Rattle.sl_image.specs.ObserverImage.{unit_of, observer_of, IsObserverOf, IsTableOf}
 use Rattle.sl_image.proofs.ObserverLists.{place-at, least-same}
@@ -82,8 +82,8 @@ past-end (x ∷ xs) (suc k) e = let p = past-end xs k e in omega (arith, p)
 
 module _ (s : Setup) (lost : Losses) (table : Snapshot) (es : List Entry) (c ring : ℕ) (told : ℕ → ℕ) (step : Step) (z : IsWired s.net) (f : IsTableOf s table) (all : links_out s.net 0 BeginSort ≡ links_from s.net 0)
     (x : next_step s lost (world s lost es) (0, c) ≡ Some step) (e : step.taken ≡ None) where
-  abbrev DoesIt : Option (After ObserverState Msg) → Type 0
-  DoesIt o = Does (IsObserverOf s.net table (turn s lost (world s lost es) (0, c))) s.net ring (λ u. history (turn s lost (world s lost es) (0, c)) u) 0 told step.puts o
+  abbrev ActSimulatesIt : Option (After ObserverState Msg) → Type 0
+  ActSimulatesIt o = ActSimulates (IsObserverOf s.net table (turn s lost (world s lost es) (0, c))) s.net ring (λ u. history (turn s lost (world s lost es) (0, c)) u) 0 told step.puts o
 
   units-stay : map (λ u. unit_of s.net u (collected s.net (world s lost es) u)) (units s.net) ≡ map (λ u. unit_of s.net u (collected s.net (turn s lost (world s lost es) (0, c)) u)) (units s.net)
   units-stay = same-units s table (world s lost es) (turn s lost (world s lost es) (0, c)) step z (grows-turn s lost es (0, c) step x) (λ u i q. ap (option_and_then (done_of (unit_place s.net u))) e)
@@ -93,7 +93,7 @@ module _ (s : Setup) (lost : Losses) (table : Snapshot) (es : List Entry) (c rin
       (begins-sent s.net ring (λ u. history (turn s lost (world s lost es) (0, c)) u) told k all)
 
   issues : step.choice ≡ action_choice s.net 0 → can_issue s (floor s.net (world s lost es)) (observer (world s lost es)) ≡ true → step.puts ≡ begin_all s.net (suc (issued s.net (observer (world s lost es))))
-      → DoesIt (observer_act (observer_of s.net table (world s lost es)) c)
+      → ActSimulatesIt (observer_act (observer_of s.net table (world s lost es)) c)
   issues q can ps =
       let w = world s lost es in let g = grows-turn s lost es (0, c) step x in let S = observer_of s.net table w in
       let k : suc (issued s.net (observer w)) ≡ issued s.net (observer (turn s lost w (0, c))) = sym (ap (issued s.net) g.same ∙ taken-this (action_choice s.net 0) step (observer w) q) in
@@ -104,7 +104,7 @@ module _ (s : Setup) (lost : Losses) (table : Snapshot) (es : List Entry) (c rin
         is = ap (λ b. if b then issue S else resend S) (eq-eqb c (action_choice s.net 0) (sym (step-choice s lost w (0, c) step x) ∙ q))
             ∙ ap (λ b. if b then Some (record { state = record S { issued = suc (issued s.net (observer w)) }; puts = begins_there (length (links_from s.net 0)) (suc (issued s.net (observer w))) }) else None)
             (issue-same s table w f ∙ can);
-        leaves = record {
+        simulates = record {
           stands = λ i. record { ins = length (links_into s.net 0); outs = length (links_from s.net 0); snapshot = table; issued = k i; resent = r i; units = u i };
           sent = sends (suc (issued s.net (observer w))) ps;
         };
@@ -118,7 +118,7 @@ module _ (s : Setup) (lost : Losses) (table : Snapshot) (es : List Entry) (c rin
       by_tells (inr p) = p.0
 
   resends : step.choice ≡ suc (action_choice s.net 0) → can_resend s (floor s.net (world s lost es)) (observer (world s lost es)) ≡ true → step.puts ≡ begin_all s.net (issued s.net (observer (world s lost es)))
-      → DoesIt (observer_act (observer_of s.net table (world s lost es)) c)
+      → ActSimulatesIt (observer_act (observer_of s.net table (world s lost es)) c)
   resends q can ps =
       let w = world s lost es in let g = grows-turn s lost es (0, c) step x in let S = observer_of s.net table w in
       let k : issued s.net (observer w) ≡ issued s.net (observer (turn s lost w (0, c))) = sym (ap (issued s.net) g.same ∙ taken-other (action_choice s.net 0) step (observer w) (λ p. absurd (omega (arith, p, q)))) in
@@ -129,24 +129,24 @@ module _ (s : Setup) (lost : Losses) (table : Snapshot) (es : List Entry) (c rin
         is = ap (λ b. if b then issue S else resend S) (not-first q)
             ∙ ap (λ b. if b then Some (record { state = record S { resent = suc (resent s.net (observer w)) }; puts = begins_there (length (links_from s.net 0)) (issued s.net (observer w)) }) else None)
             (resend-same s table w f ∙ can);
-        leaves = record {
+        simulates = record {
           stands = λ i. record { ins = length (links_into s.net 0); outs = length (links_from s.net 0); snapshot = table; issued = k i; resent = r i; units = u i };
           sent = sends (issued s.net (observer w)) ps;
         };
       }
 
-  pub acts : DoesIt (observer_act (observer_of s.net table (world s lost es)) c)
+  pub acts : ActSimulatesIt (observer_act (observer_of s.net table (world s lost es)) c)
   acts = by_view (next-view s lost (world s lost es) (0, c) step x)
     where
-      of_begins : (fl : ℕ) → fl ≡ floor s.net (world s lost es) → length (links_into s.net 0) ≤ step.choice → Begins s fl (observer (world s lost es)) (step.choice - action_choice s.net 0) step.puts → DoesIt (observer_act (observer_of s.net table (world s lost es)) c)
+      of_begins : (fl : ℕ) → fl ≡ floor s.net (world s lost es) → length (links_into s.net 0) ≤ step.choice → Begins s fl (observer (world s lost es)) (step.choice - action_choice s.net 0) step.puts → ActSimulatesIt (observer_act (observer_of s.net table (world s lost es)) c)
       of_begins fl y p b = by_kind b.kind
         where
           by_kind : ((step.choice - action_choice s.net 0 ≡ 0) × (b.number ≡ suc (issued s.net (observer (world s lost es)))) × (can_issue s fl (observer (world s lost es)) ≡ true)) ⊎ ((step.choice - action_choice s.net 0 ≡ 1) × (b.number ≡ issued s.net (observer (world s lost es))) × (can_resend s fl (observer (world s lost es)) ≡ true))
-              → DoesIt (observer_act (observer_of s.net table (world s lost es)) c)
+              → ActSimulatesIt (observer_act (observer_of s.net table (world s lost es)) c)
           by_kind (inl k) = let d = k.0 in issues (omega (arith, p, d)) (ap (λ n. can_issue s n (observer (world s lost es))) (sym y) ∙ k.2) (b.puts ∙ ap (begin_all s.net) k.1)
           by_kind (inr k) = let d = k.0 in resends (omega (arith, p, d)) (ap (λ n. can_resend s n (observer (world s lost es))) (sym y) ∙ k.2) (b.puts ∙ ap (begin_all s.net) k.1)
 
-      by_view : Takes s lost (world s lost es) 0 step ⊎ Acts s (world s lost es) 0 step → DoesIt (observer_act (observer_of s.net table (world s lost es)) c)
+      by_view : Takes s lost (world s lost es) 0 step ⊎ Acts s (world s lost es) 0 step → ActSimulatesIt (observer_act (observer_of s.net table (world s lost es)) c)
       by_view (inl t) = absurd (let q : None ≡ Some t.took.message = sym e ∙ t.took.taken in cc)
       by_view (inr t) = of_begins t.acted.floor (t.now ∙ ap (floor_for s.net (world s lost es)) z.observer) (past-end (links_into s.net 0) step.choice t.acted.past)
           (observer-acts s t.acted.floor 0 (step.choice - action_choice s.net 0) (observer (world s lost es)) step.puts (acted-by s 0 (observer (world s lost es)) step Observer z.observer t.acted))

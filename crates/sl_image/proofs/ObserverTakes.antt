@@ -31,7 +31,7 @@ use Rattle.sl_model.proofs.Ran.{Takes, Acts, next-view, ran, ran-turn}
 use Rattle.sl_model.proofs.Reported.{knows}
 use Rattle.sl_model.proofs.Stamps.{took-by}
 use Rattle.sl_model.specs.Brought.{IsBrought}
-use Rattle.sl_image.specs.Leaves.{Leaves}
+use Rattle.sl_image.specs.Simulates.{Simulates}
 use Rattle.sl_image.specs.Messages.{IsDoneOf, IsMessage, AreSent}
 use Rattle.sl_image.specs.ObserverImage.{unit_of, observer_of, IsObserverOf, IsTableOf, known_at}
 use Rattle.sl_model.proofs.Brought.{unit-done}
@@ -192,29 +192,29 @@ is-take s lost w c step m z x e = by_view (next-view s lost w (0, c) step x)
     by_view (inr t) = absurd (let q : None ≡ Some m = sym t.acted.taken ∙ e in cc)
 
 module _ (s : Setup) (lost : Losses) (table : Snapshot) (es : List Entry) (c ring a : ℕ) (told : ℕ → ℕ) (step : Step) (t : IsNet s.net) (z : IsWired s.net) (f : IsTableOf s table) (x : next_step s lost (world s lost es) (0, c) ≡ Some step) where
-  abbrev LeavesIt : After ObserverState Msg → Type 0
-  LeavesIt y = Leaves (IsObserverOf s.net table (turn s lost (world s lost es) (0, c))) s.net ring (λ u. history (turn s lost (world s lost es) (0, c)) u) 0 told step.puts y
+  abbrev SimulatesIt : After ObserverState Msg → Type 0
+  SimulatesIt y = Simulates (IsObserverOf s.net table (turn s lost (world s lost es) (0, c))) s.net ring (λ u. history (turn s lost (world s lost es) (0, c)) u) 0 told step.puts y
 
   leaves : (m : Message) → step.taken ≡ Some m → (us : List UnitState) → us ≡ map (λ u. unit_of s.net u (collected s.net (turn s lost (world s lost es) (0, c)) u)) (units s.net)
-      → LeavesIt (record { state = record (observer_of s.net table (world s lost es)) { units = us }; puts = [] })
+      → SimulatesIt (record { state = record (observer_of s.net table (world s lost es)) { units = us }; puts = [] })
   leaves m e us q = let k = is-take s lost (world s lost es) c step m z x e in record {
     stands = state-after s table (world s lost es) (turn s lost (world s lost es) (0, c)) step z (grows-turn s lost es (0, c) step x) k.low us q;
     sent = subst (λ ps. AreSent s.net ring (λ u. history (turn s lost (world s lost es) (0, c)) u) 0 told ps []) (sym k.puts) tt;
   }
 
   -- a message that is no Done
-  quiet : (m : Message) → step.taken ≡ Some m → ((place : ℕ) → done_of place m ≡ None) → LeavesIt (record { state = observer_of s.net table (world s lost es); puts = [] })
+  quiet : (m : Message) → step.taken ≡ Some m → ((place : ℕ) → done_of place m ≡ None) → SimulatesIt (record { state = observer_of s.net table (world s lost es); puts = [] })
   quiet m e h = leaves m e (map (λ u. unit_of s.net u (collected s.net (world s lost es) u)) (units s.net))
       (same-units s table (world s lost es) (turn s lost (world s lost es) (0, c)) step z (grows-turn s lost es (0, c) step x) (λ u i q. ap (option_and_then (done_of (unit_place s.net u))) e ∙ h (unit_place s.net u)))
 
-  pub takes : (m : Message) (y : Msg) → step.taken ≡ Some m → IsMessage s.net ring (λ u. history (world s lost es) u) a (known_at (world s lost es)) m y → LeavesIt (observer_take (observer_of s.net table (world s lost es)) c y)
-  takes (Host b) y e k = subst (λ y. LeavesIt (observer_take (observer_of s.net table (world s lost es)) c y)) (sym k) (quiet (Host b) e (λ p. refl))
-  takes (Data j p) y e k = subst (λ y. LeavesIt (observer_take (observer_of s.net table (world s lost es)) c y)) (sym k) (quiet (Data j p) e (λ p. refl))
-  takes (Probe j) y e k = subst (λ y. LeavesIt (observer_take (observer_of s.net table (world s lost es)) c y)) (sym k) (quiet (Probe j) e (λ p. refl))
-  takes (Init j) y e k = subst (λ y. LeavesIt (observer_take (observer_of s.net table (world s lost es)) c y)) (sym k) (quiet (Init j) e (λ p. refl))
-  takes Poll y e k = subst (λ y. LeavesIt (observer_take (observer_of s.net table (world s lost es)) c y)) (sym k) (quiet Poll e (λ p. refl))
-  takes Notice y e k = subst (λ y. LeavesIt (observer_take (observer_of s.net table (world s lost es)) c y)) (sym k) (quiet Notice e (λ p. refl))
-  takes (DumpMsg n) y e k = subst (λ y. LeavesIt (observer_take (observer_of s.net table (world s lost es)) c y)) (sym k.is) (quiet (DumpMsg n) e (λ p. refl))
-  takes (Begin n) y e k = subst (λ y. LeavesIt (observer_take (observer_of s.net table (world s lost es)) c y)) (sym k) (quiet (Begin n) e (λ p. refl))
-  takes (DoneMsg place n) y e k = subst (λ y. LeavesIt (observer_take (observer_of s.net table (world s lost es)) c y)) (sym k.is)
+  pub takes : (m : Message) (y : Msg) → step.taken ≡ Some m → IsMessage s.net ring (λ u. history (world s lost es) u) a (known_at (world s lost es)) m y → SimulatesIt (observer_take (observer_of s.net table (world s lost es)) c y)
+  takes (Host b) y e k = subst (λ y. SimulatesIt (observer_take (observer_of s.net table (world s lost es)) c y)) (sym k) (quiet (Host b) e (λ p. refl))
+  takes (Data j p) y e k = subst (λ y. SimulatesIt (observer_take (observer_of s.net table (world s lost es)) c y)) (sym k) (quiet (Data j p) e (λ p. refl))
+  takes (Probe j) y e k = subst (λ y. SimulatesIt (observer_take (observer_of s.net table (world s lost es)) c y)) (sym k) (quiet (Probe j) e (λ p. refl))
+  takes (Init j) y e k = subst (λ y. SimulatesIt (observer_take (observer_of s.net table (world s lost es)) c y)) (sym k) (quiet (Init j) e (λ p. refl))
+  takes Poll y e k = subst (λ y. SimulatesIt (observer_take (observer_of s.net table (world s lost es)) c y)) (sym k) (quiet Poll e (λ p. refl))
+  takes Notice y e k = subst (λ y. SimulatesIt (observer_take (observer_of s.net table (world s lost es)) c y)) (sym k) (quiet Notice e (λ p. refl))
+  takes (DumpMsg n) y e k = subst (λ y. SimulatesIt (observer_take (observer_of s.net table (world s lost es)) c y)) (sym k.is) (quiet (DumpMsg n) e (λ p. refl))
+  takes (Begin n) y e k = subst (λ y. SimulatesIt (observer_take (observer_of s.net table (world s lost es)) c y)) (sym k) (quiet (Begin n) e (λ p. refl))
+  takes (DoneMsg place n) y e k = subst (λ y. SimulatesIt (observer_take (observer_of s.net table (world s lost es)) c y)) (sym k.is)
       (leaves (DoneMsg place n) e (units_after table.ring c k.done (map (λ u. unit_of s.net u (collected s.net (world s lost es) u)) (units s.net))) (units-done s lost table es c n step k.done t z f x place e k.of))

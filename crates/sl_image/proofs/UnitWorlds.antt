@@ -34,7 +34,7 @@ use Rattle.sl_model.proofs.Sizes.{world_size}
 use Rattle.sl_image.specs.Messages.{IsMessage, AreSent}
 use Rattle.sl_model.specs.Short.{TakesShort, SendsShort}
 use Rattle.sl_model.specs.UnitWindow.{IsTakeable}
-use Rattle.sl_image.specs.UnitImage.{IsUnitOf, HasRegisters, FollowsStep, dropped, new_state}
+use Rattle.sl_image.specs.UnitImage.{IsUnitOf, HasRegisters, UnitSimulates, dropped, new_state}
 use Rattle.sl_model.proofs.Fits.{few-packets, few-bytes}
 use Rattle.sl_model.proofs.Shorts.{all-short}
 use Rattle.sl_model.proofs.Totals.{distinct-channels}
@@ -143,7 +143,7 @@ given s table lost es u c i step m st net wired t short few q n e stands = recor
 pub takes-follow : (s : Setup) (table : Snapshot) (lost : Losses) (es : List Entry) (u c : ℕ) (i : UnitId) (step : Step) (m : Message) (x : Msg) (st : UnitState) (vs : ℕ → History) (a : ℕ) (was told : ℕ → ℕ)
     → IsNet s.net → IsWired s.net → s.window ≡ table.window → SendsShort s → length es < 2 ^ 40
     → actor_of s.net u ≡ OfUnit i → next_step s lost (world s lost es) (u, c) ≡ Some step → step.taken ≡ Some m → IsMessage s.net table.ring vs a was m x → IsUnitOf s.net table u i (history (world s lost es) u) st
-    → FollowsStep s.net table u i (λ b. history (turn s lost (world s lost es) (u, c)) b) told step.puts (unit_take st c x)
+    → UnitSimulates s.net table u i (λ b. history (turn s lost (world s lost es) (u, c)) b) told step.puts (unit_take st c x)
 takes-follow s table lost es u c i step m x st vs a was told net wired t short few q n e y stands = of_turn (is-turn s lost es u c i step m q n e)
   where
     state : st ≡ state_at s.net table u i.device i.side (history (world s lost es) u) st.registers.saved
@@ -154,13 +154,13 @@ takes-follow s table lost es u c i step m x st vs a was told net wired t short f
     receives_it l k = let o = is-into s.net u c l k in
         subst (λ b. receives b (link_of s.net l).sort ≡ true) (ap (actor_of s.net) o.to ∙ q) (wired.receiver l o.is_link)
 
-    of_turn : IsTurn s lost es u c i step m → FollowsStep s.net table u i (λ b. history (turn s lost (world s lost es) (u, c)) b) told step.puts (unit_take st c x)
+    of_turn : IsTurn s lost es u c i step m → UnitSimulates s.net table u i (λ b. history (turn s lost (world s lost es) (u, c)) b) told step.puts (unit_take st c x)
     of_turn z =
         let now : history (turn s lost (world s lost es) (u, c)) u ≡ taking c m (unit_puts s.net u i (history (world s lost es) u) c z.link m) ∷ history (world s lost es) u =
         turned s lost es (u, c) step n ∙ ap (λ v. v ∷ history (world s lost es) u) z.step_is in
         let ends = goes s.net table u i.device i.port i.side (λ b. history (turn s lost (world s lost es) (u, c)) b) vs told was a c z.link (history (world s lost es) u) st.registers.saved m x
         (given s table lost es u c i step m st net wired t short few q n e stands) z.into (receives_it z.link z.into) z.fits y now in
-        subst (λ st. FollowsStep s.net table u i (λ b. history (turn s lost (world s lost es) (u, c)) b) told step.puts (unit_take st c x)) (sym state)
+        subst (λ st. UnitSimulates s.net table u i (λ b. history (turn s lost (world s lost es) (u, c)) b) told step.puts (unit_take st c x)) (sym state)
         (record {
           stands = subst (λ h. IsUnitOf s.net table u i h (unit_take (state_at s.net table u i.device i.side (history (world s lost es) u) st.registers.saved) c x).state) (sym now) ends.stands;
           sent = subst (λ ps. AreSent s.net table.ring (λ b. history (turn s lost (world s lost es) (u, c)) b) u told ps (unit_take (state_at s.net table u i.device i.side (history (world s lost es) u) st.registers.saved) c x).puts)

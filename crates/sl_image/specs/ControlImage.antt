@@ -1,8 +1,9 @@
 -- What the machine of a control plane stands for. us gives the history of each actor, a is the control plane's number, ring the size of the units' rings.
 --     IsControlOf net ring us a m       the state m is what these histories tell the control plane
 --     told_at net us a place            how many steps of the unit at a place were told to it
---     IsControlTurn net ring us ws a    a turn of the machine stands for a step of a, which leads from the histories us to ws
-use Rattle.std.specs.Prelude.{◌≡◌, ℕ, Bool, List, map, slice_index, Option, Some}
+--     ControlSimulates net ring us ws a    a turn of the machine simulates a step of a, which leads from the histories us to ws;
+--         ControlActSimulates an action
+use Rattle.std.specs.Prelude.{◌≡◌, ℕ, Bool, List, map, slice_index, Option}
 use Rattle.sl_machine.specs.Machine.{After}
 use Rattle.sl_layout.specs.declared.actor.Sort.TheVariants.{Dump}
 use Rattle.sl_layout.specs.Net.{Net, units, action_choice}
@@ -14,7 +15,8 @@ use Rattle.sl_control.specs.Wires.{unit_wires, control_wires}
 use Rattle.sl_model.specs.declared.message.Put.{Put}
 use Rattle.sl_model.specs.History.{History, id}
 use Rattle.sl_model.specs.Knowledge.{upto_of, dumped, told_of, is_outstanding, is_again}
-use Rattle.sl_image.specs.Messages.{eight, lasts, cpu_last, AreSent}
+use Rattle.sl_image.specs.Messages.{eight, lasts, cpu_last}
+use Rattle.sl_image.specs.Simulates.{Simulates, ActSimulates}
 
 -- what is known of a unit of which the history g was told
 abbrev pub known_by : Net → Served → History → Bool → Bool → Known
@@ -39,12 +41,8 @@ abbrev pub told_at : Net → (ℕ → History) → ℕ → ℕ → ℕ
 told_at net us a place = dumped (choice_from net a (slice_index (units net) place) Dump) (us a)
 
 -- ps are the puts of the step
-pub record IsControlTurn (net : Net) (ring : ℕ) (us ws : ℕ → History) (a : ℕ) (ps : List Put) (turn : After ControlState Msg) : Type 0 where
-  pub state : IsControlOf net ring ws a turn.state
-  pub puts : AreSent net ring ws a (told_at net us a) ps turn.puts
+abbrev pub ControlSimulates : Net → ℕ → (ℕ → History) → (ℕ → History) → ℕ → List Put → After ControlState Msg → Type 0
+ControlSimulates net ring us ws a ps turn = Simulates (IsControlOf net ring ws a) net ring ws a (told_at net us a) ps turn
 
--- the machine acts
-pub record IsControlAct (net : Net) (ring : ℕ) (us ws : ℕ → History) (a : ℕ) (ps : List Put) (acts : Option (After ControlState Msg)) : Type 0 where
-  pub turn : After ControlState Msg
-  pub is : acts ≡ Some turn
-  pub stands : IsControlTurn net ring us ws a ps turn
+abbrev pub ControlActSimulates : Net → ℕ → (ℕ → History) → (ℕ → History) → ℕ → List Put → Option (After ControlState Msg) → Type 0
+ControlActSimulates net ring us ws a ps acts = ActSimulates (IsControlOf net ring ws a) net ring ws a (told_at net us a) ps acts

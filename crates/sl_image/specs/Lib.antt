@@ -1,6 +1,6 @@
 pub mod Messages
 pub mod UnitImage
 pub mod ControlImage
-pub mod Leaves
+pub mod Simulates
 pub mod ObserverImage
 pub mod HostImage

@@ -3,18 +3,25 @@
 --     observer_of net table w   the machine's state in the world w; table is the snapshot table
 --     known_at w                how many steps the observer knows, by the place of a unit
 --     account_of x              the account that a unit's state is
-use Rattle.std.specs.Prelude.{◌≡◌, ℕ, ◌≤◌, map, length, take}
+--     ObserverSimulates ..      a turn of the machine simulates a step of the observer; ObserverActSimulates an action
+--     seen_by net w u           what the observer has seen of the unit u
+use Rattle.std.specs.Prelude.{◌≡◌, ℕ, ◌≤◌, List, Option, map, length, take}
+use Rattle.sl_machine.specs.Machine.{After}
 use Rattle.sl_net.specs.declared.input.Snapshot.{Snapshot}
 use Rattle.sl_parts.specs.Parts.{numbers_from}
 use Rattle.sl_layout.specs.Net.{Net, actor_of, links_into, links_from, units, data_channels}
 use Rattle.sl_saves.specs.Views.{held_saved}
+use Rattle.sl_wire.specs.declared.message.Msg.{Msg}
+use Rattle.sl_observe.specs.declared.unit.Seen.{Seen}
 use Rattle.sl_observe.specs.Observer.{UnitState, ObserverState, device_of}
-use Rattle.sl_model.specs.History.{History, World, id}
+use Rattle.sl_model.specs.declared.message.Put.{Put}
+use Rattle.sl_model.specs.History.{History, World, history, id}
 use Rattle.sl_model.specs.Setup.{Setup}
-use Rattle.sl_model.specs.Knowledge.{observer, known, issued, resent, collected, upto_of, floor_of}
+use Rattle.sl_model.specs.Knowledge.{observer, known, issued, resent, collected, upto_of, floor_of, unit_floor}
 use Rattle.sl_model.specs.Rows.{row}
 use Rattle.sl_model.specs.Accounts.{Account}
 use Rattle.sl_image.specs.Messages.{eight, lasts}
+use Rattle.sl_image.specs.Simulates.{Simulates, ActSimulates}
 
 -- the rows are those of the numbers that are collected, as slots hold them
 abbrev pub unit_of : Net → ℕ → History → UnitState
@@ -40,6 +47,13 @@ observer_of net table w = record {
 abbrev pub IsObserverOf : Net → Snapshot → World → ObserverState → Type 0
 IsObserverOf net table w x = x ≡ observer_of net table w
 
+-- a turn of the machine simulates a step of the observer, which leads to the world v, and ps are the puts of the step
+abbrev pub ObserverSimulates : Net → Snapshot → ℕ → World → (ℕ → ℕ) → List Put → After ObserverState Msg → Type 0
+ObserverSimulates net table ring v told ps x = Simulates (IsObserverOf net table v) net ring (λ u. history v u) 0 told ps x
+
+abbrev pub ObserverActSimulates : Net → Snapshot → ℕ → World → (ℕ → ℕ) → List Put → Option (After ObserverState Msg) → Type 0
+ObserverActSimulates net table ring v told ps o = ActSimulates (IsObserverOf net table v) net ring (λ u. history v u) 0 told ps o
+
 abbrev pub known_at : World → ℕ → ℕ
 known_at w place = known place (observer w)
 
@@ -51,4 +65,8 @@ pub record IsTableOf (s : Setup) (table : Snapshot) : Type 0 where
   pub room : table.window ≤ table.ring
 
 abbrev pub account_of : UnitState → Account
-account_of x = record { number = x.id; lasts = take x.channels x.last; floor = x.floor; rows = x.rows }
+account_of x = record { id = x.id; last = take x.channels x.last; floor = x.floor; rows = x.rows }
+
+-- what the observer has seen of a unit, by what it knows of its history
+abbrev pub seen_by : Net → World → ℕ → Seen
+seen_by net w u = record { id = id (collected net w u); last = eight (lasts net u (collected net w u)); floor = unit_floor net w u }

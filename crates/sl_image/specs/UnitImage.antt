@@ -1,7 +1,7 @@
 -- What the machine of a unit stands for. table is the snapshot table, u the unit's number, i the unit, h its history.
 --     Keeps ring saved calls         the entries that a machine saved keep what some calls saved
 --     IsUnitOf net table u i h m     the state m stands for the history h
---     FollowsStep ..                 the state after a step stands for the history after it, and the puts for its puts
+--     UnitSimulates ..               a turn of the machine simulates a step of the unit
 use Rattle.std.specs.Prelude.{◌≡◌, ℕ, List}
 use Rattle.sl_machine.specs.Machine.{After}
 use Rattle.sl_layout.specs.declared.actor.Side.{Side}
@@ -19,7 +19,8 @@ use Rattle.sl_model.specs.declared.message.Put.{Put}
 use Rattle.sl_model.specs.History.{History, id}
 use Rattle.sl_model.specs.Counting.{packets, bytes, bad, expired, noroute}
 use Rattle.sl_model.specs.Calls.{calls}
-use Rattle.sl_image.specs.Messages.{eight, lasts, cpu_last, AreSent}
+use Rattle.sl_image.specs.Messages.{eight, lasts, cpu_last}
+use Rattle.sl_image.specs.Simulates.{Simulates}
 
 -- they are shown in views of as many slots as the ring has
 pub record Keeps (ring : ℕ) (saved : Listed) (calls : List Call) : Type 0 where
@@ -54,6 +55,5 @@ pub record IsUnitOf (net : Net) (table : Snapshot) (u : ℕ) (i : UnitId) (h : H
   pub registers : HasRegisters net table.ring u i h m.registers
 
 -- us gives the history of each actor after the step, ps the puts of the step; a unit tells of no other, so told doesn't matter
-pub record FollowsStep (net : Net) (table : Snapshot) (u : ℕ) (i : UnitId) (us : ℕ → History) (told : ℕ → ℕ) (ps : List Put) (after : After UnitState Msg) : Type 0 where
-  pub stands : IsUnitOf net table u i (us u) after.state
-  pub sent : AreSent net table.ring us u told ps after.puts
+abbrev pub UnitSimulates : Net → Snapshot → ℕ → UnitId → (ℕ → History) → (ℕ → ℕ) → List Put → After UnitState Msg → Type 0
+UnitSimulates net table u i us told ps after = Simulates (IsUnitOf net table u i (us u)) net table.ring us u told ps after

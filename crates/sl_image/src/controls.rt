@@ -13,7 +13,7 @@ ghost use Rattle.sl_model.specs.History.{Losses, history};
 ghost use Rattle.sl_model.specs.Setup.{Setup};
 ghost use Rattle.sl_model.specs.World.{Entry, start, next_step, turn, world};
 ghost use Rattle.sl_image.specs.Messages.{IsMessage};
-ghost use Rattle.sl_image.specs.ControlImage.{IsControlOf, IsControlTurn, IsControlAct};
+ghost use Rattle.sl_image.specs.ControlImage.{IsControlOf, ControlSimulates, ControlActSimulates};
 
 use sl_model::brought_rows_are_read;
 use sl_net::nets_are_wired;
@@ -29,11 +29,12 @@ pub fn controls_start()
 /// its next step, stands for the history with this step, and its puts are those of the step. The
 /// units' rings have as many slots as the window, or more.
 pub fn controls_take()
-    ensures { (s : Setup) (lost : Losses) (es : List Entry) (e : Entry) (d ring : ℕ) (step : Step) (m : Message) (told : ℕ → ℕ) (x : Msg) (t : ControlState) → IsNet s.net
-        → actor_of s.net e.0 ≡ Control d → s.window ≤ ring → next_step s lost (world s lost es) e ≡ Some step → step.taken ≡ Some m
+    ensures { (s : Setup) (lost : Losses) (es : List Entry) (e : Entry) (d ring : ℕ) (step : Step) (m : Message)
+        (told : ℕ → ℕ) (x : Msg) (t : ControlState) → IsNet s.net → actor_of s.net e.0 ≡ Control d → s.window ≤ ring
+        → next_step s lost (world s lost es) e ≡ Some step → step.taken ≡ Some m
         → IsMessage s.net ring (history (world s lost es)) (link_of s.net (link_at s.net e.0 e.1)).from told m x
         → IsControlOf s.net ring (history (world s lost es)) e.0 t
-        → IsControlTurn s.net ring (history (world s lost es)) (history (turn s lost (world s lost es) e)) e.0 step.puts (control_take t e.1 x) }
+        → ControlSimulates s.net ring (history (world s lost es)) (history (turn s lost (world s lost es) e)) e.0 step.puts (control_take t e.1 x) }
 {
     nets_are_wired();
     brought_rows_are_read()
@@ -46,7 +47,7 @@ pub fn controls_act()
     ensures acts { (s : Setup) (lost : Losses) (es : List Entry) (e : Entry) (d ring : ℕ) (step : Step) (t : ControlState) → IsNet s.net
         → actor_of s.net e.0 ≡ Control d → next_step s lost (world s lost es) e ≡ Some step → step.taken ≡ None
         → IsControlOf s.net ring (history (world s lost es)) e.0 t
-        → IsControlAct s.net ring (history (world s lost es)) (history (turn s lost (world s lost es) e)) e.0 step.puts (control_act t e.1) }
+        → ControlActSimulates s.net ring (history (world s lost es)) (history (turn s lost (world s lost es) e)) e.0 step.puts (control_act t e.1) }
     ensures idle { (s : Setup) (lost : Losses) (es : List Entry) (e : Entry) (d ring : ℕ) (t : ControlState)
         → actor_of s.net e.0 ≡ Control d → next_step s lost (world s lost es) e ≡ None
         → IsControlOf s.net ring (history (world s lost es)) e.0 t → control_act t e.1 ≡ None }

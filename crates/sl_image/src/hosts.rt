@@ -12,8 +12,7 @@ ghost use Rattle.sl_model.specs.declared.message.Step.{Step};
 ghost use Rattle.sl_model.specs.History.{Losses, history};
 ghost use Rattle.sl_model.specs.Setup.{Setup, setup_of};
 ghost use Rattle.sl_model.specs.World.{Entry, next_step, turn, world};
-ghost use Rattle.sl_image.specs.HostImage.{IsHostOf};
-ghost use Rattle.sl_image.specs.Leaves.{Leaves, Does};
+ghost use Rattle.sl_image.specs.HostImage.{IsHostOf, HostSimulates, HostActSimulates};
 ghost use Rattle.sl_image.specs.Messages.{IsMessage};
 
 use sl_net::nets_are_wired;
@@ -28,7 +27,8 @@ pub fn hosts_have_two_links()
 
 /// The first state of a host's machine stands for the empty history.
 pub fn hosts_start()
-    ensures { (i : Input) (lost : Losses) (a h : ℕ) → IsHostOf (setup_of i) a h (world (setup_of i) lost []) (record { messages = frames_of i h; sent = 0; delivered = 0 }) }
+    ensures { (i : Input) (lost : Losses) (a h : ℕ)
+        → IsHostOf (setup_of i) a h (world (setup_of i) lost []) (record { messages = frames_of i h; sent = 0; delivered = 0 }) }
 {}
 
 /// A turn of another actor changes nothing of what the machine stands for.
@@ -40,12 +40,12 @@ pub fn hosts_stay()
 /// A message that a host takes next, which stands for that of its step, leaves a state that stands
 /// for the world after the step, and the host puts nothing.
 pub fn hosts_take()
-    ensures { (s : Setup) (lost : Losses) (es : List Entry) (a c i ring b : ℕ) (told before : ℕ → ℕ) (step : Step) (m : Message) (x : Msg) (o : HostState)
-        → IsNet s.net → slice_get s.net.actors a ≡ Some (OfHost i) → length es < 2 ^ 40 → IsHostOf s a i (world s lost es) o
+    ensures { (s : Setup) (lost : Losses) (es : List Entry) (a c i ring b : ℕ) (told before : ℕ → ℕ)
+        (step : Step) (m : Message) (x : Msg) (o : HostState) → IsNet s.net → slice_get s.net.actors a ≡ Some (OfHost i)
+        → length es < 2 ^ 40 → IsHostOf s a i (world s lost es) o
         → next_step s lost (world s lost es) (a, c) ≡ Some step → step.taken ≡ Some m
         → IsMessage s.net ring (λ u. history (world s lost es) u) b before m x
-        → Leaves (IsHostOf s a i (turn s lost (world s lost es) (a, c))) s.net ring (λ u. history (turn s lost (world s lost es) (a, c)) u) a told step.puts
-        (host_take o c x) }
+        → HostSimulates s ring a i (turn s lost (world s lost es) (a, c)) told step.puts (host_take o c x) }
 {
     nets_are_wired();
 }
@@ -56,8 +56,7 @@ pub fn hosts_act()
     ensures did { (s : Setup) (lost : Losses) (es : List Entry) (a c i ring : ℕ) (told : ℕ → ℕ) (step : Step) (o : HostState)
         → IsNet s.net → slice_get s.net.actors a ≡ Some (OfHost i) → IsHostOf s a i (world s lost es) o
         → next_step s lost (world s lost es) (a, c) ≡ Some step → step.taken ≡ None
-        → Does (IsHostOf s a i (turn s lost (world s lost es) (a, c))) s.net ring (λ u. history (turn s lost (world s lost es) (a, c)) u) a told step.puts
-        (host_act o c) }
+        → HostActSimulates s ring a i (turn s lost (world s lost es) (a, c)) told step.puts (host_act o c) }
     ensures idle { (s : Setup) (lost : Losses) (es : List Entry) (a i : ℕ) (o : HostState) → slice_get s.net.actors a ≡ Some (OfHost i)
         → IsHostOf s a i (world s lost es) o → next_step s lost (world s lost es) (a, action_choice s.net a) ≡ None
         → host_act o (action_choice s.net a) ≡ None }

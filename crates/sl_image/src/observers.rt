@@ -12,18 +12,18 @@ ghost use Rattle.sl_observe.specs.Observer.{ObserverState, first_state, observer
 ghost use Rattle.sl_observe.specs.Observer.{floor_of as floor_told};
 ghost use Rattle.sl_model.specs.declared.message.Message.{Message};
 ghost use Rattle.sl_model.specs.declared.message.Step.{Step};
-ghost use Rattle.sl_model.specs.History.{Losses, history, id};
+ghost use Rattle.sl_model.specs.History.{Losses, history};
 ghost use Rattle.sl_model.specs.Setup.{Setup};
-ghost use Rattle.sl_model.specs.Knowledge.{observer, collected, issued, resent, upto_of, unit_floor, floor};
+ghost use Rattle.sl_model.specs.Knowledge.{observer, collected, issued, resent, upto_of, floor};
 ghost use Rattle.sl_model.specs.End.{IsFinished};
 ghost use Rattle.sl_model.specs.Findings.{finding, findings};
 ghost use Rattle.sl_model.specs.World.{Entry, next_step, turn, world};
 ghost use Rattle.sl_model.specs.Rows.{row};
 ghost use Rattle.sl_model.specs.Short.{SendsShort};
 ghost use Rattle.sl_model.specs.Accounts.{accounts, finding_by};
-ghost use Rattle.sl_image.specs.Leaves.{Leaves, Does};
-ghost use Rattle.sl_image.specs.Messages.{IsMessage, eight, lasts};
-ghost use Rattle.sl_image.specs.ObserverImage.{IsObserverOf, IsTableOf, known_at, account_of};
+ghost use Rattle.sl_image.specs.Messages.{IsMessage};
+ghost use Rattle.sl_image.specs.ObserverImage.{IsObserverOf, IsTableOf, known_at, account_of, seen_by};
+ghost use Rattle.sl_image.specs.ObserverImage.{ObserverSimulates, ObserverActSimulates};
 
 use sl_model::{accounts_give_findings, rows_are_held};
 use sl_net::nets_are_wired;
@@ -45,12 +45,11 @@ pub fn observers_stay()
 /// A message that the observer takes next, which stands for that of its step by what was told
 /// before, leaves a state that stands for the world after the step, and the observer puts nothing.
 pub fn observers_take()
-    ensures { (s : Setup) (lost : Losses) (table : Snapshot) (es : List Entry) (c ring a : ℕ) (told : ℕ → ℕ) (step : Step) (m : Message) (x : Msg) (o : ObserverState)
-        → IsNet s.net → IsTableOf s table → IsObserverOf s.net table (world s lost es) o
+    ensures { (s : Setup) (lost : Losses) (table : Snapshot) (es : List Entry) (c ring a : ℕ) (told : ℕ → ℕ)
+        (step : Step) (m : Message) (x : Msg) (o : ObserverState) → IsNet s.net → IsTableOf s table → IsObserverOf s.net table (world s lost es) o
         → next_step s lost (world s lost es) (0, c) ≡ Some step → step.taken ≡ Some m
         → IsMessage s.net ring (λ u. history (world s lost es) u) a (known_at (world s lost es)) m x
-        → Leaves (IsObserverOf s.net table (turn s lost (world s lost es) (0, c))) s.net ring (λ u. history (turn s lost (world s lost es) (0, c)) u) 0 told step.puts
-        (observer_take o c x) }
+        → ObserverSimulates s.net table ring (turn s lost (world s lost es) (0, c)) told step.puts (observer_take o c x) }
 {
     nets_are_wired();
 }
@@ -61,8 +60,7 @@ pub fn observers_act()
     ensures did { (s : Setup) (lost : Losses) (table : Snapshot) (es : List Entry) (c ring : ℕ) (told : ℕ → ℕ) (step : Step) (o : ObserverState)
         → IsNet s.net → IsTableOf s table → IsObserverOf s.net table (world s lost es) o
         → next_step s lost (world s lost es) (0, c) ≡ Some step → step.taken ≡ None
-        → Does (IsObserverOf s.net table (turn s lost (world s lost es) (0, c))) s.net ring (λ u. history (turn s lost (world s lost es) (0, c)) u) 0 told step.puts
-        (observer_act o c) }
+        → ObserverActSimulates s.net table ring (turn s lost (world s lost es) (0, c)) told step.puts (observer_act o c) }
     ensures idle { (s : Setup) (lost : Losses) (table : Snapshot) (es : List Entry) (c : ℕ) (o : ObserverState)
         → IsNet s.net → IsTableOf s table → IsObserverOf s.net table (world s lost es) o
         → next_step s lost (world s lost es) (0, c) ≡ None → action_choice s.net 0 ≤ c → c < action_choice s.net 0 + 2
@@ -84,14 +82,15 @@ pub fn observers_tell()
         → o.resent ≡ resent s.net (observer (world s lost es)) }
     ensures units { (s : Setup) (lost : Losses) (table : Snapshot) (es : List Entry) (o : ObserverState) → IsObserverOf s.net table (world s lost es) o
         → length o.units ≡ length (units s.net) }
-    ensures seen { (s : Setup) (lost : Losses) (table : Snapshot) (es : List Entry) (o : ObserverState) (u : ℕ) (i : UnitId) → IsObserverOf s.net table (world s lost es) o
-        → actor_of s.net u ≡ OfUnit i → seen_of (unit_at o.units (unit_place s.net u))
-        ≡ record { id = id (collected s.net (world s lost es) u); last = eight (lasts s.net u (collected s.net (world s lost es) u)); floor = unit_floor s.net (world s lost es) u } }
-    ensures saved { (s : Setup) (lost : Losses) (table : Snapshot) (es : List Entry) (o : ObserverState) (u k : ℕ) (i : UnitId) → IsNet s.net → SendsShort s → length es < 2 ^ 40
-        → IsObserverOf s.net table (world s lost es) o → actor_of s.net u ≡ OfUnit i → 1 ≤ k → k ≤ upto_of s.net u (collected s.net (world s lost es) u)
+    ensures seen { (s : Setup) (lost : Losses) (table : Snapshot) (es : List Entry) (o : ObserverState) (u : ℕ) (i : UnitId)
+        → IsObserverOf s.net table (world s lost es) o → actor_of s.net u ≡ OfUnit i
+        → seen_of (unit_at o.units (unit_place s.net u)) ≡ seen_by s.net (world s lost es) u }
+    ensures saved { (s : Setup) (lost : Losses) (table : Snapshot) (es : List Entry) (o : ObserverState) (u k : ℕ) (i : UnitId)
+        → IsNet s.net → SendsShort s → length es < 2 ^ 40 → IsObserverOf s.net table (world s lost es) o
+        → actor_of s.net u ≡ OfUnit i → 1 ≤ k → k ≤ upto_of s.net u (collected s.net (world s lost es) u)
         → saved_of (unit_at o.units (unit_place s.net u)) k ≡ Some (row (data_channels s.net u) k (history (world s lost es) u)) }
-    ensures unsaved { (s : Setup) (lost : Losses) (table : Snapshot) (es : List Entry) (o : ObserverState) (u k : ℕ) (i : UnitId) → IsObserverOf s.net table (world s lost es) o
-        → actor_of s.net u ≡ OfUnit i → upto_of s.net u (collected s.net (world s lost es) u) < k
+    ensures unsaved { (s : Setup) (lost : Losses) (table : Snapshot) (es : List Entry) (o : ObserverState) (u k : ℕ) (i : UnitId)
+        → IsObserverOf s.net table (world s lost es) o → actor_of s.net u ≡ OfUnit i → upto_of s.net u (collected s.net (world s lost es) u) < k
         → saved_of (unit_at o.units (unit_place s.net u)) k ≡ None }
 {
     nets_are_wired();
@@ -101,10 +100,12 @@ pub fn observers_tell()
 /// The machine's units are the accounts of the units of the world, and give its findings: up to the
 /// floor at any time, and in a finished world all.
 pub fn observers_give_findings()
-    ensures accounts { (s : Setup) (lost : Losses) (table : Snapshot) (es : List Entry) (o : ObserverState) → IsNet s.net → SendsShort s → length es < 2 ^ 40
-        → IsObserverOf s.net table (world s lost es) o → map account_of o.units ≡ accounts s.net (world s lost es) }
-    ensures collected { (s : Setup) (lost : Losses) (table : Snapshot) (es : List Entry) (o : ObserverState) (k : ℕ) → IsNet s.net → SendsShort s → length es < 2 ^ 40
-        → IsObserverOf s.net table (world s lost es) o → 1 ≤ k → k ≤ floor s.net (world s lost es)
+    ensures accounts { (s : Setup) (lost : Losses) (table : Snapshot) (es : List Entry) (o : ObserverState)
+        → IsNet s.net → SendsShort s → length es < 2 ^ 40 → IsObserverOf s.net table (world s lost es) o
+        → map account_of o.units ≡ accounts s.net (world s lost es) }
+    ensures collected { (s : Setup) (lost : Losses) (table : Snapshot) (es : List Entry) (o : ObserverState) (k : ℕ)
+        → IsNet s.net → SendsShort s → length es < 2 ^ 40 → IsObserverOf s.net table (world s lost es) o
+        → 1 ≤ k → k ≤ floor s.net (world s lost es)
         → finding_by o.issued (map account_of o.units) k ≡ finding s.net lost (world s lost es) k }
     ensures list { (s : Setup) (lost : Losses) (table : Snapshot) (es : List Entry) (o : ObserverState) → IsNet s.net → SendsShort s → length es < 2 ^ 40
         → IsObserverOf s.net table (world s lost es) o → IsFinished s lost (world s lost es)

@@ -19,7 +19,7 @@ ghost use Rattle.sl_model.specs.Setup.{Setup};
 ghost use Rattle.sl_model.specs.World.{Entry, next_step, turn, world};
 ghost use Rattle.sl_image.specs.Messages.{IsMessage};
 ghost use Rattle.sl_model.specs.Short.{SendsShort};
-ghost use Rattle.sl_image.specs.UnitImage.{IsUnitOf, FollowsStep, dropped};
+ghost use Rattle.sl_image.specs.UnitImage.{IsUnitOf, UnitSimulates, dropped};
 
 use sl_net::nets_are_wired;
 
@@ -37,10 +37,10 @@ pub fn new_units_stand()
 /// the link of its entry's choice, and its machine has no actions.
 pub fn units_take_messages()
     ensures follows { (s : Setup) (table : Snapshot) (lost : Losses) (es : List Entry) (u c a : ℕ) (i : UnitId) (step : Step) (m : Message)
-        (x : Msg) (state : UnitState) (us : ℕ → History) (was told : ℕ → ℕ) → IsNet s.net → s.window ≡ table.window → SendsShort s → length es < 2 ^ 40
-        → actor_of s.net u ≡ OfUnit i → next_step s lost (world s lost es) (u, c) ≡ Some step → step.taken ≡ Some m
+        (x : Msg) (state : UnitState) (us : ℕ → History) (was told : ℕ → ℕ) → IsNet s.net → s.window ≡ table.window → SendsShort s
+        → length es < 2 ^ 40 → actor_of s.net u ≡ OfUnit i → next_step s lost (world s lost es) (u, c) ≡ Some step → step.taken ≡ Some m
         → IsMessage s.net table.ring us a was m x → IsUnitOf s.net table u i (history (world s lost es) u) state
-        → FollowsStep s.net table u i (λ b. history (turn s lost (world s lost es) (u, c)) b) told step.puts (unit_rules.take state c x) }
+        → UnitSimulates s.net table u i (λ b. history (turn s lost (world s lost es) (u, c)) b) told step.puts (unit_rules.take state c x) }
     ensures choice { (s : Setup) (lost : Losses) (es : List Entry) (u c : ℕ) (step : Step)
         → next_step s lost (world s lost es) (u, c) ≡ Some step → step.choice ≡ c }
     ensures takes { (s : Setup) (lost : Losses) (es : List Entry) (u c : ℕ) (i : UnitId) (step : Step) → actor_of s.net u ≡ OfUnit i

@@ -24,15 +24,15 @@ use Rattle.sl_model.specs.Verdict.{lag_at, judged, place_or_zero}
 use Rattle.sl_model.specs.Rows.{row}
 
 pub record Account : Type 0 where
-  pub number : ℕ
-  pub lasts : List ℕ
+  pub id : ℕ
+  pub last : List ℕ
   pub floor : ℕ
   pub rows : List Saved
 
 abbrev pub account : Net → ℕ → History → Account
 account net u h = record {
-  number = id h;
-  lasts = map (λ c. last c h) (data_channels net u);
+  id = id h;
+  last = map (λ c. last c h) (data_channels net u);
   floor = floor_of net u h;
   rows = map (λ k. row (data_channels net u) k h) (numbers_from 1 (upto_of net u h));
 }
@@ -50,7 +50,7 @@ behind k n = if nat_lt n k then Some n else None
 
 -- the id, or else the first data channel, that is below k
 abbrev pub lag_by : ℕ → Account → Option Lag
-lag_by k a = if nat_lt a.number k then Some (Id a.number) else lag_at (first_told (behind k) a.lasts)
+lag_by k a = if nat_lt a.id k then Some (Id a.id) else lag_at (first_told (behind k) a.last)
 
 abbrev pub cause_in : Saved → Option Cause
 cause_in (Value packets bytes inflight) = None

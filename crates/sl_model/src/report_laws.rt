@@ -44,7 +44,8 @@ pub fn dones_tell_dumps()
     ensures put { (s : Setup) (lost : Losses) (es : List Entry) (u : ℕ) (i : UnitId) (r : Reports s.net u) → actor_of s.net u ≡ OfUnit i
         → numbers (done_of (unit_place s.net u)) (put r.done (history (world s lost es) r.control))
         ≡ numbers dump_of (takes (choice_of s.net r.dump) (history (world s lost es) r.control)) }
-    ensures taken { (s : Setup) (lost : Losses) (es : List Entry) (u : ℕ) (i : UnitId) (r : Reports s.net u) → IsLossTable s.net lost → actor_of s.net u ≡ OfUnit i
+    ensures taken { (s : Setup) (lost : Losses) (es : List Entry) (u : ℕ) (i : UnitId) (r : Reports s.net u)
+        → IsLossTable s.net lost → actor_of s.net u ≡ OfUnit i
         → numbers (done_of (unit_place s.net u)) (takes (choice_of s.net r.done) (observer (world s lost es)) ++ on_way s.net lost (world s lost es) r.done)
         ≡ numbers dump_of (takes (choice_of s.net r.dump) (history (world s lost es) r.control)) }
 {}
@@ -53,8 +54,8 @@ pub fn dones_tell_dumps()
 pub fn dumps_bring_rows()
     ensures { (s : Setup) (lost : Losses) (es : List Entry) (e : Entry) (n : ℕ) (step : Step) → IsNet s.net
         → next_step s lost (world s lost es) e ≡ Some step → step.taken ≡ Some (DumpMsg n)
-        → Each (λ v. step.choice ≡ v.dump → IsBrought s.net s.window v.unit (history (world s lost es) v.unit) (dumped v.dump (history (world s lost es) e.0)) n)
-        (served s.net e.0) }
+        → Each (λ v. step.choice ≡ v.dump → IsBrought s.net s.window v.unit (history (world s lost es) v.unit)
+        (dumped v.dump (history (world s lost es) e.0)) n) (served s.net e.0) }
 {
     nets_are_wired()
 }

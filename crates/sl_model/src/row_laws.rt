@@ -98,7 +98,8 @@ pub fn accounts_give_findings()
     ensures finished { (s : Setup) (lost : Losses) (es : List Entry) (k : ℕ) → IsNet s.net → IsFinished s lost (world s lost es) → 1 ≤ k
         → finding_by (issued s.net (observer (world s lost es))) (accounts s.net (world s lost es)) k ≡ finding s.net lost (world s lost es) k }
     ensures list { (s : Setup) (lost : Losses) (es : List Entry) → IsNet s.net → IsFinished s lost (world s lost es)
-        → map (finding_by (issued s.net (observer (world s lost es))) (accounts s.net (world s lost es))) (numbers_from 1 s.count) ≡ (findings s lost es).list }
+        → map (finding_by (issued s.net (observer (world s lost es))) (accounts s.net (world s lost es))) (numbers_from 1 s.count)
+        ≡ (findings s lost es).list }
 {
     nets_are_wired();
     collected_verdicts_are_known();

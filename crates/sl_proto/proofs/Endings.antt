@@ -3,8 +3,6 @@ use Rattle.std.proofs.Common.{◌≡◌, ℕ, zero, suc, ◌-◌, ◌+◌, ◌<�
 use Rattle.std.specs.Prelude.{◌≢◌, ◌==◌, ◌&&◌, ◌⊎◌, true, false, nat_lt, nat_le, nat_eq, slice_get}
 use Rattle.std.proofs.lemmas.Bool.{cases_lt}
 use Rattle.std.proofs.lemmas.Bool.Decides.{eqb_tells}
-use Rattle.std.proofs.lemmas.List.{length-map}
-use Rattle.sl_machine.specs.declared.wiring.Entry.{Entry as BookEntry}
 use Rattle.sl_layout.specs.declared.actor.ActorId.{ActorId}
 use Rattle.sl_layout.specs.declared.actor.ActorId.TheVariants.{Observer}
 use Rattle.sl_layout.specs.Net.{Net, actor_of}
@@ -30,19 +28,8 @@ use Rattle.sl_proto.specs.Nodes.{NodeState, ObserverNode}
 use Rattle.sl_proto.specs.Meaning.{StandsAs}
 use Rattle.sl_proto.specs.Runs.{Follows, Goes}
 use Rattle.sl_proto.specs.Standing.{Case, world_of, run_at, StandsFor, SettlesTo, FinishesTo}
-use Rattle.sl_proto.specs.Rounds.{EndsAt, RoundAt, HasReached}
+use Rattle.sl_proto.specs.Rounds.{EndsAt, RoundAt, Resending, Sweeping, HasReached}
 use Rattle.sl_proto.proofs.Trails.{IsSettlingOn, settles-end, settles-on, IsFinishingOn, finishes-ended, finishes-short_of, finishes-on, follows-goes, goes-nothing, ends-nothing, ends-then-short, resend-again, round-short, round-rose, round-resent}
-
--- Books.
-
-entries : (b : List BookEntry) → length (schedule_of b) ≡ length b
-entries b = length-map b (λ e. (e.actor, e.choice))
-
-same-entries : (x : Case) (v u : Scene NodeState Msg) → length u.book ≡ length v.book → length (run_at x u).book ≡ length (run_at x v).book
-same-entries x v u e = entries u.book ∙ e ∙ sym (entries v.book)
-
-pub more-entries : (x : Case) (v u : Scene NodeState Msg) → length u.book ≢ length v.book → length (run_at x u).book ≢ length (run_at x v).book
-more-entries x v u e k = e (sym (entries u.book) ∙ k ∙ entries v.book)
 
 -- Settling.
 
@@ -57,13 +44,13 @@ pub settling-ends : (net : Net) (x : Case) (fuel left : ℕ) (old now new : Scen
     → IsSettlingAt x fuel old left now → 0 < left → Follows x.setup x.lost (run_at x now) pass (run_at x new) → length new.book ≡ length now.book
     → EndsAt x old (settle fuel x.setup x.lost (world_of x old)) new true
 settling-ends net x fuel left old now new pass n p h l f e =
-    settles-end x.setup x.lost fuel (run_at x old) left (run_at x now) (run_at x new) h l (follows-pass net x now new pass n p f) (same-entries x now new e)
+    settles-end x.setup x.lost fuel (run_at x old) left (run_at x now) (run_at x new) h l (follows-pass net x now new pass n p f) e
 
 pub settling-goes-on : (net : Net) (x : Case) (fuel left : ℕ) (old now new : Scene NodeState Msg) (pass : List Entry) → x.setup.net ≡ net → pass ≡ settling_pass net
     → IsSettlingAt x fuel old left now → 0 < left → Follows x.setup x.lost (run_at x now) pass (run_at x new) → length new.book ≢ length now.book
     → IsSettlingAt x fuel old (left - 1) new
 settling-goes-on net x fuel left old now new pass n p h l f e =
-    settles-on x.setup x.lost fuel (run_at x old) left (run_at x now) (run_at x new) h l (follows-pass net x now new pass n p f) (more-entries x now new e)
+    settles-on x.setup x.lost fuel (run_at x old) left (run_at x now) (run_at x new) h l (follows-pass net x now new pass n p f) e
 
 -- where the fuel suffices, there are the turns, and the world is settled
 ended-by : (x : Case) (v u : Scene NodeState Msg) (o : Option (List Entry)) → EndsAt x v o u true → (es : List Entry) × (o ≡ Some es) × Goes x.setup x.lost (run_at x v) es (run_at x u)
@@ -121,26 +108,20 @@ collected-is x es told n pos settled tells = let s = x.setup in let w = world s 
 
 -- Rounds.
 
-abbrev pub Resending : Case → Scene NodeState Msg → (World → Option (List Entry)) → Option (List Entry)
-Resending x v go = again_from x.setup x.lost (world_of x v) go (kept_from x.setup x.lost (world_of x v) (resend_entry x.setup.net ∷ []))
-
-abbrev pub Sweeping : Case → ℕ → Scene NodeState Msg → (World → Option (List Entry)) → Option (List Entry)
-Sweeping x fuel v go = sweep_round fuel go x.setup x.lost (world_of x v) (is_collected x.setup (world_of x v))
-
 follows-resend : (net : Net) (x : Case) (v u : Scene NodeState Msg) (e : Entry) → x.setup.net ≡ net → e ≡ resend_entry net
     → Follows x.setup x.lost (run_at x v) (e ∷ []) (run_at x u) → Follows x.setup x.lost (run_at x v) (resend_entry x.setup.net ∷ []) (run_at x u)
 follows-resend net x v u e n q f = subst (λ e. Follows x.setup x.lost (run_at x v) (e ∷ []) (run_at x u)) (q ∙ ap resend_entry (sym n)) f
 
 pub resent-again : (net : Net) (x : Case) (v u : Scene NodeState Msg) (e : Entry) → x.setup.net ≡ net → e ≡ resend_entry net
     → Follows x.setup x.lost (run_at x v) (e ∷ []) (run_at x u) → length u.book ≢ length v.book → RoundAt x v (Resending x v) u Again
-resent-again net x v u e n q f k = resend-again x.setup x.lost (run_at x v) (run_at x u) (follows-resend net x v u e n q f) (more-entries x v u k)
+resent-again net x v u e n q f k = resend-again x.setup x.lost (run_at x v) (run_at x u) (follows-resend net x v u e n q f) k
 
 pub resent-nothing : (net : Net) (x : Case) (v u : Scene NodeState Msg) (e : Entry) → x.setup.net ≡ net → e ≡ resend_entry net
     → Follows x.setup x.lost (run_at x v) (e ∷ []) (run_at x u) → length u.book ≡ length v.book → RoundAt x v (Resending x v) u Ended
 resent-nothing net x v u e n q f k = let s = x.setup in let es = resend_entry s.net ∷ [] in
     let g = follows-goes s x.lost (run_at x v) (run_at x u) es (follows-resend net x v u e n q f) in
     λ go. ends-nothing s x.lost (run_at x v) (run_at x u) go (kept_from s x.lost (world_of x v) es) g
-    (goes-nothing s x.lost (run_at x v) (run_at x u) (kept_from s x.lost (world_of x v) es) g (same-entries x v u k))
+    (goes-nothing s x.lost (run_at x v) (run_at x u) (kept_from s x.lost (world_of x v) es) g k)
 
 pub round-collected : (x : Case) (fuel : ℕ) (v : Scene NodeState Msg) → is_collected x.setup (world_of x v) ≡ true → RoundAt x v (Sweeping x fuel v) v Ended
 round-collected x fuel v q = λ go. subst (λ b. EndsAt x v (sweep_round fuel go x.setup x.lost (world_of x v) b) v true) (sym q)

@@ -75,6 +75,16 @@ front-script s lost old mid new net script i d h f g =
     (subst (λ xs. FollowsFront s lost old xs new) (sym (ap (expand net) (take_more script i d h) ∙ flat_map-push (expand_one net) (take i script) (get_or script i d)))
     (front-after s lost old mid new (expand net (take i script)) (expand_one net (get_or script i d)) f g))
 
+-- so many entries of a script
+pub front-entries : (s : Setup) (lost : Losses) (old new : Run) (net : Net) (script : List Script1) (n : ℕ) → Follows s lost old (expand net (take n script)) new
+    → FollowsFront s lost old (expand net script) new
+front-entries s lost old new net script n f = record {
+  first = expand net (take n script);
+  rest = expand net (drop n script);
+  whole = ap (expand net) (sym (take-append-drop n script)) ∙ flat_map-append (expand_one net) (take n script) (drop n script);
+  follows = f;
+}
+
 -- One after the other.
 
 goes-none : (s : Setup) (lost : Losses) (old : Run) → Goes s lost old [] old

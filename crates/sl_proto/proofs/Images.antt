@@ -33,7 +33,7 @@ use Rattle.sl_world.specs.Scene.{Line, Scene, line_at, done, put_each}
 use Rattle.sl_world.specs.Keeping.{length-put_each}
 use Rattle.sl_world.proofs.LinkLemmas.{link_in_is}
 use Rattle.sl_proto.specs.Image.{tell, tell_all, told_on, told_by, IsLineOf, IsImage}
-use Rattle.sl_proto.specs.Machines.{StandsAfter}
+use Rattle.sl_proto.specs.Machines.{MachineSimulates}
 use Rattle.sl_proto.specs.Spread.{ArePutFrom}
 use Rattle.sl_proto.proofs.Spread.{IsSpread, step-spread, put-from, one-each}
 use Rattle.sl_proto.proofs.Queues.{tell_all-append, untold, heard-told, queue-grown}
@@ -254,7 +254,7 @@ module _ {S : Type 0} (s : Setup) (lost : Losses) (ring : ℕ) (Stands : World �
   pub image-after : (w v : World) (a c : ℕ) (step : Step) (scene : Scene S Msg) (lines : List (Line Msg)) (left : After S Msg) → Turning w v a step → IsImage s lost ring Stands w scene
       → ((k : ℕ) → k < length s.net.links → told_last lost (told_at s.net v) (taken_at s.net v) (put_at s.net w) k ≡ told_last lost (told_at s.net w) (taken_at s.net w) (put_at s.net w) k)
       → length lines ≡ length s.net.links → LinesAre s.net ring (history v) lost (told_at s.net v) (taken_at s.net v) (put_at s.net w) lines
-      → StandsAfter s ring Stands w v a step left → ((b : ℕ) (state : S) → (b ≡ a → ⊥) → Stands w b state → Stands v b state)
+      → MachineSimulates s ring Stands w v a step left → ((b : ℕ) (state : S) → (b ≡ a → ⊥) → Stands w b state → Stands v b state)
       → IsImage s lost ring Stands v (done scene a c lines left)
   image-after w v a c step scene lines left t image same long all stands stays = record {
     plan = image.plan;

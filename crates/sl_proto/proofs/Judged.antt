@@ -107,12 +107,12 @@ least-high : (k n : ℕ) (xs : List ℕ) → k ≤ n → Each (λ x. behind k x 
 least-high k n [] p e = p
 least-high k n (x ∷ xs) p e = let q = not-behind k x e.0 in least-high k (min n x) xs (omega (arith, p, q)) e.1
 
-reached : (k : ℕ) (a : Account) → lag_by k a ≡ None → k ≤ least_of_there a.number a.lasts
-reached k a h = by_tells (leb_tells (suc a.number) k)
+reached : (k : ℕ) (a : Account) → lag_by k a ≡ None → k ≤ least_of_there a.id a.last
+reached k a h = by_tells (leb_tells (suc a.id) k)
   where
-    by_tells : ((nat_lt a.number k ≡ true) × (suc a.number ≤ k)) ⊎ ((nat_lt a.number k ≡ false) × (k < suc a.number)) → k ≤ least_of_there a.number a.lasts
-    by_tells (inl q) = absurd (let e = sym (ap (λ b. if b then Some (Id a.number) else lag_at (first_told (behind k) a.lasts)) q.0) ∙ h in cc)
-    by_tells (inr q) = least-high k a.number a.lasts (omega (arith, q.1)) (silent-each (behind k) 0 a.lasts (lag-none (first_told (behind k) a.lasts) (sym (ap (λ b. if b then Some (Id a.number) else lag_at (first_told (behind k) a.lasts)) q.0) ∙ h)))
+    by_tells : ((nat_lt a.id k ≡ true) × (suc a.id ≤ k)) ⊎ ((nat_lt a.id k ≡ false) × (k < suc a.id)) → k ≤ least_of_there a.id a.last
+    by_tells (inl q) = absurd (let e = sym (ap (λ b. if b then Some (Id a.id) else lag_at (first_told (behind k) a.last)) q.0) ∙ h in cc)
+    by_tells (inr q) = least-high k a.id a.last (omega (arith, q.1)) (silent-each (behind k) 0 a.last (lag-none (first_told (behind k) a.last) (sym (ap (λ b. if b then Some (Id a.id) else lag_at (first_told (behind k) a.last)) q.0) ∙ h)))
 
 is-value : (o : Option Saved) (s : Saved) → o ≡ Some s → option_and_then cause_in o ≡ None → IsValue o
 is-value None s e h = absurd cc

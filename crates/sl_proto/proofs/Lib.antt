@@ -15,6 +15,7 @@ pub mod Trails
 pub mod Endings
 pub mod Standing
 pub mod Fronts
+pub mod Grown
 pub mod FirstNode
 pub mod Choices
 pub mod Judged

@@ -11,15 +11,15 @@ use Rattle.sl_model.specs.Setup.{Setup}
 use Rattle.sl_proto.specs.Nodes.{NodeState}
 use Rattle.sl_proto.specs.Meaning.{StandsAs, NodeStands}
 use Rattle.sl_proto.specs.Image.{ArePut}
-use Rattle.sl_proto.specs.Machines.{StandsAfter, ActsAs}
+use Rattle.sl_proto.specs.Machines.{MachineSimulates, MachineActSimulates}
 
 pub stands-here : (s : Setup) (table : Snapshot) (w : World) (a : ℕ) (y : ActorId) (state : NodeState) → actor_of s.net a ≡ y → StandsAs s table w a y state → NodeStands s table w a state
 stands-here s table w a y state q st = subst (λ y. StandsAs s table w a y state) (sym q) st
 
 pub leaves : (s : Setup) (table : Snapshot) (w v : World) (a : ℕ) (step : Step) (y : ActorId) (after : After NodeState Msg) → actor_of s.net a ≡ y → StandsAs s table v a y after.state
-    → ArePut s.net table.ring (history v) a (history w a) step.puts after.puts → StandsAfter s table.ring (NodeStands s table) w v a step after
+    → ArePut s.net table.ring (history v) a (history w a) step.puts after.puts → MachineSimulates s table.ring (NodeStands s table) w v a step after
 leaves s table w v a step y after q st puts = record { state = stands-here s table v a y after.state q st; puts = puts }
 
 pub does : (s : Setup) (table : Snapshot) (w v : World) (a : ℕ) (step : Step) (y : ActorId) (after : After NodeState Msg) (acted : Option (After NodeState Msg)) → acted ≡ Some after → actor_of s.net a ≡ y
-    → StandsAs s table v a y after.state → ArePut s.net table.ring (history v) a (history w a) step.puts after.puts → ActsAs s table.ring (NodeStands s table) w v a step acted
-does s table w v a step y after acted e q st puts = record { after = after; acts = e; stands = leaves s table w v a step y after q st puts }
+    → StandsAs s table v a y after.state → ArePut s.net table.ring (history v) a (history w a) step.puts after.puts → MachineActSimulates s table.ring (NodeStands s table) w v a step acted
+does s table w v a step y after acted e q st puts = record { after = after; is = e; simulates = leaves s table w v a step y after q st puts }

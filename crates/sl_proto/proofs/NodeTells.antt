@@ -30,7 +30,7 @@ use Rattle.sl_model.proofs.Ran.{Takes, Acts, next-view, made-of}
 use Rattle.sl_model.proofs.Said.{PutBy}
 use Rattle.sl_model.proofs.Stamps.{step-said, acted-by, each-lost, put-fits}
 use Rattle.sl_image.specs.ControlImage.{told_at}
-use Rattle.sl_image.specs.Leaves.{Does}
+use Rattle.sl_image.specs.Simulates.{ActSimulates}
 use Rattle.sl_image.specs.Messages.{AreSent}
 use Rattle.sl_proto.specs.Image.{told_on, told_by, ArePut}
 use Rattle.sl_proto.proofs.Queues.{untold}
@@ -96,11 +96,11 @@ host-within s lost w a c i step q next none = let y = acts-view s lost w a c ste
     let n = host-one s y.floor a i (history w a) step.puts (step.choice - action_choice s.net a) (acted-by s a (history w a) step (OfHost i) q y) in omega (arith, k, n)
 
 -- what is done is one thing, whatever was told
-pub does-put : {S : Type 0} (Stands : S → Type 0) (net : Net) (ring : ℕ) (us : ℕ → History) (a : ℕ) (h : History) (ps : List Put) (o : Option (After S Msg)) (g : (told : ℕ → ℕ) → Does Stands net ring us a told ps o)
+pub does-put : {S : Type 0} (Stands : S → Type 0) (net : Net) (ring : ℕ) (us : ℕ → History) (a : ℕ) (h : History) (ps : List Put) (o : Option (After S Msg)) (g : (told : ℕ → ℕ) → ActSimulates Stands net ring us a told ps o)
     → ArePut net ring us a h ps (g untold).after.puts
 does-put {S} Stands net ring us a h ps o g = put-by-any net ring us a h ps (g untold).after.puts (λ told.
     let e : Some (g told).after ≡ Some (g untold).after = sym (g told).is ∙ (g untold).is in let j : (g told).after ≡ (g untold).after = cc in
-    subst (λ (y : After S Msg). AreSent net ring us a told ps y.puts) j (g told).leaves.sent)
+    subst (λ (y : After S Msg). AreSent net ring us a told ps y.puts) j (g told).simulates.sent)
 
 -- Dones.
 

@@ -1,10 +1,9 @@
 -- Scenes of nodes that stand for the worlds of their own books, along schedules.
-use Rattle.std.proofs.Common.{◌≡◌, ℕ, zero, suc, ◌+◌, ◌-◌, ◌^◌, ◌<◌, List, [], ◌∷◌, ◌++◌, length, refl, sym, ap, subst, ◌∙◌, arith, get_or, length-append, append-nil}
-use Rattle.std.proofs.lemmas.List.{length-map, map-append, get_or-map}
+use Rattle.std.proofs.Common.{◌≡◌, ℕ, suc, ◌+◌, ◌^◌, ◌<◌, List, [], ◌∷◌, ◌++◌, length, refl, sym, ap, subst, ◌∙◌, arith, append-nil}
+use Rattle.std.proofs.lemmas.List.{length-map, map-append}
 use Rattle.sl_machine.specs.declared.wiring.Entry.{Entry as BookEntry}
 use Rattle.sl_parts.specs.Parts.{numbers_from}
 use Rattle.sl_layout.specs.Net.{Net}
-use Rattle.sl_parts.proofs.Lists.{number_at}
 use Rattle.sl_wire.specs.declared.message.Msg.{Msg}
 use Rattle.sl_model.specs.History.{Losses}
 use Rattle.sl_model.specs.Setup.{Setup}
@@ -25,11 +24,6 @@ use Rattle.sl_proto.proofs.Schedules.{all-image, grown-book}
 
 -- Books numbered from 1.
 
-numbers-append : (s m n : ℕ) → numbers_from s (m + n) ≡ numbers_from s m ++ numbers_from (s + m) n
-numbers-append s zero n = let y : 0 + n ≡ n = omega arith in let z : s ≡ s + 0 = omega arith in ap (numbers_from s) y ∙ ap (λ k. numbers_from k n) z
-numbers-append s (suc m) n = let y : suc m + n ≡ suc (m + n) = omega arith in let z : suc s + m ≡ s + suc m = omega arith in
-    ap (numbers_from s) y ∙ ap (λ r. s ∷ r) (numbers-append (suc s) m n ∙ ap (λ k. numbers_from (suc s) m ++ numbers_from k n) z)
-
 numbers-numbered : (n : ℕ) (es : List Entry) → numbers_of (numbered_from n es) ≡ numbers_from (n + 1) (length es)
 numbers-numbered n [] = refl
 numbers-numbered n (e ∷ es) = let z : (n + 1) + 1 ≡ suc (n + 1) = omega arith in
@@ -45,28 +39,9 @@ numbered_book book es h = record {
   numbers = ap numbers_of h ∙ numbers-numbered 0 es ∙ ap (numbers_from 1) (sym (ap length h ∙ length-numbered 0 es));
 }
 
-last-at : (book : List BookEntry) → 0 < length book → numbers_of book ≡ numbers_from 1 (length book) → last_number book ≡ length book
-last-at book p h = let i = length book - 1 in let none : BookEntry = record { number = 0; actor = 0; choice = 0 } in let q : i < length book = omega arith in let z : 1 + i ≡ length book = omega arith in
-    sym (get_or-map (λ (e : BookEntry). e.number) book i none 0 q) ∙ ap (λ ns. get_or ns i 0) h ∙ number_at 1 (length book) i 0 q ∙ z
-
-last-is : (book : List BookEntry) → numbers_of book ≡ numbers_from 1 (length book) → last_number book ≡ length book
-last-is [] h = refl
-last-is (e ∷ es) h = last-at (e ∷ es) (omega arith) h
-
 -- a book that grew by numbered entries
 schedule-grown : (old new : List BookEntry) (n : ℕ) (es : List Entry) → new ≡ old ++ numbered_from n es → schedule_of new ≡ schedule_of old ++ es
 schedule-grown old new n es h = ap schedule_of h ∙ map-append (λ (e : BookEntry). (e.actor, e.choice)) old (numbered_from n es) ∙ ap (λ r. schedule_of old ++ r) (schedule_of-numbered_from n es)
-
-numbers-grown : (old new : List BookEntry) (es : List Entry) → new ≡ old ++ numbered_from (last_number old) es → numbers_of old ≡ numbers_from 1 (length old) → numbers_of new ≡ numbers_from 1 (length new)
-numbers-grown old new es h k = let n = length old in let z : n + 1 ≡ 1 + n = omega arith in
-    let long : n + length es ≡ length new = sym (ap length h ∙ length-append old (numbered_from (last_number old) es) ∙ ap (λ m. n + m) (length-numbered (last_number old) es)) in
-    ap numbers_of h ∙ map-append (λ (e : BookEntry). e.number) old (numbered_from (last_number old) es)
-    ∙ ap (λ r. numbers_of old ++ r) (numbers-numbered (last_number old) es)
-    ∙ ap (λ m. numbers_of old ++ numbers_from (m + 1) (length es)) (last-is old k)
-    ∙ ap (λ r. r ++ numbers_from (n + 1) (length es)) k
-    ∙ ap (λ m. numbers_from 1 n ++ numbers_from m (length es)) z
-    ∙ sym (numbers-append 1 n (length es))
-    ∙ ap (numbers_from 1) long
 
 -- Schedules.
 
@@ -83,24 +58,23 @@ module _ (net : Net) (x : Case) (given : Given x.setup x.lost x.table.ring (Node
   within : length book + length es < 2 ^ 40
   within = let n : length (schedule_of v.book) ≡ length v.book = length-map v.book _ in omega (arith, few, n)
 
-  grown : after.book ≡ v.book ++ numbered_from (last_number v.book) done
-  grown = grown-book x.setup x.lost x.table.ring (NodeStands x.setup x.table) node_rules given book es v within st.image
+  grown-by : after.book ≡ v.book ++ numbered_from (last_number v.book) done
+  grown-by = grown-book x.setup x.lost x.table.ring (NodeStands x.setup x.table) node_rules given book es v within st.image
 
   schedule : schedule_of after.book ≡ book ++ done
-  schedule = schedule-grown v.book after.book (last_number v.book) done grown
+  schedule = schedule-grown v.book after.book (last_number v.book) done grown-by
 
   reached : world_of x after ≡ run x.setup x.lost (world_of x v) es
   reached = ap (world x.setup x.lost) schedule ∙ run-append x.setup x.lost (start x.setup.net) book done ∙ run-kept x.setup x.lost (world_of x v) es
 
   pub follows-after : Follows x.setup x.lost (run_at x v) es (run_at x after)
-  follows-after = record { reached = reached; book = schedule }
+  follows-after = record { reached = reached; book = grown-by }
 
   pub stands-after : StandsFor net x after
   stands-after = record {
     net_is = st.net_is;
     runnable = st.runnable;
     legal = subst (IsLegal x.setup x.lost) (sym schedule) (legal_append x.setup x.lost (start x.setup.net) book done st.legal (kept_legal x.setup x.lost (world_of x v) es));
-    numbers = numbers-grown v.book after.book done grown st.numbers;
     image = subst (λ w. IsImage x.setup x.lost x.table.ring (NodeStands x.setup x.table) w after) (sym reached)
         (all-image x.setup x.lost x.table.ring (NodeStands x.setup x.table) node_rules given book es v within st.image);
   }

@@ -1,5 +1,5 @@
 -- Laws of runs for the loops that follow schedules, settle and finish.
-use Rattle.std.proofs.Common.{◌≡◌, ℕ, zero, suc, ◌+◌, ◌-◌, ◌<◌, List, [], ◌∷◌, ◌++◌, length, refl, sym, ap, subst, ◌∙◌, Option, Some, None, arith, append_assoc, append-nil, length-append, get_or, take}
+use Rattle.std.proofs.Common.{◌≡◌, ℕ, zero, suc, ◌+◌, ◌-◌, ◌<◌, List, [], ◌∷◌, ◌++◌, length, refl, sym, ap, subst, ◌∙◌, Option, Some, None, arith, append-nil, length-append, get_or, take}
 use Rattle.std.specs.Prelude.{◌≢◌, true, false, Bool}
 use Rattle.std.proofs.lemmas.List.{take_more}
 use Rattle.sl_net.specs.declared.input.Script1.{Script1}
@@ -14,18 +14,21 @@ use Rattle.sl_model.proofs.Turns.{run-append}
 use Rattle.sl_model.proofs.Trails.{run-kept, kept-append}
 use Rattle.sl_proto.specs.declared.finishing.Round.{Round}
 use Rattle.sl_proto.specs.declared.finishing.Round.TheVariants.{Ended, Again, Short}
-use Rattle.sl_proto.specs.Runs.{Run, Follows, Goes}
+use Rattle.sl_world.specs.Scene.{last_number}
+use Rattle.sl_world.specs.Legal.{numbered_from}
+use Rattle.sl_proto.specs.Runs.{Run, grown, Follows, Goes}
 use Rattle.sl_proto.specs.Rounds.{EndsBy, Rounds}
+use Rattle.sl_proto.proofs.Grown.{grown-append, none-numbered}
 
 -- What follows goes by the entries that it keeps.
 
 pub follows-append : (s : Setup) (lost : Losses) (old mid new : Run) (es fs : List Entry) → Follows s lost old es mid → Follows s lost mid fs new → Follows s lost old (es ++ fs) new
 follows-append s lost old mid new es fs f g = record {
   reached = g.reached ∙ ap (λ w. run s lost w fs) f.reached ∙ sym (run-append s lost old.world es fs);
-  book = g.book ∙ ap (λ b. b ++ kept_from s lost mid.world fs) f.book
-      ∙ append_assoc old.book (kept_from s lost old.world es) (kept_from s lost mid.world fs)
-      ∙ ap (λ w. old.book ++ (kept_from s lost old.world es ++ kept_from s lost w fs)) f.reached
-      ∙ ap (λ b. old.book ++ b) (sym (kept-append s lost old.world es fs));
+  book = g.book ∙ ap (λ b. grown b (kept_from s lost mid.world fs)) f.book
+      ∙ grown-append old.book (kept_from s lost old.world es) (kept_from s lost mid.world fs)
+      ∙ ap (λ w. grown old.book (kept_from s lost old.world es ++ kept_from s lost w fs)) f.reached
+      ∙ ap (grown old.book) (sym (kept-append s lost old.world es fs));
 }
 
 pub follows-passes : (s : Setup) (lost : Losses) (old mid new : Run) (es : List Entry) (n : ℕ) → Follows s lost old (passes_of es n) mid → Follows s lost mid es new
@@ -44,7 +47,7 @@ follows-goes s lost old new es f = record { reached = f.reached ∙ sym (run-kep
 pub goes-append : (s : Setup) (lost : Losses) (old mid new : Run) (es fs : List Entry) → Goes s lost old es mid → Goes s lost mid fs new → Goes s lost old (es ++ fs) new
 goes-append s lost old mid new es fs g h = record {
   reached = h.reached ∙ ap (λ w. run s lost w fs) g.reached ∙ sym (run-append s lost old.world es fs);
-  book = h.book ∙ ap (λ b. b ++ fs) g.book ∙ append_assoc old.book es fs;
+  book = h.book ∙ ap (λ b. grown b fs) g.book ∙ grown-append old.book es fs;
 }
 
 nil-by-length : {A : Type 0} (xs ys : List A) → length (xs ++ ys) ≡ length xs → ys ≡ []
@@ -52,10 +55,11 @@ nil-by-length xs [] h = refl
 nil-by-length xs (y ∷ ys) h = absurd (let k = length-append xs (y ∷ ys) in omega (arith, h, k))
 
 pub goes-nothing : (s : Setup) (lost : Losses) (old new : Run) (es : List Entry) → Goes s lost old es new → length new.book ≡ length old.book → es ≡ []
-goes-nothing s lost old new es g h = nil-by-length old.book es (ap length (sym g.book) ∙ h)
+goes-nothing s lost old new es g h = let n = last_number old.book in
+    none-numbered n es (nil-by-length old.book (numbered_from n es) (ap length (sym g.book) ∙ h))
 
 pub goes-something : (s : Setup) (lost : Losses) (old new : Run) (es : List Entry) → Goes s lost old es new → length new.book ≢ length old.book → es ≢ []
-goes-something s lost old new es g h n = h (ap length g.book ∙ ap (λ fs. length (old.book ++ fs)) n ∙ ap length (append-nil old.book))
+goes-something s lost old new es g h n = h (ap length g.book ∙ ap (λ fs. length (grown old.book fs)) n ∙ ap length (append-nil old.book))
 
 pub ends-append : (s : Setup) (lost : Losses) (old mid new : Run) (es : List Entry) (o : Option (List Entry)) (ended : Bool)
     → Goes s lost old es mid → EndsBy s lost mid o new ended → EndsBy s lost old (append_to es o) new ended

@@ -27,7 +27,7 @@ use Rattle.sl_model.proofs.Sizes.{world_size}
 use Rattle.sl_image.specs.Messages.{IsMessage}
 use Rattle.sl_world.specs.Scene.{Line, Scene, line_at, empty_line, done, without_first, take_first, take_turn, act_turn, turn_of}
 use Rattle.sl_proto.specs.Image.{tell, tell_all, told_by, AreQueued, IsImage, IsTurned}
-use Rattle.sl_proto.specs.Machines.{StandsAfter, ActsAs, FollowSteps}
+use Rattle.sl_proto.specs.Machines.{MachineSimulates, MachineActSimulates, FollowSteps}
 use Rattle.sl_proto.proofs.Queues.{Front, front-of, queue-empty}
 use Rattle.sl_proto.proofs.Lines.{IsLine}
 use Rattle.sl_proto.proofs.Delivered.{LinesAre, told_last}
@@ -215,7 +215,7 @@ module _ {S : Type 0} (s : Setup) (lost : Losses) (ring : ℕ) (Stands : World �
           let lines = slice_set v.lines l (without_first (line_at v.lines l) f.rest) in
           let msg : IsMessage s.net ring (history w) (link_of s.net l).from (told_by c (history w a)) m f.message = subst (λ t. IsMessage s.net ring (history w) (link_of s.net l).from t m f.message) told f.stands in
           let left = rules.take state.0 c f.message in
-          let stands : StandsAfter s ring Stands w u a step left = given.follow.take es a c l step m f.message state.0 few next into took msg (image.states a state.0 state.1) in
+          let stands : MachineSimulates s ring Stands w u a step left = given.follow.take es a c l step m f.message state.0 few next into took msg (image.states a state.0 state.1) in
           turned-by u (Some step) (next_step s lost w (a, c)) (Some (done v a c lines left)) (turn_of rules v a c) next (turned ∙ ap (take_first rules v a c l state.0 (line_at v.lines l)) f.is)
           (image-after s lost ring Stands w u a c step v lines left (turning es a c step given few next within) image
           (took-same es a c l step m rest v given image g choice took into way)
@@ -251,17 +251,17 @@ module _ {S : Type 0} (s : Setup) (lost : Losses) (ring : ℕ) (Stands : World �
           let e : None ≡ Some k = sym none ∙ sym ((λ i. slice_get (links_into s.net (to i)) ((ch ∙ choice) i))) ∙ choice-takes s.net k p in absurd (cc)
 
       of_acts : (step : Step) → next_step s lost (world s lost es) (a, c) ≡ Some step → (p : a < length s.net.actors) (x : S) → slice_get v.states a ≡ Some x
-          → ActsAs s ring Stands (world s lost es) (turn s lost (world s lost es) (a, c)) a step (rules.act x c)
+          → MachineActSimulates s ring Stands (world s lost es) (turn s lost (world s lost es) (a, c)) a step (rules.act x c)
           → IsTurned s lost ring Stands (turn s lost (world s lost es) (a, c)) (next_step s lost (world s lost es) (a, c)) (turn_of rules v a c)
       of_acts step next p x st acts = let w = world s lost es in let u = turn s lost (world s lost es) (a, c) in let g = grows es a c step next p in
-          turned-by u (Some step) (next_step s lost w (a, c)) (Some (done v a c v.lines acts.after)) (turn_of rules v a c) next (turned ∙ ap (act_turn rules v a c) st ∙ ap (option_map (done v a c v.lines)) acts.acts)
+          turned-by u (Some step) (next_step s lost w (a, c)) (Some (done v a c v.lines acts.after)) (turn_of rules v a c) next (turned ∙ ap (act_turn rules v a c) st ∙ ap (option_map (done v a c v.lines)) acts.is)
           (image-after s lost ring Stands w u a c step v v.lines acts.after (turning es a c step given few next p) image
           (λ k low. let t = told-still s.net w u a step k g (still step next k low) in (λ i. tell_all (t.0 i) (drop (t.1 i) (carried s.net lost w k))))
           image.lines_each
           (λ k low. let t = told-still s.net w u a step k g (still step next k low) in
           line-retold s.net ring (history u) (link_of s.net k).from (lost k) (told_at s.net w k) (told_at s.net u k) (taken_at s.net w k) (taken_at s.net u k) (put_at s.net w k) (line_at v.lines k) t.0 t.1
           (lines-grown s lost ring w u a step v.lines given.wired (ran s lost es) g (lines-of s lost ring Stands w v (ran s lost es) image) k low))
-          acts.stands (λ b y ne z. given.follow.stays es a b c step y few next ne z))
+          acts.simulates (λ b y ne z. given.follow.stays es a b c step y few next ne z))
 
       by_order : (a < length s.net.actors) ⊎ (length s.net.actors ≤ a) → next_step s lost (world s lost es) (a, c) ≡ None → turn_of rules v a c ≡ None
       by_order (inl p) next = turned ∙ ap (act_turn rules v a c) (state p).1 ∙ ap (option_map (done v a c v.lines)) (given.follow.idle es a c (state p).0 few p next none (image.states a (state p).0 (state p).1))

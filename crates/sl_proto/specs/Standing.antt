@@ -1,25 +1,28 @@
 -- Scenes of nodes that stand for the worlds of their own books.
 --     Case                what a scene can stand for: a setup, its snapshot table and a loss table
 --     world_of x v        the world of histories that the book of the scene v leads to
---     run_at x v          this world beside the schedule of the book
---     StandsFor net x v   the scene v of nodes of the net stands for this world
+--     run_at x v          this world beside the book
+--     IsImageOf x w v     the scene v of nodes stands for the world w
+--     StandsFor net x v   the scene v of nodes of the net stands for the world of its book
+--     FirstNodes x        what the first scene of nodes is made of; scene_of f is this scene
 --     SettlesTo, FinishesTo    from one scene to another by settling, by finishing
-use Rattle.std.specs.Prelude.{◌≡◌, ℕ, List, length, Some, slice_get}
+use Rattle.std.specs.Prelude.{◌≡◌, ℕ, ◌<◌, List, length, Option, Some, None, slice_get, slice_index_or}
+use Rattle.sl_loss.specs.Loss.{Loss}
 use Rattle.sl_net.specs.declared.input.Snapshot.{Snapshot}
-use Rattle.sl_parts.specs.Parts.{numbers_from}
 use Rattle.sl_layout.specs.Net.{Net}
 use Rattle.sl_net.specs.Input.{Input}
+use Rattle.sl_layout.specs.Wiring.{plan_of}
 use Rattle.sl_wire.specs.declared.message.Msg.{Msg}
 use Rattle.sl_observe.specs.Observer.{ObserverState}
 use Rattle.sl_model.specs.History.{World, Losses}
 use Rattle.sl_model.specs.Setup.{Setup, setup_of}
 use Rattle.sl_model.specs.World.{Entry, world, IsLegal}
-use Rattle.sl_model.specs.Books.{schedule_of, numbers_of}
+use Rattle.sl_model.specs.Books.{schedule_of}
 use Rattle.sl_model.specs.End.{settle, Settled, IsFin, IsFinished}
-use Rattle.sl_world.specs.Scene.{Scene}
+use Rattle.sl_world.specs.Scene.{Scene, first_scene}
 use Rattle.sl_proto.specs.Runs.{Run, Goes}
 use Rattle.sl_proto.specs.Nodes.{NodeState, ObserverNode}
-use Rattle.sl_proto.specs.Image.{IsImage}
+use Rattle.sl_proto.specs.Image.{GoesOn, IsImage, IsFirst}
 use Rattle.sl_proto.specs.Meaning.{NodeStands, IsRunnable}
 
 pub record Case : Type 0 where
@@ -35,15 +38,31 @@ abbrev pub world_of : Case → Scene NodeState Msg → World
 world_of x v = world x.setup x.lost (schedule_of v.book)
 
 abbrev pub run_at : Case → Scene NodeState Msg → Run
-run_at x v = record { world = world_of x v; book = schedule_of v.book }
+run_at x v = record { world = world_of x v; book = v.book }
 
--- the book is legal and numbered from 1, and the nodes and links stand for the world that it leads to
+abbrev pub IsImageOf : Case → World → Scene NodeState Msg → Type 0
+IsImageOf x w v = IsImage x.setup x.lost x.table.ring (NodeStands x.setup x.table) w v
+
+-- the book is legal, however its entries are numbered, and the nodes and links stand for the world that it leads to
 pub record StandsFor (net : Net) (x : Case) (v : Scene NodeState Msg) : Type 0 where
   pub net_is : x.setup.net ≡ net
   pub runnable : IsRunnable x.setup x.table x.lost
   pub legal : IsLegal x.setup x.lost (schedule_of v.book)
-  pub numbers : numbers_of v.book ≡ numbers_from 1 (length v.book)
-  pub image : IsImage x.setup x.lost x.table.ring (NodeStands x.setup x.table) (world_of x v) v
+  pub image : IsImageOf x (world_of x v) v
+
+pub record FirstNodes (x : Case) : Type 0 where
+  pub states : List NodeState
+  pub losses : List (Option Loss)
+  pub runnable : IsRunnable x.setup x.table x.lost
+  pub first : IsFirst x.setup x.lost (NodeStands x.setup x.table) states losses
+
+abbrev pub scene_of : {x : Case} → FirstNodes x → Scene NodeState Msg
+scene_of {x} f = first_scene (plan_of x.setup.net) f.states f.losses
+
+-- the losses of an input's links go on from no put
+pub record AreNewLosses (net : Net) (lost : Losses) (losses : List (Option Loss)) : Type 0 where
+  pub each : length losses ≡ length net.links
+  pub go : (l : ℕ) → l < length net.links → GoesOn (lost l) 0 (slice_index_or losses l None)
 
 -- the first node is an observer
 pub record HasObserver (v : Scene NodeState Msg) : Type 0 where

@@ -1,16 +1,15 @@
 // Settling and finishing, over whoever takes turns.
-ghost use Rattle.std.specs.Prelude.{◌≡◌, ◌<◌, List, [], ◌∷◌, true, All, OnOk, IfOk};
+ghost use Rattle.std.specs.Prelude.{◌≡◌, List, [], ◌∷◌, All, OnOk, IfOk};
 ghost use Rattle.sl_machine.specs.Plan.{HasChoice};
 ghost use Rattle.sl_layout.specs.Net.{Net};
-ghost use Rattle.sl_net.specs.Wired.{IsNet};
 ghost use Rattle.sl_layout.specs.Wiring.{plan_of};
 ghost use Rattle.sl_model.specs.History.{World};
-ghost use Rattle.sl_model.specs.World.{Entry, world, kept_from};
 ghost use Rattle.sl_model.specs.Schedule.{settling_pass, sweeps, resend_entry};
-ghost use Rattle.sl_model.specs.End.{settle, finish, is_collected, rose, sweep_round, again_from, Settled, IsFin};
-ghost use Rattle.sl_proto.specs.Standing.{Case, world_of, run_at, StandsFor, HasObserver, SettlesTo, FinishesTo};
-ghost use Rattle.sl_proto.specs.Rounds.{EndsAt, RoundAt, HasReached};
-ghost use Rattle.sl_proto.specs.Fronts.{Leads, Whatever, SettlesBy, SweepsBy, ResendsBy, SettlesTowards, FinishesTowards};
+ghost use Rattle.sl_model.specs.End.{rose};
+ghost use Rattle.sl_proto.specs.Standing.{Case, world_of, StandsFor, HasObserver};
+ghost use Rattle.sl_proto.specs.Rounds.{HasReached, TellsCollected};
+ghost use Rattle.sl_proto.specs.Calls.{KeepsStanding, Settles, SettlesFront, Finishes, FinishesFront, SettlesIn, IsSettledIf, SettlingLeads};
+ghost use Rattle.sl_proto.specs.Calls.{ResendsRound, ResendingLeads, ResendingGoesOn, SweepsRound, SweepingLeads, SweepingGoesOn, FinishesIn, FinishingLeads};
 
 use crate::schedule::{all_sweeps, pass_of, passes_are_choices};
 use crate::taker::{Taker, drive_within};
@@ -40,8 +39,7 @@ impl Reached {
     /// Whether all snapshots are issued and collected, where the world is settled: then there is
     /// nothing to issue, so where F is K, K is the count.
     fn is_collected(self) -> bool
-        ensures { (x : Case) (es : List Entry) → IsNet x.setup.net → 0 < x.setup.window → Settled x.setup x.lost (world x.setup x.lost es) → HasReached x (world x.setup x.lost es) self
-            → result ≡ is_collected x.setup (world x.setup x.lost es) }
+        ensures { TellsCollected self result }
     {
         self.floor == self.issued
     }
@@ -96,10 +94,10 @@ fn settle_within<T: Taker>(
     requires pass { pass.now ≡ settling_pass net.now }
     ensures plan { (T.scene taker.new).plan ≡ plan_of net.now }
     ensures observer { HasObserver (T.scene taker.old) → HasObserver (T.scene taker.new) }
-    ensures stands { (x : Case) → StandsFor net.now x (T.scene taker.old) → StandsFor net.now x (T.scene taker.new) }
-    ensures ends { (x : Case) → StandsFor net.now x (T.scene taker.old) → IfOk result (λ ended. EndsAt x (T.scene taker.old) (settle fuel x.setup x.lost (world_of x (T.scene taker.old))) (T.scene taker.new) ended) }
-    ensures settled { (x : Case) → StandsFor net.now x (T.scene taker.old) → IfOk result (λ ended. ended ≡ true → Settled x.setup x.lost (world_of x (T.scene taker.new))) }
-    ensures front { (x : Case) → StandsFor net.now x (T.scene taker.old) → Leads x.setup x.lost (SettlesBy x.setup x.lost (world_of x (T.scene taker.old))) (run_at x (T.scene taker.old)) Whatever (run_at x (T.scene taker.new)) }
+    ensures stands { KeepsStanding net.now (T.scene taker.old) (T.scene taker.new) }
+    ensures ends { IfOk result (SettlesIn net.now fuel (T.scene taker.old) (T.scene taker.new)) }
+    ensures settled { IfOk result (IsSettledIf net.now (T.scene taker.old) (T.scene taker.new)) }
+    ensures front { SettlingLeads net.now (T.scene taker.old) (T.scene taker.new) }
 {
     takes_choices(net);
     idle_passes_settle();
@@ -121,9 +119,9 @@ fn settle_with<T: Taker>(alloc: Global, net: &Net, taker: &mut T, fuel: u64) -> 
     requires plan { (T.scene taker.old).plan ≡ plan_of net.now }
     ensures plan { (T.scene taker.new).plan ≡ plan_of net.now }
     ensures observer { HasObserver (T.scene taker.old) → HasObserver (T.scene taker.new) }
-    ensures stands { (x : Case) → StandsFor net.now x (T.scene taker.old) → StandsFor net.now x (T.scene taker.new) }
-    ensures settles { (x : Case) → StandsFor net.now x (T.scene taker.old) → OnOk result (SettlesTo x (T.scene taker.old) (T.scene taker.new)) }
-    ensures front { (x : Case) → StandsFor net.now x (T.scene taker.old) → SettlesTowards x.setup x.lost (run_at x (T.scene taker.old)) (run_at x (T.scene taker.new)) }
+    ensures stands { KeepsStanding net.now (T.scene taker.old) (T.scene taker.new) }
+    ensures settles { OnOk result (Settles net.now (T.scene taker.old) (T.scene taker.new)) }
+    ensures front { SettlesFront net.now (T.scene taker.old) (T.scene taker.new) }
 {
     finishing_ends();
     let pass = pass_of(alloc, net, true)?;
@@ -139,10 +137,10 @@ fn resend<T: Taker>(net: &Net, taker: &mut T) -> Result<Round, Memory>
     requires plan { (T.scene taker.old).plan ≡ plan_of net.now }
     ensures plan { (T.scene taker.new).plan ≡ plan_of net.now }
     ensures observer { HasObserver (T.scene taker.old) → HasObserver (T.scene taker.new) }
-    ensures stands { (x : Case) → StandsFor net.now x (T.scene taker.old) → StandsFor net.now x (T.scene taker.new) }
-    ensures round { (x : Case) → StandsFor net.now x (T.scene taker.old) → IfOk result (λ round. RoundAt x (T.scene taker.old) (λ go. again_from x.setup x.lost (world_of x (T.scene taker.old)) go (kept_from x.setup x.lost (world_of x (T.scene taker.old)) (resend_entry x.setup.net ∷ []))) (T.scene taker.new) round) }
-    ensures front { (x : Case) → StandsFor net.now x (T.scene taker.old) → Leads x.setup x.lost (ResendsBy x.setup x.lost (world_of x (T.scene taker.old))) (run_at x (T.scene taker.old)) Whatever (run_at x (T.scene taker.new)) }
-    ensures again { (x : Case) → StandsFor net.now x (T.scene taker.old) → IfOk result (λ round. round ≡ Round.Again → Leads x.setup x.lost (ResendsBy x.setup x.lost (world_of x (T.scene taker.old))) (run_at x (T.scene taker.old)) (IsFin x.setup x.lost (world_of x (T.scene taker.new))) (run_at x (T.scene taker.new))) }
+    ensures stands { KeepsStanding net.now (T.scene taker.old) (T.scene taker.new) }
+    ensures round { IfOk result (ResendsRound net.now (T.scene taker.old) (T.scene taker.new)) }
+    ensures front { ResendingLeads net.now (T.scene taker.old) (T.scene taker.new) }
+    ensures again { IfOk result (ResendingGoesOn net.now (T.scene taker.old) (T.scene taker.new)) }
 {
     takes_choices(net);
     let before = taker.entries();
@@ -168,10 +166,10 @@ fn take_round<T: Taker>(
     requires sweep { sweep.now ≡ sweeps net.now }
     ensures plan { (T.scene taker.new).plan ≡ plan_of net.now }
     ensures observer { HasObserver (T.scene taker.new) }
-    ensures stands { (x : Case) → StandsFor net.now x (T.scene taker.old) → StandsFor net.now x (T.scene taker.new) }
-    ensures round { (x : Case) → 0 < x.setup.window → StandsFor net.now x (T.scene taker.old) → Settled x.setup x.lost (world_of x (T.scene taker.old)) → IfOk result (λ round. RoundAt x (T.scene taker.old) (λ go. sweep_round fuel go x.setup x.lost (world_of x (T.scene taker.old)) (is_collected x.setup (world_of x (T.scene taker.old)))) (T.scene taker.new) round) }
-    ensures front { (x : Case) → 0 < x.setup.window → StandsFor net.now x (T.scene taker.old) → Settled x.setup x.lost (world_of x (T.scene taker.old)) → Leads x.setup x.lost (SweepsBy x.setup x.lost (world_of x (T.scene taker.old))) (run_at x (T.scene taker.old)) Whatever (run_at x (T.scene taker.new)) }
-    ensures again { (x : Case) → 0 < x.setup.window → StandsFor net.now x (T.scene taker.old) → Settled x.setup x.lost (world_of x (T.scene taker.old)) → IfOk result (λ round. round ≡ Round.Again → Leads x.setup x.lost (SweepsBy x.setup x.lost (world_of x (T.scene taker.old))) (run_at x (T.scene taker.old)) (IsFin x.setup x.lost (world_of x (T.scene taker.new))) (run_at x (T.scene taker.new))) }
+    ensures stands { KeepsStanding net.now (T.scene taker.old) (T.scene taker.new) }
+    ensures round { IfOk result (SweepsRound net.now fuel (T.scene taker.old) (T.scene taker.new)) }
+    ensures front { SweepingLeads net.now (T.scene taker.old) (T.scene taker.new) }
+    ensures again { IfOk result (SweepingGoesOn net.now (T.scene taker.old) (T.scene taker.new)) }
 {
     takes_choices(net);
     let before = tell(taker);
@@ -202,9 +200,9 @@ fn finish_within<T: Taker>(
     requires sweep { sweep.now ≡ sweeps net.now }
     ensures plan { (T.scene taker.new).plan ≡ plan_of net.now }
     ensures observer { HasObserver (T.scene taker.new) }
-    ensures stands { (x : Case) → StandsFor net.now x (T.scene taker.old) → StandsFor net.now x (T.scene taker.new) }
-    ensures ends { (x : Case) → 0 < x.setup.window → StandsFor net.now x (T.scene taker.old) → IfOk result (λ ended. EndsAt x (T.scene taker.old) (finish fuel x.setup x.lost (world_of x (T.scene taker.old))) (T.scene taker.new) ended) }
-    ensures front { (x : Case) → 0 < x.setup.window → StandsFor net.now x (T.scene taker.old) → Leads x.setup x.lost (IsFin x.setup x.lost (world_of x (T.scene taker.old))) (run_at x (T.scene taker.old)) Whatever (run_at x (T.scene taker.new)) }
+    ensures stands { KeepsStanding net.now (T.scene taker.old) (T.scene taker.new) }
+    ensures ends { IfOk result (FinishesIn net.now fuel (T.scene taker.old) (T.scene taker.new)) }
+    ensures front { FinishingLeads net.now (T.scene taker.old) (T.scene taker.new) }
 {
     let mut left = fuel;
     while left > 0 {
@@ -227,9 +225,9 @@ fn finish_with<T: Taker>(alloc: Global, net: &Net, taker: &mut T, fuel: u64) -> 
     requires observer { HasObserver (T.scene taker.old) }
     ensures plan { (T.scene taker.new).plan ≡ plan_of net.now }
     ensures observer { HasObserver (T.scene taker.new) }
-    ensures stands { (x : Case) → StandsFor net.now x (T.scene taker.old) → StandsFor net.now x (T.scene taker.new) }
-    ensures finishes { (x : Case) → 0 < x.setup.window → StandsFor net.now x (T.scene taker.old) → OnOk result (FinishesTo x (T.scene taker.old) (T.scene taker.new)) }
-    ensures front { (x : Case) → 0 < x.setup.window → StandsFor net.now x (T.scene taker.old) → FinishesTowards x.setup x.lost (run_at x (T.scene taker.old)) (run_at x (T.scene taker.new)) }
+    ensures stands { KeepsStanding net.now (T.scene taker.old) (T.scene taker.new) }
+    ensures finishes { OnOk result (Finishes net.now (T.scene taker.old) (T.scene taker.new)) }
+    ensures front { FinishesFront net.now (T.scene taker.old) (T.scene taker.new) }
 {
     finishing_finishes();
     finishing_ends();
@@ -249,9 +247,9 @@ pub fn settle<T: Taker>(alloc: Global, net: &Net, taker: &mut T) -> Result<(), M
     requires plan { (T.scene taker.old).plan ≡ plan_of net.now }
     ensures plan { (T.scene taker.new).plan ≡ plan_of net.now }
     ensures observer { HasObserver (T.scene taker.old) → HasObserver (T.scene taker.new) }
-    ensures stands { (x : Case) → StandsFor net.now x (T.scene taker.old) → StandsFor net.now x (T.scene taker.new) }
-    ensures settles { (x : Case) → StandsFor net.now x (T.scene taker.old) → OnOk result (SettlesTo x (T.scene taker.old) (T.scene taker.new)) }
-    ensures front { (x : Case) → StandsFor net.now x (T.scene taker.old) → SettlesTowards x.setup x.lost (run_at x (T.scene taker.old)) (run_at x (T.scene taker.new)) }
+    ensures stands { KeepsStanding net.now (T.scene taker.old) (T.scene taker.new) }
+    ensures settles { OnOk result (Settles net.now (T.scene taker.old) (T.scene taker.new)) }
+    ensures front { SettlesFront net.now (T.scene taker.old) (T.scene taker.new) }
 {
     settle_with(alloc, net, taker, u64::MAX)
 }
@@ -264,9 +262,9 @@ pub fn finish<T: Taker>(alloc: Global, net: &Net, taker: &mut T) -> Result<(), M
     requires observer { HasObserver (T.scene taker.old) }
     ensures plan { (T.scene taker.new).plan ≡ plan_of net.now }
     ensures observer { HasObserver (T.scene taker.new) }
-    ensures stands { (x : Case) → StandsFor net.now x (T.scene taker.old) → StandsFor net.now x (T.scene taker.new) }
-    ensures finishes { (x : Case) → 0 < x.setup.window → StandsFor net.now x (T.scene taker.old) → OnOk result (FinishesTo x (T.scene taker.old) (T.scene taker.new)) }
-    ensures front { (x : Case) → 0 < x.setup.window → StandsFor net.now x (T.scene taker.old) → FinishesTowards x.setup x.lost (run_at x (T.scene taker.old)) (run_at x (T.scene taker.new)) }
+    ensures stands { KeepsStanding net.now (T.scene taker.old) (T.scene taker.new) }
+    ensures finishes { OnOk result (Finishes net.now (T.scene taker.old) (T.scene taker.new)) }
+    ensures front { FinishesFront net.now (T.scene taker.old) (T.scene taker.new) }
 {
     finish_with(alloc, net, taker, u64::MAX)
 }

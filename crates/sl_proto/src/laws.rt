@@ -1,6 +1,7 @@
 // Laws of worlds of machines. The functions do nothing: their contracts are the laws, and the
 // proofs are in proofs/.
-ghost use Rattle.std.specs.Prelude.{◌≡◌, ℕ, ◌≤◌, List, length, Some};
+ghost use Rattle.std.specs.Prelude.{◌≡◌, ℕ, ◌≤◌, List, [], ◌++◌, length, Some};
+ghost use Rattle.sl_machine.specs.declared.wiring.Entry.{Entry as BookEntry};
 ghost use Rattle.sl_layout.specs.declared.actor.UnitId.{UnitId};
 ghost use Rattle.sl_layout.specs.declared.actor.ActorId.TheVariants.{Unit as OfUnit};
 ghost use Rattle.sl_layout.specs.Net.{Net, actor_of, choice_of, unit_place};
@@ -17,6 +18,7 @@ ghost use Rattle.sl_model.specs.World.{Entry, next_step, world};
 ghost use Rattle.sl_image.specs.Messages.{AreSent};
 ghost use Rattle.sl_proto.specs.Image.{told_on, told_by, ArePut};
 ghost use Rattle.sl_proto.specs.Spread.{ArePutFrom};
+ghost use Rattle.sl_proto.specs.Runs.{grown, IsBookOfTurns};
 
 use sl_net::nets_are_wired;
 
@@ -33,19 +35,28 @@ pub fn steps_spread_their_puts()
 /// Puts stand for those of a step by what was told on each link before, where they do so by one
 /// account of what was told that agrees with it for each Done, or by any account at all.
 pub fn sent_messages_are_put()
-    ensures told { (net : Net) (ring : ℕ) (us : ℕ → History) (a : ℕ) (told : ℕ → ℕ) (h : History) (ps : List Put) (xs : List (ℕ × Msg))
-        → Each (λ p. (place n : ℕ) → p.message ≡ DoneMsg place n → told place ≡ told_on p.link h place) ps → AreSent net ring us a told ps xs → ArePut net ring us a h ps xs }
-    ensures any { (net : Net) (ring : ℕ) (us : ℕ → History) (a : ℕ) (h : History) (ps : List Put) (xs : List (ℕ × Msg)) → ((told : ℕ → ℕ) → AreSent net ring us a told ps xs)
-        → ArePut net ring us a h ps xs }
+    ensures told { (net : Net) (ring : ℕ) (us : ℕ → History) (a : ℕ) (told : ℕ → ℕ) (h : History) (ps : List Put)
+        (xs : List (ℕ × Msg)) → Each (λ p. (place n : ℕ) → p.message ≡ DoneMsg place n → told place ≡ told_on p.link h place) ps
+        → AreSent net ring us a told ps xs → ArePut net ring us a h ps xs }
+    ensures any { (net : Net) (ring : ℕ) (us : ℕ → History) (a : ℕ) (h : History) (ps : List Put) (xs : List (ℕ × Msg))
+        → ((told : ℕ → ℕ) → AreSent net ring us a told ps xs) → ArePut net ring us a h ps xs }
 {}
 
 /// What a control plane told of a unit is what the last dump told that it took of it, and what the
 /// observer was told of it is what it knows.
 pub fn dones_told_what_is_known()
-    ensures put { (s : Setup) (lost : Losses) (es : List Entry) (u : ℕ) (i : UnitId) (r : Reports s.net u) → actor_of s.net u ≡ OfUnit i
-        → told_on r.done (history (world s lost es) r.control) (unit_place s.net u) ≡ dumped (choice_of s.net r.dump) (history (world s lost es) r.control) }
+    ensures put { (s : Setup) (lost : Losses) (es : List Entry) (u : ℕ) (i : UnitId) (r : Reports s.net u)
+        → actor_of s.net u ≡ OfUnit i → told_on r.done (history (world s lost es) r.control) (unit_place s.net u)
+        ≡ dumped (choice_of s.net r.dump) (history (world s lost es) r.control) }
     ensures taken { (s : Setup) (lost : Losses) (es : List Entry) (u : ℕ) (i : UnitId) (r : Reports s.net u) → IsNet s.net → actor_of s.net u ≡ OfUnit i
         → told_by (choice_of s.net r.done) (observer (world s lost es)) (unit_place s.net u) ≡ known (unit_place s.net u) (observer (world s lost es)) }
 {
     nets_are_wired()
 }
+
+/// A book that grows by turns, and then by more, grows by these one after the other. What grows
+/// from an empty book is numbered from 1.
+pub fn books_grow_by_turns()
+    ensures append { (book : List BookEntry) (es fs : List Entry) → grown (grown book es) fs ≡ grown book (es ++ fs) }
+    ensures numbers { (es : List Entry) → IsBookOfTurns (record { entries = grown [] es }) es }
+{}

@@ -19,7 +19,9 @@ mod verdicts;
 pub use build::{build_nodes, build_world};
 pub use finishing::{finish, settle};
 pub use gather::findings;
-pub use laws::{dones_told_what_is_known, sent_messages_are_put, steps_spread_their_puts};
+pub use laws::{
+    books_grow_by_turns, dones_told_what_is_known, sent_messages_are_put, steps_spread_their_puts,
+};
 pub use losses::make_losses;
 pub use node::Node;
 pub use nodes::{

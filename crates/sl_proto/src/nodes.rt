@@ -1,6 +1,6 @@
 // Laws of the nodes of a net: they follow the steps of histories, so that a scene of them stands for
 // a world. The functions do nothing: their contracts are the laws, and the proofs are in proofs/.
-ghost use Rattle.std.specs.Prelude.{◌≡◌, ℕ, ◌+◌, ◌^◌, ◌<◌, List, length, Option, Some, None, slice_get, slice_index_or};
+ghost use Rattle.std.specs.Prelude.{◌≡◌, ℕ, ◌+◌, ◌^◌, ◌<◌, List, length, Option, Some, slice_get};
 ghost use Rattle.sl_loss.specs.Loss.{Loss};
 ghost use Rattle.sl_net.specs.declared.input.Snapshot.{Snapshot};
 ghost use Rattle.sl_layout.specs.Net.{Net};
@@ -15,12 +15,12 @@ ghost use Rattle.sl_model.specs.World.{Entry, start, world, IsLegal, kept};
 ghost use Rattle.sl_world.specs.Scene.{Scene, first_scene, after_all, run_of};
 ghost use Rattle.sl_world.specs.Scene.{kept as scene_kept};
 ghost use Rattle.sl_proto.specs.Machines.{FollowHistories};
-ghost use Rattle.sl_proto.specs.Image.{GoesOn, IsImage, IsFirst};
 ghost use Rattle.sl_proto.specs.Meaning.{NodeStands, IsRunnable};
 ghost use Rattle.sl_proto.specs.Built.{first_states};
 ghost use Rattle.sl_proto.specs.Nodes.{NodeState, node_rules};
-ghost use Rattle.sl_proto.specs.Runs.{Follows, IsBookOfTurns};
-ghost use Rattle.sl_proto.specs.Standing.{Case, case_of, run_at, StandsFor, HasObserver};
+ghost use Rattle.sl_proto.specs.Runs.{IsBookOfTurns};
+ghost use Rattle.sl_proto.specs.Standing.{Case, case_of, IsImageOf, StandsFor, HasObserver, FirstNodes, scene_of, AreNewLosses};
+ghost use Rattle.sl_proto.specs.Calls.{KeepsStanding, Drives};
 
 use sl_image::{controls_act, controls_start, controls_stay, controls_take, hosts_act, hosts_have_two_links, hosts_start, hosts_stay, hosts_take, new_units_stand, observers_act, observers_start, observers_stay, observers_take, units_stay, units_take_messages};
 use sl_net::nets_are_wired;
@@ -48,7 +48,8 @@ pub fn nodes_follow()
 /// happened.
 pub fn nodes_start()
     ensures each { (i : Input) → length (first_states i) ≡ length i.net.actors }
-    ensures stand { (i : Input) (a : ℕ) (state : NodeState) → IsRanged i.snapshot → slice_get (first_states i) a ≡ Some state → NodeStands (setup_of i) i.snapshot (start i.net) a state }
+    ensures stand { (i : Input) (a : ℕ) (state : NodeState) → IsRanged i.snapshot → slice_get (first_states i) a ≡ Some state
+        → NodeStands (setup_of i) i.snapshot (start i.net) a state }
 {
     new_units_stand();
     controls_start();
@@ -60,19 +61,16 @@ pub fn nodes_start()
 /// histories of this schedule. It is legal in both or in neither; the entries that are kept are
 /// the same, and the book has these, numbered from 1.
 pub fn nodes_stand_for_histories()
-    ensures image { (s : Setup) (table : Snapshot) (lost : Losses) (states : List NodeState) (losses : List (Option Loss)) (es : List Entry) → IsRunnable s table lost
-        → IsFirst s lost (NodeStands s table) states losses → length es < 2 ^ 40
-        → IsImage s lost table.ring (NodeStands s table) (world s lost es) (after_all node_rules (first_scene (plan_of s.net) states losses) es) }
-    ensures kept { (s : Setup) (table : Snapshot) (lost : Losses) (states : List NodeState) (losses : List (Option Loss)) (es : List Entry) → IsRunnable s table lost
-        → IsFirst s lost (NodeStands s table) states losses → length es < 2 ^ 40 → scene_kept node_rules (first_scene (plan_of s.net) states losses) es ≡ kept s lost es }
-    ensures book { (s : Setup) (table : Snapshot) (lost : Losses) (states : List NodeState) (losses : List (Option Loss)) (es : List Entry) → IsRunnable s table lost
-        → IsFirst s lost (NodeStands s table) states losses → length es < 2 ^ 40
-        → IsBookOfTurns (record { entries = (after_all node_rules (first_scene (plan_of s.net) states losses) es).book }) (kept s lost es) }
-    ensures legal { (s : Setup) (table : Snapshot) (lost : Losses) (states : List NodeState) (losses : List (Option Loss)) (es : List Entry) → IsRunnable s table lost
-        → IsFirst s lost (NodeStands s table) states losses → length es < 2 ^ 40 → IsLegal s lost es
-        → run_of node_rules (first_scene (plan_of s.net) states losses) es ≡ Some (after_all node_rules (first_scene (plan_of s.net) states losses) es) }
-    ensures only { (s : Setup) (table : Snapshot) (lost : Losses) (states : List NodeState) (losses : List (Option Loss)) (es : List Entry) (v : Scene NodeState Msg) → IsRunnable s table lost
-        → IsFirst s lost (NodeStands s table) states losses → length es < 2 ^ 40 → run_of node_rules (first_scene (plan_of s.net) states losses) es ≡ Some v → IsLegal s lost es }
+    ensures image { (x : Case) (f : FirstNodes x) (es : List Entry) → length es < 2 ^ 40
+        → IsImageOf x (world x.setup x.lost es) (after_all node_rules (scene_of f) es) }
+    ensures kept { (x : Case) (f : FirstNodes x) (es : List Entry) → length es < 2 ^ 40
+        → scene_kept node_rules (scene_of f) es ≡ kept x.setup x.lost es }
+    ensures book { (x : Case) (f : FirstNodes x) (es : List Entry) → length es < 2 ^ 40
+        → IsBookOfTurns (record { entries = (after_all node_rules (scene_of f) es).book }) (kept x.setup x.lost es) }
+    ensures legal { (x : Case) (f : FirstNodes x) (es : List Entry) → length es < 2 ^ 40
+        → IsLegal x.setup x.lost es → run_of node_rules (scene_of f) es ≡ Some (after_all node_rules (scene_of f) es) }
+    ensures only { (x : Case) (f : FirstNodes x) (es : List Entry) (v : Scene NodeState Msg) → length es < 2 ^ 40
+        → run_of node_rules (scene_of f) es ≡ Some v → IsLegal x.setup x.lost es }
 {
     nets_are_wired();
     nodes_follow()
@@ -81,8 +79,8 @@ pub fn nodes_stand_for_histories()
 /// The first scene of an input's nodes stands for the world of its book, which is empty. Its first
 /// node is the observer.
 pub fn nodes_stand_at_first()
-    ensures stands { (i : Input) (lost : Losses) (losses : List (Option Loss)) → IsRunnable (setup_of i) i.snapshot lost → IsRanged i.snapshot → length losses ≡ length i.net.links
-        → ((l : ℕ) → l < length i.net.links → GoesOn (lost l) 0 (slice_index_or losses l None)) → StandsFor i.net (case_of i lost) (first_scene (plan_of i.net) (first_states i) losses) }
+    ensures stands { (i : Input) (lost : Losses) (losses : List (Option Loss)) → IsRunnable (setup_of i) i.snapshot lost → IsRanged i.snapshot
+        → AreNewLosses i.net lost losses → StandsFor i.net (case_of i lost) (first_scene (plan_of i.net) (first_states i) losses) }
     ensures observer { (i : Input) (losses : List (Option Loss)) → IsNet i.net → HasObserver (first_scene (plan_of i.net) (first_states i) losses) }
 {
     nets_are_wired();
@@ -92,9 +90,10 @@ pub fn nodes_stand_at_first()
 /// A scene of nodes that stands for the world of its book goes on to do so along any schedule, and
 /// its book gains the entries that aren't idle. The observer's node stays where it is.
 pub fn nodes_follow_their_books()
-    ensures stands { (net : Net) (x : Case) (v : Scene NodeState Msg) (es : List Entry) → StandsFor net x v → length v.book + length es < 2 ^ 40 → StandsFor net x (after_all node_rules v es) }
-    ensures follows { (net : Net) (x : Case) (v : Scene NodeState Msg) (es : List Entry) → StandsFor net x v → length v.book + length es < 2 ^ 40
-        → Follows x.setup x.lost (run_at x v) es (run_at x (after_all node_rules v es)) }
+    ensures stands { (net : Net) (v : Scene NodeState Msg) (es : List Entry) → length v.book + length es < 2 ^ 40
+        → KeepsStanding net v (after_all node_rules v es) }
+    ensures follows { (net : Net) (v : Scene NodeState Msg) (es : List Entry) → length v.book + length es < 2 ^ 40
+        → Drives net v es (after_all node_rules v es) }
     ensures observer { (v : Scene NodeState Msg) (es : List Entry) → HasObserver v → HasObserver (after_all node_rules v es) }
 {
     nets_are_wired();

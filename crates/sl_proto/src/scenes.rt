@@ -2,18 +2,17 @@
 // do nothing: their contracts are the laws, and the proofs are in proofs/.
 ghost use Rattle.std.specs.Prelude.{◌≡◌, ℕ, ◌+◌, ◌^◌, ◌<◌, List, ◌++◌, length, Option, Some};
 ghost use Rattle.sl_loss.specs.Loss.{Loss};
-ghost use Rattle.sl_machine.specs.Machine.{Rules};
 ghost use Rattle.sl_layout.specs.Wiring.{plan_of};
 ghost use Rattle.sl_wire.specs.declared.message.Msg.{Msg};
 ghost use Rattle.sl_model.specs.History.{World, Losses};
 ghost use Rattle.sl_model.specs.Setup.{Setup};
-ghost use Rattle.sl_model.specs.World.{Entry, start, next_step, turn, run, world, IsLegalFrom, IsLegal, kept_from, kept};
+ghost use Rattle.sl_model.specs.World.{Entry, start, next_step, turn, run, world, IsLegalFrom, IsLegal, kept};
 ghost use Rattle.sl_world.specs.Scene.{Scene, first_scene, turn_of, after_all, run_of, last_number};
 ghost use Rattle.sl_world.specs.Scene.{kept as scene_kept};
 ghost use Rattle.sl_world.specs.Legal.{numbered_from};
 ghost use Rattle.sl_proto.specs.Runs.{IsBookOfTurns};
 ghost use Rattle.sl_proto.specs.Image.{IsImage, IsTurned, IsFirst};
-ghost use Rattle.sl_proto.specs.Machines.{FollowHistories};
+ghost use Rattle.sl_proto.specs.Machines.{Shown, world_shown, kept_shown, Begun, scene_begun};
 
 use sl_net::nets_are_wired;
 
@@ -27,16 +26,15 @@ pub trait Meaning {
 
 /// The first scene stands for the world where nothing has happened.
 pub fn first_scenes_stand<I: Meaning>()
-    ensures { (s : Setup) (lost : Losses) (ring : ℕ) (states : List I.State) (losses : List (Option Loss)) → IsFirst s lost I.stands states losses
-        → IsImage s lost ring I.stands (start s.net) (first_scene (plan_of s.net) states losses) }
+    ensures { (s : Setup) (lost : Losses) (ring : ℕ) (states : List I.State) (losses : List (Option Loss))
+        → IsFirst s lost I.stands states losses → IsImage s lost ring I.stands (start s.net) (first_scene (plan_of s.net) states losses) }
 {}
 
 /// A turn of a scene that stands for a world is idle where the actor makes no step, and else leads
 /// to a scene that stands for the world after this step.
 pub fn turns_follow_steps<I: Meaning>()
-    ensures { (s : Setup) (lost : Losses) (ring : ℕ) (rules : Rules I.State Msg) (es : List Entry) (a c : ℕ) (v : Scene I.State Msg) → FollowHistories s lost ring I.stands rules
-        → length es < 2 ^ 40 → IsImage s lost ring I.stands (world s lost es) v
-        → IsTurned s lost ring I.stands (turn s lost (world s lost es) (a, c)) (next_step s lost (world s lost es) (a, c)) (turn_of rules v a c) }
+    ensures { (t : Shown I.stands) (a c : ℕ) → length t.turns < 2 ^ 40 → IsTurned t.setup t.lost t.ring I.stands
+        (turn t.setup t.lost (world_shown t) (a, c)) (next_step t.setup t.lost (world_shown t) (a, c)) (turn_of t.rules t.scene a c) }
 {
     nets_are_wired()
 }
@@ -45,17 +43,16 @@ pub fn turns_follow_steps<I: Meaning>()
 /// this schedule. The same entries are idle in both, so it is legal in both or in neither, and the
 /// book gains the others, each with a number one above the last.
 pub fn schedules_follow_histories<I: Meaning>()
-    ensures image { (s : Setup) (lost : Losses) (ring : ℕ) (rules : Rules I.State Msg) (es fs : List Entry) (v : Scene I.State Msg) → FollowHistories s lost ring I.stands rules
-        → length es + length fs < 2 ^ 40 → IsImage s lost ring I.stands (world s lost es) v → IsImage s lost ring I.stands (run s lost (world s lost es) fs) (after_all rules v fs) }
-    ensures kept { (s : Setup) (lost : Losses) (ring : ℕ) (rules : Rules I.State Msg) (es fs : List Entry) (v : Scene I.State Msg) → FollowHistories s lost ring I.stands rules
-        → length es + length fs < 2 ^ 40 → IsImage s lost ring I.stands (world s lost es) v → scene_kept rules v fs ≡ kept_from s lost (world s lost es) fs }
-    ensures book { (s : Setup) (lost : Losses) (ring : ℕ) (rules : Rules I.State Msg) (es fs : List Entry) (v : Scene I.State Msg) → FollowHistories s lost ring I.stands rules
-        → length es + length fs < 2 ^ 40 → IsImage s lost ring I.stands (world s lost es) v
-        → (after_all rules v fs).book ≡ v.book ++ numbered_from (last_number v.book) (kept_from s lost (world s lost es) fs) }
-    ensures legal { (s : Setup) (lost : Losses) (ring : ℕ) (rules : Rules I.State Msg) (es fs : List Entry) (v : Scene I.State Msg) → FollowHistories s lost ring I.stands rules
-        → length es + length fs < 2 ^ 40 → IsImage s lost ring I.stands (world s lost es) v → IsLegalFrom s lost (world s lost es) fs → run_of rules v fs ≡ Some (after_all rules v fs) }
-    ensures only { (s : Setup) (lost : Losses) (ring : ℕ) (rules : Rules I.State Msg) (es fs : List Entry) (v u : Scene I.State Msg) → FollowHistories s lost ring I.stands rules
-        → length es + length fs < 2 ^ 40 → IsImage s lost ring I.stands (world s lost es) v → run_of rules v fs ≡ Some u → IsLegalFrom s lost (world s lost es) fs }
+    ensures image { (t : Shown I.stands) (fs : List Entry) → length t.turns + length fs < 2 ^ 40
+        → IsImage t.setup t.lost t.ring I.stands (run t.setup t.lost (world_shown t) fs) (after_all t.rules t.scene fs) }
+    ensures kept { (t : Shown I.stands) (fs : List Entry) → length t.turns + length fs < 2 ^ 40
+        → scene_kept t.rules t.scene fs ≡ kept_shown t fs }
+    ensures book { (t : Shown I.stands) (fs : List Entry) → length t.turns + length fs < 2 ^ 40
+        → (after_all t.rules t.scene fs).book ≡ t.scene.book ++ numbered_from (last_number t.scene.book) (kept_shown t fs) }
+    ensures legal { (t : Shown I.stands) (fs : List Entry) → length t.turns + length fs < 2 ^ 40
+        → IsLegalFrom t.setup t.lost (world_shown t) fs → run_of t.rules t.scene fs ≡ Some (after_all t.rules t.scene fs) }
+    ensures only { (t : Shown I.stands) (fs : List Entry) (u : Scene I.State Msg) → length t.turns + length fs < 2 ^ 40
+        → run_of t.rules t.scene fs ≡ Some u → IsLegalFrom t.setup t.lost (world_shown t) fs }
 {
     nets_are_wired()
 }
@@ -64,18 +61,16 @@ pub fn schedules_follow_histories<I: Meaning>()
 /// histories of this schedule. It is legal in both or in neither; the entries that are kept are
 /// the same, and the book has these, numbered from 1.
 pub fn machines_stand_for_histories<I: Meaning>()
-    ensures image { (s : Setup) (lost : Losses) (ring : ℕ) (rules : Rules I.State Msg) (states : List I.State) (losses : List (Option Loss)) (es : List Entry) → FollowHistories s lost ring I.stands rules
-        → IsFirst s lost I.stands states losses → length es < 2 ^ 40 → IsImage s lost ring I.stands (world s lost es) (after_all rules (first_scene (plan_of s.net) states losses) es) }
-    ensures kept { (s : Setup) (lost : Losses) (ring : ℕ) (rules : Rules I.State Msg) (states : List I.State) (losses : List (Option Loss)) (es : List Entry) → FollowHistories s lost ring I.stands rules
-        → IsFirst s lost I.stands states losses → length es < 2 ^ 40 → scene_kept rules (first_scene (plan_of s.net) states losses) es ≡ kept s lost es }
-    ensures book { (s : Setup) (lost : Losses) (ring : ℕ) (rules : Rules I.State Msg) (states : List I.State) (losses : List (Option Loss)) (es : List Entry) → FollowHistories s lost ring I.stands rules
-        → IsFirst s lost I.stands states losses → length es < 2 ^ 40
-        → IsBookOfTurns (record { entries = (after_all rules (first_scene (plan_of s.net) states losses) es).book }) (kept s lost es) }
-    ensures legal { (s : Setup) (lost : Losses) (ring : ℕ) (rules : Rules I.State Msg) (states : List I.State) (losses : List (Option Loss)) (es : List Entry) → FollowHistories s lost ring I.stands rules
-        → IsFirst s lost I.stands states losses → length es < 2 ^ 40 → IsLegal s lost es
-        → run_of rules (first_scene (plan_of s.net) states losses) es ≡ Some (after_all rules (first_scene (plan_of s.net) states losses) es) }
-    ensures only { (s : Setup) (lost : Losses) (ring : ℕ) (rules : Rules I.State Msg) (states : List I.State) (losses : List (Option Loss)) (es : List Entry) (v : Scene I.State Msg) → FollowHistories s lost ring I.stands rules
-        → IsFirst s lost I.stands states losses → length es < 2 ^ 40 → run_of rules (first_scene (plan_of s.net) states losses) es ≡ Some v → IsLegal s lost es }
+    ensures image { (b : Begun I.stands) (es : List Entry) → length es < 2 ^ 40
+        → IsImage b.setup b.lost b.ring I.stands (world b.setup b.lost es) (after_all b.rules (scene_begun b) es) }
+    ensures kept { (b : Begun I.stands) (es : List Entry) → length es < 2 ^ 40
+        → scene_kept b.rules (scene_begun b) es ≡ kept b.setup b.lost es }
+    ensures book { (b : Begun I.stands) (es : List Entry) → length es < 2 ^ 40
+        → IsBookOfTurns (record { entries = (after_all b.rules (scene_begun b) es).book }) (kept b.setup b.lost es) }
+    ensures legal { (b : Begun I.stands) (es : List Entry) → length es < 2 ^ 40
+        → IsLegal b.setup b.lost es → run_of b.rules (scene_begun b) es ≡ Some (after_all b.rules (scene_begun b) es) }
+    ensures only { (b : Begun I.stands) (es : List Entry) (v : Scene I.State Msg) → length es < 2 ^ 40
+        → run_of b.rules (scene_begun b) es ≡ Some v → IsLegal b.setup b.lost es }
 {
     nets_are_wired()
 }

@@ -3,9 +3,8 @@ ghost use Rattle.std.specs.Prelude.{◌≡◌, All, OnOk};
 ghost use Rattle.sl_machine.specs.Plan.{HasChoice};
 ghost use Rattle.sl_layout.specs.Wiring.{plan_of};
 ghost use Rattle.sl_model.specs.Schedule.{pass, passes_of, expand_one, expand};
-ghost use Rattle.sl_proto.specs.Runs.{Follows};
-ghost use Rattle.sl_proto.specs.Fronts.{FollowsFront};
-ghost use Rattle.sl_proto.specs.Standing.{Case, run_at, StandsFor, HasObserver};
+ghost use Rattle.sl_proto.specs.Standing.{HasObserver};
+ghost use Rattle.sl_proto.specs.Calls.{KeepsStanding, Drives, DrivesFront};
 ghost use Rattle.sl_proto.specs.Script.{IsScriptEntry};
 
 use crate::schedule::{pass_of, passes_are_choices};
@@ -25,9 +24,9 @@ fn drive_passes<T: Taker>(
     requires choices { All (λ e. HasChoice (plan_of net.now) e.0 e.1) once.now }
     ensures plan { (T.scene taker.new).plan ≡ plan_of net.now }
     ensures observer { HasObserver (T.scene taker.old) → HasObserver (T.scene taker.new) }
-    ensures stands { (x : Case) → StandsFor net.now x (T.scene taker.old) → StandsFor net.now x (T.scene taker.new) }
-    ensures follows { (x : Case) → StandsFor net.now x (T.scene taker.old) → OnOk result (Follows x.setup x.lost (run_at x (T.scene taker.old)) (passes_of once.now count) (run_at x (T.scene taker.new))) }
-    ensures front { (x : Case) → StandsFor net.now x (T.scene taker.old) → FollowsFront x.setup x.lost (run_at x (T.scene taker.old)) (passes_of once.now count) (run_at x (T.scene taker.new)) }
+    ensures stands { KeepsStanding net.now (T.scene taker.old) (T.scene taker.new) }
+    ensures follows { OnOk result (Drives net.now (T.scene taker.old) (passes_of once.now count) (T.scene taker.new)) }
+    ensures front { DrivesFront net.now (T.scene taker.old) (passes_of once.now count) (T.scene taker.new) }
 {
     for _done in 0..count {
         drive_within(net, taker, once)?;
@@ -48,9 +47,9 @@ fn drive_entry<T: Taker>(
     requires entry { IsScriptEntry net.now entry }
     ensures plan { (T.scene taker.new).plan ≡ plan_of net.now }
     ensures observer { HasObserver (T.scene taker.old) → HasObserver (T.scene taker.new) }
-    ensures stands { (x : Case) → StandsFor net.now x (T.scene taker.old) → StandsFor net.now x (T.scene taker.new) }
-    ensures follows { (x : Case) → StandsFor net.now x (T.scene taker.old) → OnOk result (Follows x.setup x.lost (run_at x (T.scene taker.old)) (expand_one net.now entry) (run_at x (T.scene taker.new))) }
-    ensures front { (x : Case) → StandsFor net.now x (T.scene taker.old) → FollowsFront x.setup x.lost (run_at x (T.scene taker.old)) (expand_one net.now entry) (run_at x (T.scene taker.new)) }
+    ensures stands { KeepsStanding net.now (T.scene taker.old) (T.scene taker.new) }
+    ensures follows { OnOk result (Drives net.now (T.scene taker.old) (expand_one net.now entry) (T.scene taker.new)) }
+    ensures front { DrivesFront net.now (T.scene taker.old) (expand_one net.now entry) (T.scene taker.new) }
 {
     match entry {
         Script1::Pass(count) => drive_passes(net, taker, once, count),
@@ -71,9 +70,9 @@ fn drive_entries<T: Taker>(
     requires entries { All (IsScriptEntry net.now) script.now }
     ensures plan { (T.scene taker.new).plan ≡ plan_of net.now }
     ensures observer { HasObserver (T.scene taker.old) → HasObserver (T.scene taker.new) }
-    ensures stands { (x : Case) → StandsFor net.now x (T.scene taker.old) → StandsFor net.now x (T.scene taker.new) }
-    ensures follows { (x : Case) → StandsFor net.now x (T.scene taker.old) → OnOk result (Follows x.setup x.lost (run_at x (T.scene taker.old)) (expand net.now script.now) (run_at x (T.scene taker.new))) }
-    ensures front { (x : Case) → StandsFor net.now x (T.scene taker.old) → FollowsFront x.setup x.lost (run_at x (T.scene taker.old)) (expand net.now script.now) (run_at x (T.scene taker.new)) }
+    ensures stands { KeepsStanding net.now (T.scene taker.old) (T.scene taker.new) }
+    ensures follows { OnOk result (Drives net.now (T.scene taker.old) (expand net.now script.now) (T.scene taker.new)) }
+    ensures front { DrivesFront net.now (T.scene taker.old) (expand net.now script.now) (T.scene taker.new) }
 {
     for entry in script {
         drive_entry(net, taker, once, *entry)?;
@@ -95,9 +94,9 @@ pub fn drive_script<T: Taker>(
     requires entries { All (IsScriptEntry net.now) script.now }
     ensures plan { (T.scene taker.new).plan ≡ plan_of net.now }
     ensures observer { HasObserver (T.scene taker.old) → HasObserver (T.scene taker.new) }
-    ensures stands { (x : Case) → StandsFor net.now x (T.scene taker.old) → StandsFor net.now x (T.scene taker.new) }
-    ensures follows { (x : Case) → StandsFor net.now x (T.scene taker.old) → OnOk result (Follows x.setup x.lost (run_at x (T.scene taker.old)) (expand net.now script.now) (run_at x (T.scene taker.new))) }
-    ensures front { (x : Case) → StandsFor net.now x (T.scene taker.old) → FollowsFront x.setup x.lost (run_at x (T.scene taker.old)) (expand net.now script.now) (run_at x (T.scene taker.new)) }
+    ensures stands { KeepsStanding net.now (T.scene taker.old) (T.scene taker.new) }
+    ensures follows { OnOk result (Drives net.now (T.scene taker.old) (expand net.now script.now) (T.scene taker.new)) }
+    ensures front { DrivesFront net.now (T.scene taker.old) (expand net.now script.now) (T.scene taker.new) }
 {
     // A net is that of its parts.
     let _parts = net.parts();

@@ -5,9 +5,8 @@ ghost use Rattle.sl_layout.specs.Wiring.{plan_of};
 ghost use Rattle.sl_wire.specs.declared.message.Msg.{Msg};
 ghost use Rattle.sl_world.specs.Scene.{Scene, turn_of, after_turn, after_all, IsFront};
 ghost use Rattle.sl_proto.specs.Nodes.{NodeState, ObserverNode, node_rules};
-ghost use Rattle.sl_proto.specs.Runs.{Follows};
-ghost use Rattle.sl_proto.specs.Fronts.{FollowsFront};
-ghost use Rattle.sl_proto.specs.Standing.{Case, run_at, StandsFor, HasObserver};
+ghost use Rattle.sl_proto.specs.Standing.{HasObserver};
+ghost use Rattle.sl_proto.specs.Calls.{KeepsStanding, Drives, DrivesFront};
 
 use crate::node::Node;
 use crate::nodes::nodes_follow_their_books;
@@ -88,9 +87,9 @@ pub fn drive<T: Taker>(net: &Net, taker: &mut T, schedule: &[(u32, u32)]) -> Res
     ensures plan { (T.scene taker.new).plan ≡ plan_of net.now }
     ensures book { length (T.scene taker.new).book ≤ length (T.scene taker.old).book + length schedule.now }
     ensures observer { HasObserver (T.scene taker.old) → HasObserver (T.scene taker.new) }
-    ensures stands { (x : Case) → StandsFor net.now x (T.scene taker.old) → StandsFor net.now x (T.scene taker.new) }
-    ensures follows { (x : Case) → StandsFor net.now x (T.scene taker.old) → OnOk result (Follows x.setup x.lost (run_at x (T.scene taker.old)) schedule.now (run_at x (T.scene taker.new))) }
-    ensures follows_front { (x : Case) → StandsFor net.now x (T.scene taker.old) → FollowsFront x.setup x.lost (run_at x (T.scene taker.old)) schedule.now (run_at x (T.scene taker.new)) }
+    ensures stands { KeepsStanding net.now (T.scene taker.old) (T.scene taker.new) }
+    ensures follows { OnOk result (Drives net.now (T.scene taker.old) schedule.now (T.scene taker.new)) }
+    ensures follows_front { DrivesFront net.now (T.scene taker.old) schedule.now (T.scene taker.new) }
 {
     nodes_follow_their_books();
     taker.run(schedule)
@@ -110,9 +109,9 @@ pub fn drive_within<T: Taker>(
     ensures front { IsFront node_rules (T.scene taker.old) schedule.now (T.scene taker.new) }
     ensures plan { (T.scene taker.new).plan ≡ plan_of net.now }
     ensures observer { HasObserver (T.scene taker.old) → HasObserver (T.scene taker.new) }
-    ensures stands { (x : Case) → StandsFor net.now x (T.scene taker.old) → StandsFor net.now x (T.scene taker.new) }
-    ensures follows { (x : Case) → StandsFor net.now x (T.scene taker.old) → OnOk result (Follows x.setup x.lost (run_at x (T.scene taker.old)) schedule.now (run_at x (T.scene taker.new))) }
-    ensures follows_front { (x : Case) → StandsFor net.now x (T.scene taker.old) → FollowsFront x.setup x.lost (run_at x (T.scene taker.old)) schedule.now (run_at x (T.scene taker.new)) }
+    ensures stands { KeepsStanding net.now (T.scene taker.old) (T.scene taker.new) }
+    ensures follows { OnOk result (Drives net.now (T.scene taker.old) schedule.now (T.scene taker.new)) }
+    ensures follows_front { DrivesFront net.now (T.scene taker.old) schedule.now (T.scene taker.new) }
 {
     let limit: u64 = 1 << 40;
     let entries = taker.entries();

@@ -14,5 +14,5 @@ returns-clause-stands c =
     let sound : IsSound (plan_of i.net) = subst IsSound (c.wiring-wiring.ensures.now ∙ ap (λ (i : Input). plan_of i.net) c.input.view_is) c.wiring-wiring.ensures.sound in
     let can = runnable i (losses i) c.requires sound (c.inputs_spare_reliable_links.ensures i) in
     IfOk-weaker c.build_world.result _ _
-    (λ w is. subst (StandsFor i.net (case_of i (losses i))) (sym is) (c.nodes_stand_at_first.ensures.stands i (losses i) c.in_ok-losses.losses.items can c.requires.snapshot c.in_ok-losses.ensures.each c.in_ok-losses.ensures.go))
+    (λ w is. subst (StandsFor i.net (case_of i (losses i))) (sym is) (c.nodes_stand_at_first.ensures.stands i (losses i) c.in_ok-losses.losses.items can c.requires.snapshot (record { each = c.in_ok-losses.ensures.each; go = c.in_ok-losses.ensures.go })))
     c.build_world.ensures

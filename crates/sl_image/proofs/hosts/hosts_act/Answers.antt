@@ -6,13 +6,13 @@ use Rattle.sl_host.specs.Host.{host_act}
 use Rattle.sl_model.specs.History.{history}
 use Rattle.sl_model.specs.World.{turn, world}
 use Rattle.sl_image.specs.HostImage.{IsHostOf}
-use Rattle.sl_image.specs.Leaves.{Does}
+use Rattle.sl_image.specs.Simulates.{ActSimulates}
 use Rattle.sl_image.proofs.HostSteps.{host-acts, host-idle}
 use Rattle.sl_image.proofs.hosts.hosts_act.Goals as goal
 
 pub returns-clause-did : goal.returns-clause-did
 returns-clause-did c s lost es a choice i ring told step o n q h y e = let v = turn s lost (world s lost es) (a, choice) in
-    subst (λ o. Does (IsHostOf s a i v) s.net ring (λ u. history v u) a told step.puts (host_act o choice)) (sym h)
+    subst (λ o. ActSimulates (IsHostOf s a i v) s.net ring (λ u. history v u) a told step.puts (host_act o choice)) (sym h)
     (host-acts s lost es a choice i ring told step (c.nets_are_wired.ensures s.net n) (get_or_from_slice_get s.net.actors a (OfHost i) nobody q) ((c.nets_are_wired.ensures s.net n).host_links a i q) y e)
 
 pub returns-clause-idle : goal.returns-clause-idle

@@ -2,14 +2,14 @@ use Rattle.std.proofs.Common.{◌≡◌, sym, subst, None}
 use Rattle.sl_observe.specs.Observer.{observer_act}
 use Rattle.sl_model.specs.History.{history}
 use Rattle.sl_model.specs.World.{turn, world}
-use Rattle.sl_image.specs.Leaves.{Does}
+use Rattle.sl_image.specs.Simulates.{ActSimulates}
 use Rattle.sl_image.specs.ObserverImage.{IsObserverOf}
 use Rattle.sl_image.proofs.ObserverActs.{acts, idle}
 use Rattle.sl_image.proofs.observers.observers_act.Goals as goal
 
 pub returns-clause-did : goal.returns-clause-did
 returns-clause-did c s lost table es choice ring told step o n f h q e = let v = turn s lost (world s lost es) (0, choice) in
-    subst (λ o. Does (IsObserverOf s.net table v) s.net ring (λ u. history v u) 0 told step.puts (observer_act o choice)) (sym h)
+    subst (λ o. ActSimulates (IsObserverOf s.net table v) s.net ring (λ u. history v u) 0 told step.puts (observer_act o choice)) (sym h)
     (acts s lost table es choice ring told step (c.nets_are_wired.ensures s.net n) f (c.begins_take_all_links.ensures s.net n) q e)
 
 pub returns-clause-idle : goal.returns-clause-idle

@@ -2,12 +2,12 @@ use Rattle.std.proofs.Common.{sym, subst}
 use Rattle.sl_observe.specs.Observer.{observer_take}
 use Rattle.sl_model.specs.History.{history}
 use Rattle.sl_model.specs.World.{turn, world}
-use Rattle.sl_image.specs.Leaves.{Leaves}
+use Rattle.sl_image.specs.Simulates.{Simulates}
 use Rattle.sl_image.specs.ObserverImage.{IsObserverOf}
 use Rattle.sl_image.proofs.ObserverTakes.{takes}
 use Rattle.sl_image.proofs.observers.observers_take.Goals as goal
 
 pub returns : goal.returns
 returns c s lost table es choice ring a told step m x o n f h q e k = let v = turn s lost (world s lost es) (0, choice) in
-    subst (λ o. Leaves (IsObserverOf s.net table v) s.net ring (λ u. history v u) 0 told step.puts (observer_take o choice x)) (sym h)
+    subst (λ o. Simulates (IsObserverOf s.net table v) s.net ring (λ u. history v u) 0 told step.puts (observer_take o choice x)) (sym h)
     (takes s lost table es choice ring a told step n (c.nets_are_wired.ensures s.net n) f q m x e k)

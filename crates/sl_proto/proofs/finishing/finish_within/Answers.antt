@@ -1,10 +1,10 @@
 use Rattle.std.proofs.Common.{arith, rules, subst, ◌≡◌}
 use Rattle.std.specs.Prelude.{true, false}
 use Rattle.sl_model.specs.End.{settle, IsFin}
-use Rattle.sl_proto.specs.Rounds.{EndsAt, RoundAt}
+use Rattle.sl_proto.specs.Rounds.{EndsAt, RoundAt, Sweeping}
 use Rattle.sl_proto.specs.Standing.{world_of, run_at}
 use Rattle.sl_proto.specs.Fronts.{SweepsBy, Whatever}
-use Rattle.sl_proto.proofs.Endings.{Sweeping, finishing-ends, finishing-falls-short, finishing-goes-on, settling-falls-short}
+use Rattle.sl_proto.proofs.Endings.{finishing-ends, finishing-falls-short, finishing-goes-on, settling-falls-short}
 use Rattle.sl_proto.proofs.Fronts.{leads-none, leads-on, leads-somewhere, finishing-front, finishing-settles}
 use Rattle.sl_proto.proofs.finishing.finish_within.Goals as goal
 

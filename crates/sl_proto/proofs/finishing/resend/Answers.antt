@@ -4,7 +4,7 @@ use Rattle.sl_model.specs.Schedule.{resend_entry}
 use Rattle.sl_proto.specs.Standing.{run_at}
 use Rattle.sl_proto.specs.Runs.{Follows}
 use Rattle.sl_proto.specs.Fronts.{FollowsFront}
-use Rattle.sl_proto.proofs.Endings.{resent-again, resent-nothing, more-entries}
+use Rattle.sl_proto.proofs.Endings.{resent-again, resent-nothing}
 use Rattle.sl_proto.proofs.Fronts.{over, resend-front, resend-leads}
 use Rattle.sl_proto.proofs.finishing.resend.Goals as goal
 
@@ -45,4 +45,4 @@ returns-then-entries-before-clause-again g c x h _ =
     let new = run_at x (g.T.Taker.scene c.drive_within.new.taker) in
     resend-leads x.setup x.lost old new
     (over (λ es. Follows x.setup x.lost old es new) (λ n. resend_entry n ∷ []) c.args.net.now x.setup.net (c.resend_entry.result ∷ []) h.net_is (ap (λ e. e ∷ []) c.resend_entry.ensures) (c.in_ok-drive_within.ensures.follows x h))
-    (more-entries x (g.T.Taker.scene c.args.taker.now) (g.T.Taker.scene c.drive_within.new.taker) (λ e. absurd (c.if-entries-before.true (omega arith))))
+    (λ e. absurd (c.if-entries-before.true (omega arith)))

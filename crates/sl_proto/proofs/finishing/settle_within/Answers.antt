@@ -5,7 +5,7 @@ use Rattle.sl_model.specs.Schedule.{settling_pass}
 use Rattle.sl_proto.specs.Standing.{world_of, run_at}
 use Rattle.sl_proto.specs.Runs.{Follows}
 use Rattle.sl_proto.specs.Fronts.{FollowsFront, SettlesBy, Whatever}
-use Rattle.sl_proto.proofs.Endings.{settling-ends, settling-goes-on, settled-there, more-entries}
+use Rattle.sl_proto.proofs.Endings.{settling-ends, settling-goes-on, settled-there}
 use Rattle.sl_proto.proofs.Fronts.{over, leads-none, leads-on, leads-somewhere, pass-front, pass-leads}
 use Rattle.sl_proto.proofs.finishing.settle_within.Goals as goal
 
@@ -70,5 +70,5 @@ loop-left-preserved g c =
           leads-on x.setup x.lost (SettlesBy x.setup x.lost old.world) (SettlesBy x.setup x.lost now.world) (SettlesBy x.setup x.lost new.world) old now new (c.loop-left.invariant.leads x h)
           (pass-leads x.setup x.lost now new
           (over (λ es. Follows x.setup x.lost now es new) settling_pass c.args.net.now x.setup.net c.args.pass.now h.net_is c.requires.pass (c.in_ok-drive_within.ensures.follows x (c.loop-left.invariant.stands x h)))
-          (more-entries x (scene c.loop-left.taker) (scene c.drive_within.new.taker) (λ e. absurd (c.if-entries-before.false (omega arith)))));
+          (λ e. absurd (c.if-entries-before.false (omega arith))));
     }

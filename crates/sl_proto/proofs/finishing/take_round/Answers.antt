@@ -5,6 +5,7 @@ use Rattle.sl_model.specs.End.{settle, is_collected, rose, IsFin}
 use Rattle.sl_model.specs.Books.{schedule_of}
 use Rattle.sl_model.specs.Schedule.{sweeps}
 use Rattle.sl_proto.specs.Rounds.{EndsAt}
+use Rattle.sl_proto.specs.Calls.{ResendsRound, SweepsRound, ResendingGoesOn, SweepingGoesOn}
 use Rattle.sl_proto.specs.Standing.{world_of, run_at}
 use Rattle.sl_proto.specs.Runs.{Follows}
 use Rattle.sl_proto.specs.Fronts.{FollowsFront, SweepsBy, ResendsBy, Whatever}
@@ -47,20 +48,24 @@ returns-then-rose_since-clause-round g c x pos h settled =
     (subst (EndsAt x swept (settle c.args.fuel x.setup x.lost (world_of x swept)) u) b (c.in_ok-settle_within.ensures.ends x (c.in_ok-drive_within.ensures.stands x h))) r
 
 pub returns-clause-round : goal.returns-clause-round
-returns-clause-round g c x pos h settled =
+returns-clause-round g c =
     let scene = g.T.Taker.scene in
     let net = c.args.net.now in
     let v = scene c.args.taker.now in
     let swept = scene c.drive_within.new.taker in
     let u = scene c.settle_within.new.taker in
+    let z = scene c.resend.new.taker in
+    let b : c.in_ok-settle_within.field-0 ≡ true = search rules in
+    IfOk-weaker c.resend.result (ResendsRound net u z) (SweepsRound net c.args.fuel v z)
+    (λ round k x pos h settled.
     let there = c.in_ok-settle_within.ensures.stands x (c.in_ok-drive_within.ensures.stands x h) in
     let before = c.tell-before.ensures net x h in
     let after = c.tell.ensures net x there in
     let q : is_collected x.setup (world_of x v) ≡ false = sym (c.is_collected.ensures x (schedule_of v.book) h.runnable.net pos settled before) ∙ c.if-is_collected.false in
-    let b : c.in_ok-settle_within.field-0 ≡ true = search rules in
     let r : rose x.setup.net (world_of x v) (world_of x u) ≡ false = sym (c.rose_since.ensures x (world_of x v) (world_of x u) before after) ∙ c.if-rose_since.false in
-    IfOk-weaker c.resend.result _ _ (λ round k. round-resends net x c.args.fuel v swept u (scene c.resend.new.taker) c.args.sweep.now round h.net_is c.requires.sweep q (c.in_ok-drive_within.ensures.follows x h)
-    (subst (EndsAt x swept (settle c.args.fuel x.setup x.lost (world_of x swept)) u) b (c.in_ok-settle_within.ensures.ends x (c.in_ok-drive_within.ensures.stands x h))) r k) (c.resend.ensures.round x there)
+    round-resends net x c.args.fuel v swept u z c.args.sweep.now round h.net_is c.requires.sweep q (c.in_ok-drive_within.ensures.follows x h)
+    (subst (EndsAt x swept (settle c.args.fuel x.setup x.lost (world_of x swept)) u) b (c.in_ok-settle_within.ensures.ends x (c.in_ok-drive_within.ensures.stands x h))) r (k x there))
+    c.resend.ensures.round
 
 pub returns-then-is_collected-clause-front : goal.returns-then-is_collected-clause-front
 returns-then-is_collected-clause-front g c x pos h settled = let old = run_at x (g.T.Taker.scene c.args.taker.now) in let P = SweepsBy x.setup x.lost old.world in
@@ -148,20 +153,23 @@ returns-clause-front g c x pos h settled =
     (level-leads x.setup x.lost c.args.fuel (run_at x v) (run_at x w) (run_at x u) q f m r) (c.resend.ensures.front x there)
 
 pub returns-clause-again : goal.returns-clause-again
-returns-clause-again g c x pos h settled =
+returns-clause-again g c =
     let scene = g.T.Taker.scene in
     let net = c.args.net.now in
     let v = scene c.args.taker.now in
     let w = scene c.drive_within.new.taker in
     let u = scene c.settle_within.new.taker in
+    let z = scene c.resend.new.taker in
+    let b : c.in_ok-settle_within.field-0 ≡ true = search rules in
+    IfOk-weaker c.resend.result (ResendingGoesOn net u z) (SweepingGoesOn net v z)
+    (λ round k x pos h settled e.
     let there = c.in_ok-settle_within.ensures.stands x (c.in_ok-drive_within.ensures.stands x h) in
     let before = c.tell-before.ensures net x h in
     let after = c.tell.ensures net x there in
     let q : is_collected x.setup (world_of x v) ≡ false = sym (c.is_collected.ensures x (schedule_of v.book) h.runnable.net pos settled before) ∙ c.if-is_collected.false in
-    let b : c.in_ok-settle_within.field-0 ≡ true = search rules in
     let f = over (λ es. Follows x.setup x.lost (run_at x v) es (run_at x w)) sweeps net x.setup.net c.args.sweep.now h.net_is c.requires.sweep (c.in_ok-drive_within.ensures.follows x h) in
     let m = subst (EndsAt x w (settle c.args.fuel x.setup x.lost (world_of x w)) u) b (c.in_ok-settle_within.ensures.ends x (c.in_ok-drive_within.ensures.stands x h)) in
     let r : rose x.setup.net (world_of x v) (world_of x u) ≡ false = sym (c.rose_since.ensures x (world_of x v) (world_of x u) before after) ∙ c.if-rose_since.false in
-    let z = scene c.resend.new.taker in
-    IfOk-weaker c.resend.result _ _ (λ round k e. leads-on x.setup x.lost (SweepsBy x.setup x.lost (world_of x v)) (ResendsBy x.setup x.lost (world_of x u)) (IsFin x.setup x.lost (world_of x z)) (run_at x v) (run_at x u) (run_at x z)
-    (level-leads x.setup x.lost c.args.fuel (run_at x v) (run_at x w) (run_at x u) q f m r) (k e)) (c.resend.ensures.again x there)
+    leads-on x.setup x.lost (SweepsBy x.setup x.lost (world_of x v)) (ResendsBy x.setup x.lost (world_of x u)) (IsFin x.setup x.lost (world_of x z)) (run_at x v) (run_at x u) (run_at x z)
+    (level-leads x.setup x.lost c.args.fuel (run_at x v) (run_at x w) (run_at x u) q f m r) (k x there e))
+    c.resend.ensures.again

@@ -3,11 +3,11 @@ use Rattle.sl_proto.proofs.Standing.{follows-after, stands-after}
 use Rattle.sl_proto.proofs.nodes.nodes_follow_their_books.Goals as goal
 
 pub returns-clause-stands : goal.returns-clause-stands
-returns-clause-stands c net x v es st few = let f = c.nodes_follow.ensures x.setup x.table x.lost st.runnable in
+returns-clause-stands c net v es few x st = let f = c.nodes_follow.ensures x.setup x.table x.lost st.runnable in
     stands-after net x (record { wired = c.nets_are_wired.ensures x.setup.net f.net; sound = f.sound; table = f.table; follow = f.steps }) v es st few
 
 pub returns-clause-follows : goal.returns-clause-follows
-returns-clause-follows c net x v es st few = let f = c.nodes_follow.ensures x.setup x.table x.lost st.runnable in
+returns-clause-follows c net v es few x st = let f = c.nodes_follow.ensures x.setup x.table x.lost st.runnable in
     follows-after net x (record { wired = c.nets_are_wired.ensures x.setup.net f.net; sound = f.sound; table = f.table; follow = f.steps }) v es st few
 
 pub returns-clause-observer : goal.returns-clause-observer

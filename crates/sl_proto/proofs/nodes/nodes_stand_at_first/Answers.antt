@@ -11,16 +11,15 @@ use Rattle.sl_proto.proofs.Schedules.{first-image}
 use Rattle.sl_proto.proofs.nodes.nodes_stand_at_first.Goals as goal
 
 pub returns-clause-stands : goal.returns-clause-stands
-returns-clause-stands c i lost losses r ranged each go = record {
+returns-clause-stands c i lost losses r ranged new = record {
   net_is = refl;
   runnable = r;
   legal = tt;
-  numbers = refl;
   image = first-image (setup_of i) lost i.snapshot.ring (NodeStands (setup_of i) i.snapshot) (first_states i) losses (record {
     states_each = c.nodes_start.ensures.each i;
     states_stand = λ a state here. c.nodes_start.ensures.stand i a state ranged here;
-    losses_each = each;
-    losses_go = go;
+    losses_each = new.each;
+    losses_go = new.go;
   });
 }
 

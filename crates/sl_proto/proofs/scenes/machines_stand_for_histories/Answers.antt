@@ -1,33 +1,32 @@
 use Rattle.std.proofs.Common.{[], arith}
 use Rattle.sl_model.specs.World.{kept}
-use Rattle.sl_world.specs.Scene.{first_scene}
-use Rattle.sl_layout.specs.Wiring.{plan_of}
+use Rattle.sl_proto.specs.Machines.{scene_begun}
 use Rattle.sl_proto.proofs.Standing.{numbered_book}
 use Rattle.sl_proto.proofs.Schedules.{first-image, all-image, same-kept, grown-book, legal-run, run-legal}
 use Rattle.sl_proto.proofs.scenes.machines_stand_for_histories.Goals as goal
 
 pub returns-clause-image : goal.returns-clause-image
-returns-clause-image g c s lost ring rules states losses es f b few =
-    all-image s lost ring g.I.Meaning.stands rules (record { wired = c.nets_are_wired.ensures s.net f.net; sound = f.sound; table = f.table; follow = f.steps }) [] es (first_scene (plan_of s.net) states losses)
-    (omega (arith, few)) (first-image s lost ring g.I.Meaning.stands states losses b)
+returns-clause-image g c b es few = let f = b.follow in
+    all-image b.setup b.lost b.ring g.I.Meaning.stands b.rules (record { wired = c.nets_are_wired.ensures b.setup.net f.net; sound = f.sound; table = f.table; follow = f.steps }) [] es (scene_begun b)
+    (omega (arith, few)) (first-image b.setup b.lost b.ring g.I.Meaning.stands b.states b.losses b.first)
 
 pub returns-clause-kept : goal.returns-clause-kept
-returns-clause-kept g c s lost ring rules states losses es f b few =
-    same-kept s lost ring g.I.Meaning.stands rules (record { wired = c.nets_are_wired.ensures s.net f.net; sound = f.sound; table = f.table; follow = f.steps }) [] es (first_scene (plan_of s.net) states losses)
-    (omega (arith, few)) (first-image s lost ring g.I.Meaning.stands states losses b)
+returns-clause-kept g c b es few = let f = b.follow in
+    same-kept b.setup b.lost b.ring g.I.Meaning.stands b.rules (record { wired = c.nets_are_wired.ensures b.setup.net f.net; sound = f.sound; table = f.table; follow = f.steps }) [] es (scene_begun b)
+    (omega (arith, few)) (first-image b.setup b.lost b.ring g.I.Meaning.stands b.states b.losses b.first)
 
 pub returns-clause-book : goal.returns-clause-book
-returns-clause-book g c s lost ring rules states losses es f b few =
-    numbered_book _ (kept s lost es)
-    (grown-book s lost ring g.I.Meaning.stands rules (record { wired = c.nets_are_wired.ensures s.net f.net; sound = f.sound; table = f.table; follow = f.steps }) [] es (first_scene (plan_of s.net) states losses)
-    (omega (arith, few)) (first-image s lost ring g.I.Meaning.stands states losses b))
+returns-clause-book g c b es few = let f = b.follow in
+    numbered_book _ (kept b.setup b.lost es)
+    (grown-book b.setup b.lost b.ring g.I.Meaning.stands b.rules (record { wired = c.nets_are_wired.ensures b.setup.net f.net; sound = f.sound; table = f.table; follow = f.steps }) [] es (scene_begun b)
+    (omega (arith, few)) (first-image b.setup b.lost b.ring g.I.Meaning.stands b.states b.losses b.first))
 
 pub returns-clause-legal : goal.returns-clause-legal
-returns-clause-legal g c s lost ring rules states losses es f b few legal =
-    legal-run s lost ring g.I.Meaning.stands rules (record { wired = c.nets_are_wired.ensures s.net f.net; sound = f.sound; table = f.table; follow = f.steps }) [] es (first_scene (plan_of s.net) states losses)
-    (omega (arith, few)) (first-image s lost ring g.I.Meaning.stands states losses b) legal
+returns-clause-legal g c b es few legal = let f = b.follow in
+    legal-run b.setup b.lost b.ring g.I.Meaning.stands b.rules (record { wired = c.nets_are_wired.ensures b.setup.net f.net; sound = f.sound; table = f.table; follow = f.steps }) [] es (scene_begun b)
+    (omega (arith, few)) (first-image b.setup b.lost b.ring g.I.Meaning.stands b.states b.losses b.first) legal
 
 pub returns-clause-only : goal.returns-clause-only
-returns-clause-only g c s lost ring rules states losses es v f b few is =
-    run-legal s lost ring g.I.Meaning.stands rules (record { wired = c.nets_are_wired.ensures s.net f.net; sound = f.sound; table = f.table; follow = f.steps }) [] es (first_scene (plan_of s.net) states losses) v
-    (omega (arith, few)) (first-image s lost ring g.I.Meaning.stands states losses b) is
+returns-clause-only g c b es v few is = let f = b.follow in
+    run-legal b.setup b.lost b.ring g.I.Meaning.stands b.rules (record { wired = c.nets_are_wired.ensures b.setup.net f.net; sound = f.sound; table = f.table; follow = f.steps }) [] es (scene_begun b) v
+    (omega (arith, few)) (first-image b.setup b.lost b.ring g.I.Meaning.stands b.states b.losses b.first) is

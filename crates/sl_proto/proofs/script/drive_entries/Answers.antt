@@ -3,7 +3,7 @@ use Rattle.sl_net.specs.declared.input.Script1.TheVariants.{Pass}
 use Rattle.sl_proto.proofs.Trails.{follows-script}
 use Rattle.sl_proto.specs.Standing.{run_at}
 use Rattle.sl_proto.proofs.Standing.{follows-none}
-use Rattle.sl_proto.proofs.Fronts.{front-script}
+use Rattle.sl_proto.proofs.Fronts.{front-entries, front-script}
 use Rattle.sl_proto.proofs.script.drive_entries.Goals as goal
 
 pub loop-entry-init : goal.loop-entry-init
@@ -26,3 +26,7 @@ pub returns-in_err-drive_entry-clause-front : goal.returns-in_err-drive_entry-cl
 returns-in_err-drive_entry-clause-front g c x st = let so_far = c.loop-entry.invariant in let scene = g.T.Taker.scene in
     front-script x.setup x.lost (run_at x (scene c.args.taker.now)) (run_at x (scene c.loop-entry.taker)) (run_at x (scene c.drive_entry.new.taker)) c.args.net.now c.args.script.now c.loop-entry.entry-index (Pass 0) (omega arith)
     (so_far.follows x st) (c.drive_entry.ensures.front x (so_far.stands x st))
+
+pub returns-clause-front : goal.returns-clause-front
+returns-clause-front g c x st = let so_far = c.loop-entry.invariant in let scene = g.T.Taker.scene in
+    front-entries x.setup x.lost (run_at x (scene c.args.taker.now)) (run_at x (scene c.loop-entry.taker)) c.args.net.now c.args.script.now c.loop-entry.entry-index (so_far.follows x st)

@@ -1,10 +1,10 @@
-use Rattle.std.proofs.Common.{arith, rules}
+use Rattle.std.proofs.Common.{arith}
 use Rattle.std.proofs.lemmas.Grind.{common_steps}
+use Rattle.sl_model.specs.Schedule.{passes_of}
 use Rattle.sl_proto.proofs.Trails.{follows-passes}
 use Rattle.sl_proto.specs.Standing.{run_at}
 use Rattle.sl_proto.proofs.Standing.{follows-none}
-use Rattle.sl_proto.proofs.Fronts.{front-passes}
-use borrow.Author.Tests.{tests}
+use Rattle.sl_proto.proofs.Fronts.{front-whole, front-passes}
 use Rattle.sl_proto.proofs.script.drive_passes.Goals as goal
 
 pub loop-done-init : goal.loop-done-init
@@ -32,4 +32,5 @@ pub returns-clause-follows : goal.returns-clause-follows
 returns-clause-follows c = grind (arith, common_steps)
 
 pub returns-clause-front : goal.returns-clause-front
-returns-clause-front c = search (tests, rules)
+returns-clause-front g c x st = let scene = g.T.Taker.scene in let follows = returns-clause-follows g c in
+    front-whole x.setup x.lost (run_at x (scene c.args.taker.now)) (run_at x (scene c.loop-done.taker)) (passes_of c.args.once.now c.args.count) (follows x st)

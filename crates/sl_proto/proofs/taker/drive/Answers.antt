@@ -12,16 +12,16 @@ returns-clause-observer g c h = let f = c.run.ensures.front in
 pub returns-clause-stands : goal.returns-clause-stands
 returns-clause-stands g c x st = let f = c.run.ensures.front in let es = c.args.schedule.now in let n = length-take f.entries es in
     subst (StandsFor c.args.net.now x) (sym f.is)
-    (c.nodes_follow_their_books.ensures.stands c.args.net.now x (g.T.Taker.scene c.args.taker.now) (take f.entries es) st (omega (arith, c.requires.book, n, f.within)))
+    (c.nodes_follow_their_books.ensures.stands c.args.net.now (g.T.Taker.scene c.args.taker.now) (take f.entries es) (omega (arith, c.requires.book, n, f.within)) x st)
 
 pub returns-clause-follows : goal.returns-clause-follows
-returns-clause-follows g c x st = let v = g.T.Taker.scene c.args.taker.now in let es = c.args.schedule.now in
+returns-clause-follows g c = let v = g.T.Taker.scene c.args.taker.now in let es = c.args.schedule.now in
     on_ok_weaker c.run.result
-    (λ is. subst (λ u. Follows x.setup x.lost (run_at x v) es (run_at x u)) (sym is) (c.nodes_follow_their_books.ensures.follows c.args.net.now x v es st c.requires.book))
+    (λ is x st. subst (λ u. Follows x.setup x.lost (run_at x v) es (run_at x u)) (sym is) (c.nodes_follow_their_books.ensures.follows c.args.net.now v es c.requires.book x st))
     c.run.ensures.ok
 
 pub returns-clause-follows_front : goal.returns-clause-follows_front
 returns-clause-follows_front g c x st = let f = c.run.ensures.front in let es = c.args.schedule.now in let v = g.T.Taker.scene c.args.taker.now in let n = length-take f.entries es in
     front-taken x.setup x.lost (run_at x v) (run_at x (g.T.Taker.scene c.run.new.self)) es f.entries
     (subst (λ u. Follows x.setup x.lost (run_at x v) (take f.entries es) (run_at x u)) (sym f.is)
-    (c.nodes_follow_their_books.ensures.follows c.args.net.now x v (take f.entries es) st (omega (arith, c.requires.book, n, f.within))))
+    (c.nodes_follow_their_books.ensures.follows c.args.net.now v (take f.entries es) (omega (arith, c.requires.book, n, f.within)) x st))

@@ -9,7 +9,8 @@ use Rattle.sl_layout.specs.declared.actor.ActorId.TheVariants.{Observer, Control
 use Rattle.sl_net.specs.declared.input.Snapshot.{Snapshot}
 use Rattle.sl_layout.specs.Net.{Net, net_of, actor_of, units_of, place_of, links_into, links_from}
 use Rattle.sl_unit.specs.declared.unit.Unit.{Unit as Declared}
-use Rattle.sl_unit.specs.Made.{device_of, entrance_by, exit_by, exits_of, ports_of, wires_of, ingress_state, egress_state}
+use Rattle.sl_layout.specs.Devices.{device_of}
+use Rattle.sl_unit.specs.Made.{entrance_by, exit_by, exits_of, ports_of, wires_of, ingress_state, egress_state}
 use Rattle.sl_unit.specs.Step.{UnitState, counts_of}
 use Rattle.sl_unit.specs.Units.{unit_state, unit_counts}
 use Rattle.sl_control.specs.Wires.{control_of, control_counts}

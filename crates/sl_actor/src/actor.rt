@@ -158,9 +158,7 @@ impl<A: Machine> Actor<A> {
         ensures spare { OnOk result (AreSpare self.new.outs.parts.items) }
         ensures ready { OnOk result (A.ready_for self.new.machine ≡ Some choice) }
     {
-        if self.log.reserve(1).is_err() {
-            return Err(Memory);
-        }
+        self.log.reserve(1)?;
         self.outs.make_room()?;
         self.machine.ready(choice)
     }

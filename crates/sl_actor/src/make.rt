@@ -67,9 +67,7 @@ fn assemble<A: Machine>(
         let ends = first(&mut takes);
         let parts = first(&mut outs);
         let actor = Actor::new(alloc, actors.len() as u32, machine, ends, parts)?;
-        if actors.push(actor).is_err() {
-            return Err(Memory);
-        }
+        actors.push(actor)?;
     }
     Ok(actors)
 }

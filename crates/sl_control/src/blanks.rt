@@ -53,7 +53,7 @@ fn blank_done(alloc: Global) -> Result<Boxed<Done>, Memory> {
         floor: 0,
         rows,
     };
-    Boxed::new(alloc, blank).map_err(|_| Memory)
+    Ok(Boxed::new(alloc, blank)?)
 }
 
 impl Blanks {
@@ -76,11 +76,9 @@ impl Blanks {
         ensures done { OnOk result (IsSome self.new.done) }
     {
         let alloc = *self.rows.allocator();
-        if self.rows.reserve(ring as usize).is_err() {
-            return Err(Memory);
-        }
+        self.rows.reserve(ring as usize)?;
         if self.one.is_none() {
-            self.one = Some(OneRow::new(alloc).map_err(|_| Memory)?);
+            self.one = Some(OneRow::new(alloc)?);
         }
         if self.done.is_none() {
             self.done = Some(blank_done(alloc)?);

@@ -9,7 +9,7 @@ use crate::wires::{control_of, done_of, inits_of, units_of};
 use sl_machine::{Machine, Memory, Outputs};
 use sl_net::{Net, Snapshot, nets_are_wired};
 use sl_wire::Msg;
-use std::alloc::{AllocError, Global};
+use std::alloc::Global;
 use std::marker::Model;
 
 /// The choice by which a control plane takes Begins.
@@ -59,14 +59,11 @@ impl Control {
         ensures counts { IfOk result (λ c. c.counts ≡ control_counts net.now (control_of net.now device)) }
         ensures ready { IfOk result (λ c. c.ready ≡ None) }
     {
-        match Control::make(alloc, net, control_of(net, device), snapshot.ring) {
-            Ok(control) => Ok(control),
-            Err(_) => Err(Memory),
-        }
+        Control::make(alloc, net, control_of(net, device), snapshot.ring)
     }
 
     /// The control plane that an actor is.
-    fn make(alloc: Global, net: &Net, actor: u32, ring: u16) -> Result<Control, AllocError>
+    fn make(alloc: Global, net: &Net, actor: u32, ring: u16) -> Result<Control, Memory>
         requires { actor < length net.now.actors }
         ensures state { IfOk result (λ c. c.state ≡ first_control net.now actor ring) }
         ensures counts { IfOk result (λ c. c.counts ≡ control_counts net.now actor) }

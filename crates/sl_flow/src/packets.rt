@@ -42,8 +42,10 @@ fn add_share(packets: &mut Vec<Packet>, flow: Flow, host: u32) -> Result<(), All
     Ok(())
 }
 
+/// The packets that a host sends: those of its flows in input order, each flow whole, numbered
+/// from 0 in each. Hosts are named by their places, which have 16 bits in a packet.
 #[tactic(auto, using(crate::proofs::Shares::packets_more))]
-fn list_packets(alloc: Global, host: u32, flows: &[Flow]) -> Result<Vec<Packet>, AllocError>
+pub fn packets_of(alloc: Global, host: u32, flows: &[Flow]) -> Result<Vec<Packet>, Memory>
     requires { All HasAddresses flows.now }
     ensures { IfOk result (λ packets. packets.items ≡ packets_of flows.now host) }
 {
@@ -52,16 +54,4 @@ fn list_packets(alloc: Global, host: u32, flows: &[Flow]) -> Result<Vec<Packet>,
         add_share(&mut packets, *flow, host)?;
     }
     Ok(packets)
-}
-
-/// The packets that a host sends: those of its flows in input order, each flow whole, numbered
-/// from 0 in each. Hosts are named by their places, which have 16 bits in a packet.
-pub fn packets_of(alloc: Global, host: u32, flows: &[Flow]) -> Result<Vec<Packet>, Memory>
-    requires { All HasAddresses flows.now }
-    ensures { IfOk result (λ packets. packets.items ≡ packets_of flows.now host) }
-{
-    match list_packets(alloc, host, flows) {
-        Ok(packets) => Ok(packets),
-        Err(_) => Err(Memory),
-    }
 }

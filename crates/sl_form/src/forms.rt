@@ -1,5 +1,5 @@
 // Forms of texts: names, ports, bytes in hexadecimal, numbers of passes.
-ghost use Rattle.std.specs.Prelude.{◌≡◌, ◌+◌, ◌<◌, ◌≤◌, ◌++◌, ◌∷◌, [], IfOk, OnOk, IfSome, length, drop, option_map};
+ghost use Rattle.std.specs.Prelude.{◌≡◌, ◌+◌, ◌<◌, ◌≤◌, IfOk, IfSome, length, drop, option_map};
 ghost use Rattle.toml.specs.View.{table_view};
 ghost use Rattle.sl_form.specs.Refusals.{Answers};
 ghost use Rattle.sl_form.specs.Fields.{required_form};
@@ -104,15 +104,6 @@ fn byte_of(high: u8, low: u8) -> Option<u8>
     }
 }
 
-fn push(bytes: &mut Vec<u8>, byte: u8) -> Result<(), Memory>
-    ensures { OnOk result (bytes.new.items ≡ bytes.old.items ++ byte ∷ []) }
-{
-    match bytes.push(byte) {
-        Ok(()) => Ok(()),
-        Err(_) => Err(Memory),
-    }
-}
-
 /// What follows two bytes.
 fn past_pair(bytes: &[u8]) -> &[u8]
     requires { 2 ≤ length bytes.now }
@@ -130,7 +121,7 @@ fn pairs_of(alloc: Global, text: &[u8]) -> Result<Option<Vec<u8>>, Memory>
     let mut left = text;
     while left.len() >= 2 {
         match byte_of(left[0], left[1]) {
-            Some(byte) => push(&mut bytes, byte)?,
+            Some(byte) => bytes.push(byte)?,
             None => return Ok(None),
         }
         left = past_pair(left);

@@ -1,8 +1,9 @@
 -- What a host sends, and what the turns of its machine do.
 --     frames_of input h          the frames that the host h sends, in order
 --     host_take, host_act        a frame that comes is counted; the next frame is sent
-use Rattle.std.specs.Prelude.{ℕ, suc, ◌-◌, ◌^◌, ◌==◌, min, List, [], ◌∷◌, ◌++◌, map, filter, Option, slice_get, option_map}
+use Rattle.std.specs.Prelude.{ℕ, suc, ◌==◌, List, [], ◌∷◌, ◌++◌, map, filter, Option, slice_get, option_map}
 use Rattle.sl_machine.specs.Machine.{After, Rules, Counts}
+use Rattle.sl_machine.specs.Counting.{one_more}
 use Rattle.sl_net.specs.declared.input.Packet.{Packet}
 use Rattle.sl_net.specs.declared.input.RawPart.{RawPart}
 use Rattle.sl_net.specs.Input.{Input}
@@ -28,10 +29,6 @@ pub record HostState : Type 0 where
   pub messages : List (List ℕ)
   pub sent : ℕ
   pub delivered : ℕ
-
--- one more, as far as 64 bits go
-abbrev pub one_more : ℕ → ℕ
-one_more n = min (suc n) (2 ^ 64 - 1)
 
 -- a message other than a host's frame changes nothing
 abbrev pub host_take : HostState → ℕ → Msg → After HostState Msg

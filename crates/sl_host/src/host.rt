@@ -47,7 +47,7 @@ impl Host {
         ensures ready { IfOk result (λ h. h.ready ≡ None) }
     {
         let packets = packets_of(alloc, host, input.flows.as_slice())?;
-        let raws = raws_of(alloc, input.raws.as_slice(), host).map_err(|_| Memory)?;
+        let raws = raws_of(alloc, input.raws.as_slice(), host)?;
         Ok(Host {
             packets,
             raws,
@@ -96,7 +96,7 @@ impl Machine for Host {
                 self.raws.as_slice(),
                 self.sent,
             );
-            self.next = next.map_err(|_| Memory)?;
+            self.next = next?;
         }
         self.prepared = Some(choice);
         Ok(())

@@ -12,7 +12,8 @@ use Rattle.sl_net.specs.Wired.{IsWired, receives, HostLinks}
 use Rattle.sl_net.proofs.Sorts.{IsInto, is-into}
 use Rattle.sl_wire.specs.declared.message.Msg.{Msg}
 use Rattle.sl_wire.specs.declared.message.Msg.TheVariants as wire
-use Rattle.sl_host.specs.Host.{HostState, one_more, host_take, host_act, sending}
+use Rattle.sl_machine.specs.Counting.{one_more}
+use Rattle.sl_host.specs.Host.{HostState, host_take, host_act, sending}
 use Rattle.sl_model.specs.declared.message.Message.{Message}
 use Rattle.sl_model.specs.declared.message.Message.TheVariants.{Host as HostMsg, Data, Probe as ProbeMsg, Init as InitMsg, Poll as PollMsg, Notice as NoticeMsg, Dump as DumpMsg, Begin as BeginMsg, Done as DoneMsg}
 use Rattle.sl_model.specs.declared.message.Step.{Step}

@@ -17,7 +17,8 @@ use Rattle.sl_parts.proofs.Lists.{distinct-filter, distinct-from, each-at, each-
 use Rattle.std.proofs.lemmas.List.{length-map}
 use Rattle.sl_wire.specs.declared.message.Done.{Done}
 use Rattle.sl_wire.specs.declared.message.Msg.{Msg}
-use Rattle.sl_observe.specs.Observer.{UnitState, ObserverState, new_unit, unit_at, device_of, heard, units_after, observer_take}
+use Rattle.sl_layout.specs.Devices.{device_of}
+use Rattle.sl_observe.specs.Observer.{UnitState, ObserverState, new_unit, unit_at, heard, units_after, observer_take}
 use Rattle.sl_model.specs.declared.message.Message.{Message}
 use Rattle.sl_model.specs.declared.message.Message.TheVariants.{Host, Data, Probe, Init, Poll, Notice, Dump as DumpMsg, Begin, Done as DoneMsg}
 use Rattle.sl_model.specs.declared.message.Step.{Step}

@@ -13,7 +13,8 @@ use Rattle.sl_saves.specs.declared.entry.Saved.{Saved}
 use Rattle.sl_saves.specs.Views.{held_saved}
 use Rattle.sl_wire.specs.declared.message.Done.{Done}
 use Rattle.sl_wire.specs.Reach.{least_of as least_of_there}
-use Rattle.sl_observe.specs.Observer.{device_of, reached, is_after, is_next, told, heard, first_unit}
+use Rattle.sl_layout.specs.Devices.{device_of}
+use Rattle.sl_observe.specs.Observer.{reached, is_after, is_next, told, heard, first_unit}
 use Rattle.sl_control.specs.Rows.{span}
 use Rattle.sl_model.specs.Words.{least_of}
 use Rattle.sl_model.specs.History.{History, id, last}

@@ -24,7 +24,8 @@ use Rattle.sl_wire.specs.declared.message.Msg.TheVariants as wire
 use Rattle.sl_unit.specs.declared.registers.Channel.{Channel}
 use Rattle.sl_unit.specs.Wires.{Wires, port_to}
 use Rattle.sl_unit.specs.Registers.{Registers, more, last_on, is_near}
-use Rattle.sl_unit.specs.Made.{device_of, entrances_of, exits_of, ports_of}
+use Rattle.sl_layout.specs.Devices.{device_of}
+use Rattle.sl_unit.specs.Made.{entrances_of, exits_of, ports_of}
 use Rattle.sl_unit.specs.declared.wires.Way.TheVariants.{All}
 use Rattle.sl_unit.specs.Step.{UnitState, onward, routed, stamped, notices, ignored, send}
 use Rattle.sl_model.specs.declared.message.Message.TheVariants.{Data, Notice as NoticeMsg}

@@ -11,9 +11,10 @@ use Rattle.sl_net.specs.declared.input.Snapshot.{Snapshot}
 use Rattle.sl_parts.specs.Parts.{numbers_from}
 use Rattle.sl_layout.specs.Net.{Net, actor_of, links_into, links_from, units, data_channels}
 use Rattle.sl_saves.specs.Views.{held_saved}
+use Rattle.sl_layout.specs.Devices.{device_of}
 use Rattle.sl_wire.specs.declared.message.Msg.{Msg}
 use Rattle.sl_observe.specs.declared.unit.Seen.{Seen}
-use Rattle.sl_observe.specs.Observer.{UnitState, ObserverState, device_of}
+use Rattle.sl_observe.specs.Observer.{UnitState, ObserverState}
 use Rattle.sl_model.specs.declared.message.Put.{Put}
 use Rattle.sl_model.specs.History.{History, World, history, id}
 use Rattle.sl_model.specs.Setup.{Setup}

@@ -2,7 +2,8 @@
 ghost use Rattle.std.specs.Prelude.{◌≡◌, ◌+◌, ◌<◌, ◌≤◌, ◌⊎◌, ◌↔◌, [], length, drop, min, Some, IfOk, OnErr, IsOk, IsErr, IsTrue, is_err, if◌then◌else◌, Contains};
 ghost use Rattle.std.specs.Io.{ReadsAtMost, WritesAtMost};
 ghost use Rattle.std.specs.Io.KnownBytes.{ReadConsumes, WriteAppends};
-ghost use Rattle.sl_io.specs.Faults.{Rose, raised};
+ghost use Rattle.sl_machine.specs.Counting.{one_more};
+ghost use Rattle.sl_io.specs.Faults.{Rose};
 ghost use Rattle.sl_io.specs.Pieces.{TellsAsBefore};
 
 use crate::streams::{Failed, Sink, Source};
@@ -33,7 +34,7 @@ impl Calls {
     /// Counts a call, and says whether its number is among those that fail.
     fn count(&mut self) -> bool
         ensures planned { IsTrue result ↔ Contains self.old.fail.items (self.old.made + 1) }
-        ensures counted { self.new ≡ record self.old { made = raised self.old.made } }
+        ensures counted { self.new ≡ record self.old { made = one_more self.old.made } }
     {
         let number = u128::from(self.made) + 1;
         self.made = self.made.saturating_add(1);
@@ -42,7 +43,7 @@ impl Calls {
 
     /// Counts a call that failed.
     fn fault(&mut self)
-        ensures { self.new ≡ record self.old { faults = raised self.old.faults } }
+        ensures { self.new ≡ record self.old { faults = one_more self.old.faults } }
     {
         self.faults = self.faults.saturating_add(1);
     }
@@ -94,8 +95,8 @@ impl Source for MemorySource {
 
         // It fails exactly where the call's number is listed, and counts just that.
         ensures fails { IsErr result ↔ Contains self.old.fail (self.old.calls + 1) }
-        ensures calls { self.new.calls ≡ raised self.old.calls }
-        ensures faults { self.new.faults ≡ (if is_err result then raised self.old.faults else self.old.faults) }
+        ensures calls { self.new.calls ≡ one_more self.old.calls }
+        ensures faults { self.new.faults ≡ (if is_err result then one_more self.old.faults else self.old.faults) }
         ensures plan { self.new.fail ≡ self.old.fail }
 
         // It gives as many bytes as there is room for, and leaves the rest of the buffer alone.
@@ -142,7 +143,7 @@ impl MemorySink {
         ensures made { IfOk result (λ sink. sink ≡ record { written = []; room = room; fail = fail.items; calls = 0; faults = 0 }) }
         ensures no_room { room ≡ 0 → IsOk result }
     {
-        let bytes = Vec::with_capacity(alloc, room).map_err(|_| Memory)?;
+        let bytes = Vec::with_capacity(alloc, room)?;
         Ok(MemorySink {
             bytes,
             room,
@@ -174,8 +175,8 @@ impl Sink for MemorySink {
         // It fails exactly where the call's number is listed or nothing fits, and counts just that.
         ensures fails { IsErr result ↔ (Contains self.old.fail (self.old.calls + 1)
             ⊎ ((0 < length buf.now) × (self.old.room ≡ 0))) }
-        ensures calls { self.new.calls ≡ raised self.old.calls }
-        ensures faults { self.new.faults ≡ (if is_err result then raised self.old.faults else self.old.faults) }
+        ensures calls { self.new.calls ≡ one_more self.old.calls }
+        ensures faults { self.new.faults ≡ (if is_err result then one_more self.old.faults else self.old.faults) }
         ensures plan { self.new.fail ≡ self.old.fail }
 
         // It takes as many bytes as fit.

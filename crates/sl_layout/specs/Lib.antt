@@ -6,3 +6,4 @@ pub mod Roster
 pub mod Groups
 pub mod Wires
 pub mod Units
+pub mod Devices

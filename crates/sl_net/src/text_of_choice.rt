@@ -152,24 +152,14 @@ fn add_word(line: &mut Vec<u8>, net: &Net, actor: u32, choice: u32) -> Result<()
     }
 }
 
-fn spell(alloc: Global, net: &Net, actor: u32, choice: u32) -> Result<Vec<u8>, AllocError>
-    requires { actor < length net.now.actors }
-    ensures { IfOk result (λ line. line.items ≡ choice_text net.now actor choice) }
-{
-    let mut line = Vec::new(alloc);
-    add_actor(&mut line, net.parts(), net.actor(actor))?;
-    line.extend_from_slice(b" ")?;
-    add_word(&mut line, net, actor, choice)?;
-    Ok(line)
-}
-
 /// The spelling of a choice.
 pub fn choice_text(alloc: Global, net: &Net, actor: u32, choice: u32) -> Result<Line, Memory>
     requires { HasChoice net.now actor choice }
     ensures { IfOk result (λ line. line ≡ choice_text net.now actor choice) }
 {
-    match spell(alloc, net, actor, choice) {
-        Ok(items) => Ok(Line { items }),
-        Err(_) => Err(Memory),
-    }
+    let mut items = Vec::new(alloc);
+    add_actor(&mut items, net.parts(), net.actor(actor))?;
+    items.extend_from_slice(b" ")?;
+    add_word(&mut items, net, actor, choice)?;
+    Ok(Line { items })
 }

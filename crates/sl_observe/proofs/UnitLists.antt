@@ -10,7 +10,8 @@ use Rattle.sl_layout.specs.Net.{Net, units, net_of, actors_of, is_unit, actor_of
 use Rattle.sl_layout.specs.Units.{AreUnits}
 use Rattle.sl_layout.specs.Wiring.{upstream_of, sender_by}
 use Rattle.sl_parts.proofs.Lists.{length_numbers}
-use Rattle.sl_observe.specs.Observer.{UnitState, unit_at, floors_of, new_unit, device_of, first_unit}
+use Rattle.sl_layout.specs.Devices.{device_of}
+use Rattle.sl_observe.specs.Observer.{UnitState, unit_at, floors_of, new_unit, first_unit}
 use Rattle.sl_observe.specs.Kept.{Collected, states, collected_at, HasSpan, HaveSpans, HasRoom, IsKept}
 use Rattle.sl_observe.specs.declared.spans.Span.{Span}
 

@@ -6,8 +6,7 @@
 --     first_state        before its first turn
 use Rattle.std.specs.Prelude.{ℕ, suc, ◌+◌, ◌-◌, Bool, true, ◌&&◌, ◌==◌, nat_lt, nat_le, if◌then◌else◌, List, [], ◌∷◌, ◌++◌, map, length, replicate, slice_get, slice_set, slice_index_or, Option, Some, None, unwrap_or}
 use Rattle.sl_machine.specs.Machine.{After, Rules, Counts, send_all}
-use Rattle.sl_layout.specs.declared.actor.ActorId.{ActorId}
-use Rattle.sl_layout.specs.declared.actor.ActorId.TheVariants.{Unit as OfUnit}
+use Rattle.sl_layout.specs.Devices.{device_of}
 use Rattle.sl_net.specs.declared.input.Snapshot.{Snapshot}
 use Rattle.sl_parts.specs.Parts.{below}
 use Rattle.sl_layout.specs.Net.{Net, actor_of, links_into, links_from, units, data_channels}
@@ -123,10 +122,6 @@ abbrev pub observer_counts : ObserverState → Counts
 observer_counts s = record { ins = s.ins; outs = s.outs; actions = 2 }
 
 -- The start.
-
-abbrev pub device_of : ActorId → ℕ
-device_of (OfUnit i) = i.device
-device_of _ = 0
 
 -- a unit by its actor's number
 abbrev pub first_unit : Net → ℕ → UnitState

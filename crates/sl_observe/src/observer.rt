@@ -13,7 +13,7 @@ use sl_machine::{Machine, Memory, Outputs};
 use sl_net::{Net, Snapshot};
 use sl_saves::Saved;
 use sl_wire::Msg;
-use std::alloc::{AllocError, Global};
+use std::alloc::Global;
 use std::marker::Model;
 
 /// Issues snapshots within a window, and collects what the units saved for them.
@@ -54,38 +54,31 @@ fn begin_all(out: &mut Outputs<Msg>, outs: u32, number: u64)
     }
 }
 
-#[tactic(auto, using(crate::proofs::UnitLists::has_actors, crate::proofs::UnitLists::first_kept))]
-fn make(alloc: Global, net: &Net, snapshot: &Snapshot) -> Result<Observer, AllocError>
-    ensures state { IfOk result (λ o. o.state ≡ first_state net.now snapshot.now) }
-    ensures ready { IfOk result (λ o. o.ready ≡ None) }
-{
-    // A net is that of its parts, so it has an observer.
-    let _ = net.parts();
-    let ins = net.links_into(0).len() as u32;
-    let outs = net.links_from(0).len() as u32;
-    let units = list_units(alloc, net)?;
-    let floors = Floors::zeros(alloc, units.len())?;
-    let spans = Span::list(alloc, units.as_slice(), ins)?;
-    Ok(Observer {
-        ins,
-        outs,
-        snapshot: *snapshot,
-        issued: 0,
-        resent: 0,
-        units,
-        floors,
-        spans,
-        prepared: None,
-    })
-}
-
 impl Observer {
     /// The observer of a net, before its first turn.
+    #[tactic(auto, using(crate::proofs::UnitLists::has_actors, crate::proofs::UnitLists::first_kept))]
     pub fn new(alloc: Global, net: &Net, snapshot: &Snapshot) -> Result<Observer, Memory>
         ensures state { IfOk result (λ o. o.state ≡ first_state net.now snapshot.now) }
         ensures ready { IfOk result (λ o. o.ready ≡ None) }
     {
-        make(alloc, net, snapshot).map_err(|_| Memory)
+        // A net is that of its parts, so it has an observer.
+        let _ = net.parts();
+        let ins = net.links_into(0).len() as u32;
+        let outs = net.links_from(0).len() as u32;
+        let units = list_units(alloc, net)?;
+        let floors = Floors::zeros(alloc, units.len())?;
+        let spans = Span::list(alloc, units.as_slice(), ins)?;
+        Ok(Observer {
+            ins,
+            outs,
+            snapshot: *snapshot,
+            issued: 0,
+            resent: 0,
+            units,
+            floors,
+            spans,
+            prepared: None,
+        })
     }
 
     /// The number up to which all units are collected, or the greatest issued where there is no
@@ -198,8 +191,7 @@ impl Machine for Observer {
             self.ins,
             choice,
             ring,
-        )
-        .map_err(|_| Memory)?;
+        )?;
         self.prepared = Some(choice);
         Ok(())
     }

@@ -3,7 +3,6 @@ ghost use Rattle.std.specs.Prelude.{◌≡◌};
 ghost use Rattle.sl_parts.specs.declared.fault.NetFault.TheVariants.{Memory};
 
 use std::alloc::{AllocError, AllocFailed};
-use thiserror::Error;
 
 /// A part of a net, by its place in the input, from 0.
 #[derive(Clone, Copy, Debug, PartialEq, Eq)]
@@ -15,35 +14,26 @@ pub enum Place {
 
 /// What is wrong with parts: the first of these that applies. Devices, cables and hosts are named
 /// by their places, from 0.
-#[derive(Clone, Copy, Debug, PartialEq, Eq, Error)]
+#[derive(Clone, Copy, Debug, PartialEq, Eq)]
 pub enum NetFault {
     /// There is no device.
-    #[error("no device")]
     N1,
     /// There are more than 64 devices; their number.
-    #[error("{0} devices, at most 64")]
     N2(u64),
     /// The first device with no port or more than 8.
-    #[error("device {0} has no port or more than 8")]
     N3(u64),
     /// The first cable, or else the first host, that names a device that isn't there or a port
     /// that its device doesn't have.
-    #[error("{0:?} is at a port that isn't there")]
     N4(Place),
     /// The first cable with an end at a port of an earlier cable end.
-    #[error("cable {0} ends at a port that a cable uses")]
     N5(u64),
     /// There are more than 128 hosts; their number.
-    #[error("{0} hosts, at most 128")]
     N6(u64),
     /// The first host at a port that a cable or an earlier host uses.
-    #[error("host {0} is at a port that is used")]
     N7(u64),
     /// The first device, or else the first host, with the name of an earlier one.
-    #[error("{0:?} has the name of an earlier one")]
     N8(Place),
     /// Want of memory.
-    #[error("out of memory")]
     Memory,
 }
 

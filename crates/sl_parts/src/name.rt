@@ -51,10 +51,8 @@ impl Name {
         if !is_name(text.as_bytes()) {
             return Ok(None);
         }
-        match Vec::from_slice(alloc, text.as_bytes()) {
-            Ok(items) => Ok(Some(Name { items })),
-            Err(_) => Err(Memory),
-        }
+        let items = Vec::from_slice(alloc, text.as_bytes())?;
+        Ok(Some(Name { items }))
     }
 
     /// The name as a text.

@@ -25,7 +25,8 @@ use Rattle.sl_net.proofs.ReportWays.{unit-listed}
 use Rattle.sl_layout.proofs.Actors.{place-at}
 use Rattle.std.proofs.lemmas.Simd.{map-map}
 use Rattle.sl_unit.specs.Step.{UnitState, counts_of}
-use Rattle.sl_unit.specs.Made.{wires_of, entrance_by, exit_by, device_of, ports_of, ingress_state, egress_state}
+use Rattle.sl_layout.specs.Devices.{device_of}
+use Rattle.sl_unit.specs.Made.{wires_of, entrance_by, exit_by, ports_of, ingress_state, egress_state}
 use Rattle.sl_host.specs.Host.{host_counts}
 use Rattle.sl_proto.specs.declared.node.Node.{Node}
 use Rattle.sl_proto.specs.Nodes.{UnitNode, node_state, node_counts, node_ready}

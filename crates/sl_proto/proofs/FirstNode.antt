@@ -4,7 +4,7 @@ use Rattle.std.specs.Prelude.{Bool, true, false, if◌then◌else◌, nat_lt, sl
 use Rattle.sl_machine.specs.Machine.{After}
 use Rattle.sl_wire.specs.declared.message.Msg.{Msg}
 use Rattle.sl_observe.specs.Observer.{ObserverState, observer_rules, observer_counts}
-use Rattle.sl_world.specs.Laws.{KeptByTurns, all_kept}
+use Rattle.sl_world.proofs.TurnLaws.{KeptByTurns, all_kept}
 use Rattle.sl_world.specs.Scene.{Scene, after_all}
 use Rattle.sl_proto.specs.Nodes.{NodeState, ObserverNode, as_node, node_take, node_act, node_rules}
 use Rattle.sl_proto.specs.Standing.{HasObserver}

@@ -30,7 +30,7 @@ use Rattle.sl_model.proofs.Turns.{kept_by_run, GrowsAt, taken-other}
 use Rattle.sl_model.proofs.Said.{PutBy}
 use Rattle.sl_model.proofs.Stamps.{StepSaid, step-said}
 use Rattle.sl_world.specs.Scene.{Line, Scene, line_at, done, put_each}
-use Rattle.sl_world.specs.Keeping.{length-put_each}
+use Rattle.sl_world.proofs.ShapeLaws.{length-put_each}
 use Rattle.sl_world.proofs.LinkLemmas.{link_in_is}
 use Rattle.sl_proto.specs.Image.{tell, tell_all, told_on, told_by, IsLineOf, IsImage}
 use Rattle.sl_proto.specs.Machines.{MachineSimulates}

@@ -2,7 +2,8 @@
 --     IsLine net ring us a lost told n ms line     the link stands for one on which these were put, and n of those that are not lost were taken
 use Rattle.std.proofs.Common.{◌≡◌, ℕ, zero, suc, ◌+◌, ◌^◌, ◌<◌, ◌≤◌, List, [], ◌∷◌, ◌++◌, length, refl, sym, ap, subst, ◌∙◌, Option, Some, None, arith, length-append, append-nil, drop}
 use Rattle.std.specs.Prelude.{true, false, Bool, if◌then◌else◌}
-use Rattle.sl_loss.specs.Loss.{Loss, is_lost, loses_next, after_put, one_more}
+use Rattle.sl_machine.specs.Counting.{one_more}
+use Rattle.sl_loss.specs.Loss.{Loss, is_lost, loses_next, after_put}
 use Rattle.sl_parts.specs.Parts.{numbers_from}
 use Rattle.sl_layout.specs.Net.{Net}
 use Rattle.sl_wire.specs.declared.message.Msg.{Msg}

@@ -18,7 +18,8 @@ use Rattle.sl_model.specs.World.{Entry, start, next_step, turn, after, run, worl
 use Rattle.sl_model.specs.Window.{on_way}
 use Rattle.sl_model.proofs.Turns.{run-append, start-empty}
 use Rattle.sl_world.specs.Scene.{Scene, empty_line, new_line, first_scene, turn_of, after_turn, after_all, run_of, kept, last_number}
-use Rattle.sl_world.specs.Legal.{numbered_from, book-after_all}
+use Rattle.sl_world.specs.Legal.{numbered_from}
+use Rattle.sl_world.proofs.BookLaws.{book-after_all}
 use Rattle.sl_proto.specs.Image.{told_by, AreQueued, GoesOn, IsLineOf, IsImage, IsTurned, IsFirst}
 use Rattle.sl_proto.proofs.Turned.{Given, turned}
 

@@ -13,7 +13,8 @@ use Rattle.sl_model.proofs.Turns.{run-append}
 use Rattle.sl_model.proofs.Trails.{run-kept}
 use Rattle.sl_model.proofs.Legal.{kept_legal, legal_append}
 use Rattle.sl_world.specs.Scene.{Scene, after_all, last_number}
-use Rattle.sl_world.specs.Legal.{numbered_from, schedule_of-numbered_from}
+use Rattle.sl_world.specs.Legal.{numbered_from}
+use Rattle.sl_world.proofs.BookLaws.{schedule_of-numbered_from}
 use Rattle.sl_proto.specs.Image.{IsImage}
 use Rattle.sl_proto.specs.Meaning.{NodeStands}
 use Rattle.sl_proto.specs.Nodes.{NodeState, node_rules}

@@ -7,44 +7,32 @@ ghost use Rattle.sl_read.specs.Inputs.{fault};
 use sl_form::{Path, Refusal, TableName};
 use sl_net::{Line, NetFault};
 use std::alloc::{AllocError, Global};
-use thiserror::Error;
 
 /// The first thing that is wrong with an input. A path is the names of keys from the top table on,
 /// joined by points, with the place in a list, from 0, as a part of its own.
-#[derive(Debug, Drop, Error)]
+#[derive(Debug, Drop)]
 pub enum InputFault {
     /// There are more than 1,048,576 bytes.
-    #[error("too long")]
     I1,
     /// The bytes are no TOML document.
-    #[error("no TOML document")]
     I2,
     /// A required key is absent; its path.
-    #[error("a required key is absent")]
     I3(Line),
     /// A table has a key that isn't listed; the table's path, `top` for the top table.
-    #[error("a key isn't listed")]
     I4(Line),
     /// A value is of another kind, or a text not of its form; its path.
-    #[error("a value is of another kind or form")]
     I5(Line),
     /// A number, or the length of a list, is out of its range; its path, and the number.
-    #[error("{1} is out of its range")]
     I6(Line, i64),
     /// A name isn't there; the path of the value that names it.
-    #[error("a name isn't there")]
     I7(Line),
     /// A script entry is no spelling, or brings the passes above 10,000; its place, from 0.
-    #[error("entry {0} of the script is no spelling, or one pass too many")]
     I8(u64),
     /// The devices, cables and hosts are no net.
-    #[error("{0}")]
     I9(NetFault),
     /// There are more than 200,000 packets and raw frames; their number.
-    #[error("{0} packets and raw frames, at most 200000")]
     I10(u64),
     /// Want of memory.
-    #[error("out of memory")]
     Memory,
 }
 

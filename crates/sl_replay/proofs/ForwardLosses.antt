@@ -2,7 +2,8 @@
 use Rattle.std.proofs.Common.{Some, None, ◌≡◌, ℕ, suc, ◌+◌, ◌<◌, ◌^◌, List, [], ◌∷◌, ◌++◌, length, refl, ap, ◌∙◌, take, get_or, arith, length-take}
 use Rattle.std.specs.Prelude.{Bool, true, false, cond, if◌then◌else◌}
 use Rattle.std.proofs.lemmas.List.{take_more}
-use Rattle.sl_loss.specs.Loss.{loses_next, after_put, one_more}
+use Rattle.sl_machine.specs.Counting.{one_more}
+use Rattle.sl_loss.specs.Loss.{loses_next, after_put}
 use Rattle.sl_parts.specs.Parts.{numbers_from}
 use Rattle.sl_layout.specs.declared.actor.LinkKind.{LinkKind}
 use Rattle.sl_layout.specs.Wiring.{is_lossy}

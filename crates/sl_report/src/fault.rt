@@ -99,8 +99,9 @@ fn words_of(alloc: Global, fault: &InputFault) -> Result<Vec<u8>, AllocError>
     }
 }
 
+/// The text of a refused input, one line.
 #[tactic(auto, unfolding(crate::specs::FaultText::fault_text))]
-fn line_of(alloc: Global, fault: &InputFault) -> Result<Vec<u8>, AllocError>
+pub fn fault_bytes(alloc: Global, fault: &InputFault) -> Result<Vec<u8>, Memory>
     ensures { IfOk result (λ bytes. bytes.items ≡ fault_text fault.now) }
 {
     let words = words_of(alloc, fault)?;
@@ -108,14 +109,4 @@ fn line_of(alloc: Global, fault: &InputFault) -> Result<Vec<u8>, AllocError>
     bytes.extend_from_slice(words.as_slice())?;
     bytes.extend_from_slice(b"\n")?;
     Ok(bytes)
-}
-
-/// The text of a refused input, one line.
-pub fn fault_bytes(alloc: Global, fault: &InputFault) -> Result<Vec<u8>, Memory>
-    ensures { IfOk result (λ bytes. bytes.items ≡ fault_text fault.now) }
-{
-    match line_of(alloc, fault) {
-        Ok(bytes) => Ok(bytes),
-        Err(_) => Err(Memory),
-    }
 }

@@ -7,9 +7,10 @@ use crate::lines::{push_drops, push_hosts, push_lost, push_network, push_observe
 use sl_model::Findings;
 use sl_machine::Memory;
 use sl_net::Input;
-use std::alloc::{AllocError, Global};
+use std::alloc::Global;
 
-fn report_of(alloc: Global, input: &Input, findings: &Findings) -> Result<Vec<u8>, AllocError>
+/// The text of the report of a run's findings.
+pub fn report_bytes(alloc: Global, input: &Input, findings: &Findings) -> Result<Vec<u8>, Memory>
     ensures { IfOk result (λ bytes. bytes.items ≡ report_text input.now.net input.now.snapshot.count findings.now) }
 {
     let net = &input.net;
@@ -28,14 +29,4 @@ fn report_of(alloc: Global, input: &Input, findings: &Findings) -> Result<Vec<u8
     push_lost(&mut out, &findings.lost)?;
     write!(out, "end\n")?;
     Ok(out.into_bytes())
-}
-
-/// The text of the report of a run's findings.
-pub fn report_bytes(alloc: Global, input: &Input, findings: &Findings) -> Result<Vec<u8>, Memory>
-    ensures { IfOk result (λ bytes. bytes.items ≡ report_text input.now.net input.now.snapshot.count findings.now) }
-{
-    match report_of(alloc, input, findings) {
-        Ok(bytes) => Ok(bytes),
-        Err(_) => Err(Memory),
-    }
 }

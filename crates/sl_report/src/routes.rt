@@ -92,7 +92,9 @@ fn push_devices(out: &mut String, net: &Net, routes: &Routes) -> Result<(), Allo
     Ok(())
 }
 
-fn text_of(alloc: Global, net: &Net, routes: &Routes) -> Result<Vec<u8>, AllocError>
+/// The text of the routes of a net: for each device and each host the next port and the number of
+/// cables, or that no way leads there.
+pub fn routes_bytes(alloc: Global, net: &Net, routes: &Routes) -> Result<Vec<u8>, Memory>
     requires { IsRoutesOf net.now routes.now }
     ensures { IfOk result (λ bytes. bytes.items ≡ routes_text net.now) }
 {
@@ -100,16 +102,4 @@ fn text_of(alloc: Global, net: &Net, routes: &Routes) -> Result<Vec<u8>, AllocEr
     push_devices(&mut out, net, routes)?;
     write!(out, "end\n")?;
     Ok(out.into_bytes())
-}
-
-/// The text of the routes of a net: for each device and each host the next port and the number of
-/// cables, or that no way leads there.
-pub fn routes_bytes(alloc: Global, net: &Net, routes: &Routes) -> Result<Vec<u8>, Memory>
-    requires { IsRoutesOf net.now routes.now }
-    ensures { IfOk result (λ bytes. bytes.items ≡ routes_text net.now) }
-{
-    match text_of(alloc, net, routes) {
-        Ok(bytes) => Ok(bytes),
-        Err(_) => Err(Memory),
-    }
 }

@@ -167,23 +167,6 @@ fn push_net(out: &mut String, net: &Net) -> Result<(), AllocError>
     )
 }
 
-fn summary_of(alloc: Global, n: u64, net: &Net, findings: &Findings) -> Result<Vec<u8>, AllocError>
-    ensures { IfOk result (λ bytes. bytes.items ≡ summary_text n net.now findings.now) }
-{
-    let mut out = String::new(alloc);
-    push_sample(&mut out, n)?;
-    push_net(&mut out, net)?;
-    push_traffic(
-        &mut out,
-        sum_of(findings.sent.items.as_slice()),
-        sum_of(findings.delivered.items.as_slice()),
-    )?;
-    push_verdicts(&mut out, findings.list.items.as_slice())?;
-    push_total_lost(&mut out, lost_in_all(&findings.lost))?;
-    write!(out, "end\n")?;
-    Ok(out.into_bytes())
-}
-
 /// The summary of the findings of a run of the sample input `n`.
 pub fn summary_bytes(
     alloc: Global,
@@ -193,8 +176,16 @@ pub fn summary_bytes(
 ) -> Result<Vec<u8>, Memory>
     ensures { IfOk result (λ bytes. bytes.items ≡ summary_text n input.now.net findings.now) }
 {
-    match summary_of(alloc, n, &input.net, findings) {
-        Ok(bytes) => Ok(bytes),
-        Err(_) => Err(Memory),
-    }
+    let mut out = String::new(alloc);
+    push_sample(&mut out, n)?;
+    push_net(&mut out, &input.net)?;
+    push_traffic(
+        &mut out,
+        sum_of(findings.sent.items.as_slice()),
+        sum_of(findings.delivered.items.as_slice()),
+    )?;
+    push_verdicts(&mut out, findings.list.items.as_slice())?;
+    push_total_lost(&mut out, lost_in_all(&findings.lost))?;
+    write!(out, "end\n")?;
+    Ok(out.into_bytes())
 }

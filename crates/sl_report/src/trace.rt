@@ -56,29 +56,15 @@ fn push_count(alloc: Global, out: &mut Vec<u8>, count: usize) -> Result<(), Allo
     out.extend_from_slice(line.as_slice())
 }
 
-fn push_trace(
-    alloc: Global,
-    out: &mut Vec<u8>,
-    net: &Net,
-    entries: &[Entry],
-) -> Result<(), AllocError>
-    requires { All (IsEntryOf net.now) entries.now }
-    ensures { OnOk result (out.new.items ≡ out.old.items ++ trace_text net.now entries.now) }
-{
-    push_count(alloc, out, entries.len())?;
-    push_entries(alloc, out, net, entries)
-}
-
 /// Adds the text of the trace of a run's book: the number of its entries, then their spellings, a
 /// line each. Without the first line it is a script. Nothing is held beside the text but a line.
 pub fn add_trace(alloc: Global, text: &mut Vec<u8>, net: &Net, book: &Book) -> Result<(), Memory>
     requires { All (IsEntryOf net.now) book.now.entries }
     ensures { OnOk result (text.new.items ≡ text.old.items ++ trace_text net.now book.now.entries) }
 {
-    match push_trace(alloc, text, net, book.entries.as_slice()) {
-        Ok(()) => Ok(()),
-        Err(_) => Err(Memory),
-    }
+    let entries = book.entries.as_slice();
+    push_count(alloc, text, book.entries.len())?;
+    Ok(push_entries(alloc, text, net, entries)?)
 }
 
 /// The text of the trace of a run's book alone.

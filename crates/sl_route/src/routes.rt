@@ -46,10 +46,8 @@ impl Routes {
     pub fn make(alloc: Global, net: &Net) -> Result<Routes, Memory>
         ensures { IfOk result (λ routes. IsRoutesOf net.now routes) }
     {
-        match all_ways(alloc, net.parts()) {
-            Ok(ways) => Ok(Routes { ways }),
-            Err(_) => Err(Memory),
-        }
+        let ways = all_ways(alloc, net.parts())?;
+        Ok(Routes { ways })
     }
 
     /// The lowest port of a device by which a way with the fewest cables to a host begins, or the

@@ -180,8 +180,8 @@ impl Entries {
         ensures room { OnOk result (0 < self.new.room) }
         ensures credits { OnOk result (0 < self.new.credit_room) }
     {
-        self.past.reserve(1).map_err(|_| Memory)?;
-        self.credits.reserve(1).map_err(|_| Memory)
+        self.past.reserve(1)?;
+        Ok(self.credits.reserve(1)?)
     }
 
     /// Adds an entry, for which there is room.

@@ -130,7 +130,7 @@ impl Slots {
     pub(crate) fn free(alloc: Global, size: u16) -> Result<Slots, Memory>
         ensures { IfOk result (λ slots. slots ≡ replicate size free_slot) }
     {
-        let items = vec![in alloc; Slot::free(); size as usize].map_err(|_| Memory)?;
+        let items = vec![in alloc; Slot::free(); size as usize]?;
         Ok(Slots { items })
     }
 
@@ -154,7 +154,7 @@ impl Slots {
         ensures { IfOk result (λ slots. slots ≡ self.now) }
     {
         let alloc = *self.items.allocator();
-        let items = Vec::from_slice(alloc, &self.items).map_err(|_| Memory)?;
+        let items = Vec::from_slice(alloc, &self.items)?;
         Ok(Slots { items })
     }
 

@@ -5,6 +5,7 @@ use Rattle.sl_layout.specs.declared.actor.ActorId.{ActorId}
 use Rattle.sl_layout.specs.declared.actor.ActorId.TheVariants.{Unit as OfUnit}
 use Rattle.sl_layout.specs.declared.actor.Sort.{Sort}
 use Rattle.sl_layout.specs.declared.actor.Sort.TheVariants.{FromHost, Cable as CableSort, Crossbar as CrossbarSort, Init as InitSort, Poll as PollSort}
+use Rattle.sl_layout.specs.Devices.{device_of}
 use Rattle.sl_net.specs.declared.input.Snapshot.{Snapshot}
 use Rattle.sl_parts.specs.Parts.{below}
 use Rattle.sl_layout.specs.Net.{Net, same_actor, ingress, actor_of, link_of, link_at, links_into, links_from, place_in, data_channels, units}
@@ -23,10 +24,6 @@ side_of _ = None
 -- the unit at a place among the units
 abbrev pub unit_at : Net → ℕ → ActorId
 unit_at net unit = actor_of net (slice_index (units net) unit)
-
-abbrev pub device_of : ActorId → ℕ
-device_of (OfUnit u) = u.device
-device_of _ = 0
 
 -- whether one is the ingress unit of the port of the other
 abbrev pub is_own : ActorId → ActorId → Bool

@@ -4,7 +4,8 @@ ghost use Rattle.std.specs.List.{All};
 ghost use Rattle.sl_layout.specs.Net.{actor_of, choices_of, data_channels, place_in};
 ghost use Rattle.sl_route.specs.Routes.{IsRoutesOf};
 ghost use Rattle.sl_unit.specs.Wires.{IsSmall};
-ghost use Rattle.sl_unit.specs.Made.{side_of, device_of, is_own, entrance, entrances_of, exits_of, ports_of, wires_of};
+ghost use Rattle.sl_layout.specs.Devices.{device_of};
+ghost use Rattle.sl_unit.specs.Made.{side_of, is_own, entrance, entrances_of, exits_of, ports_of, wires_of};
 
 use crate::wires::{Entrance, Exit, Wires};
 use sl_ids::Width;

@@ -27,7 +27,7 @@ fn count_outs(exits: &[Exit], way: Way) -> usize
 fn blank_frame(alloc: Global) -> Result<Bytes, Memory>
     ensures { IfOk result (λ frame. length frame ≡ 24) }
 {
-    let items = vec![in alloc; 0; 24].map_err(|_| Memory)?;
+    let items = vec![in alloc; 0; 24]?;
     Ok(Bytes { items })
 }
 
@@ -44,7 +44,7 @@ pub fn make_frames(wires: &Wires, frames: &mut Vec<Bytes>) -> Result<(), Memory>
     frames.clear();
     let alloc = *frames.allocator();
     for _i in 0..count {
-        frames.push(blank_frame(alloc)?).map_err(|_| Memory)?;
+        frames.push(blank_frame(alloc)?)?;
     }
     Ok(())
 }
@@ -61,8 +61,8 @@ pub fn make_dumps(
     dumps.clear();
     let alloc = *dumps.allocator();
     for _i in 0..count {
-        let dump = Boxed::new(alloc, registers.dump()?).map_err(|_| Memory)?;
-        dumps.push(dump).map_err(|_| Memory)?;
+        let dump = Boxed::new(alloc, registers.dump()?)?;
+        dumps.push(dump)?;
     }
     Ok(())
 }

@@ -89,8 +89,8 @@ impl Unit {
         let width = Width {
             bits: snapshot.width,
         };
-        let ports = list_ports(alloc, net, routes, device).map_err(|_| Memory)?;
-        let wires = make_wires(alloc, net, actor, ports, width).map_err(|_| Memory)?;
+        let ports = list_ports(alloc, net, routes, device)?;
+        let wires = make_wires(alloc, net, actor, ports, width)?;
         Unit::make(alloc, wires, snapshot)
     }
 
@@ -106,7 +106,7 @@ impl Unit {
         let width = Width {
             bits: snapshot.width,
         };
-        let wires = make_wires(alloc, net, actor, Vec::new(alloc), width).map_err(|_| Memory)?;
+        let wires = make_wires(alloc, net, actor, Vec::new(alloc), width)?;
         Unit::make(alloc, wires, snapshot)
     }
 

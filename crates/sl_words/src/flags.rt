@@ -26,7 +26,7 @@ fn name_of(flag: Flag) -> &'static str
 }
 
 /// A command with this option and nothing else, not even help.
-fn make_command<'a>(alloc: Global, flag: Flag) -> Result<Command<'a>, AllocError>
+fn flag_command<'a>(alloc: Global, flag: Flag) -> Result<Command<'a>, AllocError>
     ensures { IfOk result (λ c. app_of c ≡ flag_app flag) }
 {
     let argument = Arg::new(alloc, "flag")
@@ -36,15 +36,6 @@ fn make_command<'a>(alloc: Global, flag: Flag) -> Result<Command<'a>, AllocError
         .no_binary_name(true)
         .disable_help_flag(true)
         .arg(argument)
-}
-
-fn flag_command<'a>(alloc: Global, flag: Flag) -> Result<Command<'a>, Memory>
-    ensures { IfOk result (λ c. app_of c ≡ flag_app flag) }
-{
-    match make_command(alloc, flag) {
-        Ok(command) => Ok(command),
-        Err(_) => Err(Memory),
-    }
 }
 
 /// Whether the words hold the option, or none where they hold something else.

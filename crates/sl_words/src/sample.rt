@@ -33,9 +33,7 @@ fn take_number<'a>(alloc: Global, words: &'a [String]) -> Result<Option<(u8, Vec
         match sample_number(word.as_str()) {
             Some(found) if number.is_none() => number = Some(found),
             _ => {
-                if others.push(word.as_str()).is_err() {
-                    return Err(Memory);
-                }
+                others.push(word.as_str())?;
             }
         }
     }

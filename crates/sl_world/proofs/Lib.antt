@@ -1,3 +1,6 @@
+pub mod TurnLaws
+pub mod BookLaws
+pub mod ShapeLaws
 pub mod MachineLemmas
 pub mod LinkLemmas
 pub mod PlaceLemmas

@@ -1,10 +1,12 @@
 -- A list of machines where one has changed.
 use Rattle.std.proofs.Common.{◌≡◌, ℕ, ◌<◌, List, length, get_or, set, map, ap, sym, ◌∙◌, Some, slice_get}
-use Rattle.std.specs.Prelude.{option_map}
+use Rattle.std.specs.Prelude.{option_map, slice_index}
 use Rattle.std.proofs.lemmas.List.{length-set, get_or-set_same, get_or-map, map-set}
 use Rattle.std.proofs.lemmas.Option.{slice_get-map, slice_get-get_or}
 use Rattle.std.proofs.Math.Seq.{map-set_same}
 use Rattle.sl_machine.specs.Machine.{Counts}
+use Rattle.sl_machine.specs.Plan.{Plan}
+use Rattle.sl_machine.specs.Fit.{HasCounts, counts_at}
 use Rattle.sl_world.specs.Counts.{SameCounts}
 
 pub same_counts : {A : Type 0} (counts : A → Counts) (xs : List A) (k : ℕ) (e v : A) → counts v ≡ counts (get_or xs k e) → SameCounts counts xs (set xs k v)
@@ -42,3 +44,10 @@ meaning_read f xs k e low read = slice_get-map f xs k ∙ ap (option_map f) (sli
 -- and its number
 pub count_read : {A : Type 0} (f : A → ℕ) (xs : List A) (k : ℕ) (e : A) → k < length xs → e ≡ get_or xs k e → get_or (map f xs) k 0 ≡ f e
 count_read f xs k e low read = get_or-map f xs k e 0 low ∙ ap f (sym read)
+
+-- a machine that was read has its actor's three numbers
+pub counts_read : {A : Type 0} (counts : A → Counts) (plan : Plan) (xs : List A) (k : ℕ) (e : A) → HasCounts counts plan xs → k < length xs → e ≡ get_or xs k e → counts e ≡ counts_at plan k
+counts_read {A} counts plan xs k e fit low read = λ i. record { ins = at (λ a. (counts a).ins) plan.ins fit.ins_are i; outs = at (λ a. (counts a).outs) plan.outs fit.outs_are i; actions = at (λ a. (counts a).actions) plan.actions fit.actions_are i }
+  where
+    at : (f : A → ℕ) (ns : List ℕ) → map f xs ≡ ns → f e ≡ slice_index ns k
+    at f ns is = ap f read ∙ sym (get_or-map f xs k e 0 low) ∙ ap (λ ns. slice_index ns k) is

@@ -1,12 +1,12 @@
 -- Marks of the links that have a message.
-use Rattle.std.proofs.Common.{◌≡◌, ℕ, ◌+◌, ◌<◌, ◌↔◌, ◌++◌, List, [], ◌∷◌, length, get_or, set, refl, ap, sym, ◌∙◌, arith, Bool, true, false, inl, inr}
+use Rattle.std.proofs.Common.{◌≡◌, ℕ, ◌<◌, ◌↔◌, List, [], length, get_or, set, refl, ap, sym, ◌∙◌, arith, Bool, true, false, inl, inr}
 use Rattle.std.specs.Prelude.{IsTrue, not}
 use Rattle.std.proofs.lemmas.Bool.{cases_eq}
-use Rattle.std.proofs.lemmas.List.{map-set, length-set, length_push, get_or_push, get_or_append_left, get_or-set_same, get_or-set_other}
+use Rattle.std.proofs.lemmas.List.{map-set, length-set, get_or-set_same, get_or-set_other}
 use Rattle.sl_world.specs.Scene.{line_at, empty_line}
 use Rattle.sl_world.specs.LineView.{LineView}
 use Rattle.sl_world.specs.Mesh.{lines_of}
-use Rattle.sl_world.specs.Marks.{MarksFirst, IsMarked}
+use Rattle.sl_world.specs.Marks.{IsMarked}
 use Rattle.sl_world.proofs.RoomLemmas.{line_is, length_same}
 
 -- a mark that tells of a list whether it has elements
@@ -47,21 +47,3 @@ pub marked-same : {M : Type 0} (old new : List (LineView M)) (filled : List Bool
 marked-same old new filled same marked =
     let long : length new ≡ length old = length_same old new same in
     record { each = marked.each ∙ sym long; is = λ j h. rw same (marked.is j (omega arith)) }
-
--- one mark more
-pub marks-push : {M : Type 0} (views : List (LineView M)) (filled : List Bool) (n : ℕ) (e : LineView M) (b empty : Bool) → MarksFirst views n filled → n < length views → e ≡ get_or views n e → b ≡ not empty → (IsTrue empty ↔ (e.line.queue ≡ [])) → MarksFirst views (n + 1) (filled ++ b ∷ [])
-marks-push views filled n e b empty marks low read is holds =
-    record {
-      each = length_push filled b ∙ ap (λ (i : ℕ). i + 1) marks.each;
-      is = λ j h.
-          elim (cases_eq j n) [
-            | inl same ↦
-                let here : line_at (lines_of views) j ≡ e.line = ap (line_at (lines_of views)) same ∙ line_is views n e low read in
-                let there : get_or (filled ++ b ∷ []) j false ≡ b = get_or_push filled b false j (marks.each ∙ sym same) in
-                rw (here, there) (mark b empty e.line.queue is holds)
-            | inr other ↦
-                let before : j < n = omega arith in
-                let there : get_or (filled ++ b ∷ []) j false ≡ get_or filled j false = get_or_append_left filled (b ∷ []) false j (omega (arith, marks.each)) in
-                rw there (marks.is j before)
-          ];
-    }

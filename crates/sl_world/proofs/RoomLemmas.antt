@@ -1,17 +1,17 @@
 -- Room on links.
-use Rattle.std.proofs.Common.{◌≡◌, ◌≢◌, ℕ, zero, suc, ◌+◌, ◌<◌, ◌≤◌, List, [], ◌∷◌, length, get_or, set, refl, ap, sym, ◌∙◌, subst, arith, Bool, true, false, inl, inr}
+use Rattle.std.proofs.Common.{◌≡◌, ◌≢◌, ℕ, zero, suc, ◌+◌, ◌<◌, List, [], ◌∷◌, length, get_or, set, refl, ap, sym, ◌∙◌, subst, arith, Bool, true, false, inl, inr}
 use Rattle.std.specs.Prelude.{slice_index, All}
 use Rattle.std.proofs.lemmas.Bool.Decides.{nat_tests}
 use Rattle.std.proofs.lemmas.Bool.{cases_eq}
-use Rattle.std.proofs.lemmas.List.{map-set, length-map, length-set, get_or_read, get_or-map, get_or-set_same, get_or-set_other}
+use Rattle.std.proofs.lemmas.List.{map-set, length-map, length-set, get_or-map, get_or-set_same, get_or-set_other}
 use Rattle.std.proofs.Math.Seq.{map-set_same}
 use Rattle.sl_machine.specs.declared.wiring.Link.{Link}
 use Rattle.sl_machine.specs.Machine.{puts_on, is_fitting}
 use Rattle.sl_machine.specs.Plan.{Plan, IsSound, link_out, link_at}
 use Rattle.sl_world.specs.Scene.{Line, empty_line, line_at, line_put, put_at, put_each}
-use Rattle.sl_world.specs.Keeping.{length-put_each}
+use Rattle.sl_world.proofs.ShapeLaws.{length-put_each}
 use Rattle.sl_world.specs.LineView.{LineView}
-use Rattle.sl_world.specs.Mesh.{lines_of, no_view, room_at, HasRoom, KeepsRoom, KeepsSomeRoom, HasRoomFor, IsElsewhere}
+use Rattle.sl_world.specs.Mesh.{lines_of, room_at, HasRoom, KeepsRoom, KeepsSomeRoom, HasRoomFor, IsElsewhere}
 use Rattle.sl_world.specs.Places.{place_of, Leads}
 use Rattle.sl_world.specs.declared.places.Places.{Places}
 
@@ -28,20 +28,6 @@ lines_of-put {M} views k e new m low put =
 pub line_is : {M : Type 0} (views : List (LineView M)) (k : ℕ) (e : LineView M) → k < length views → e ≡ get_or views k e → line_at (lines_of views) k ≡ e.line
 line_is views k e low read = get_or-map (λ v. v.line) views k e empty_line low ∙ sym (ap (λ v. v.line) read)
 
--- a write that takes away no room
-pub KeepsRoom-set : {M : Type 0} (views : List (LineView M)) (k : ℕ) (e new : LineView M) → k < length views → e ≡ get_or views k e → e.room ≤ new.room → KeepsRoom views (set views k new)
-KeepsRoom-set views k e new low read more j =
-    elim (cases_eq j k) [
-      | inl same ↦
-          let is : e ≡ get_or views k no_view = get_or_read views k e low read no_view in
-          let old : room_at views j ≡ e.room = ap (room_at views) same ∙ sym (ap (λ v. v.room) is) in
-          let here : room_at (set views k new) j ≡ new.room = ap (room_at (set views k new)) same ∙ ap (λ v. v.room) (get_or-set_same views k new no_view low) in
-          omega arith
-      | inr other ↦
-          let same : room_at (set views k new) j ≡ room_at views j = ap (λ v. v.room) (get_or-set_other views k j new no_view other) in
-          omega arith
-    ]
-
 -- a change of one link that leaves it some room
 pub some_room_kept : {M : Type 0} (old new : List (LineView M)) (k : ℕ) → 0 < room_at new k → ((j : ℕ) → j ≢ k → room_at new j ≡ room_at old j) → KeepsSomeRoom old new
 some_room_kept old new k some others j room =
@@ -49,12 +35,6 @@ some_room_kept old new k some others j room =
       | inl same ↦ subst (λ (i : ℕ). 0 < room_at new i) (sym same) some
       | inr other ↦ omega (arith, others j other)
     ]
-
-pub room_at-set_same : {M : Type 0} (views : List (LineView M)) (k : ℕ) (new : LineView M) → k < length views → room_at (set views k new) k ≡ new.room
-room_at-set_same views k new low = ap (λ v. v.room) (get_or-set_same views k new no_view low)
-
-pub room_at-set_other : {M : Type 0} (views : List (LineView M)) (k j : ℕ) (new : LineView M) → j ≢ k → room_at (set views k new) j ≡ room_at views j
-room_at-set_other views k j new other = ap (λ v. v.room) (get_or-set_other views k j new no_view other)
 
 -- room on one link more
 pub room_more : {M : Type 0} (place : ℕ → ℕ) (old new : List (LineView M)) (n k : ℕ) → k ≡ place n → KeepsRoom old new → 0 < room_at new k → ((o : ℕ) → o < n → 0 < room_at old (place o)) → (o : ℕ) → o < n + 1 → 0 < room_at new (place o)

@@ -7,8 +7,8 @@ use Rattle.std.proofs.lemmas.List.{length_push, take_more}
 use Rattle.sl_machine.specs.Machine.{Rules}
 use Rattle.sl_machine.specs.Plan.{link_in}
 use Rattle.sl_world.specs.Scene.{Scene, Line, empty_line, line_at, take_first, take_turn, turn_of, after_turn, after_all, entry_after, FindsNothing}
-use Rattle.sl_world.specs.Laws.{turn_is}
-use Rattle.sl_world.specs.Legal.{book_after}
+use Rattle.sl_world.proofs.TurnLaws.{turn_is}
+use Rattle.sl_world.proofs.BookLaws.{book_after}
 
 -- a turn keeps the plan, and adds at most one entry
 pub record Keeps {S M : Type 0} (w v : Scene S M) : Type 0 where

@@ -3,7 +3,6 @@ pub mod LineView
 pub mod Mesh
 pub mod Marks
 pub mod Places
-pub mod Laws
 pub mod Counts
 pub mod World
 pub mod Legal

@@ -6,7 +6,8 @@ use Rattle.sl_machine.specs.Machine.{After, Rules}
 use Rattle.sl_machine.specs.Plan.{Plan, link_in, link_out}
 use Rattle.sl_machine.specs.declared.wiring.Link.{Link}
 use Rattle.sl_machine.specs.declared.wiring.Entry.{Entry}
-use Rattle.sl_loss.specs.Loss.{Loss, loses_next, after_put, one_more}
+use Rattle.sl_machine.specs.Counting.{one_more}
+use Rattle.sl_loss.specs.Loss.{Loss, loses_next, after_put}
 
 -- a link: the messages on it, its loss where it has one, and how many puts it lost
 pub record Line (M : Type 0) : Type 0 where

@@ -20,10 +20,7 @@ pub fn make_room(entries: &mut Vec<Entry>) -> Result<(), Memory>
     ensures entries { entries.new.items ≡ entries.old.items }
     ensures room { OnOk result (vec_len entries.new < vec_capacity entries.new) }
 {
-    match entries.reserve(1) {
-        Ok(()) => Ok(()),
-        Err(_) => Err(Memory),
-    }
+    Ok(entries.reserve(1)?)
 }
 
 /// Adds a turn, with the next number.

@@ -69,10 +69,7 @@ impl<M: Drop> Line<M> {
         ensures room { OnOk result (0 < self.new.room) }
         ensures keeps { self.old.room ≤ self.new.room }
     {
-        match self.queue.reserve(1) {
-            Ok(()) => Ok(()),
-            Err(_) => Err(Memory),
-        }
+        Ok(self.queue.reserve(1)?)
     }
 
     /// Puts a message at the end, unless the loss takes it. Then it makes room for one more where

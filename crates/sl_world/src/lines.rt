@@ -97,9 +97,7 @@ fn marks<M: Drop>(alloc: Global, lines: &[Line<M>]) -> Result<Vec<bool>, Memory>
 {
     let mut filled = Vec::new(alloc);
     for line in lines {
-        if filled.push(!line.is_empty()).is_err() {
-            return Err(Memory);
-        }
+        filled.push(!line.is_empty())?;
     }
     Ok(filled)
 }

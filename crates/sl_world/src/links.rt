@@ -47,9 +47,7 @@ impl<M: Drop> Links<M> {
         let outs = outgoing_places(alloc, wiring)?;
         let wiring = copy_wiring(alloc, wiring)?;
         let lines = Lines::new(alloc, lines)?;
-        let Ok(roomy) = vec![in alloc; false; wiring.in_counts.len()] else {
-            return Err(Memory);
-        };
+        let roomy = vec![in alloc; false; wiring.in_counts.len()]?;
         Ok(Links {
             wiring,
             ins,

@@ -18,9 +18,7 @@ pub fn make_lines<M: Drop>(alloc: Global, losses: Vec<Option<Loss>>) -> Result<V
 {
     let mut lines = Vec::new(alloc);
     for loss in losses {
-        if lines.push(Line::new(alloc, loss)).is_err() {
-            return Err(Memory);
-        }
+        lines.push(Line::new(alloc, loss))?;
     }
     Ok(lines)
 }
@@ -40,9 +38,7 @@ pub fn lines_with<M: Drop>(
     for link in 0..lost.len() {
         let rest = mem::replace(&mut rests[link], Vec::new(alloc));
         let line = Line::with(losses[link].take(), lost[link], rest);
-        if lines.push(line).is_err() {
-            return Err(Memory);
-        }
+        lines.push(line)?;
     }
     Ok(lines)
 }
@@ -72,10 +68,7 @@ pub fn incoming_places(alloc: Global, wiring: &Wiring) -> Result<Places, Memory>
 fn incoming_pairs(alloc: Global, links: &[Link]) -> Result<Vec<(u32, u32)>, Memory>
     ensures { IfOk result (λ v. v.items ≡ incoming links.now) }
 {
-    match links.iter().map(|l| (l.to, l.choice)).collect(alloc) {
-        Ok(pairs) => Ok(pairs),
-        Err(_) => Err(Memory),
-    }
+    Ok(links.iter().map(|l| (l.to, l.choice)).collect(alloc)?)
 }
 
 /// For each actor, the links that go from it by their numbers.
@@ -90,32 +83,17 @@ pub fn outgoing_places(alloc: Global, wiring: &Wiring) -> Result<Places, Memory>
 fn outgoing_pairs(alloc: Global, links: &[Link]) -> Result<Vec<(u32, u32)>, Memory>
     ensures { IfOk result (λ v. v.items ≡ outgoing links.now) }
 {
-    match links.iter().map(|l| (l.from, l.out)).collect(alloc) {
-        Ok(pairs) => Ok(pairs),
-        Err(_) => Err(Memory),
-    }
+    Ok(links.iter().map(|l| (l.from, l.out)).collect(alloc)?)
 }
 
 /// A copy of a wiring.
 pub fn copy_wiring(alloc: Global, wiring: &Wiring) -> Result<Wiring, Memory>
     ensures { IfOk result (λ w. w ≡ wiring.now) }
 {
-    let Ok(links) = Vec::from_slice(alloc, wiring.links.as_slice()) else {
-        return Err(Memory);
-    };
-    let Ok(in_counts) = Vec::from_slice(alloc, wiring.in_counts.as_slice()) else {
-        return Err(Memory);
-    };
-    let Ok(out_counts) = Vec::from_slice(alloc, wiring.out_counts.as_slice()) else {
-        return Err(Memory);
-    };
-    let Ok(action_counts) = Vec::from_slice(alloc, wiring.action_counts.as_slice()) else {
-        return Err(Memory);
-    };
     Ok(Wiring {
-        links,
-        in_counts,
-        out_counts,
-        action_counts,
+        links: Vec::from_slice(alloc, wiring.links.as_slice())?,
+        in_counts: Vec::from_slice(alloc, wiring.in_counts.as_slice())?,
+        out_counts: Vec::from_slice(alloc, wiring.out_counts.as_slice())?,
+        action_counts: Vec::from_slice(alloc, wiring.action_counts.as_slice())?,
     })
 }

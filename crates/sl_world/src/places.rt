@@ -54,18 +54,14 @@ impl Places {
         let mut starts = Vec::new(alloc);
         let mut end: usize = 0;
         for count in counts {
-            let Ok(()) = starts.push(end) else {
-                return Err(Memory);
-            };
+            starts.push(end)?;
             // no memory holds a table that is longer
             let Some(next) = end.checked_add(*count as usize) else {
                 return Err(Memory);
             };
             end = next;
         }
-        match vec![in alloc; 0; end] {
-            Ok(places) => Ok(Places { starts, places }),
-            Err(_) => Err(Memory),
-        }
+        let places = vec![in alloc; 0; end]?;
+        Ok(Places { starts, places })
     }
 }

@@ -1,7 +1,7 @@
 // The world: machines, the links between them, and the book of the turns that did something.
 ghost use Rattle.std.specs.Prelude.{◌≡◌, ◌≢◌, ◌+◌, ◌<◌, ◌≤◌, ◌^◌, ℕ, [], Some, None, Ok, length, map, slice_get, slice_index, slice_index_or, IsTrue, IfOk, OnOk, OnErr, All, true, false};
 ghost use Rattle.sl_machine.specs.Plan.{HasChoice, IsSound, link_in};
-ghost use Rattle.sl_machine.specs.Fit.{ins_of, actions_of, HasCounts, Fits};
+ghost use Rattle.sl_machine.specs.Fit.{ins_of, actions_of, counts_at, HasCounts, Fits};
 ghost use Rattle.sl_loss.specs.Loss.{IsFresh};
 ghost use Rattle.sl_world.specs.Counts.{SameCounts};
 ghost use Rattle.sl_world.specs.Scene.{last_number, line_at, lines_with};
@@ -36,6 +36,7 @@ pub struct World<A: Machine> {
     ghost clear: { length out.items ≡ 0 },
     ghost space: { (k : ℕ) → slice_index links.plan.outs k ≤ out.room },
     ghost numbered: { last_number book.entries ≤ length book.entries },
+    ghost low: { All (λ e. e.number ≤ length book.entries) book.entries },
 }
 
 impl<A: Machine> World<A> {
@@ -93,7 +94,7 @@ impl<A: Machine> World<A> {
         requires sound { IsSound wiring.now }
         requires machines { HasCounts A.counts wiring.now machines.items }
         requires lines { length lines.items ≡ length wiring.now.links }
-        requires numbers { last_number book.entries ≤ length book.entries }
+        requires numbers { All (λ e. e.number ≤ length book.entries) book.entries }
         ensures { IfOk result (λ w. scene w ≡ record { plan = wiring.now; states = map A.state machines.items; lines = lines_of lines.items; book = book.entries }) }
     {
         let out = Outputs::with_room(alloc, greatest(wiring.out_counts.as_slice()))?;
@@ -106,10 +107,11 @@ impl<A: Machine> World<A> {
         })
     }
 
-    /// The machine of an actor.
+    /// The machine of an actor. It has that actor's three numbers.
     pub fn machine(&self, actor: u32) -> &A
         requires { actor < length (scene self.now).states }
-        ensures { slice_get (scene self.now).states actor ≡ Some (A.state result.now) }
+        ensures state { slice_get (scene self.now).states actor ≡ Some (A.state result.now) }
+        ensures counts { A.counts result.now ≡ counts_at (scene self.now).plan actor }
     {
         &self.machines[actor as usize]
     }
@@ -129,10 +131,13 @@ impl<A: Machine> World<A> {
         &self.book
     }
 
-    /// The machines and the book.
+    /// The machines and the book. Each machine has its actor's three numbers, and no number of the
+    /// book is above that of its entries: so `resume` can go on from them.
     pub fn into_book(self) -> (Vec<A>, Book)
         ensures machines { map A.state result.0.items ≡ (scene self).states }
+        ensures counts { HasCounts A.counts (scene self).plan result.0.items }
         ensures book { result.1.entries ≡ (scene self).book }
+        ensures numbers { All (λ e. e.number ≤ length result.1.entries) result.1.entries }
     {
         (self.machines, self.book)
     }

@@ -1,7 +1,7 @@
 -- The wirings of the tests are sound.
 use Rattle.std.proofs.Common.{◌≡◌, ℕ, zero, suc, ◌+◌, ◌^◌, ◌<◌, refl, arith}
 use Rattle.std.specs.Prelude.{slice_index}
-use Rattle.sl_machine.specs.Plan.{HasChoice, IsSound, link_at, link_in, link_out}
+use Rattle.sl_machine.specs.Plan.{IsSound, link_at, link_in, link_out}
 use Rattle.world_tests.specs.Plans.{ring, in_line}
 
 one : (P : ℕ → Type 0) → P 0 → (o : ℕ) → o < 1 → P o
@@ -42,11 +42,6 @@ ring_is_sound =
       each_in = λ a c low.
           of_two (λ a. c < slice_index ring.ins a → link_in ring.links a c < 2) (one (λ c. link_in ring.links 0 c < 2) (omega arith) c) (one (λ c. link_in ring.links 1 c < 2) (omega arith) c) a low;
     }
-
--- each of its actors has two choices
-pub ring_has : (a c : ℕ) → a < 2 → c < 2 → HasChoice ring a c
-ring_has a c low below =
-    record { actor_below = low; choice_below = of_two (λ a. c < slice_index ring.ins a + slice_index ring.actions a) below below a low }
 
 pub line_is_sound : IsSound in_line
 line_is_sound =

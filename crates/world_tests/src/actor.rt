@@ -26,20 +26,14 @@ fn line_wiring(alloc: Global) -> Result<Wiring, AllocError>
 /// The first host has three tokens, and the relays' link loses these puts.
 fn actors_in_line(alloc: Global, drops: &[u64]) -> Result<Vec<Actor<Relay>>, Memory> {
     let loss = Loss::new(alloc, 1, 1, 0, drops)?;
-    let Ok(wiring) = line_wiring(alloc) else {
-        return Err(Memory);
-    };
-    let Ok(machines) = vec![in alloc;
+    let wiring = line_wiring(alloc)?;
+    let machines = vec![in alloc;
         Relay::new(0, 1, 1, 3),
         Relay::new(1, 1, 0, 0),
         Relay::new(1, 1, 0, 0),
         Relay::new(1, 0, 0, 0),
-    ] else {
-        return Err(Memory);
-    };
-    let Ok(losses) = vec![in alloc; None, Some(loss), None] else {
-        return Err(Memory);
-    };
+    ]?;
+    let losses = vec![in alloc; None, Some(loss), None]?;
     make_actors(alloc, machines, &wiring, losses, 1)
 }
 
@@ -125,9 +119,7 @@ fn run_all<R: Wait>(
     let mut plan = Vec::new(alloc);
     let choices = choices_of(actor);
     for choice in 0..choices {
-        if plan.push(choice).is_err() {
-            return Err(Memory);
-        }
+        plan.push(choice)?;
     }
     actor.run(rt, plan.as_slice(), steps, 2, &FreeGate)
 }

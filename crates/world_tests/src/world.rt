@@ -1,5 +1,5 @@
 // A world of two machines in a ring, turn by turn.
-ghost use Rattle.std.specs.Prelude.{◌≡◌, ◌≤◌, length, IfOk, All};
+ghost use Rattle.std.specs.Prelude.{◌≡◌, ◌<◌, ◌≤◌, ◌^◌, length, IfOk, All};
 ghost use Rattle.sl_world.specs.World.{scene};
 ghost use Rattle.world_tests.specs.Plans.{ring};
 
@@ -26,15 +26,9 @@ fn ring_world(alloc: Global) -> Result<World<Relay>, Memory>
     ensures { IfOk result (λ w. (scene w).plan ≡ ring) }
 {
     let loss = Loss::new(alloc, 1, 0, 0, &[2])?;
-    let Ok(wiring) = ring_wiring(alloc) else {
-        return Err(Memory);
-    };
-    let Ok(machines) = vec![in alloc; Relay::new(1, 1, 1, 2), Relay::new(1, 1, 1, 0)] else {
-        return Err(Memory);
-    };
-    let Ok(losses) = vec![in alloc; Some(loss), None] else {
-        return Err(Memory);
-    };
+    let wiring = ring_wiring(alloc)?;
+    let machines = vec![in alloc; Relay::new(1, 1, 1, 2), Relay::new(1, 1, 1, 0)]?;
+    let losses = vec![in alloc; Some(loss), None]?;
     World::new(alloc, machines, &wiring, losses)
 }
 
@@ -151,29 +145,17 @@ fn ring_later(alloc: Global, rest: Vec<u32>) -> Result<World<Relay>, Memory>
     ensures plan { IfOk result (λ w. (scene w).plan ≡ ring) }
     ensures states { IfOk result (λ w. length (scene w).states ≡ 2) }
 {
-    let Ok(wiring) = ring_wiring(alloc) else {
-        return Err(Memory);
-    };
-    let Ok(machines) = vec![in alloc; Relay::new(1, 1, 1, 0), Relay::new(1, 1, 1, 0)] else {
-        return Err(Memory);
-    };
-    let Ok(losses) = vec![in alloc; None, None] else {
-        return Err(Memory);
-    };
-    let Ok(lost) = vec![in alloc; 7, 0] else {
-        return Err(Memory);
-    };
-    let Ok(rests) = vec![in alloc; rest, Vec::new(alloc)] else {
-        return Err(Memory);
-    };
+    let wiring = ring_wiring(alloc)?;
+    let machines = vec![in alloc; Relay::new(1, 1, 1, 0), Relay::new(1, 1, 1, 0)]?;
+    let losses = vec![in alloc; None, None]?;
+    let lost = vec![in alloc; 7, 0]?;
+    let rests = vec![in alloc; rest, Vec::new(alloc)]?;
     let first = Entry {
         number: 1,
         actor: 0,
         choice: 1,
     };
-    let Ok(entries) = vec![in alloc; first] else {
-        return Err(Memory);
-    };
+    let entries = vec![in alloc; first]?;
     World::resume(
         alloc,
         machines,
@@ -182,6 +164,24 @@ fn ring_later(alloc: Global, rest: Vec<u32>) -> Result<World<Relay>, Memory>
         lost,
         rests,
         Book { entries },
+    )
+}
+
+/// The ring that goes on from the machines and the book of another, with nothing on its links.
+fn ring_again(alloc: Global, world: World<Relay>) -> Result<World<Relay>, Memory>
+    requires plan { (scene world).plan ≡ ring }
+    requires book { length (scene world).book < 2 ^ 40 }
+    ensures { IfOk result (λ w. (scene w).plan ≡ ring) }
+{
+    let (machines, book) = world.into_book();
+    World::resume(
+        alloc,
+        machines,
+        &ring_wiring(alloc)?,
+        vec![in alloc; None, None]?,
+        vec![in alloc; 0, 0]?,
+        vec![in alloc; Vec::new(alloc), Vec::new(alloc)]?,
+        book,
     )
 }
 
@@ -215,6 +215,30 @@ fn a_world_goes_on(rt: HostRuntime) -> Result<(), Fail> {
     let rest = vec![in rt.alloc(); 4, 3]?;
     let mut world = ring_later(rt.alloc(), rest)?;
     let right = goes_on(&mut world)?;
+    assert!(rt; right);
+    Ok(())
+}
+
+/// Whether a world that goes on from what the ring gives after its first turn sends the second
+/// token, the last one, and goes on with the book.
+fn goes_on_again(alloc: Global, mut world: World<Relay>) -> Result<bool, Fail>
+    requires { (scene world).plan ≡ ring }
+{
+    let first = turn(&mut world, 0, 1)?;
+    if world.book().entries.len() > 100 {
+        return Err("too many turns".into());
+    }
+    let mut again = ring_again(alloc, world)?;
+    let second = turn(&mut again, 0, 1)?;
+    let third = turn(&mut again, 0, 1)?;
+    let did = first == Turn::Did && second == Turn::Did && third == Turn::Idle;
+    Ok(did && has_numbers(again.book(), &[1, 2]))
+}
+
+#[test]
+fn a_world_goes_on_from_another(rt: HostRuntime) -> Result<(), Fail> {
+    let world = ring_world(rt.alloc())?;
+    let right = goes_on_again(rt.alloc(), world)?;
     assert!(rt; right);
     Ok(())
 }

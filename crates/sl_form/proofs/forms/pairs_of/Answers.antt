@@ -8,7 +8,7 @@ loop-left-preserved c =
     let left = c.loop-left.left.now in
     let e : byte_of (get_or left 0 0) (get_or left 1 0) ≡ Some c.in-Some.byte = sym c.byte_of.ensures ∙ c.in-Some.is in
     let m = pairs_more left c.loop-left.bytes.items c.in-Some.byte c.loop-left-test.true e in
-    let p : c.push.new.bytes.items ≡ c.loop-left.bytes.items ++ c.in-Some.byte ∷ [] = c.in_ok-push-in-Some.ensures in
+    let p : c.push.new.self.items ≡ c.loop-left.bytes.items ++ c.in-Some.byte ∷ [] = c.in_ok-push-in-Some.ensures.items in
     let r : c.past_pair-left.result.now ≡ drop 2 left = c.past_pair-left.ensures in
     record {
       value = cc;

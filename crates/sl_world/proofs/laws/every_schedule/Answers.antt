@@ -1,5 +1,5 @@
-use Rattle.sl_world.specs.Legal.{run_of-kept, book-after_all}
-use Rattle.sl_world.specs.Keeping.{same_shape}
+use Rattle.sl_world.proofs.BookLaws.{run_of-kept, book-after_all}
+use Rattle.sl_world.proofs.ShapeLaws.{same_shape}
 use Rattle.sl_world.proofs.laws.every_schedule.Goals as goal
 
 pub returns : goal.returns

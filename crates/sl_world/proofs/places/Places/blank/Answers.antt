@@ -7,4 +7,4 @@ loop-count-init c = record { long = ap length c.new-starts.ensures.items; end = 
 
 pub loop-count-preserved : goal.loop-count-preserved
 loop-count-preserved c =
-    started_more c.loop-count.starts.items _ c.args.counts.now c.loop-count.count-index c.loop-count.end c.in-Some.next c.in-Ok.ensures.items c.loop-count.invariant.long c.loop-count-test.true c.loop-count.invariant.end (c.in-Some.ensures).1 c.loop-count.invariant.starts
+    started_more c.loop-count.starts.items _ c.args.counts.now c.loop-count.count-index c.loop-count.end c.in-Some.next c.in_ok-push.ensures.items c.loop-count.invariant.long c.loop-count-test.true c.loop-count.invariant.end (c.in-Some.ensures).1 c.loop-count.invariant.starts

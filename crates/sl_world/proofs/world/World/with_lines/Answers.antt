@@ -3,6 +3,7 @@ use Rattle.std.specs.Prelude.{slice_index}
 use Rattle.std.proofs.lemmas.Result.{IfOk-from_err}
 use Rattle.sl_machine.specs.Fit.{HasCounts}
 use Rattle.sl_world.specs.Mesh.{lines_of}
+use Rattle.sl_world.proofs.BookLaws.{last_low}
 use Rattle.sl_world.proofs.TurnLemmas.{same_is}
 use Rattle.sl_world.proofs.world.World.with_lines.Goals as goal
 
@@ -25,7 +26,8 @@ invariant_of-result g c =
       machines_fit = subst (λ p. HasCounts g.A.Machine.counts p c.args.machines.items) (sym plan) c.requires.machines;
       clear = ap length c.in_ok-out.ensures.items;
       space = λ k. rw (plan, c.in_ok-out.ensures.room) (subst (λ xs. slice_index xs k ≤ c.greatest.result) (c.as_slice.ensures.value ∙ ap (λ p. p.outs) c.wiring.view_is) (c.greatest.ensures k));
-      numbered = c.requires.numbers;
+      numbered = last_low c.args.book.entries _ c.requires.numbers;
+      low = c.requires.numbers;
     }
 
 pub returns : goal.returns

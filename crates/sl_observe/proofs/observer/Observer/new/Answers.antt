@@ -1,7 +1,7 @@
 use Rattle.std.proofs.Common.{◌≡◌, subst, length, arith}
 use Rattle.sl_observe.specs.Kept.{HaveSpans, states}
 use Rattle.sl_observe.proofs.UnitLists.{first_kept}
-use Rattle.sl_observe.proofs.observer.make.Goals as goal
+use Rattle.sl_observe.proofs.observer.Observer.new.Goals as goal
 
 pub invariant_of-result : goal.invariant_of-result
 invariant_of-result c =

@@ -1,8 +1,10 @@
-// Tests of the top call and of the words of the command line.
+// Tests of the top call, of the words of the command line, and of calls below the top call.
 #![tactic(auto)]
 
 #[cfg(test)]
 mod app;
+#[cfg(test)]
+mod calls;
 #[cfg(test)]
 mod rows;
 #[cfg(test)]

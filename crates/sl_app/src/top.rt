@@ -8,8 +8,8 @@ ghost use Rattle.sl_app.specs.Ends.{reading, writing, texts_of, reads, TellsFaul
 use crate::ended::{Ended, Refusal};
 use crate::run::{Served, only_text, serve_routes, serve_run};
 use crate::sample::sample_bytes;
-use sl_model::input_bounds_are_small;
 use sl_io::{ReadFault, Sink, Source, read_all, write_all};
+use sl_model::input_bounds_are_small;
 use sl_net::Input;
 use sl_proto::passes_are_choices;
 use sl_read::{InputFault, read_input};

@@ -60,11 +60,11 @@ abbrev pub rows_of : PlainDump → Known → List (ℕ × Saved)
 rows_of d r = map (row d.view d.id) (new_numbers d r)
 
 -- for an ingress unit its control plane's last-seen id counts too
-abbrev pub floor_of : PlainDump → Known → ℕ
-floor_of d r = if r.wires.ingress then min (reached_by d r) d.cpu else reached_by d r
+abbrev pub dump_floor : PlainDump → Known → ℕ
+dump_floor d r = if r.wires.ingress then min (reached_by d r) d.cpu else reached_by d r
 
 abbrev pub done_of : PlainDump → Known → Done
-done_of d r = record { unit = r.wires.place; id = d.id; last = seen_on r.wires.channels d.last; floor = floor_of d r; rows = rows_of d r }
+done_of d r = record { unit = r.wires.place; id = d.id; last = seen_on r.wires.channels d.last; floor = dump_floor d r; rows = rows_of d r }
 
 -- what it knows after a dump
 abbrev pub answered : PlainDump → Known → Known

@@ -2,7 +2,7 @@
 ghost use Rattle.std.specs.Prelude.{◌≡◌, ◌≤◌, ◌<◌, ◌++◌, ◌+◌, length, [], ◌∷◌, if◌then◌else◌};
 ghost use Rattle.std.specs.Bool.{OnTrue};
 ghost use Rattle.std.specs.Vec.{vec_capacity};
-ghost use Rattle.sl_control.specs.Control.{asked, poll_by, is_asked, ask_by, ask_puts, answered, reached_by, floor_of, is_read, rows_of, done_of, answer_by};
+ghost use Rattle.sl_control.specs.Control.{asked, poll_by, is_asked, ask_by, ask_puts, answered, reached_by, dump_floor, is_read, rows_of, done_of, answer_by};
 
 use crate::rows::{is_sized, read_rows, seen_on};
 use sl_machine::Outputs;
@@ -91,7 +91,7 @@ impl Known {
     }
 
     fn floor_of(&self, dump: &PlainDump) -> u64
-        ensures { result ≡ floor_of dump.now self.now }
+        ensures { result ≡ dump_floor dump.now self.now }
     {
         let reached = self.reached_by(dump);
         if self.wires.ingress {

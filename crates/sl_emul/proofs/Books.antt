@@ -5,7 +5,6 @@ use Rattle.std.proofs.Math.Seq.{take-append_seam, drop-append_seam}
 use Rattle.sl_machine.specs.declared.wiring.Entry.{Entry as BookEntry}
 use Rattle.sl_machine.specs.Plan.{IsSound}
 use Rattle.sl_parts.specs.Parts.{numbers_from}
-use Rattle.sl_layout.specs.Net.{Net}
 use Rattle.sl_net.specs.Input.{Input}
 use Rattle.sl_net.specs.Wired.{IsNet}
 use Rattle.sl_layout.specs.Wiring.{plan_of}

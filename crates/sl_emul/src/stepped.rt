@@ -7,8 +7,8 @@ ghost use Rattle.sl_proto.specs.Nodes.{node_state};
 ghost use Rattle.sl_proto.specs.Standing.{case_of, StandsFor, HasObserver};
 ghost use Rattle.sl_emul.specs.Run.{CanRun, IsOutcome};
 
-use sl_model::{Findings, cuts_are_consistent, inputs_spare_reliable_links, inputs_are_bounded};
 use sl_machine::{Book, Memory};
+use sl_model::{Findings, cuts_are_consistent, inputs_are_bounded, inputs_spare_reliable_links};
 use sl_net::Input;
 use sl_proto::{
     Node, Taker, books_grow_by_turns, build_world, drive_script, findings, finish, make_losses,

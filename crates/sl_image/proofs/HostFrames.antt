@@ -5,7 +5,6 @@ use Rattle.sl_net.specs.declared.input.Packet.{Packet}
 use Rattle.sl_net.specs.Input.{Input}
 use Rattle.sl_layout.specs.Net.{action_choice}
 use Rattle.sl_flow.specs.Flow.{packets_of}
-use Rattle.sl_wire.specs.Frames.{frame}
 use Rattle.sl_wire.specs.Frames.{plain_frame as wire_frame}
 use Rattle.sl_host.specs.Host.{raws_of}
 use Rattle.sl_host.specs.Host.{frames_of as frames_there}
@@ -15,14 +14,11 @@ use Rattle.sl_model.specs.Setup.{frames_of, setup_of}
 use Rattle.sl_model.specs.World.{world}
 use Rattle.sl_model.proofs.Turns.{start-empty}
 use Rattle.sl_image.specs.HostImage.{host_of}
-
-plain-same : (p : Packet) → wire_frame p ≡ plain_frame p
-unfolding frame plain_frame
-plain-same p = refl
+use Rattle.sl_image.proofs.UnitFrames.{frame-is}
 
 map-each : (ps : List Packet) → map wire_frame ps ≡ map plain_frame ps
 map-each [] = refl
-map-each (p ∷ ps) = let a = plain-same p in let b = map-each ps in λ i. a i ∷ b i
+map-each (p ∷ ps) = let a = frame-is p in let b = map-each ps in λ i. a i ∷ b i
 
 pub frames-same : (i : Input) (h : ℕ) → frames_there i h ≡ frames_of (setup_of i) h
 frames-same i h = ap (λ fs. fs ++ raws_of i.raws h) (map-each (packets_of i.flows h))

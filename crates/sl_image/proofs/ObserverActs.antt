@@ -17,7 +17,7 @@ use Rattle.sl_wire.specs.declared.message.Msg.{Msg}
 use Rattle.sl_wire.specs.declared.message.Msg.TheVariants as wire
 use Rattle.sl_observe.specs.Least.{least as least_there}
 use Rattle.sl_observe.specs.Observer.{ObserverState, observer_act, issue, resend}
-use Rattle.sl_observe.specs.Observer.{floor_of as floor_there, can_issue as can_issue_there, can_resend as can_resend_there, begin_all as begins_there}
+use Rattle.sl_observe.specs.Observer.{register_floor, registers_can_issue, registers_can_resend, begins_out}
 use Rattle.sl_model.specs.declared.message.Message.TheVariants.{Begin as BeginMsg}
 use Rattle.sl_model.specs.declared.message.Put.{Put}
 use Rattle.sl_model.specs.declared.message.Step.{Step}
@@ -39,15 +39,15 @@ use Rattle.sl_image.proofs.ObserverWorlds.{grows-turn, step-choice}
 
 -- The floor and the guards.
 
-pub floor-same : (net : Net) (table : Snapshot) (w : World) → floor_there (observer_of net table w) ≡ floor net w
+pub floor-same : (net : Net) (table : Snapshot) (w : World) → register_floor (observer_of net table w) ≡ floor net w
 floor-same net table w = ap (λ xs. unwrap_or (least_there xs) (issued net (observer w))) (map-map (λ x. x.floor) (λ u. unit_of net u (collected net w u)) (units net))
     ∙ ap (λ o. unwrap_or o (issued net (observer w))) (least-same (floors net w))
 
-issue-same : (s : Setup) (table : Snapshot) (w : World) → IsTableOf s table → can_issue_there (observer_of s.net table w) ≡ can_issue s (floor s.net w) (observer w)
+issue-same : (s : Setup) (table : Snapshot) (w : World) → IsTableOf s table → registers_can_issue (observer_of s.net table w) ≡ can_issue s (floor s.net w) (observer w)
 issue-same s table w f = let e = floor-same s.net table w in let c = f.count in let d = f.window in
     λ i. nat_lt (issued s.net (observer w)) (c i) && nat_le (suc (issued s.net (observer w))) (e i + d i)
 
-resend-same : (s : Setup) (table : Snapshot) (w : World) → IsTableOf s table → can_resend_there (observer_of s.net table w) ≡ can_resend s (floor s.net w) (observer w)
+resend-same : (s : Setup) (table : Snapshot) (w : World) → IsTableOf s table → registers_can_resend (observer_of s.net table w) ≡ can_resend s (floor s.net w) (observer w)
 resend-same s table w f = let e = floor-same s.net table w in let r = f.retries in
     λ i. nat_lt (resent s.net (observer w)) (r i) && nat_lt (e i) (issued s.net (observer w))
 
@@ -69,8 +69,8 @@ each-sent net ring us told k (l ∷ ls) j h = (
 )
 
 begins-sent : (net : Net) (ring : ℕ) (us : ℕ → History) (told : ℕ → ℕ) (k : ℕ) → links_out net 0 BeginSort ≡ links_from net 0
-    → AreSent net ring us 0 told (begin_all net k) (begins_there (length (links_from net 0)) k)
-begins-sent net ring us told k q = subst (λ ls. AreSent net ring us 0 told (send_all (BeginMsg k) ls) (begins_there (length (links_from net 0)) k)) (sym q)
+    → AreSent net ring us 0 told (begin_all net k) (begins_out (length (links_from net 0)) k)
+begins-sent net ring us told k q = subst (λ ls. AreSent net ring us 0 told (send_all (BeginMsg k) ls) (begins_out (length (links_from net 0)) k)) (sym q)
     (each-sent net ring us told k (links_from net 0) 0 (λ i p. out-at net i p ∙ (omega arith)))
 
 -- Actions that are done.
@@ -88,8 +88,8 @@ module _ (s : Setup) (lost : Losses) (table : Snapshot) (es : List Entry) (c rin
   units-stay : map (λ u. unit_of s.net u (collected s.net (world s lost es) u)) (units s.net) ≡ map (λ u. unit_of s.net u (collected s.net (turn s lost (world s lost es) (0, c)) u)) (units s.net)
   units-stay = same-units s table (world s lost es) (turn s lost (world s lost es) (0, c)) step z (grows-turn s lost es (0, c) step x) (λ u i q. ap (option_and_then (done_of (unit_place s.net u))) e)
 
-  sends : (k : ℕ) → step.puts ≡ begin_all s.net k → AreSent s.net ring (λ u. history (turn s lost (world s lost es) (0, c)) u) 0 told step.puts (begins_there (length (links_from s.net 0)) k)
-  sends k q = subst (λ ps. AreSent s.net ring (λ u. history (turn s lost (world s lost es) (0, c)) u) 0 told ps (begins_there (length (links_from s.net 0)) k)) (sym q)
+  sends : (k : ℕ) → step.puts ≡ begin_all s.net k → AreSent s.net ring (λ u. history (turn s lost (world s lost es) (0, c)) u) 0 told step.puts (begins_out (length (links_from s.net 0)) k)
+  sends k q = subst (λ ps. AreSent s.net ring (λ u. history (turn s lost (world s lost es) (0, c)) u) 0 told ps (begins_out (length (links_from s.net 0)) k)) (sym q)
       (begins-sent s.net ring (λ u. history (turn s lost (world s lost es) (0, c)) u) told k all)
 
   issues : step.choice ≡ action_choice s.net 0 → can_issue s (floor s.net (world s lost es)) (observer (world s lost es)) ≡ true → step.puts ≡ begin_all s.net (suc (issued s.net (observer (world s lost es))))
@@ -100,9 +100,9 @@ module _ (s : Setup) (lost : Losses) (table : Snapshot) (es : List Entry) (c rin
       let r : resent s.net (observer w) ≡ resent s.net (observer (turn s lost w (0, c))) = sym (ap (resent s.net) g.same ∙ taken-other (suc (action_choice s.net 0)) step (observer w) (λ p. absurd (omega (arith, p, q)))) in
       let u = units-stay in
       record {
-        after = record { state = record S { issued = suc (issued s.net (observer w)) }; puts = begins_there (length (links_from s.net 0)) (suc (issued s.net (observer w))) };
+        after = record { state = record S { issued = suc (issued s.net (observer w)) }; puts = begins_out (length (links_from s.net 0)) (suc (issued s.net (observer w))) };
         is = ap (λ b. if b then issue S else resend S) (eq-eqb c (action_choice s.net 0) (sym (step-choice s lost w (0, c) step x) ∙ q))
-            ∙ ap (λ b. if b then Some (record { state = record S { issued = suc (issued s.net (observer w)) }; puts = begins_there (length (links_from s.net 0)) (suc (issued s.net (observer w))) }) else None)
+            ∙ ap (λ b. if b then Some (record { state = record S { issued = suc (issued s.net (observer w)) }; puts = begins_out (length (links_from s.net 0)) (suc (issued s.net (observer w))) }) else None)
             (issue-same s table w f ∙ can);
         simulates = record {
           stands = λ i. record { ins = length (links_into s.net 0); outs = length (links_from s.net 0); snapshot = table; issued = k i; resent = r i; units = u i };
@@ -125,9 +125,9 @@ module _ (s : Setup) (lost : Losses) (table : Snapshot) (es : List Entry) (c rin
       let r : suc (resent s.net (observer w)) ≡ resent s.net (observer (turn s lost w (0, c))) = sym (ap (resent s.net) g.same ∙ taken-this (suc (action_choice s.net 0)) step (observer w) q) in
       let u = units-stay in
       record {
-        after = record { state = record S { resent = suc (resent s.net (observer w)) }; puts = begins_there (length (links_from s.net 0)) (issued s.net (observer w)) };
+        after = record { state = record S { resent = suc (resent s.net (observer w)) }; puts = begins_out (length (links_from s.net 0)) (issued s.net (observer w)) };
         is = ap (λ b. if b then issue S else resend S) (not-first q)
-            ∙ ap (λ b. if b then Some (record { state = record S { resent = suc (resent s.net (observer w)) }; puts = begins_there (length (links_from s.net 0)) (issued s.net (observer w)) }) else None)
+            ∙ ap (λ b. if b then Some (record { state = record S { resent = suc (resent s.net (observer w)) }; puts = begins_out (length (links_from s.net 0)) (issued s.net (observer w)) }) else None)
             (resend-same s table w f ∙ can);
         simulates = record {
           stands = λ i. record { ins = length (links_into s.net 0); outs = length (links_from s.net 0); snapshot = table; issued = k i; resent = r i; units = u i };
@@ -180,9 +180,9 @@ module _ (s : Setup) (lost : Losses) (table : Snapshot) (w : World) (c : ℕ) (n
           let g : can_issue s (floor s.net w) (observer w) ≡ false = not-guarded c (can_issue s (floor s.net w) (observer w)) (begin_all s.net (suc (issued s.net (observer w))))
           (ap (λ k. option_map (acting c) (action s (floor s.net w) 0 Observer (observer w) k)) (sym d) ∙ no-action) in
           ap (λ b. if b then issue (observer_of s.net table w) else resend (observer_of s.net table w)) q.0
-          ∙ ap (λ b. if b then Some (record { state = record (observer_of s.net table w) { issued = suc (issued s.net (observer w)) }; puts = begins_there (length (links_from s.net 0)) (suc (issued s.net (observer w))) }) else None) (issue-same s table w f ∙ g)
+          ∙ ap (λ b. if b then Some (record { state = record (observer_of s.net table w) { issued = suc (issued s.net (observer w)) }; puts = begins_out (length (links_from s.net 0)) (suc (issued s.net (observer w))) }) else None) (issue-same s table w f ∙ g)
       by_tells (inr q) = let ne : (c ≡ action_choice s.net 0 → ⊥) = q.1 in let d : c - action_choice s.net 0 ≡ 1 = omega (arith, low, high) in
           let g : can_resend s (floor s.net w) (observer w) ≡ false = not-guarded c (can_resend s (floor s.net w) (observer w)) (begin_all s.net (issued s.net (observer w)))
           (ap (λ k. option_map (acting c) (action s (floor s.net w) 0 Observer (observer w) k)) (sym d) ∙ no-action) in
           ap (λ b. if b then issue (observer_of s.net table w) else resend (observer_of s.net table w)) q.0
-          ∙ ap (λ b. if b then Some (record { state = record (observer_of s.net table w) { resent = suc (resent s.net (observer w)) }; puts = begins_there (length (links_from s.net 0)) (issued s.net (observer w)) }) else None) (resend-same s table w f ∙ g)
+          ∙ ap (λ b. if b then Some (record { state = record (observer_of s.net table w) { resent = suc (resent s.net (observer w)) }; puts = begins_out (length (links_from s.net 0)) (issued s.net (observer w)) }) else None) (resend-same s table w f ∙ g)

@@ -18,7 +18,7 @@ use Rattle.std.proofs.lemmas.List.{length-map}
 use Rattle.sl_wire.specs.declared.message.Done.{Done}
 use Rattle.sl_wire.specs.declared.message.Msg.{Msg}
 use Rattle.sl_layout.specs.Devices.{device_of}
-use Rattle.sl_observe.specs.Observer.{UnitState, ObserverState, new_unit, unit_at, heard, units_after, observer_take}
+use Rattle.sl_observe.specs.Observer.{UnitState, ObserverState, new_unit, unit_at, after_done, units_after, observer_take}
 use Rattle.sl_model.specs.declared.message.Message.{Message}
 use Rattle.sl_model.specs.declared.message.Message.TheVariants.{Host, Data, Probe, Init, Poll, Notice, Dump as DumpMsg, Begin, Done as DoneMsg}
 use Rattle.sl_model.specs.declared.message.Step.{Step}
@@ -127,7 +127,7 @@ module _ (s : Setup) (lost : Losses) (table : Snapshot) (es : List Entry) (c n :
 
   -- its unit
   unit-done-is : (u : ℕ) (i : UnitId) → actor_of s.net u ≡ OfUnit i → step.taken ≡ Some (DoneMsg (unit_place s.net u) n) → IsDoneOf s.net u (collected s.net w u) (first n (history w u)) y
-      → heard table.ring c y (old u) ≡ new u
+      → after_done table.ring c y (old u) ≡ new u
   unit-done-is u i q e d = let k = sym known_by.0 in let h = sym (same-unit s table w v step z grows u i q) in
       hears s.net u table.ring c (collected s.net w u) (first n (history w u)) y brings (by_choice known_by.1) ∙ ap (unit_of s.net u) (λ j. first (k j) (h j))
     where
@@ -169,13 +169,13 @@ module _ (s : Setup) (lost : Losses) (table : Snapshot) (es : List Entry) (c n :
       by_place (inl p) = let here = place-of-unit s.net place p in let is = unit-at s.net place p in
           let same : IsDoneOf s.net (get_or (units s.net) place 0) (collected s.net w (get_or (units s.net) place 0)) (first n (history w (get_or (units s.net) place 0))) y =
           subst (λ k. IsDoneOf s.net (get_or (units s.net) place 0) (first (known k (observer w)) (history w (get_or (units s.net) place 0))) (first n (history w (get_or (units s.net) place 0))) y) (sym here) d in
-          ap (λ k. slice_set (map old (units s.net)) k (heard table.ring c y (unit_at (map old (units s.net)) k))) (d.unit ∙ here)
-          ∙ ap (λ r. slice_set (map old (units s.net)) place (heard table.ring c y r)) (get_or-map old (units s.net) place 0 (new_unit 0 0) p)
-          ∙ map-set old new (units s.net) place (heard table.ring c y (old u)) p (λ j l ne. other-unit place j l ne e)
+          ap (λ k. slice_set (map old (units s.net)) k (after_done table.ring c y (unit_at (map old (units s.net)) k))) (d.unit ∙ here)
+          ∙ ap (λ r. slice_set (map old (units s.net)) place (after_done table.ring c y r)) (get_or-map old (units s.net) place 0 (new_unit 0 0) p)
+          ∙ map-set old new (units s.net) place (after_done table.ring c y (old u)) p (λ j l ne. other-unit place j l ne e)
           (unit-done-is (get_or (units s.net) place 0) is.0 is.1 (e ∙ ap (λ k. Some (DoneMsg k n)) (sym here)) same)
       by_place (inr p) = let k : y.unit ≡ unit_place s.net 0 = d.unit ∙ ap (unit_place s.net) (get_or_past (units s.net) place 0 p) in
           let o = place-of-none s.net z in let m = length-map (units s.net) old in
-          set_past (map old (units s.net)) y.unit (heard table.ring c y (unit_at (map old (units s.net)) y.unit)) (omega (arith, k, o, m))
+          set_past (map old (units s.net)) y.unit (after_done table.ring c y (unit_at (map old (units s.net)) y.unit)) (omega (arith, k, o, m))
           ∙ map-same old new (units s.net) (λ j l. other-unit place j l (λ q. omega (arith, q, l, p)) e)
 
 -- Any message.

@@ -14,7 +14,7 @@ use Rattle.sl_saves.specs.Views.{held_saved}
 use Rattle.sl_wire.specs.declared.message.Done.{Done}
 use Rattle.sl_wire.specs.Reach.{least_of as least_of_there}
 use Rattle.sl_layout.specs.Devices.{device_of}
-use Rattle.sl_observe.specs.Observer.{reached, is_after, is_next, told, heard, first_unit}
+use Rattle.sl_observe.specs.Observer.{reached, is_after, is_next, told, after_done, first_unit}
 use Rattle.sl_control.specs.Rows.{span}
 use Rattle.sl_model.specs.Words.{least_of}
 use Rattle.sl_model.specs.History.{History, id, last}
@@ -89,7 +89,7 @@ told-is net u ring before now d b = let e = b.of.id in let l = b.of.last in let 
 
 -- A Done that comes by the choice of the unit's device tells it; any other that tells no more changes nothing.
 pub hears : (net : Net) (u ring c : ℕ) (before now : History) (d : Done) → Brings net u ring before now d → (device_of (actor_of net u) ≡ c) ⊎ (before ≡ now)
-    → heard ring c d (unit_of net u before) ≡ unit_of net u now
+    → after_done ring c d (unit_of net u before) ≡ unit_of net u now
 hears net u ring c before now d b (inl q) = ap (λ x. if x && is_next ring (unit_of net u before) d then told d (unit_of net u before) else unit_of net u before) (eq-eqb (device_of (actor_of net u)) c q)
     ∙ ap (λ x. if x then told d (unit_of net u before) else unit_of net u before) (next-is net u ring before now d b) ∙ told-is net u ring before now d b
 hears net u ring c before now d b (inr q) = by_bool ((device_of (actor_of net u) == c) && is_next ring (unit_of net u before) d)

@@ -9,7 +9,7 @@ ghost use Rattle.sl_layout.specs.Net.{actor_of, action_choice, units, unit_place
 ghost use Rattle.sl_net.specs.Wired.{IsNet};
 ghost use Rattle.sl_wire.specs.declared.message.Msg.{Msg};
 ghost use Rattle.sl_observe.specs.Observer.{ObserverState, first_state, observer_take, observer_act, unit_at, seen_of, saved_of};
-ghost use Rattle.sl_observe.specs.Observer.{floor_of as floor_told};
+ghost use Rattle.sl_observe.specs.Observer.{register_floor};
 ghost use Rattle.sl_model.specs.declared.message.Message.{Message};
 ghost use Rattle.sl_model.specs.declared.message.Step.{Step};
 ghost use Rattle.sl_model.specs.History.{Losses, history};
@@ -75,7 +75,7 @@ pub fn observers_act()
 /// unit's whole history.
 pub fn observers_tell()
     ensures floor { (s : Setup) (lost : Losses) (table : Snapshot) (es : List Entry) (o : ObserverState) → IsObserverOf s.net table (world s lost es) o
-        → floor_told o ≡ floor s.net (world s lost es) }
+        → register_floor o ≡ floor s.net (world s lost es) }
     ensures issued { (s : Setup) (lost : Losses) (table : Snapshot) (es : List Entry) (o : ObserverState) → IsObserverOf s.net table (world s lost es) o
         → o.issued ≡ issued s.net (observer (world s lost es)) }
     ensures resent { (s : Setup) (lost : Losses) (table : Snapshot) (es : List Entry) (o : ObserverState) → IsObserverOf s.net table (world s lost es) o

@@ -10,7 +10,6 @@ pub mod Stamps
 pub mod Sizes
 pub mod Weighed
 pub mod Spared
-
 -- Cuts, the window law, and what is collected.
 pub mod Prefixes
 pub mod Consistent
@@ -21,7 +20,6 @@ pub mod Bounds
 pub mod Near
 pub mod Collected
 pub mod KnownVerdict
-
 -- What a unit's history saves, and how it is told.
 pub mod Entries
 pub mod Lowest
@@ -38,7 +36,6 @@ pub mod Fields
 pub mod Brought
 pub mod Polls
 pub mod Accounts
-
 -- Finishing, and the bound on turns.
 pub mod Reach
 pub mod NetWiring
@@ -69,7 +66,6 @@ pub mod Scripts
 pub mod Fuel
 pub mod SortCounts
 pub mod Small
-
 -- Worked rows, which the checker computes.
 pub mod Nets
 pub mod WorkedRows

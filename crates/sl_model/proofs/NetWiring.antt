@@ -15,7 +15,6 @@ use Rattle.sl_net.proofs.Linked.{ends}
 use Rattle.sl_net.proofs.Wired.{net-wired}
 
 pub record Wiring (net : Net) : Type 0 where
-  pub is_net : IsNet net
   pub wired : IsWired net
   pub some_actor : 0 < length net.actors
   -- a link leads to an actor of the net
@@ -36,7 +35,6 @@ to-actor parts v l p = let e = ends parts l v p in let m = place-of-member e.rec
 
 pub wiring : (net : Net) → IsNet net → Wiring net
 wiring net n = record {
-  is_net = n;
   wired = net-wired net n;
   some_actor = in-net net 0 Observer (net-wired net n).observer (λ e. cc);
   to_actor = subst (λ g. (l : ℕ) → l < length g.links → (link_of g l).to < length g.actors) (sym n.made) (to-actor net.parts (net-wired net n).valid);

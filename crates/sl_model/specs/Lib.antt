@@ -8,27 +8,23 @@ pub mod Knowledge
 pub mod Puts
 pub mod World
 pub mod Losses
-
 -- Cuts and verdicts.
 pub mod Matching
 pub mod Cut
 pub mod Verdict
 pub mod Findings
-
 -- The end.
 pub mod Schedule
 pub mod End
 pub mod Bound
 pub mod Books
 pub mod Finished
-
 -- What the laws of worlds speak of.
 pub mod Made
 pub mod Fit
 pub mod Late
 pub mod Window
 pub mod Collected
-
 -- What a unit's history saves, and how it is told.
 pub mod Calls
 pub mod Rows
@@ -39,7 +35,6 @@ pub mod Fields
 pub mod Brought
 pub mod Polls
 pub mod Accounts
-
 -- What the laws of finishing speak of.
 pub mod Flight
 pub mod Fare

@@ -7,15 +7,15 @@ use Rattle.sl_parts.specs.Parts.{numbers_from}
 use Rattle.sl_parts.proofs.Lists.{map_below_more, length_below}
 use Rattle.sl_wire.specs.declared.message.Msg.{Msg}
 use Rattle.sl_wire.specs.declared.message.Msg.TheVariants.{Begin}
-use Rattle.sl_observe.specs.Observer.{begin_all}
+use Rattle.sl_observe.specs.Observer.{begins_out}
 
 abbrev begin_on : ℕ → ℕ → ℕ × Msg
 begin_on k out = (out, Begin k)
 
-pub begins_more : (n k : ℕ) → begin_all (n + 1) k ≡ begin_all n k ++ (n, Begin k) ∷ []
+pub begins_more : (n k : ℕ) → begins_out (n + 1) k ≡ begins_out n k ++ (n, Begin k) ∷ []
 begins_more n k = map_below_more (begin_on k) n
 
-pub length_begins : (n k : ℕ) → length (begin_all n k) ≡ n
+pub length_begins : (n k : ℕ) → length (begins_out n k) ≡ n
 length_begins n k = length_below (begin_on k) n
 
 none_before : (k s a n : ℕ) → a < s → puts_on a (map (begin_on k) (numbers_from s n)) ≡ false
@@ -29,5 +29,5 @@ fitting_from outs k s (suc n) h =
     let rest = map (begin_on k) (numbers_from (suc s) n) in
     ap (λ b. b && (not (puts_on s rest) && is_fitting outs rest)) low ∙ ap (λ b. not b && is_fitting outs rest) (none_before k (suc s) s n (omega arith)) ∙ fitting_from outs k (suc s) n (omega arith)
 
-pub begins_fit : (n k : ℕ) → is_fitting n (begin_all n k) ≡ true
+pub begins_fit : (n k : ℕ) → is_fitting n (begins_out n k) ≡ true
 begins_fit n k = fitting_from n k 0 n (omega arith)

@@ -8,7 +8,7 @@ use Rattle.sl_saves.specs.declared.entry.Saved.{Saved}
 use Rattle.sl_wire.specs.declared.message.Done.{Done as Report}
 use Rattle.sl_wire.specs.declared.message.Msg.{Msg}
 use Rattle.sl_wire.specs.declared.message.Msg.TheVariants.{Host, Data, Probe, Init, Poll, Notice, Dump, Begin, Done}
-use Rattle.sl_observe.specs.Observer.{UnitState, ObserverState, new_unit, unit_at, saved_of, reached, is_after, is_next, told, heard, units_after, observer_act, observer_rules}
+use Rattle.sl_observe.specs.Observer.{UnitState, ObserverState, new_unit, unit_at, saved_of, reached, is_after, is_next, told, after_done, units_after, observer_act, observer_rules}
 use Rattle.sl_observe.specs.Turns.{Reports, IsReported}
 use Rattle.sl_observe.proofs.Runs.{units_stay}
 
@@ -48,7 +48,7 @@ told_from d v k r after e = by_zero (k == 0) refl e
           | inr f ↦ let h = f.1.0 in let number : suc (length v.rows + f.0) ≡ k = omega (arith, h, some) in inr (f.0, numbered d.rows (length v.rows) f.0 r after f.1.1 ∙ ap (λ m. Some (m, r)) number)
         ]
 
-heard_from : (ring link : ℕ) (d : Report) (v : UnitState) (k : ℕ) (r : Saved) → saved_of (heard ring link d v) k ≡ Some r → (saved_of v k ≡ Some r) ⊎ Has d k r
+heard_from : (ring link : ℕ) (d : Report) (v : UnitState) (k : ℕ) (r : Saved) → saved_of (after_done ring link d v) k ≡ Some r → (saved_of v k ≡ Some r) ⊎ Has d k r
 heard_from ring link d v k r e = by_test ((v.device == link) && is_next ring v d) refl e
   where
     by_test : (b : Bool) → ((v.device == link) && is_next ring v d) ≡ b → saved_of (cond b (told d v) v) k ≡ Some r → (saved_of v k ≡ Some r) ⊎ Has d k r
@@ -62,7 +62,7 @@ units_from : (ring link : ℕ) (d : Report) (us : List UnitState) (u k : ℕ) (r
     → (saved_of (unit_at us u) k ≡ Some r) ⊎ ((d.unit ≡ u) × Has d k r)
 units_from ring link d us u k r e =
     let none = new_unit 0 0 in
-    let w = heard ring link d (unit_at us d.unit) in
+    let w = after_done ring link d (unit_at us d.unit) in
     elim (cases_eq u d.unit) [
       | inl same ↦ elim (cases_lt d.unit (length us)) [
         | inl g ↦

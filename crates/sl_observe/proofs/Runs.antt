@@ -12,7 +12,7 @@ use Rattle.sl_saves.specs.declared.entry.Saved.{Saved}
 use Rattle.sl_wire.specs.declared.message.Done.{Done as Report}
 use Rattle.sl_wire.specs.declared.message.Msg.{Msg}
 use Rattle.sl_wire.specs.declared.message.Msg.TheVariants.{Host, Data, Probe, Init, Poll, Notice, Dump, Begin, Done}
-use Rattle.sl_observe.specs.Observer.{UnitState, ObserverState, new_unit, unit_at, saved_of, floor_of, told, heard, is_next, units_after, can_issue, can_resend, begin_all, observer_act, observer_rules}
+use Rattle.sl_observe.specs.Observer.{UnitState, ObserverState, new_unit, unit_at, saved_of, register_floor, told, after_done, is_next, units_after, registers_can_issue, registers_can_resend, begins_out, observer_act, observer_rules}
 
 -- Rows.
 
@@ -25,13 +25,13 @@ told_keeps : (d : Report) (v : UnitState) (k : ℕ) (r : Saved) → saved_of v k
 told_keeps d v k r = elim (k == 0) as (λ b. cond b None (slice_get v.rows (k - 1)) ≡ Some r → cond b None (slice_get (told d v).rows (k - 1)) ≡ Some r)
     [ true ↦ λ e. e | false ↦ λ e. slice_get_front v.rows (map (λ p. p.1) d.rows) (k - 1) r e ]
 
-heard_keeps : (ring link : ℕ) (d : Report) (v : UnitState) (k : ℕ) (r : Saved) → saved_of v k ≡ Some r → saved_of (heard ring link d v) k ≡ Some r
+heard_keeps : (ring link : ℕ) (d : Report) (v : UnitState) (k : ℕ) (r : Saved) → saved_of v k ≡ Some r → saved_of (after_done ring link d v) k ≡ Some r
 heard_keeps ring link d v k r e = elim ((v.device == link) && is_next ring v d) as (λ b. saved_of (cond b (told d v) v) k ≡ Some r) [ true ↦ told_keeps d v k r e | false ↦ e ]
 
 units_keep : (ring link : ℕ) (d : Report) (us : List UnitState) (u k : ℕ) (r : Saved) → saved_of (unit_at us u) k ≡ Some r → saved_of (unit_at (units_after ring link d us) u) k ≡ Some r
 units_keep ring link d us u k r e =
     let none = new_unit 0 0 in
-    let w = heard ring link d (unit_at us d.unit) in
+    let w = after_done ring link d (unit_at us d.unit) in
     elim (cases_eq u d.unit) [
       | inl same ↦ elim (cases_lt d.unit (length us)) [
         | inl g ↦
@@ -45,14 +45,14 @@ units_keep ring link d us u k r e =
 -- Actions.
 
 abbrev issued : ObserverState → After ObserverState Msg
-issued s = record { state = record s { issued = suc s.issued }; puts = begin_all s.outs (suc s.issued) }
+issued s = record { state = record s { issued = suc s.issued }; puts = begins_out s.outs (suc s.issued) }
 
 abbrev resent : ObserverState → After ObserverState Msg
-resent s = record { state = record s { resent = suc s.resent }; puts = begin_all s.outs s.issued }
+resent s = record { state = record s { resent = suc s.resent }; puts = begins_out s.outs s.issued }
 
 -- an action that does something issues or resends
 data Did (s : ObserverState) (next : After ObserverState Msg) : Type 0 where
-  Issued : can_issue s ≡ true → next ≡ issued s → Did s next
+  Issued : registers_can_issue s ≡ true → next ≡ issued s → Did s next
   Resent : next ≡ resent s → Did s next
 
 some_is : {A : Type 0} (b : Bool) (x y : A) → cond b (Some x) None ≡ Some y → (b ≡ true) × (y ≡ x)
@@ -61,14 +61,14 @@ some_is false x y e = cc
 
 did : (s : ObserverState) (action : ℕ) (next : After ObserverState Msg) → observer_act s action ≡ Some next → Did s next
 did s action next =
-    elim (action == s.ins) as (λ a. cond a (cond (can_issue s) (Some (issued s)) None) (cond (can_resend s) (Some (resent s)) None) ≡ Some next → Did s next) [
-      | true ↦ λ e. let h = some_is (can_issue s) (issued s) next e in Issued h.0 h.1
-      | false ↦ λ e. Resent (some_is (can_resend s) (resent s) next e).1
+    elim (action == s.ins) as (λ a. cond a (cond (registers_can_issue s) (Some (issued s)) None) (cond (registers_can_resend s) (Some (resent s)) None) ≡ Some next → Did s next) [
+      | true ↦ λ e. let h = some_is (registers_can_issue s) (issued s) next e in Issued h.0 h.1
+      | false ↦ λ e. Resent (some_is (registers_can_resend s) (resent s) next e).1
     ]
 
-can_issue_is : (s : ObserverState) → can_issue s ≡ true → (s.issued < s.snapshot.count) × (suc s.issued ≤ floor_of s + s.snapshot.window)
+can_issue_is : (s : ObserverState) → registers_can_issue s ≡ true → (s.issued < s.snapshot.count) × (suc s.issued ≤ register_floor s + s.snapshot.window)
 can_issue_is s e =
-    let most = floor_of s + s.snapshot.window in
+    let most = register_floor s + s.snapshot.window in
     let parts = and_parts (nat_lt s.issued s.snapshot.count) (nat_le (suc s.issued) most) e in
     (ltb-true s.issued s.snapshot.count parts.0, leb-true (suc s.issued) most parts.1)
 
@@ -105,7 +105,7 @@ begins_are_of s action next e =
     each start zero k = All-nil (λ (p : ℕ × Msg). p.1 ≡ Begin k)
     each start (suc n) k = All-cons (λ (p : ℕ × Msg). p.1 ≡ Begin k) (start, Begin k) (map (λ out. (out, Begin k)) (numbers_from (suc start) n)) refl (each (suc start) n k)
 
-pub issues_within : (s : ObserverState) (action : ℕ) (next : After ObserverState Msg) → observer_act s action ≡ Some next → (next.state.issued ≤ s.issued) ⊎ (next.state.issued ≤ floor_of s + s.snapshot.window)
+pub issues_within : (s : ObserverState) (action : ℕ) (next : After ObserverState Msg) → observer_act s action ≡ Some next → (next.state.issued ≤ s.issued) ⊎ (next.state.issued ≤ register_floor s + s.snapshot.window)
 issues_within s action next e =
     elim (did s action next e) [
       | Issued g f ↦ let h = (can_issue_is s g).1 in let n : next.state.issued ≡ suc s.issued = ap (λ a. a.state.issued) f in inr (omega (arith, h, n))

@@ -2,7 +2,7 @@
 -- (Yaseen, Sonchack and Liu 2018).
 --     observer_take      it takes a report on a unit
 --     observer_act       it issues the next snapshot, or begins the last one again
---     floor_of           the number up to which it has collected all units
+--     register_floor           the number up to which it has collected all units
 --     first_state        before its first turn
 use Rattle.std.specs.Prelude.{ℕ, suc, ◌+◌, ◌-◌, Bool, true, ◌&&◌, ◌==◌, nat_lt, nat_le, if◌then◌else◌, List, [], ◌∷◌, ◌++◌, map, length, replicate, slice_get, slice_set, slice_index_or, Option, Some, None, unwrap_or}
 use Rattle.sl_machine.specs.Machine.{After, Rules, Counts, send_all}
@@ -58,8 +58,8 @@ abbrev pub floors_of : List UnitState → List ℕ
 floors_of us = map (λ u. u.floor) us
 
 -- the number up to which all units are collected, or the greatest issued where there is no unit
-abbrev pub floor_of : ObserverState → ℕ
-floor_of s = unwrap_or (least (floors_of s.units)) s.issued
+abbrev pub register_floor : ObserverState → ℕ
+register_floor s = unwrap_or (least (floors_of s.units)) s.issued
 
 -- Reports.
 
@@ -80,12 +80,12 @@ abbrev pub told : Done → UnitState → UnitState
 told d u = record { device = u.device; channels = u.channels; id = d.id; last = d.last; floor = d.floor; rows = u.rows ++ map (λ r. r.1) d.rows }
 
 -- a report that doesn't come from the unit's device, or whose rows aren't the next, changes nothing
-abbrev pub heard : ℕ → ℕ → Done → UnitState → UnitState
-heard ring link d u = if (u.device == link) && is_next ring u d then told d u else u
+abbrev pub after_done : ℕ → ℕ → Done → UnitState → UnitState
+after_done ring link d u = if (u.device == link) && is_next ring u d then told d u else u
 
 -- nor does a report on a place where no unit is
 abbrev pub units_after : ℕ → ℕ → Done → List UnitState → List UnitState
-units_after ring link d us = slice_set us d.unit (heard ring link d (unit_at us d.unit))
+units_after ring link d us = slice_set us d.unit (after_done ring link d (unit_at us d.unit))
 
 -- Turns.
 
@@ -94,22 +94,22 @@ observer_take s link (DoneMsg d) = record { state = record s { units = units_aft
 observer_take s link _ = record { state = s; puts = [] }
 
 -- the begin of a snapshot to each control plane
-abbrev pub begin_all : ℕ → ℕ → List (ℕ × Msg)
-begin_all outs k = send_all (Begin k) (below outs)
+abbrev pub begins_out : ℕ → ℕ → List (ℕ × Msg)
+begins_out outs k = send_all (Begin k) (below outs)
 
 -- a snapshot is left, and the window has room for it
-abbrev pub can_issue : ObserverState → Bool
-can_issue s = nat_lt s.issued s.snapshot.count && nat_le (suc s.issued) (floor_of s + s.snapshot.window)
+abbrev pub registers_can_issue : ObserverState → Bool
+registers_can_issue s = nat_lt s.issued s.snapshot.count && nat_le (suc s.issued) (register_floor s + s.snapshot.window)
 
 abbrev pub issue : ObserverState → Option (After ObserverState Msg)
-issue s = if can_issue s then Some (record { state = record s { issued = suc s.issued }; puts = begin_all s.outs (suc s.issued) }) else None
+issue s = if registers_can_issue s then Some (record { state = record s { issued = suc s.issued }; puts = begins_out s.outs (suc s.issued) }) else None
 
 -- a retry is left, and a snapshot isn't collected
-abbrev pub can_resend : ObserverState → Bool
-can_resend s = nat_lt s.resent s.snapshot.retries && nat_lt (floor_of s) s.issued
+abbrev pub registers_can_resend : ObserverState → Bool
+registers_can_resend s = nat_lt s.resent s.snapshot.retries && nat_lt (register_floor s) s.issued
 
 abbrev pub resend : ObserverState → Option (After ObserverState Msg)
-resend s = if can_resend s then Some (record { state = record s { resent = suc s.resent }; puts = begin_all s.outs s.issued }) else None
+resend s = if registers_can_resend s then Some (record { state = record s { resent = suc s.resent }; puts = begins_out s.outs s.issued }) else None
 
 -- issue is the first action, resend the other
 abbrev pub observer_act : ObserverState → ℕ → Option (After ObserverState Msg)

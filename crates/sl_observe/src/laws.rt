@@ -10,7 +10,7 @@ ghost use Rattle.sl_layout.specs.declared.actor.Sort.TheVariants.{Begin as Begin
 ghost use Rattle.sl_saves.specs.declared.entry.Saved.{Saved};
 ghost use Rattle.sl_wire.specs.declared.message.Msg.{Msg};
 ghost use Rattle.sl_wire.specs.declared.message.Msg.TheVariants.{Begin};
-ghost use Rattle.sl_observe.specs.Observer.{ObserverState, unit_at, saved_of, floor_of, observer_act, observer_rules};
+ghost use Rattle.sl_observe.specs.Observer.{ObserverState, unit_at, saved_of, register_floor, observer_act, observer_rules};
 ghost use Rattle.sl_observe.specs.Turns.{IsReported};
 
 use sl_net::nets_are_wired;
@@ -43,5 +43,5 @@ pub fn issues_are_bounded()
     ensures begun { (s : ObserverState) (action : ℕ) (next : After ObserverState Msg) → observer_act s action ≡ Some next
         → All (λ (p : ℕ × Msg). p.1 ≡ Begin next.state.issued) next.puts }
     ensures window { (s : ObserverState) (action : ℕ) (next : After ObserverState Msg) → observer_act s action ≡ Some next
-        → (next.state.issued ≤ s.issued) ⊎ (next.state.issued ≤ floor_of s + s.snapshot.window) }
+        → (next.state.issued ≤ s.issued) ⊎ (next.state.issued ≤ register_floor s + s.snapshot.window) }
 {}

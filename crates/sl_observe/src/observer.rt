@@ -3,7 +3,7 @@ ghost use Rattle.std.specs.Prelude.{◌≡◌, ◌≤◌, ◌<◌, [], Option, N
 ghost use Rattle.std.specs.Bool.{OnTrue, OnFalse};
 ghost use Rattle.std.specs.Option.{option_copied};
 ghost use Rattle.sl_machine.specs.Machine.{is_fitting};
-ghost use Rattle.sl_observe.specs.Observer.{ObserverState, unit_at, seen_of, saved_of, floor_of, begin_all, issue, resend, observer_rules, observer_counts, first_state};
+ghost use Rattle.sl_observe.specs.Observer.{ObserverState, unit_at, seen_of, saved_of, register_floor, begins_out, issue, resend, observer_rules, observer_counts, first_state};
 
 use crate::floors::Floors;
 use crate::spans::Span;
@@ -45,7 +45,7 @@ impl Model for Observer {
 fn begin_all(out: &mut Outputs<Msg>, outs: u32, number: u64)
     requires empty { out.old.items ≡ [] }
     requires room { outs ≤ out.old.room }
-    ensures items { out.new.items ≡ begin_all outs number }
+    ensures items { out.new.items ≡ begins_out outs number }
     ensures fitting { is_fitting outs out.new.items ≡ true }
     ensures room { out.new.room ≡ out.old.room }
 {
@@ -84,7 +84,7 @@ impl Observer {
     /// The number up to which all units are collected, or the greatest issued where there is no
     /// unit.
     pub fn floor(&self) -> u64
-        ensures { result ≡ floor_of self.now.state }
+        ensures { result ≡ register_floor self.now.state }
     {
         self.floors.least().unwrap_or(self.issued)
     }

@@ -82,7 +82,7 @@ fn append(rows: &mut Vec<Saved>, more: &[(u64, Saved)])
 }
 
 impl Collected {
-    ghost use Rattle.sl_observe.specs.Observer.{new_unit, seen_of, saved_of, is_next, reached, heard};
+    ghost use Rattle.sl_observe.specs.Observer.{new_unit, seen_of, saved_of, is_next, reached, after_done};
 
     /// A unit of a device with so many data channels, before the first report on it.
     pub fn new(alloc: Global, device: u32, channels: usize) -> Collected
@@ -150,7 +150,7 @@ impl Collected {
     /// Takes a report that came from a device.
     pub fn hear(&mut self, ring: u16, link: u32, done: &Done)
         requires { self.old.state.device ≡ link → ring ≤ self.old.room }
-        ensures { self.new.state ≡ heard ring link done.now self.old.state }
+        ensures { self.new.state ≡ after_done ring link done.now self.old.state }
     {
         if self.device == link && self.is_next(ring, done) {
             self.seen = Seen {

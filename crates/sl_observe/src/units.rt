@@ -1,7 +1,7 @@
 // The units that the observer knows, in order.
 ghost use Rattle.std.specs.Prelude.{◌≡◌, ◌<◌, ◌≤◌, ℕ, length, map, slice_set, IfOk, OnOk};
 ghost use Rattle.sl_layout.specs.Net.{units};
-ghost use Rattle.sl_observe.specs.Observer.{first_unit, floors_of, unit_at, heard, units_after};
+ghost use Rattle.sl_observe.specs.Observer.{first_unit, floors_of, unit_at, after_done, units_after};
 ghost use Rattle.sl_observe.specs.Kept.{states, collected_at, HasRoom, HaveSpans};
 
 use crate::floors::Floors;
@@ -79,7 +79,7 @@ pub fn prepare(
 fn hear_at(units: &mut Vec<Collected>, place: usize, ring: u16, link: u32, done: &Done)
     requires place { place < length units.old.items }
     requires room { HasRoom ring link units.old.items }
-    ensures { states units.new.items ≡ slice_set (states units.old.items) place (heard ring link done.now (unit_at (states units.old.items) place)) }
+    ensures { states units.new.items ≡ slice_set (states units.old.items) place (after_done ring link done.now (unit_at (states units.old.items) place)) }
 {
     let unit = &mut units[place];
     unit.hear(ring, link, done);

@@ -15,7 +15,7 @@ use Rattle.sl_model.specs.Setup.{Setup}
 use Rattle.sl_model.specs.Knowledge.{floor, issued, observer}
 use Rattle.sl_model.specs.World.{Entry, IsLossTable, world, run, kept_from}
 use Rattle.sl_model.specs.Schedule.{settling_pass, sweeps, resend_entry}
-use Rattle.sl_model.specs.End.{settle, finish, again_from, sweep_round, is_collected, rose, Settled, IsFin, IsFinished}
+use Rattle.sl_model.specs.End.{settle, finish, sweep_round, is_collected, rose, Settled, IsFin, IsFinished}
 use Rattle.sl_model.specs.Books.{schedule_of}
 use Rattle.sl_model.proofs.Finished.{settle-settled}
 use Rattle.sl_model.proofs.Idle.{issued-within}

@@ -22,13 +22,9 @@ use Rattle.sl_proto.specs.Standing.{Case, world_of, run_at, StandsFor}
 use Rattle.sl_proto.specs.Runs.{Run, Follows, Goes}
 use Rattle.sl_proto.specs.Rounds.{EndsBy}
 use Rattle.sl_proto.specs.Fronts.{FollowsFront, SettlesBy, SettlesTowards, FinishesTowards, Leads, Whatever, SweepsBy, ResendsBy}
-use Rattle.sl_proto.proofs.Standing.{follows-none}
 use Rattle.sl_proto.proofs.Trails.{follows-append, follows-goes, goes-append, goes-something}
 
 -- Schedules.
-
-pub front-none : (s : Setup) (lost : Losses) (old : Run) (es : List Entry) → FollowsFront s lost old es old
-front-none s lost old es = record { first = []; rest = es; whole = refl; follows = follows-none s lost old }
 
 pub front-whole : (s : Setup) (lost : Losses) (old new : Run) (es : List Entry) → Follows s lost old es new → FollowsFront s lost old es new
 front-whole s lost old new es f = record { first = es; rest = []; whole = sym (append-nil es); follows = f }
@@ -105,9 +101,6 @@ leads-to s lost P Q R old new h a = record { turns = a.turns; goes = a.goes; on 
 
 pub leads-somewhere : (s : Setup) (lost : Losses) (P Q : List Entry → Type 0) (old new : Run) → Leads s lost P old Q new → Leads s lost P old Whatever new
 leads-somewhere s lost P Q old new a = leads-to s lost P Q Whatever old new (λ es q. tt) a
-
-leads-from : (s : Setup) (lost : Losses) (P Q R : List Entry → Type 0) (old new : Run) → ((es : List Entry) → P es → Q es) → Leads s lost Q old R new → Leads s lost P old R new
-leads-from s lost P Q R old new h a = record { turns = a.turns; goes = a.goes; on = λ es p. a.on es (h es p) }
 
 -- A schedule without its idle entries.
 

@@ -3,7 +3,8 @@ use Rattle.std.proofs.Common.{◌≡◌, ℕ, ◌+◌, List, [], ◌∷◌, ◌+
 use Rattle.sl_machine.specs.declared.wiring.Entry.{Entry as BookEntry}
 use Rattle.sl_model.specs.World.{Entry}
 use Rattle.sl_world.specs.Scene.{last_number, entry_after}
-use Rattle.sl_world.specs.Legal.{numbered_from, last_number-push}
+use Rattle.sl_world.specs.Legal.{numbered_from}
+use Rattle.sl_world.proofs.BookLaws.{last_number-push}
 use Rattle.sl_proto.specs.Runs.{grown}
 
 grown-more : (book : List BookEntry) (e : Entry) (es : List Entry) → grown book (e ∷ es) ≡ grown (book ++ entry_after book e.0 e.1 ∷ []) es

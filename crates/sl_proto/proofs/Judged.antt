@@ -11,13 +11,14 @@ use Rattle.std.proofs.lemmas.Simd.{map-map}
 use Rattle.sl_saves.specs.declared.entry.Saved.{Saved}
 use Rattle.sl_saves.specs.declared.entry.Saved.TheVariants.{Value, Skipped, Miscredited}
 use Rattle.sl_wire.specs.Reach.{least_of as least_of_there}
-use Rattle.sl_observe.specs.Observer.{UnitState, ObserverState, new_unit, unit_at, saved_of, floor_of}
+use Rattle.sl_observe.specs.Observer.{UnitState, ObserverState, new_unit, unit_at, saved_of, register_floor}
 use Rattle.sl_model.specs.declared.verdict.Cause.{Cause}
 use Rattle.sl_model.specs.declared.verdict.Lag.{Lag}
 use Rattle.sl_model.specs.declared.verdict.Lag.TheVariants.{Id}
 use Rattle.sl_model.specs.declared.verdict.Verdict.TheVariants.{Consistent, NotIssued}
 use Rattle.sl_parts.specs.Lists.{Each}
-use Rattle.sl_model.specs.Words.{first_from, first_told, or_later, least as least_here}
+use Rattle.sl_model.specs.Words.{first_from, first_told, or_later}
+use Rattle.sl_route.specs.Least.{least as least_here}
 use Rattle.sl_model.specs.Verdict.{lag_at, judged, place_or_zero}
 use Rattle.sl_model.specs.Accounts.{Account, row_of, behind, lag_by, cause_in, cause_by, floor_by, holds, verdict_by}
 use Rattle.sl_image.specs.ObserverImage.{account_of}
@@ -66,7 +67,7 @@ row_is_saved x k p = ap (λ b. if b then None else slice_get x.rows (k - 1)) (no
 
 -- The floor.
 
-pub floor_is_by : (o : ObserverState) → floor_of o ≡ floor_by o.issued (accounts_of o)
+pub floor_is_by : (o : ObserverState) → register_floor o ≡ floor_by o.issued (accounts_of o)
 floor_is_by o = ap (λ m. unwrap_or m o.issued) (least-same (map (λ u. u.floor) o.units) ∙ ap least_here (sym (map-map (λ a. a.floor) account_of o.units)))
 
 pub holds_it : (f : ℕ) (a : Account) → a.floor ≡ f → holds f a ≡ Some a.floor
@@ -75,7 +76,7 @@ holds_it f a e = ap (λ b. if b then Some a.floor else None) (eq-eqb a.floor f e
 pub holds_not : (f : ℕ) (a : Account) → (a.floor ≡ f → ⊥) → holds f a ≡ None
 holds_not f a e = ap (λ b. if b then Some a.floor else None) (ne_eqb a.floor f e)
 
-pub not_issued : (o : ObserverState) (k place floor : ℕ) → o.issued < k → place ≡ place_or_zero (first_told (holds (floor_by o.issued (accounts_of o))) (accounts_of o)) → floor ≡ floor_of o
+pub not_issued : (o : ObserverState) (k place floor : ℕ) → o.issued < k → place ≡ place_or_zero (first_told (holds (floor_by o.issued (accounts_of o))) (accounts_of o)) → floor ≡ register_floor o
     → NotIssued place floor ≡ verdict_by o.issued (accounts_of o) k
 not_issued o k place floor past p f = by_tells (leb_tells k o.issued)
   where

@@ -20,7 +20,7 @@ use Rattle.std.proofs.lemmas.List.{length-map}
 use Rattle.sl_saves.specs.Views.{held_saved}
 use Rattle.sl_wire.specs.declared.message.Msg.{Msg}
 use Rattle.sl_wire.specs.Reach.{least_of as least_of_there}
-use Rattle.sl_observe.specs.Observer.{ObserverState, new_unit, floor_of}
+use Rattle.sl_observe.specs.Observer.{ObserverState, new_unit, register_floor}
 use Rattle.sl_model.specs.Words.{listed, numbers, weigh, tally}
 use Rattle.sl_model.specs.History.{History, World, Losses, history, put}
 use Rattle.sl_model.specs.Counting.{bad, expired, noroute}
@@ -277,7 +277,7 @@ module _ (s : Setup) (table : Snapshot) (lost : Losses) (es : List Entry) (v : S
     lost = few-lost wired links few;
   }
 
-  pub told_is : (o : ObserverState) → floor_of o ≡ floor s.net (world s lost es) → o.issued ≡ issued s.net (observer (world s lost es)) → o.resent ≡ resent s.net (observer (world s lost es))
+  pub told_is : (o : ObserverState) → register_floor o ≡ floor s.net (world s lost es) → o.issued ≡ issued s.net (observer (world s lost es)) → o.resent ≡ resent s.net (observer (world s lost es))
       → map (finding_by o.issued (accounts_of o)) (numbers_from 1 s.count) ≡ (findings s lost es).list → told s.net s.count v o ≡ findings s lost es
   told_is o f k r list = λ i. record {
     issued = k i;

@@ -12,7 +12,7 @@ use Rattle.sl_saves.specs.declared.entry.Saved.{Saved}
 use Rattle.sl_saves.specs.declared.entry.Saved.TheVariants.{Value}
 use Rattle.sl_wire.specs.declared.message.Msg.{Msg}
 use Rattle.sl_wire.specs.Reach.{least_of}
-use Rattle.sl_observe.specs.Observer.{UnitState, ObserverState, unit_at, floor_of}
+use Rattle.sl_observe.specs.Observer.{UnitState, ObserverState, unit_at, register_floor}
 use Rattle.sl_model.specs.declared.findings.Drops.{Drops}
 use Rattle.sl_model.specs.declared.findings.Findings.{Findings}
 use Rattle.sl_model.specs.Words.{numbers, weigh}
@@ -86,7 +86,7 @@ pub record CanTell (net : Net) (v : Scene NodeState Msg) (o : ObserverState) : T
 abbrev pub told : Net → ℕ → Scene NodeState Msg → ObserverState → Findings
 told net count v o = record {
   issued = o.issued;
-  floor = floor_of o;
+  floor = register_floor o;
   resent = o.resent;
   list = map (finding_by o.issued (accounts_of o)) (numbers_from 1 count);
   sent = numbers sent_told v.states;

@@ -130,16 +130,6 @@ fn make_node(alloc: Global, input: &Input, routes: &Routes, actor: u32) -> Resul
     }
 }
 
-/// Adds a node at the end.
-fn add_node(nodes: &mut Vec<Node>, node: Node) -> Result<(), Memory>
-    ensures { OnOk result (nodes.new.items ≡ nodes.old.items ++ node ∷ []) }
-{
-    match nodes.push(node) {
-        Ok(()) => Ok(()),
-        Err(_) => Err(Memory),
-    }
-}
-
 /// The nodes of all actors in order.
 fn list_nodes(alloc: Global, input: &Input, routes: &Routes) -> Result<Vec<Node>, Memory>
     requires routes { IsRoutesOf input.now.net routes.now }
@@ -149,7 +139,7 @@ fn list_nodes(alloc: Global, input: &Input, routes: &Routes) -> Result<Vec<Node>
     let mut nodes = Vec::new(alloc);
     for actor in 0..input.net.actors().len() {
         let node = make_node(alloc, input, routes, actor as u32)?;
-        add_node(&mut nodes, node)?;
+        nodes.push(node)?;
     }
     Ok(nodes)
 }

@@ -1,5 +1,5 @@
 // Settling and finishing, over whoever takes turns.
-ghost use Rattle.std.specs.Prelude.{◌≡◌, List, [], ◌∷◌, All, OnOk, IfOk};
+ghost use Rattle.std.specs.Prelude.{◌≡◌, [], ◌∷◌, All, OnOk, IfOk};
 ghost use Rattle.sl_machine.specs.Plan.{HasChoice};
 ghost use Rattle.sl_layout.specs.Net.{Net};
 ghost use Rattle.sl_layout.specs.Wiring.{plan_of};
@@ -13,9 +13,9 @@ ghost use Rattle.sl_proto.specs.Calls.{ResendsRound, ResendingLeads, ResendingGo
 
 use crate::schedule::{all_sweeps, pass_of, passes_are_choices};
 use crate::taker::{Taker, drive_within};
-use sl_model::{finishing_ends, finishing_finishes, idle_passes_settle};
 use sl_image::observers_tell;
 use sl_machine::Memory;
+use sl_model::{finishing_ends, finishing_finishes, idle_passes_settle};
 use sl_net::{Net, nets_are_wired};
 use std::alloc::Global;
 

@@ -15,9 +15,9 @@ ghost use Rattle.sl_proto.specs.Told.{sent_told, delivered_told, drops_told, all
 use crate::node::Node;
 use crate::taker::Taker;
 use crate::verdicts::finding_list;
-use sl_model::{Counts, Drops, Findings, Lost};
 use sl_image::{observers_give_findings, observers_tell};
 use sl_machine::Memory;
+use sl_model::{Counts, Drops, Findings, Lost};
 use sl_net::{Input, Net, Sort, nets_are_wired};
 use sl_observe::Observer;
 use sl_world::World;
@@ -69,7 +69,7 @@ fn add_told(counts: &mut Vec<u64>, told: Option<u64>) -> Result<(), Memory>
     ensures { OnOk result (counts.new.items ≡ counts.old.items ++ listed told) }
 {
     match told {
-        Some(count) => counts.push(count).map_err(|_| Memory),
+        Some(count) => Ok(counts.push(count)?),
         None => Ok(()),
     }
 }

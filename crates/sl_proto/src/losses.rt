@@ -34,9 +34,7 @@ fn empty_lists(alloc: Global, count: usize) -> Result<Vec<Listed>, Memory>
         let list = Listed {
             numbers: Vec::new(alloc),
         };
-        if lists.push(list).is_err() {
-            return Err(Memory);
-        }
+        lists.push(list)?;
     }
     Ok(lists)
 }
@@ -50,10 +48,7 @@ fn add_drop(lists: &mut Vec<Listed>, drop: Drop1) -> Result<(), Memory>
         return Ok(());
     }
     let list = &mut lists[link];
-    match list.numbers.push(drop.n) {
-        Ok(()) => Ok(()),
-        Err(_) => Err(Memory),
-    }
+    Ok(list.numbers.push(drop.n)?)
 }
 
 /// For each link the listed numbers of its puts.
@@ -89,15 +84,6 @@ fn loss_on(alloc: Global, input: &Input, link: u32, drops: &[u64]) -> Result<Opt
     Ok(Some(Loss::new(alloc, input.loss.seed, link as u64, rate, drops)?))
 }
 
-fn add_loss(made: &mut Vec<Option<Loss>>, loss: Option<Loss>) -> Result<(), Memory>
-    ensures { OnOk result (made.new.items ≡ made.old.items ++ loss ∷ []) }
-{
-    match made.push(loss) {
-        Ok(()) => Ok(()),
-        Err(_) => Err(Memory),
-    }
-}
-
 /// The losses of an input, one for each link that is lossy, before any put. They lose what the
 /// input loses.
 pub fn make_losses(alloc: Global, input: &Input) -> Result<Vec<Option<Loss>>, Memory>
@@ -112,7 +98,7 @@ pub fn make_losses(alloc: Global, input: &Input) -> Result<Vec<Option<Loss>>, Me
     for link in 0..count {
         let drops = numbers_of(lists.as_slice(), link);
         let loss = loss_on(alloc, input, link as u32, drops)?;
-        add_loss(&mut made, loss)?;
+        made.push(loss)?;
     }
     Ok(made)
 }

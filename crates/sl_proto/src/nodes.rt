@@ -22,7 +22,11 @@ ghost use Rattle.sl_proto.specs.Runs.{IsBookOfTurns};
 ghost use Rattle.sl_proto.specs.Standing.{Case, case_of, IsImageOf, StandsFor, HasObserver, FirstNodes, scene_of, AreNewLosses};
 ghost use Rattle.sl_proto.specs.Calls.{KeepsStanding, Drives};
 
-use sl_image::{controls_act, controls_start, controls_stay, controls_take, hosts_act, hosts_have_two_links, hosts_start, hosts_stay, hosts_take, new_units_stand, observers_act, observers_start, observers_stay, observers_take, units_stay, units_take_messages};
+use sl_image::{
+    controls_act, controls_start, controls_stay, controls_take, hosts_act, hosts_have_two_links,
+    hosts_start, hosts_stay, hosts_take, new_units_stand, observers_act, observers_start,
+    observers_stay, observers_take, units_stay, units_take_messages,
+};
 use sl_net::nets_are_wired;
 
 /// Each turn of a node does the step of its actor, and is idle where this has none.

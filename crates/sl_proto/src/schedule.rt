@@ -11,22 +11,13 @@ use sl_machine::Memory;
 use sl_net::{ActorId, Net, Script1, nets_are_wired};
 use std::alloc::Global;
 
-fn add_entry(entries: &mut Vec<(u32, u32)>, entry: (u32, u32)) -> Result<(), Memory>
-    ensures { OnOk result (entries.new.items ≡ entries.old.items ++ entry ∷ []) }
-{
-    match entries.push(entry) {
-        Ok(()) => Ok(()),
-        Err(_) => Err(Memory),
-    }
-}
-
 /// Adds an entry for each link of an actor.
 fn add_links(net: &Net, entries: &mut Vec<(u32, u32)>, actor: u32) -> Result<(), Memory>
     requires { actor < length net.now.actors }
     ensures { OnOk result (entries.new.items ≡ entries.old.items ++ link_entries net.now actor) }
 {
     for choice in 0..net.links_into(actor).len() as u32 {
-        add_entry(entries, (actor, choice))?;
+        entries.push((actor, choice))?;
     }
     Ok(())
 }
@@ -42,7 +33,7 @@ fn add_action(
     ensures { OnOk result (entries.new.items ≡ entries.old.items ++ (if passes then first_action net.now actor else [])) }
 {
     if passes {
-        add_entry(entries, (actor, net.links_into(actor).len() as u32))?;
+        entries.push((actor, net.links_into(actor).len() as u32))?;
     }
     Ok(())
 }
@@ -96,21 +87,12 @@ pub fn all_sweeps(alloc: Global, net: &Net) -> Result<Vec<(u32, u32)>, Memory>
     Ok(entries)
 }
 
-fn add_all(entries: &mut Vec<(u32, u32)>, more: &[(u32, u32)]) -> Result<(), Memory>
-    ensures { OnOk result (entries.new.items ≡ entries.old.items ++ more.now) }
-{
-    match entries.extend_from_slice(more) {
-        Ok(()) => Ok(()),
-        Err(_) => Err(Memory),
-    }
-}
-
 /// Adds a pass so many times.
 fn add_passes(entries: &mut Vec<(u32, u32)>, once: &[(u32, u32)], count: u32) -> Result<(), Memory>
     ensures { OnOk result (entries.new.items ≡ entries.old.items ++ passes_of once.now count) }
 {
     for _done in 0..count {
-        add_all(entries, once)?;
+        entries.extend_from_slice(once)?;
     }
     Ok(())
 }
@@ -126,7 +108,7 @@ fn add_script(
 {
     match line {
         Script1::Pass(count) => add_passes(entries, once, count),
-        Script1::Choice { actor, choice } => add_entry(entries, (actor, choice)),
+        Script1::Choice { actor, choice } => Ok(entries.push((actor, choice))?),
     }
 }
 

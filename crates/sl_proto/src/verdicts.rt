@@ -9,8 +9,8 @@ ghost use Rattle.sl_model.specs.Accounts.{behind, lag_by, cause_by, row_of, valu
 ghost use Rattle.sl_image.specs.ObserverImage.{account_of};
 ghost use Rattle.sl_proto.specs.Told.{HasAllRows, accounts_of, IsValue};
 
-use sl_model::{Cause, Finding, FindingList, Lag, Row, Rows1, Verdict};
 use sl_machine::Memory;
+use sl_model::{Cause, Finding, FindingList, Lag, Row, Rows1, Verdict};
 use sl_net::Net;
 use sl_observe::Observer;
 use sl_saves::Saved;
@@ -172,15 +172,6 @@ fn row_at(observer: &Observer, unit: u32, k: u64) -> Row
     }
 }
 
-fn add_row(rows: &mut Vec<Row>, row: Row) -> Result<(), Memory>
-    ensures { OnOk result (rows.new.items ≡ rows.old.items ++ row ∷ []) }
-{
-    match rows.push(row) {
-        Ok(()) => Ok(()),
-        Err(_) => Err(Memory),
-    }
-}
-
 fn rows(alloc: Global, net: &Net, observer: &Observer, k: u64) -> Result<Rows1, Memory>
     requires units { length observer.now.state.units ≡ length (units net.now) }
     requires first { 1 ≤ k }
@@ -189,7 +180,7 @@ fn rows(alloc: Global, net: &Net, observer: &Observer, k: u64) -> Result<Rows1, 
 {
     let mut items = Vec::new(alloc);
     for unit in 0..unit_count(net) {
-        add_row(&mut items, row_at(observer, unit, k))?;
+        items.push(row_at(observer, unit, k))?;
     }
     Ok(Rows1 { items })
 }
@@ -239,7 +230,7 @@ pub fn finding_list(
     let mut items = Vec::new(alloc);
     for done in 0..count {
         let finding = finding_at(alloc, net, observer, done + 1)?;
-        items.push(finding).map_err(|_| Memory)?;
+        items.push(finding)?;
     }
     Ok(FindingList { items })
 }

@@ -3,8 +3,8 @@ ghost use Rattle.std.specs.Prelude.{◌≡◌, ◌*◌, ◌≤◌, ◌<◌, ◌^
 ghost use Rattle.sl_model.specs.Counting.{counted_in, counted, packets, bytes, is_bad, is_expired, is_noroute, bad, expired, noroute};
 
 use crate::frames::packet_of;
-use sl_model::{Message, Step};
 use crate::route::next_port;
+use sl_model::{Message, Step};
 use sl_net::{Packet, Parts};
 use std::alloc::{AllocError, Global};
 

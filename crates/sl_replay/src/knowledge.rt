@@ -5,9 +5,9 @@ ghost use Rattle.sl_model.specs.Setup.{setup_of};
 ghost use Rattle.sl_model.specs.Knowledge.{floor_of, unit_floor, floor, issued, resent, can_issue, can_resend};
 
 use crate::history::{World, first_steps};
-use sl_model::Step;
 use crate::tell::{id, known, least_last, taken};
 use crate::wires::{action_choice, choices_of, data_channels, unit_place};
+use sl_model::Step;
 use sl_net::{Input, Net, Sort};
 use std::alloc::{AllocError, Global};
 

@@ -4,8 +4,8 @@ ghost use Rattle.sl_report.specs.Report.{report_text};
 
 use crate::findings::push_findings;
 use crate::lines::{push_drops, push_hosts, push_lost, push_network, push_observer};
-use sl_model::Findings;
 use sl_machine::Memory;
+use sl_model::Findings;
 use sl_net::Input;
 use std::alloc::Global;
 

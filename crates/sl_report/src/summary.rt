@@ -4,8 +4,8 @@ ghost use Rattle.sl_layout.specs.Net.{units};
 ghost use Rattle.sl_report.specs.SummaryText.{is_consistent, is_inconsistent, is_pending, is_not_issued, count_verdicts, sample_line, sizes_line, traffic_line, verdicts_line, verdicts_text, lost_in_all, total_lost_line, summary_text};
 
 use crate::lines::{device_count, host_count};
-use sl_model::{Finding, Findings, Lost, Verdict};
 use sl_machine::Memory;
+use sl_model::{Finding, Findings, Lost, Verdict};
 use sl_net::{Input, Net};
 use std::alloc::{AllocError, Global};
 

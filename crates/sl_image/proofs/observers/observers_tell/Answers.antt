@@ -2,7 +2,7 @@ use Rattle.std.proofs.Common.{length, ap, ◌∙◌}
 use Rattle.sl_layout.specs.Net.{units, unit_place, data_channels}
 use Rattle.std.proofs.lemmas.List.{length-map}
 use Rattle.sl_observe.specs.Observer.{unit_at, seen_of, saved_of}
-use Rattle.sl_observe.specs.Observer.{floor_of as floor_told}
+use Rattle.sl_observe.specs.Observer.{register_floor}
 use Rattle.sl_model.specs.Knowledge.{observer, known, collected}
 use Rattle.sl_model.specs.World.{world}
 use Rattle.sl_model.proofs.Ran.{ran}
@@ -12,7 +12,7 @@ use Rattle.sl_image.proofs.ObserverActs.{floor-same}
 use Rattle.sl_image.proofs.observers.observers_tell.Goals as goal
 
 pub returns-clause-floor : goal.returns-clause-floor
-returns-clause-floor c s lost table es o h = ap floor_told h ∙ floor-same s.net table (world s lost es)
+returns-clause-floor c s lost table es o h = ap register_floor h ∙ floor-same s.net table (world s lost es)
 
 pub returns-clause-issued : goal.returns-clause-issued
 returns-clause-issued c s lost table es o h = ap (λ o. o.issued) h

@@ -10,4 +10,4 @@ pub loop-actor-preserved : goal.loop-actor-preserved
 loop-actor-preserved c = let xs = (scene c.args.world.now).states in
     let i = c.loop-actor.actor in
     c.in_ok-add_told.ensures ∙ ap (λ ns. ns ++ listed c.delivered_to.result) c.loop-actor.invariant ∙ ap (λ o. numbers delivered_told (take i xs) ++ listed o) c.delivered_to.ensures
-    ∙ sym (numbers_next delivered_told xs i (node_state c.machine.result.now) c.machine.ensures)
+    ∙ sym (numbers_next delivered_told xs i (node_state c.machine.result.now) c.machine.ensures.state)

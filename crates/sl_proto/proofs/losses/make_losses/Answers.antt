@@ -13,7 +13,7 @@ loss_on-requires-clause-drops c = c.numbers_of-drops.ensures ∙ ap (λ xs. get_
     ∙ at_below (drops_on c.input.inside.loss) (length c.links-count.result.now) c.loop-link.link [] c.loop-link-test.true ∙ ap (λ i. drops_on i.loss c.loop-link.link) c.input.view_is
 
 pub loop-link-preserved : goal.loop-link-preserved
-loop-link-preserved c = c.in_ok-add_loss.ensures ∙ ap (λ xs. xs ++ c.in_ok-loss.loss ∷ []) c.loop-link.invariant ∙ ap (λ o. map (loss_on c.args.input.now) (below c.loop-link.link) ++ o ∷ []) c.in_ok-loss.ensures
+loop-link-preserved c = c.in_ok-push.ensures.items ∙ ap (λ xs. xs ++ c.in_ok-loss.loss ∷ []) c.loop-link.invariant ∙ ap (λ o. map (loss_on c.args.input.now) (below c.loop-link.link) ++ o ∷ []) c.in_ok-loss.ensures
     ∙ sym (map_below_more (loss_on c.args.input.now) c.loop-link.link)
 
 pub returns-clause-losses : goal.returns-clause-losses

@@ -9,5 +9,5 @@ loop-unit-preserved c = let o = c.args.observer.now.state in
     let i = c.loop-unit.unit in
     let n = c.requires.units in
     let low : i < length o.units = omega (arith, n) in
-    c.in_ok-add_row.ensures ∙ ap (λ xs. xs ++ c.row_at.result ∷ []) c.loop-unit.invariant ∙ ap (λ r. map (λ a. value_row (row_of c.args.k a)) (take i (accounts_of o)) ++ r ∷ []) c.row_at.ensures
+    c.in_ok-push.ensures.items ∙ ap (λ xs. xs ++ c.row_at.result ∷ []) c.loop-unit.invariant ∙ ap (λ r. map (λ a. value_row (row_of c.args.k a)) (take i (accounts_of o)) ++ r ∷ []) c.row_at.ensures
     ∙ sym (more_made (λ a. value_row (row_of c.args.k a)) o.units i low)

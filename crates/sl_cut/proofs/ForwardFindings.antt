@@ -1,13 +1,13 @@
 -- Loops that judge and count.
-use Rattle.std.proofs.Common.{◌≡◌, ℕ, zero, suc, ◌+◌, ◌<◌, ◌≤◌, List, [], ◌∷◌, ◌++◌, length, refl, sym, ap, ◌∙◌, Option, Some, None, arith, take, get_or}
-use Rattle.std.specs.Prelude.{Bool, min, unwrap_or, slice_index_or, filter, cond}
-use Rattle.std.proofs.lemmas.List.{take_more}
+use Rattle.std.proofs.Common.{◌≡◌, ℕ, ◌+◌, ◌≤◌, List, [], ◌∷◌, length, refl, sym, ap, ◌∙◌, Option, Some, None, arith}
+use Rattle.std.specs.Prelude.{Bool, true, false, min, unwrap_or, slice_index_or, filter, cond}
 use Rattle.sl_saves.specs.declared.entry.Total.{Total}
 use Rattle.sl_model.specs.Words.{weigh}
 use Rattle.sl_route.specs.Least.{least, least_in}
 use Rattle.sl_model.specs.Findings.{no_total, eight_totals}
 use Rattle.sl_parts.specs.Parts.{below}
-use Rattle.sl_parts.proofs.Lists.{filter_below_more}
+use Rattle.sl_parts.proofs.Lists.{length_filter_le, length_numbers}
+use Rattle.sl_layout.specs.Net.{Net, actor_of, is_unit, units}
 
 -- The least of some numbers, with one before them.
 
@@ -42,3 +42,16 @@ eight_places (a ∷ b ∷ c ∷ d ∷ e ∷ f ∷ g ∷ h ∷ ts) = refl
 
 pub total-same : (t : Total) (p b : ℕ) → t.packets ≡ p → t.bytes ≡ b → t ≡ record { packets = p; bytes = b }
 total-same t p b e f = rw (← e, ← f) refl
+
+-- A sum over those of a list that pass is one over all of it, where the others count nothing.
+pub weigh_passing : (f : ℕ → ℕ) (test : ℕ → Bool) (xs : List ℕ) → weigh (λ x. cond (test x) (f x) 0) xs ≡ weigh f (filter test xs)
+weigh_passing f test [] = refl
+weigh_passing f test (x ∷ xs) = by_test (test x) (weigh_passing f test xs)
+  where
+    by_test : (b : Bool) → weigh (λ y. cond (test y) (f y) 0) xs ≡ weigh f (filter test xs) → cond b (f x) 0 + weigh (λ y. cond (test y) (f y) 0) xs ≡ weigh f (cond b (x ∷ filter test xs) (filter test xs))
+    by_test true e = omega (arith, e)
+    by_test false e = omega (arith, e)
+
+pub few_units : (net : Net) → length net.actors ≤ 1217 → length (units net) ≤ 1217
+few_units net h = let n = length net.actors in
+    omega (arith, h, length_filter_le (λ a. is_unit (actor_of net a)) (below n), length_numbers 0 n)

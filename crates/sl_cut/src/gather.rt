@@ -1,13 +1,13 @@
 // The findings of a run of whole histories.
-ghost use Rattle.std.specs.Prelude.{◌≡◌, ◌+◌, ◌<◌, ◌^◌, length, map, IfOk, IfSome, is_some};
+ghost use Rattle.std.specs.Prelude.{◌≡◌, ◌+◌, ◌<◌, ◌≤◌, ◌^◌, cond, length, map, IfOk, IfSome, is_some};
 ghost use Rattle.sl_parts.specs.Parts.{numbers_from};
 ghost use Rattle.sl_layout.specs.Net.{actor_of, units, hosts};
-ghost use Rattle.sl_model.specs.Words.{weigh};
 ghost use Rattle.sl_model.specs.History.{history};
 ghost use Rattle.sl_model.specs.Counting.{bad, expired, noroute};
 ghost use Rattle.sl_model.specs.Setup.{setup_of};
-ghost use Rattle.sl_model.specs.Findings.{row, rows_for, finding, is_ingress, device_of, ingress_units, drops_of, sent_by, delivered_to, findings_in, findings};
+ghost use Rattle.sl_model.specs.Findings.{row, rows_for, finding, is_ingress, device_of, drops_of, sent_by, delivered_to, findings_in, findings};
 ghost use Rattle.std.specs.List.{All};
+ghost use Rattle.sl_route.specs.Routes.{IsRoutesOf};
 ghost use Rattle.sl_model.specs.Losses.{losses};
 ghost use Rattle.sl_model.specs.History.{steps_in};
 ghost use Rattle.sl_flow.specs.Flow.{HasAddresses};
@@ -17,11 +17,12 @@ use crate::lost::losses_of;
 use crate::values::row;
 use sl_machine::Memory;
 use sl_model::{Counts, Drops, Finding, FindingList, Findings, Rows1, Verdict};
-use sl_net::{ActorId, Input, Net, Parts, Side, push_if};
+use sl_net::{ActorId, Input, Net, Side};
 use sl_replay::{
     World, action_choice, bad, expired, floor, follow, hosts, issued, noroute, resent, taken,
 };
-use std::alloc::{AllocError, Global};
+use sl_route::Routes;
+use std::alloc::Global;
 
 fn rows(
     alloc: Global,
@@ -29,8 +30,9 @@ fn rows(
     world: &World,
     snapshot: u64,
     units: &[u32],
-) -> Result<Rows1, AllocError>
-    requires { steps_in world.now < 2 ^ 40 }
+) -> Result<Rows1, Memory>
+    requires small { steps_in world.now < 2 ^ 40 }
+    requires each { All (λ u. u < length input.now.net.actors) units.now }
     ensures { IfOk result (λ rows. rows ≡ map (row input.now.net (losses input.now) world.now snapshot) units.now) }
 {
     let mut items = Vec::new(alloc);
@@ -46,7 +48,7 @@ fn rows_for(
     world: &World,
     snapshot: u64,
     verdict: Verdict,
-) -> Result<Rows1, AllocError>
+) -> Result<Rows1, Memory>
     requires { steps_in world.now < 2 ^ 40 }
     ensures { IfOk result (λ rows. rows ≡ rows_for input.now.net (losses input.now) world.now snapshot verdict) }
 {
@@ -58,12 +60,7 @@ fn rows_for(
     }
 }
 
-fn finding(
-    alloc: Global,
-    input: &Input,
-    world: &World,
-    snapshot: u64,
-) -> Result<Finding, AllocError>
+fn finding(alloc: Global, input: &Input, world: &World, snapshot: u64) -> Result<Finding, Memory>
     requires { steps_in world.now < 2 ^ 40 }
     ensures { IfOk result (λ one. one ≡ finding input.now.net (losses input.now) world.now snapshot) }
 {
@@ -80,7 +77,7 @@ fn finding_list(
     input: &Input,
     world: &World,
     count: u64,
-) -> Result<FindingList, AllocError>
+) -> Result<FindingList, Memory>
     requires { steps_in world.now < 2 ^ 40 }
     ensures { IfOk result (λ list. list ≡ map (finding input.now.net (losses input.now) world.now) (numbers_from 1 count)) }
 {
@@ -93,11 +90,13 @@ fn finding_list(
 
 /// The device of an ingress unit, or none for another actor.
 fn ingress_device(net: &Net, actor: u32) -> Option<u32>
+    requires { actor < length net.now.actors }
     ensures ingress { is_some result ≡ is_ingress (actor_of net.now actor) }
     ensures device { IfSome result (λ device. device ≡ device_of (actor_of net.now actor)) }
+    ensures within { IfSome result (λ device. device < length net.now.parts.devices) }
 {
-    match net.actors().get(actor as usize) {
-        Some(ActorId::Unit(unit)) => match unit.side {
+    match net.actor(actor) {
+        ActorId::Unit(unit) => match unit.side {
             Side::Ingress => Some(unit.device),
             Side::Egress => None,
         },
@@ -105,78 +104,54 @@ fn ingress_device(net: &Net, actor: u32) -> Option<u32>
     }
 }
 
-fn ingress_units(alloc: Global, net: &Net) -> Result<Vec<u32>, AllocError>
-    ensures { IfOk result (λ list. list.items ≡ ingress_units net.now) }
+/// What an actor dropped where it is an ingress unit; another one drops nothing.
+fn drops_at(net: &Net, routes: &Routes, world: &World, actor: u32) -> Drops
+    requires routes { IsRoutesOf net.now routes.now }
+    requires actor { actor < length net.now.actors }
+    ensures bad { result.bad ≡ cond (is_ingress (actor_of net.now actor)) (bad (history world.now actor)) 0 }
+    ensures expired { result.expired ≡ cond (is_ingress (actor_of net.now actor)) (expired (history world.now actor)) 0 }
+    ensures noroute { let at = actor_of net.now actor in result.noroute ≡ cond (is_ingress at) (noroute net.now.parts (device_of at) (history world.now actor)) 0 }
+    ensures few_bad { result.bad ≤ cond (is_ingress (actor_of net.now actor)) (length (history world.now actor)) 0 }
+    ensures few_expired { result.expired ≤ cond (is_ingress (actor_of net.now actor)) (length (history world.now actor)) 0 }
+    ensures few_noroute { result.noroute ≤ cond (is_ingress (actor_of net.now actor)) (length (history world.now actor)) 0 }
 {
-    let mut list = Vec::new(alloc);
-    for unit in net.unit_actors() {
-        push_if(&mut list, ingress_device(net, *unit).is_some(), *unit)?;
-    }
-    Ok(list)
-}
-
-fn all_bad(world: &World, units: &[u32]) -> u64
-    requires { weigh (λ u. length (history world.now u)) units.now < 2 ^ 40 }
-    ensures { result ≡ weigh (λ u. bad (history world.now u)) units.now }
-{
-    let mut total = 0;
-    for unit in units {
-        total += bad(world.steps(*unit));
-    }
-    total
-}
-
-fn all_expired(world: &World, units: &[u32]) -> u64
-    requires { weigh (λ u. length (history world.now u)) units.now < 2 ^ 40 }
-    ensures { result ≡ weigh (λ u. expired (history world.now u)) units.now }
-{
-    let mut total = 0;
-    for unit in units {
-        total += expired(world.steps(*unit));
-    }
-    total
-}
-
-fn device_of(net: &Net, actor: u32) -> u32
-    ensures { result ≡ device_of (actor_of net.now actor) }
-{
-    match net.actors().get(actor as usize) {
-        Some(ActorId::Unit(unit)) => unit.device,
-        _ => 0,
+    let Some(device) = ingress_device(net, actor) else {
+        return Drops {
+            bad: 0,
+            expired: 0,
+            noroute: 0,
+        };
+    };
+    let steps = world.steps(actor);
+    Drops {
+        bad: bad(steps),
+        expired: expired(steps),
+        noroute: noroute(routes, device, steps),
     }
 }
 
-fn all_noroute(alloc: Global, net: &Net, world: &World, units: &[u32]) -> Result<u64, AllocError>
-    requires { weigh (λ u. length (history world.now u)) units.now < 2 ^ 40 }
-    ensures { IfOk result (λ total. total ≡ weigh (λ u. noroute net.now.parts (device_of (actor_of net.now u)) (history world.now u)) units.now) }
-{
-    let mut total = 0;
-    for unit in units {
-        total += noroute(
-            alloc,
-            net.parts(),
-            device_of(net, *unit),
-            world.steps(*unit),
-        )?;
-    }
-    Ok(total)
-}
-
-fn drops_of(alloc: Global, net: &Net, world: &World) -> Result<Drops, AllocError>
+fn drops_of(alloc: Global, net: &Net, world: &World) -> Result<Drops, Memory>
     requires small { steps_in world.now < 2 ^ 40 }
     requires actors { length world.now ≡ length net.now.actors }
     ensures { IfOk result (λ drops. drops ≡ drops_of net.now world.now) }
 {
-    let list = ingress_units(alloc, net)?;
-    let units = list.as_slice();
-    Ok(Drops {
-        bad: all_bad(world, units),
-        expired: all_expired(world, units),
-        noroute: all_noroute(alloc, net, world, units)?,
-    })
+    let routes = Routes::make(alloc, net)?;
+    let mut drops = Drops {
+        bad: 0,
+        expired: 0,
+        noroute: 0,
+    };
+    for unit in net.unit_actors() {
+        let more = drops_at(net, &routes, world, *unit);
+        drops.bad += more.bad;
+        drops.expired += more.expired;
+        drops.noroute += more.noroute;
+    }
+    Ok(drops)
 }
 
-fn sent_by(alloc: Global, net: &Net, world: &World, hosts: &[u32]) -> Result<Counts, AllocError>
+fn sent_by(alloc: Global, net: &Net, world: &World, hosts: &[u32]) -> Result<Counts, Memory>
+    requires { All (λ a. a < length net.now.actors) hosts.now }
     ensures { IfOk result (λ counts. counts ≡ map (sent_by net.now world.now) hosts.now) }
 {
     let mut items = Vec::new(alloc);
@@ -186,7 +161,7 @@ fn sent_by(alloc: Global, net: &Net, world: &World, hosts: &[u32]) -> Result<Cou
     Ok(Counts { items })
 }
 
-fn delivered_to(alloc: Global, world: &World, hosts: &[u32]) -> Result<Counts, AllocError>
+fn delivered_to(alloc: Global, world: &World, hosts: &[u32]) -> Result<Counts, Memory>
     ensures { IfOk result (λ counts. counts ≡ map (delivered_to world.now) hosts.now) }
 {
     let mut items = Vec::new(alloc);
@@ -196,7 +171,7 @@ fn delivered_to(alloc: Global, world: &World, hosts: &[u32]) -> Result<Counts, A
     Ok(Counts { items })
 }
 
-fn findings_in(alloc: Global, input: &Input, world: &World) -> Result<Findings, AllocError>
+fn findings_in(alloc: Global, input: &Input, world: &World) -> Result<Findings, Memory>
     requires small { steps_in world.now < 2 ^ 40 }
     requires actors { length world.now ≡ length input.now.net.actors }
     ensures { IfOk result (λ all. all ≡ findings_in (setup_of input.now) (losses input.now) world.now) }
@@ -215,19 +190,6 @@ fn findings_in(alloc: Global, input: &Input, world: &World) -> Result<Findings, 
     })
 }
 
-fn findings_after(
-    alloc: Global,
-    input: &Input,
-    schedule: &[(u32, u32)],
-) -> Result<Findings, AllocError>
-    requires addresses { All HasAddresses input.now.flows }
-    requires small { length schedule.now < 2 ^ 40 }
-    ensures { IfOk result (λ all. all ≡ findings (setup_of input.now) (losses input.now) schedule.now) }
-{
-    let world = follow(alloc, input, schedule)?;
-    findings_in(alloc, input, &world)
-}
-
 /// The findings of the world that a schedule reaches, from whole histories. Idle entries change
 /// nothing. A schedule of 2^40 entries is answered as want of memory.
 pub fn findings_of(
@@ -242,8 +204,6 @@ pub fn findings_of(
     if schedule.len() >= 1 << 40 {
         return Err(Memory);
     }
-    match findings_after(alloc, input, schedule) {
-        Ok(findings) => Ok(findings),
-        Err(_) => Err(Memory),
-    }
+    let world = follow(alloc, input, schedule)?;
+    findings_in(alloc, input, &world)
 }

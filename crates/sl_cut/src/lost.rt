@@ -1,21 +1,23 @@
 // How many messages are lost, by kinds of links.
-ghost use Rattle.std.specs.Prelude.{◌≡◌, [], ◌∷◌, cond, IfOk};
+ghost use Rattle.std.specs.Prelude.{◌≡◌, [], ◌∷◌, ◌<◌, length, cond, IfOk};
 ghost use Rattle.sl_layout.specs.Net.{link_of, same_sort};
 ghost use Rattle.sl_model.specs.Findings.{lost_on, lost_of, losses_of};
 ghost use Rattle.sl_model.specs.Losses.{losses};
 ghost use Rattle.sl_model.specs.Words.{weigh};
 
+use sl_machine::Memory;
 use sl_model::Lost;
 use sl_net::{Input, Sort};
-use sl_replay::{World, link_of, put, without_lost};
-use std::alloc::{AllocError, Global};
+use sl_replay::{World, put, without_lost};
+use std::alloc::Global;
 
 /// How many puts on a link are lost.
 #[tactic(auto, using(sl_replay::proofs::ForwardLosses::lost_and_kept))]
-fn lost_on(alloc: Global, input: &Input, world: &World, link: u32) -> Result<u64, AllocError>
+fn lost_on(alloc: Global, input: &Input, world: &World, link: u32) -> Result<u64, Memory>
+    requires { link < length input.now.net.links }
     ensures { IfOk result (λ count. count ≡ lost_on input.now.net (losses input.now) world.now link) }
 {
-    let messages = put(alloc, link, world.steps(link_of(&input.net, link).from))?;
+    let messages = put(alloc, link, world.steps(input.net.link(link).from))?;
     let kept = without_lost(alloc, input, link, messages.as_slice())?;
     Ok((messages.len() - kept.len()) as u64)
 }
@@ -27,10 +29,11 @@ fn lost_if(
     world: &World,
     link: u32,
     sort: Sort,
-) -> Result<u64, AllocError>
+) -> Result<u64, Memory>
+    requires { link < length input.now.net.links }
     ensures { IfOk result (λ count. count ≡ weigh (lost_on input.now.net (losses input.now) world.now) (cond (same_sort (link_of input.now.net link).sort sort) (link ∷ []) [])) }
 {
-    if link_of(&input.net, link).sort.is(sort) {
+    if input.net.link(link).sort.is(sort) {
         lost_on(alloc, input, world, link)
     } else {
         Ok(0)
@@ -39,19 +42,19 @@ fn lost_if(
 
 /// How many puts on links of a sort are lost. A number past the last of a u64 is answered as want
 /// of memory: so many messages are nowhere.
-fn lost_of(alloc: Global, input: &Input, world: &World, sort: Sort) -> Result<u64, AllocError>
+fn lost_of(alloc: Global, input: &Input, world: &World, sort: Sort) -> Result<u64, Memory>
     ensures { IfOk result (λ count. count ≡ lost_of input.now.net (losses input.now) world.now sort) }
 {
     let mut total: u64 = 0;
     for link in 0..input.net.links().len() as u32 {
         let more = lost_if(alloc, input, world, link, sort)?;
-        total = total.checked_add(more).ok_or(AllocError)?;
+        total = total.checked_add(more).ok_or(Memory)?;
     }
     Ok(total)
 }
 
 /// The lost puts by kinds of links.
-pub fn losses_of(alloc: Global, input: &Input, world: &World) -> Result<Lost, AllocError>
+pub fn losses_of(alloc: Global, input: &Input, world: &World) -> Result<Lost, Memory>
     ensures { IfOk result (λ lost. lost ≡ losses_of input.now.net (losses input.now) world.now) }
 {
     Ok(Lost {

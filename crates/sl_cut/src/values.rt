@@ -1,5 +1,6 @@
 // The values of a snapshot: what units counted before their cuts, and what was in flight.
 ghost use Rattle.std.specs.Prelude.{◌≡◌, ◌≤◌, ◌<◌, ◌^◌, length, map, reverse, take, drop, IfOk, slice_index_or};
+ghost use Rattle.std.specs.List.{All};
 ghost use Rattle.sl_layout.specs.Net.{choice_of};
 ghost use Rattle.sl_model.specs.Words.{weigh};
 ghost use Rattle.sl_model.specs.Cut.{before, data_count, data_bytes, channel_value};
@@ -7,14 +8,12 @@ ghost use Rattle.sl_model.specs.Findings.{channel_links, no_total, eight_totals,
 ghost use Rattle.sl_model.specs.Losses.{losses};
 ghost use Rattle.sl_model.specs.History.{steps_in};
 
+use sl_machine::Memory;
 use sl_model::{Message, Row, Step};
 use sl_net::{Input, Net};
-use sl_replay::{
-    World, bytes, carried, data_channels, link_of, links_into, number_at, packets, place_in,
-    stamp_taken, taken,
-};
+use sl_replay::{World, bytes, carried, data_channels, packets, stamp_taken, taken};
 use sl_saves::Total;
-use std::alloc::{AllocError, Global};
+use std::alloc::Global;
 
 /// The steps after which the id of a unit is below a snapshot.
 #[tactic(auto, using(sl_replay::proofs::ForwardSteps::reverse_more))]
@@ -48,10 +47,12 @@ fn rest_of(messages: &[Message], count: usize) -> &[Message]
 }
 
 /// The choice by which a link is taken.
-fn choice_of(net: &Net, link: u32) -> usize
+fn choice_of(net: &Net, link: u32) -> u32
+    requires { link < length net.now.links }
     ensures { result ≡ choice_of net.now link }
 {
-    place_in(link, links_into(net, link_of(net, link).to))
+    let wired = net.wiring();
+    wired.links[link as usize].choice
 }
 
 fn count_data(message: &Message) -> u64
@@ -99,12 +100,13 @@ fn channel_value(
     world: &World,
     snapshot: u64,
     link: u32,
-) -> Result<Total, AllocError>
-    requires { steps_in world.now < 2 ^ 40 }
+) -> Result<Total, Memory>
+    requires small { steps_in world.now < 2 ^ 40 }
+    requires link { link < length input.now.net.links }
     ensures { IfOk result (λ total. total ≡ channel_value input.now.net (losses input.now) world.now snapshot link) }
 {
-    let ends = link_of(&input.net, link);
-    let choice = choice_of(&input.net, link);
+    let ends = input.net.link(link);
+    let choice = choice_of(&input.net, link) as usize;
     let sender = before(snapshot, world.steps(ends.from));
     let messages = carried(alloc, input, link, sender)?;
     let receiver = world.steps(ends.to);
@@ -118,8 +120,9 @@ fn channel_values(
     world: &World,
     snapshot: u64,
     links: &[u32],
-) -> Result<Vec<Total>, AllocError>
-    requires { steps_in world.now < 2 ^ 40 }
+) -> Result<Vec<Total>, Memory>
+    requires small { steps_in world.now < 2 ^ 40 }
+    requires each { All (λ l. l < length input.now.net.links) links.now }
     ensures { IfOk result (λ totals. totals.items ≡ map (channel_value input.now.net (losses input.now) world.now snapshot) links.now) }
 {
     let mut totals = Vec::new(alloc);
@@ -130,14 +133,16 @@ fn channel_values(
 }
 
 /// The data channels of a unit, as links.
-fn channel_links(alloc: Global, net: &Net, unit: u32) -> Result<Vec<u32>, AllocError>
-    ensures { IfOk result (λ links. links.items ≡ channel_links net.now unit) }
+fn channel_links(alloc: Global, net: &Net, unit: u32) -> Result<Vec<u32>, Memory>
+    requires { unit < length net.now.actors }
+    ensures links { IfOk result (λ links. links.items ≡ channel_links net.now unit) }
+    ensures each { IfOk result (λ links. All (λ l. l < length net.now.links) links.items) }
 {
-    let into = links_into(net, unit);
+    let into = net.links_into(unit);
     let channels = data_channels(alloc, net, unit)?;
     let mut links = Vec::new(alloc);
     for channel in &channels {
-        links.push(number_at(into, *channel as usize))?;
+        links.push(into[*channel as usize])?;
     }
     Ok(links)
 }
@@ -177,8 +182,9 @@ pub fn row(
     world: &World,
     snapshot: u64,
     unit: u32,
-) -> Result<Row, AllocError>
-    requires { steps_in world.now < 2 ^ 40 }
+) -> Result<Row, Memory>
+    requires small { steps_in world.now < 2 ^ 40 }
+    requires unit { unit < length input.now.net.actors }
     ensures { IfOk result (λ one. one ≡ row input.now.net (losses input.now) world.now snapshot unit) }
 {
     let steps = before(snapshot, world.steps(unit));

@@ -5,10 +5,8 @@ use Rattle.std.proofs.lemmas.List.{take_more}
 use Rattle.sl_machine.specs.Counting.{one_more}
 use Rattle.sl_loss.specs.Loss.{loses_next, after_put}
 use Rattle.sl_parts.specs.Parts.{numbers_from}
-use Rattle.sl_layout.specs.declared.actor.LinkKind.{LinkKind}
 use Rattle.sl_layout.specs.Wiring.{is_lossy}
 use Rattle.sl_net.specs.Input.{Input}
-use Rattle.sl_model.specs.World.{IsLossTable}
 use Rattle.sl_model.specs.declared.message.Message.{Message}
 use Rattle.sl_model.specs.Words.{tally}
 use Rattle.sl_model.specs.History.{without_lost}

@@ -1,8 +1,6 @@
-pub mod ForwardLists
+-- Used above, by sl_cut: ForwardSteps (loops over the steps of a history, the oldest first) and ForwardLosses (what is kept and what is lost is all).
 pub mod ForwardSteps
 pub mod ForwardLosses
 pub mod ForwardPuts
-pub mod FoundPackets
 pub mod Actions
-pub mod Walks
-pub mod NoActor
+pub mod Observed

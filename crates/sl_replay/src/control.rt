@@ -1,5 +1,6 @@
 // What a control plane knows of the units that it serves, and what it puts.
-ghost use Rattle.std.specs.Prelude.{◌≡◌, [], ◌∷◌, ◌++◌, ◌&&◌, reverse, flat_map, OnOk, IfOk, if◌then◌else◌, ◌==◌, Option};
+ghost use Rattle.std.specs.Prelude.{◌≡◌, [], ◌∷◌, ◌++◌, ◌&&◌, ◌<◌, length, reverse, flat_map, OnOk, IfOk, if◌then◌else◌, ◌==◌, Option};
+ghost use Rattle.std.specs.List.{All};
 ghost use Rattle.sl_layout.specs.Net.{links_out, action_choice, unit_place};
 ghost use Rattle.sl_layout.specs.Serving.{Served, serving, served};
 ghost use Rattle.sl_model.specs.Knowledge.{is_outstanding, is_again, is_swept, asks};
@@ -7,10 +8,11 @@ ghost use Rattle.sl_model.specs.Puts.{send, send_all, poll_puts, dump_answer, co
 
 use crate::sends::add_out;
 use crate::tell::{put, puts_on, taken};
-use crate::wires::{action_choice, choice_from, link_of, links_out, number_of, unit_place};
+use crate::wires::{action_choice, choice_from, links_out};
+use sl_machine::Memory;
 use sl_model::{Message, Put, Step};
 use sl_net::{Net, Sort};
-use std::alloc::{AllocError, Global};
+use std::alloc::Global;
 use std::marker::Model;
 
 /// A unit that a control plane serves, by its actor's number; the choices by which its notices
@@ -31,10 +33,13 @@ impl Model for Serving {
     ghost view = { λ s. record { unit = s.unit; notice = s.notice; dump = s.dump; poll = s.poll } };
 }
 
-fn serve(alloc: Global, net: &Net, actor: u32, link: u32) -> Result<Serving, AllocError>
-    ensures { IfOk result (λ one. one ≡ serving net.now actor link) }
+fn serve(alloc: Global, net: &Net, actor: u32, link: u32) -> Result<Serving, Memory>
+    requires actor { actor < length net.now.actors }
+    requires link { link < length net.now.links }
+    ensures serving { IfOk result (λ one. one ≡ serving net.now actor link) }
+    ensures unit { IfOk result (λ one. one.unit < length net.now.actors) }
 {
-    let unit = link_of(net, link).to;
+    let unit = net.link(link).to;
     Ok(Serving {
         unit,
         notice: choice_from(alloc, net, actor, unit, Sort::Notice)?,
@@ -44,8 +49,10 @@ fn serve(alloc: Global, net: &Net, actor: u32, link: u32) -> Result<Serving, All
 }
 
 /// The units that a control plane serves, in order.
-pub fn served(alloc: Global, net: &Net, actor: u32) -> Result<Vec<Serving>, AllocError>
-    ensures { IfOk result (λ list. list.items ≡ served net.now actor) }
+pub fn served(alloc: Global, net: &Net, actor: u32) -> Result<Vec<Serving>, Memory>
+    requires { actor < length net.now.actors }
+    ensures served { IfOk result (λ list. list.items ≡ served net.now actor) }
+    ensures units { IfOk result (λ list. All (λ v. v.unit < length net.now.actors) list.items) }
 {
     let polls = links_out(alloc, net, actor, Sort::Poll)?;
     let mut list = Vec::new(alloc);
@@ -55,7 +62,7 @@ pub fn served(alloc: Global, net: &Net, actor: u32) -> Result<Vec<Serving>, Allo
     Ok(list)
 }
 
-fn is_outstanding(alloc: Global, one: &Serving, steps: &[Step]) -> Result<bool, AllocError>
+fn is_outstanding(alloc: Global, one: &Serving, steps: &[Step]) -> Result<bool, Memory>
     ensures { IfOk result (λ yes. yes ≡ is_outstanding one.now (reverse steps.now)) }
 {
     Ok(taken(one.dump as usize, steps) < put(alloc, one.poll, steps)?.len())
@@ -84,19 +91,15 @@ fn is_again(sweep: usize, one: &Serving, steps: &[Step]) -> bool
     again
 }
 
-fn is_waiting(
-    alloc: Global,
-    sweep: usize,
-    one: &Serving,
-    steps: &[Step],
-) -> Result<bool, AllocError>
+fn is_waiting(alloc: Global, sweep: usize, one: &Serving, steps: &[Step]) -> Result<bool, Memory>
     ensures { IfOk result (λ yes. yes ≡ (is_outstanding one.now (reverse steps.now) && is_again sweep one.now (reverse steps.now))) }
 {
     Ok(is_outstanding(alloc, one, steps)? && is_again(sweep, one, steps))
 }
 
 /// Whether each unit has a poll outstanding and again.
-pub fn is_swept(alloc: Global, net: &Net, actor: u32, steps: &[Step]) -> Result<bool, AllocError>
+pub fn is_swept(alloc: Global, net: &Net, actor: u32, steps: &[Step]) -> Result<bool, Memory>
+    requires { actor < length net.now.actors }
     ensures { IfOk result (λ yes. yes ≡ is_swept net.now actor (reverse steps.now)) }
 {
     let sweep = action_choice(net, actor);
@@ -108,7 +111,7 @@ pub fn is_swept(alloc: Global, net: &Net, actor: u32, steps: &[Step]) -> Result<
     Ok(true)
 }
 
-fn add_poll(puts: &mut Vec<Put>, passes: bool, link: u32) -> Result<(), AllocError>
+fn add_poll(puts: &mut Vec<Put>, passes: bool, link: u32) -> Result<(), Memory>
     ensures { OnOk result (puts.new.items ≡ puts.old.items ++ (if passes then send Message.Poll link ∷ [] else [])) }
 {
     if passes {
@@ -127,7 +130,7 @@ fn add_poll_if(
     passes: bool,
     one: &Serving,
     steps: &[Step],
-) -> Result<(), AllocError>
+) -> Result<(), Memory>
     ensures { OnOk result (puts.new.items ≡ puts.old.items ++ (if passes then poll_puts one.now (reverse steps.now) else [])) }
 {
     if passes {
@@ -143,7 +146,7 @@ fn add_notice_polls(
     list: &[Serving],
     steps: &[Step],
     choice: u32,
-) -> Result<(), AllocError>
+) -> Result<(), Memory>
     ensures { OnOk result (puts.new.items ≡ puts.old.items ++ flat_map (λ v. if choice == v.notice then poll_puts v (reverse steps.now) else []) list.now) }
 {
     for one in list {
@@ -159,10 +162,12 @@ fn add_done(
     actor: u32,
     unit: u32,
     count: u64,
-) -> Result<(), AllocError>
+) -> Result<(), Memory>
+    requires actor { actor < length net.now.actors }
+    requires unit { unit < length net.now.actors }
     ensures { OnOk result (puts.new.items ≡ puts.old.items ++ send_all (Message.Done (unit_place net.now unit) count) (links_out net.now actor Sort.Done)) }
 {
-    let place = number_of(unit_place(net, unit))?;
+    let place = net.unit_place(unit);
     add_out(
         alloc,
         net,
@@ -181,7 +186,9 @@ fn add_dump_answer(
     steps: &[Step],
     count: u64,
     one: &Serving,
-) -> Result<(), AllocError>
+) -> Result<(), Memory>
+    requires actor { actor < length net.now.actors }
+    requires unit { one.now.unit < length net.now.actors }
     ensures { OnOk result (puts.new.items ≡ puts.old.items ++ dump_answer net.now actor (reverse steps.now) count one.now) }
 {
     add_done(alloc, net, puts, actor, one.unit, count)?;
@@ -198,7 +205,9 @@ fn add_answer_if(
     count: u64,
     passes: bool,
     one: &Serving,
-) -> Result<(), AllocError>
+) -> Result<(), Memory>
+    requires actor { actor < length net.now.actors }
+    requires unit { one.now.unit < length net.now.actors }
     ensures { OnOk result (puts.new.items ≡ puts.old.items ++ (if passes then dump_answer net.now actor (reverse steps.now) count one.now else [])) }
 {
     if passes {
@@ -216,7 +225,9 @@ fn add_dump_answers(
     steps: &[Step],
     count: u64,
     choice: u32,
-) -> Result<(), AllocError>
+) -> Result<(), Memory>
+    requires actor { actor < length net.now.actors }
+    requires units { All (λ v. v.unit < length net.now.actors) list.now }
     ensures { OnOk result (puts.new.items ≡ puts.old.items ++ flat_map (λ v. if choice == v.dump then dump_answer net.now actor (reverse steps.now) count v else []) list.now) }
 {
     for one in list {
@@ -240,7 +251,8 @@ fn add_inits(
     puts: &mut Vec<Put>,
     actor: u32,
     number: u64,
-) -> Result<(), AllocError>
+) -> Result<(), Memory>
+    requires { actor < length net.now.actors }
     ensures { OnOk result (puts.new.items ≡ puts.old.items ++ send_all (Message.Init number) (links_out net.now actor Sort.Init)) }
 {
     add_out(alloc, net, puts, actor, Sort::Init, &Message::Init(number))
@@ -255,7 +267,8 @@ pub fn add_control(
     steps: &[Step],
     choice: u32,
     message: &Message,
-) -> Result<(), AllocError>
+) -> Result<(), Memory>
+    requires { actor < length net.now.actors }
     ensures { OnOk result (puts.new.items ≡ puts.old.items ++ control_puts net.now actor (reverse steps.now) choice message.now) }
 {
     let list = served(alloc, net, actor)?;
@@ -276,7 +289,8 @@ pub fn add_sweep(
     puts: &mut Vec<Put>,
     actor: u32,
     steps: &[Step],
-) -> Result<(), AllocError>
+) -> Result<(), Memory>
+    requires { actor < length net.now.actors }
     ensures { OnOk result (puts.new.items ≡ puts.old.items ++ flat_map (λ v. poll_puts v (reverse steps.now)) (served net.now actor)) }
 {
     add_sweep_polls(alloc, puts, &served(alloc, net, actor)?, steps)
@@ -287,7 +301,7 @@ fn add_sweep_polls(
     puts: &mut Vec<Put>,
     list: &[Serving],
     steps: &[Step],
-) -> Result<(), AllocError>
+) -> Result<(), Memory>
     ensures { OnOk result (puts.new.items ≡ puts.old.items ++ flat_map (λ v. poll_puts v (reverse steps.now)) list.now) }
 {
     for one in list {

@@ -1,12 +1,13 @@
 // What a unit counts, and what it drops.
-ghost use Rattle.std.specs.Prelude.{◌≡◌, ◌*◌, ◌≤◌, ◌<◌, ◌^◌, length, reverse, IfOk, unwrap_or, option_map};
+ghost use Rattle.std.specs.Prelude.{◌≡◌, ◌*◌, ◌≤◌, ◌<◌, ◌^◌, length, reverse, unwrap_or, option_map};
+ghost use Rattle.sl_layout.specs.Net.{Net};
+ghost use Rattle.sl_route.specs.Routes.{IsRoutesOf};
 ghost use Rattle.sl_model.specs.Counting.{counted_in, counted, packets, bytes, is_bad, is_expired, is_noroute, bad, expired, noroute};
 
 use crate::frames::packet_of;
-use crate::route::next_port;
 use sl_model::{Message, Step};
-use sl_net::{Packet, Parts};
-use std::alloc::{AllocError, Global};
+use sl_net::Packet;
+use sl_route::Routes;
 
 fn counted_in(message: &Message) -> Option<Packet>
     ensures { result ≡ counted_in message.now }
@@ -84,19 +85,13 @@ fn is_expired(packet: Option<Packet>) -> bool
     }
 }
 
-fn is_noroute(
-    alloc: Global,
-    parts: &Parts,
-    device: u32,
-    packet: Option<Packet>,
-) -> Result<bool, AllocError>
-    ensures { IfOk result (λ yes. yes ≡ is_noroute parts.now device packet) }
+/// The routes are those of a net, and the device is one of its devices.
+fn is_noroute(routes: &Routes, device: u32, packet: Option<Packet>) -> bool
+    ensures { (net : Net) → IsRoutesOf net routes.now → device < length net.parts.devices → result ≡ is_noroute net.parts device packet }
 {
     match packet {
-        Some(packet) => Ok(
-            packet.hops != 0 && next_port(alloc, parts, device, packet.dst as u32)?.is_none(),
-        ),
-        None => Ok(false),
+        Some(packet) => packet.hops != 0 && routes.next_port(device, packet.dst as u32).is_none(),
+        None => false,
     }
 }
 
@@ -130,17 +125,17 @@ pub fn expired(steps: &[Step]) -> u64
     expired
 }
 
-/// How many packets an ingress unit of a device dropped for want of a route.
-#[tactic(auto, using(crate::proofs::ForwardSteps::reverse_more))]
-pub fn noroute(alloc: Global, parts: &Parts, device: u32, steps: &[Step]) -> Result<u64, AllocError>
-    ensures value { IfOk result (λ count. count ≡ noroute parts.now device (reverse steps.now)) }
-    ensures bound { IfOk result (λ count. count ≤ length steps.now) }
+/// How many packets an ingress unit of a device dropped for want of a route. The routes are those
+/// of a net, and the device is one of its devices.
+pub fn noroute(routes: &Routes, device: u32, steps: &[Step]) -> u64
+    ensures value { (net : Net) → IsRoutesOf net routes.now → device < length net.parts.devices → result ≡ noroute net.parts device (reverse steps.now) }
+    ensures bound { result ≤ length steps.now }
 {
     let mut noroute = 0;
     for step in steps {
-        if is_noroute(alloc, parts, device, counted(step))? {
+        if is_noroute(routes, device, counted(step)) {
             noroute += 1;
         }
     }
-    Ok(noroute)
+    noroute
 }

@@ -2,12 +2,13 @@
 ghost use Rattle.std.specs.Prelude.{◌≡◌, ◌+◌, ◌<◌, length, IfOk};
 ghost use Rattle.sl_model.specs.Frame.{plain_frame, packet_of, is_plain, packet_at, number_at, all_zero};
 
+use sl_machine::Memory;
 use sl_net::{Bytes, Packet};
-use std::alloc::{AllocError, Global};
+use std::alloc::Global;
 
 /// The plain frame of a packet.
 #[tactic(auto, unfolding(sl_model::specs::Frame::plain_frame))]
-pub fn plain_frame(alloc: Global, packet: Packet) -> Result<Bytes, AllocError>
+pub fn plain_frame(alloc: Global, packet: Packet) -> Result<Bytes, Memory>
     ensures { IfOk result (λ frame. frame ≡ plain_frame packet) }
 {
     let (src, dst, seq, len) = (packet.src, packet.dst, packet.seq, packet.len);

@@ -3,8 +3,9 @@ ghost use Rattle.std.specs.Prelude.{◌≡◌, ◌<◌, ◌≤◌, List, [], ◌
 ghost use Rattle.sl_model.specs.History.{history, first};
 ghost use Rattle.sl_model.specs.History.{steps_in};
 
+use sl_machine::Memory;
 use sl_model::Step;
-use std::alloc::{AllocError, Global};
+use std::alloc::Global;
 use std::marker::Model;
 
 /// The steps of an actor. Contracts see them with the newest first.
@@ -47,13 +48,11 @@ impl History {
     }
 
     /// Adds a step, the newest.
-    fn push(&mut self, step: Step) -> Result<(), AllocError>
+    fn push(&mut self, step: Step) -> Result<(), Memory>
         ensures { OnOk result (self.new ≡ step ∷ self.old) }
     {
-        match self.items.push(step) {
-            Ok(()) => Ok(()),
-            Err(_) => Err(AllocError),
-        }
+        self.items.push(step)?;
+        Ok(())
     }
 
     /// The steps, the oldest first.
@@ -66,7 +65,7 @@ impl History {
 
 impl World {
     /// A world of so many actors, none of which has made a step.
-    pub fn start(alloc: Global, actors: usize) -> Result<World, AllocError>
+    pub fn start(alloc: Global, actors: usize) -> Result<World, Memory>
         ensures { IfOk result (λ world. world ≡ replicate actors []) }
     {
         let mut items = Vec::new(alloc);
@@ -77,7 +76,7 @@ impl World {
     }
 
     /// Adds a step to the history of an actor.
-    pub fn add(&mut self, actor: usize, step: Step) -> Result<(), AllocError>
+    pub fn add(&mut self, actor: usize, step: Step) -> Result<(), Memory>
         requires { actor < length self.old }
         ensures { OnOk result (self.new ≡ slice_set self.old actor (step ∷ history self.old actor)) }
     {

@@ -1,18 +1,21 @@
 // What the observer knows.
-ghost use Rattle.std.specs.Prelude.{◌≡◌, ◌+◌, ◌<◌, ◌^◌, reverse, map, IfOk, None};
+ghost use Rattle.std.specs.Prelude.{◌≡◌, ◌+◌, ◌<◌, ◌^◌, length, reverse, map, IfOk, None};
+ghost use Rattle.std.specs.List.{All};
 ghost use Rattle.sl_route.specs.Least.{least_in};
 ghost use Rattle.sl_model.specs.Setup.{setup_of};
 ghost use Rattle.sl_model.specs.Knowledge.{floor_of, unit_floor, floor, issued, resent, can_issue, can_resend};
 
 use crate::history::{World, first_steps};
 use crate::tell::{id, known, least_last, taken};
-use crate::wires::{action_choice, choices_of, data_channels, unit_place};
+use crate::wires::{action_choice, choices_of, data_channels, observer};
+use sl_machine::Memory;
 use sl_model::Step;
 use sl_net::{Input, Net, Sort};
-use std::alloc::{AllocError, Global};
+use std::alloc::Global;
 
 /// The least of a unit's id and the last-seen numbers of its channels and of its initiations.
-pub fn floor_of(alloc: Global, net: &Net, unit: u32, steps: &[Step]) -> Result<u64, AllocError>
+pub fn floor_of(alloc: Global, net: &Net, unit: u32, steps: &[Step]) -> Result<u64, Memory>
+    requires { unit < length net.now.actors }
     ensures { IfOk result (λ floor. floor ≡ floor_of net.now unit (reverse steps.now)) }
 {
     let channels = data_channels(alloc, net, unit)?;
@@ -22,10 +25,11 @@ pub fn floor_of(alloc: Global, net: &Net, unit: u32, steps: &[Step]) -> Result<u
 }
 
 /// The floor of a unit as the observer knows it.
-pub fn unit_floor(alloc: Global, net: &Net, world: &World, unit: u32) -> Result<u64, AllocError>
+pub fn unit_floor(alloc: Global, net: &Net, world: &World, unit: u32) -> Result<u64, Memory>
+    requires { unit < length net.now.actors }
     ensures { IfOk result (λ number. number ≡ unit_floor net.now world.now unit) }
 {
-    let count = known(unit_place(net, unit), world.steps(0));
+    let count = known(net.unit_place(unit), world.steps(0));
     floor_of(alloc, net, unit, first_steps(world.steps(unit), count))
 }
 
@@ -35,7 +39,8 @@ fn least_floor(
     net: &Net,
     world: &World,
     units: &[u32],
-) -> Result<Option<u64>, AllocError>
+) -> Result<Option<u64>, Memory>
+    requires { All (λ u. u < length net.now.actors) units.now }
     ensures { IfOk result (λ least. least ≡ least_in None (map (unit_floor net.now world.now) units.now)) }
 {
     let mut least = None;
@@ -51,18 +56,18 @@ pub fn issued(net: &Net, steps: &[Step]) -> u64
     ensures value { result ≡ issued net.now (reverse steps.now) }
     ensures bound { result < 2 ^ 63 }
 {
-    taken(action_choice(net, 0), steps) as u64
+    taken(action_choice(net, observer(net)), steps) as u64
 }
 
 /// How often the observer resent, by its steps.
 pub fn resent(net: &Net, steps: &[Step]) -> u64
     ensures { result ≡ resent net.now (reverse steps.now) }
 {
-    taken(action_choice(net, 0) + 1, steps) as u64
+    taken(action_choice(net, observer(net)) + 1, steps) as u64
 }
 
 /// The number up to which all units are collected.
-pub fn floor(alloc: Global, net: &Net, world: &World) -> Result<u64, AllocError>
+pub fn floor(alloc: Global, net: &Net, world: &World) -> Result<u64, Memory>
     ensures { IfOk result (λ number. number ≡ floor net.now world.now) }
 {
     let least = least_floor(alloc, net, world, net.unit_actors())?;

@@ -10,7 +10,6 @@ mod history;
 mod knowledge;
 mod losses;
 mod message;
-mod route;
 mod schedule;
 mod sends;
 mod step;
@@ -24,6 +23,4 @@ pub use knowledge::{floor, issued, resent, unit_floor};
 pub use losses::{carried, without_lost};
 pub use schedule::follow;
 pub use tell::{id, last, put, stamp_taken, taken};
-pub use wires::{
-    action_choice, data_channels, hosts, link_of, links_into, number_at, number_of, place_in,
-};
+pub use wires::{action_choice, data_channels, hosts};

@@ -1,28 +1,18 @@
 // What is lost of the messages that are put on a link.
-ghost use Rattle.std.specs.Prelude.{◌≡◌, [], ◌∷◌, ◌++◌, ◌==◌, cond, reverse, map, filter, IfOk, OnOk};
+ghost use Rattle.std.specs.Prelude.{◌≡◌, [], ◌∷◌, ◌++◌, ◌==◌, ◌<◌, length, cond, reverse, map, filter, IfOk, OnOk};
 ghost use Rattle.sl_loss.specs.Loss.{loses_next, after_put};
 ghost use Rattle.sl_model.specs.History.{carried_by, without_lost};
-ghost use Rattle.sl_model.specs.Losses.{kind_at, drops_on, loss_on, losses};
+ghost use Rattle.sl_model.specs.Losses.{drops_on, loss_on, losses};
 
 use crate::message::copy_message;
 use crate::tell::put;
 use sl_loss::Loss;
+use sl_machine::Memory;
 use sl_model::{Message, Step};
-use sl_net::{Drop1, Input, LinkKind, LossSpec, Net};
-use std::alloc::{AllocError, Global};
+use sl_net::{Drop1, Input, LossSpec};
+use std::alloc::Global;
 
-/// The kind of a link; a number that is none has no losses.
-fn kind_at(net: &Net, link: u32) -> LinkKind
-    ensures { result ≡ kind_at net.now link }
-{
-    if (link as usize) < net.links().len() {
-        net.kind(link)
-    } else {
-        LinkKind::Reliable
-    }
-}
-
-fn add_drop(numbers: &mut Vec<u64>, drop: Drop1, link: u32) -> Result<(), AllocError>
+fn add_drop(numbers: &mut Vec<u64>, drop: Drop1, link: u32) -> Result<(), Memory>
     ensures { OnOk result (numbers.new.items ≡ numbers.old.items ++ map (λ d. d.n) (filter (λ d. d.link == link) (drop ∷ []))) }
 {
     if drop.link == link {
@@ -32,7 +22,7 @@ fn add_drop(numbers: &mut Vec<u64>, drop: Drop1, link: u32) -> Result<(), AllocE
 }
 
 /// The numbers of a link's puts that are listed.
-fn drops_on(alloc: Global, loss: &LossSpec, link: u32) -> Result<Vec<u64>, AllocError>
+fn drops_on(alloc: Global, loss: &LossSpec, link: u32) -> Result<Vec<u64>, Memory>
     ensures { IfOk result (λ numbers. numbers.items ≡ drops_on loss.now link) }
 {
     let mut numbers = Vec::new(alloc);
@@ -43,19 +33,18 @@ fn drops_on(alloc: Global, loss: &LossSpec, link: u32) -> Result<Vec<u64>, Alloc
 }
 
 /// The loss of a link before any put, or none where it is reliable.
-fn loss_on(alloc: Global, input: &Input, link: u32) -> Result<Option<Loss>, AllocError>
+fn loss_on(alloc: Global, input: &Input, link: u32) -> Result<Option<Loss>, Memory>
+    requires { link < length input.now.net.links }
     ensures { IfOk result (λ loss. loss ≡ loss_on input.now link) }
 {
-    let kind = kind_at(&input.net, link);
+    let kind = input.net.kind(link);
     if !kind.is_lossy() {
         return Ok(None);
     }
     let drops = drops_on(alloc, &input.loss, link)?;
     let rate = input.loss.rate_of(kind);
-    match Loss::new(alloc, input.loss.seed, link as u64, rate, drops.as_slice()) {
-        Ok(loss) => Ok(Some(loss)),
-        Err(_) => Err(AllocError),
-    }
+    let loss = Loss::new(alloc, input.loss.seed, link as u64, rate, drops.as_slice())?;
+    Ok(Some(loss))
 }
 
 /// Whether the next put on a link with this loss is lost.
@@ -74,7 +63,7 @@ fn add_unless(
     kept: &mut Vec<Message>,
     lost: bool,
     message: &Message,
-) -> Result<(), AllocError>
+) -> Result<(), Memory>
     ensures { OnOk result (kept.new.items ≡ kept.old.items ++ cond lost [] (message.now ∷ [])) }
 {
     if !lost {
@@ -89,7 +78,8 @@ pub fn without_lost(
     input: &Input,
     link: u32,
     messages: &[Message],
-) -> Result<Vec<Message>, AllocError>
+) -> Result<Vec<Message>, Memory>
+    requires { link < length input.now.net.links }
     ensures { IfOk result (λ kept. kept.items ≡ without_lost (losses input.now link) 0 messages.now) }
 {
     let mut loss = loss_on(alloc, input, link)?;
@@ -106,7 +96,8 @@ pub fn carried(
     input: &Input,
     link: u32,
     steps: &[Step],
-) -> Result<Vec<Message>, AllocError>
+) -> Result<Vec<Message>, Memory>
+    requires { link < length input.now.net.links }
     ensures { IfOk result (λ kept. kept.items ≡ carried_by (losses input.now) link (reverse steps.now)) }
 {
     let messages = put(alloc, link, steps)?;

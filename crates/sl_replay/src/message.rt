@@ -1,12 +1,13 @@
 // Messages once more.
 ghost use Rattle.std.specs.Prelude.{◌≡◌, IfOk};
 
+use sl_machine::Memory;
 use sl_model::Message;
 use sl_net::Bytes;
-use std::alloc::{AllocError, Global};
+use std::alloc::Global;
 
 /// The same bytes once more.
-pub fn copy_bytes(alloc: Global, bytes: &Bytes) -> Result<Bytes, AllocError>
+pub fn copy_bytes(alloc: Global, bytes: &Bytes) -> Result<Bytes, Memory>
     ensures { IfOk result (λ copy. copy ≡ bytes.now) }
 {
     Ok(Bytes {
@@ -15,7 +16,7 @@ pub fn copy_bytes(alloc: Global, bytes: &Bytes) -> Result<Bytes, AllocError>
 }
 
 /// The same message once more.
-pub fn copy_message(alloc: Global, message: &Message) -> Result<Message, AllocError>
+pub fn copy_message(alloc: Global, message: &Message) -> Result<Message, Memory>
     ensures { IfOk result (λ copy. copy ≡ message.now) }
 {
     match message {

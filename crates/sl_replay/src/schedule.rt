@@ -1,19 +1,23 @@
 // Follows schedules on worlds of whole histories.
-ghost use Rattle.std.specs.Prelude.{◌≡◌, length, OnOk, IfOk};
+ghost use Rattle.std.specs.Prelude.{◌≡◌, ◌≤◌, length, OnOk, IfOk};
 ghost use Rattle.std.specs.List.{All};
+ghost use Rattle.sl_route.specs.Routes.{IsRoutesOf};
 ghost use Rattle.sl_model.specs.Setup.{setup_of};
 ghost use Rattle.sl_model.specs.World.{start, turn, world};
+ghost use Rattle.sl_model.specs.History.{steps_in};
 ghost use Rattle.sl_model.specs.Losses.{losses};
 ghost use Rattle.sl_flow.specs.Flow.{HasAddresses};
 
 use crate::history::World;
 use crate::step::next_step;
+use sl_machine::Memory;
 use sl_net::{Input, Net};
-use std::alloc::{AllocError, Global};
+use sl_route::Routes;
+use std::alloc::Global;
 
 /// The world where nothing has happened.
 #[tactic(auto, using(sl_model::proofs::Trails::start_replicate))]
-fn first_world(alloc: Global, net: &Net) -> Result<World, AllocError>
+fn first_world(alloc: Global, net: &Net) -> Result<World, Memory>
     ensures start { IfOk result (λ w. w ≡ start net.now) }
     ensures actors { IfOk result (λ w. length w ≡ length net.now.actors) }
 {
@@ -24,30 +28,34 @@ fn first_world(alloc: Global, net: &Net) -> Result<World, AllocError>
 fn take_turn(
     alloc: Global,
     input: &Input,
+    routes: &Routes,
     world: &mut World,
     actor: u32,
     choice: u32,
-) -> Result<(), AllocError>
+) -> Result<(), Memory>
     requires addresses { All HasAddresses input.now.flows }
+    requires routes { IsRoutesOf input.now.net routes.now }
     requires actors { length world.old ≡ length input.now.net.actors }
     ensures after { OnOk result (world.new ≡ turn (setup_of input.now) (losses input.now) world.old (actor, choice)) }
     ensures actors { OnOk result (length world.new ≡ length input.now.net.actors) }
 {
-    match next_step(alloc, input, world, actor, choice)? {
+    match next_step(alloc, input, routes, world, actor, choice)? {
         None => Ok(()),
         Some(step) => world.add(actor as usize, step),
     }
 }
 
 /// The world that a schedule reaches.
-pub fn follow(alloc: Global, input: &Input, schedule: &[(u32, u32)]) -> Result<World, AllocError>
+pub fn follow(alloc: Global, input: &Input, schedule: &[(u32, u32)]) -> Result<World, Memory>
     requires { All HasAddresses input.now.flows }
     ensures world { IfOk result (λ w. w ≡ world (setup_of input.now) (losses input.now) schedule.now) }
     ensures actors { IfOk result (λ w. length w ≡ length input.now.net.actors) }
+    ensures size { IfOk result (λ w. steps_in w ≤ length schedule.now) }
 {
+    let routes = Routes::make(alloc, &input.net)?;
     let mut world = first_world(alloc, &input.net)?;
     for (actor, choice) in schedule {
-        take_turn(alloc, input, &mut world, *actor, *choice)?;
+        take_turn(alloc, input, &routes, &mut world, *actor, *choice)?;
     }
     Ok(world)
 }

@@ -1,13 +1,14 @@
 // One message on each of some links.
-ghost use Rattle.std.specs.Prelude.{◌≡◌, ◌++◌, OnOk};
+ghost use Rattle.std.specs.Prelude.{◌≡◌, ◌++◌, ◌<◌, length, OnOk};
 ghost use Rattle.sl_layout.specs.Net.{links_out};
 ghost use Rattle.sl_model.specs.Puts.{send_all};
 
 use crate::message::copy_message;
 use crate::wires::links_out;
+use sl_machine::Memory;
 use sl_model::{Message, Put};
 use sl_net::{Net, Sort};
-use std::alloc::{AllocError, Global};
+use std::alloc::Global;
 
 /// Adds a message on each of some links.
 #[tactic(auto, using(crate::proofs::ForwardPuts::send_all_more))]
@@ -16,7 +17,7 @@ pub fn add_sends(
     puts: &mut Vec<Put>,
     message: &Message,
     links: &[u32],
-) -> Result<(), AllocError>
+) -> Result<(), Memory>
     ensures { OnOk result (puts.new.items ≡ puts.old.items ++ send_all message.now links.now) }
 {
     for link in links {
@@ -37,7 +38,8 @@ pub fn add_out(
     actor: u32,
     sort: Sort,
     message: &Message,
-) -> Result<(), AllocError>
+) -> Result<(), Memory>
+    requires { actor < length net.now.actors }
     ensures { OnOk result (puts.new.items ≡ puts.old.items ++ send_all message.now (links_out net.now actor sort)) }
 {
     let links = links_out(alloc, net, actor, sort)?;

@@ -1,7 +1,9 @@
 // The step that an entry makes.
-ghost use Rattle.std.specs.Prelude.{◌≡◌, ◌++◌, suc, zero, reverse, not, OnOk, IfOk, slice_get, Some, None, flat_map};
+ghost use Rattle.std.specs.Prelude.{◌≡◌, ◌++◌, ◌<◌, length, suc, zero, reverse, not, OnOk, IfOk, slice_get, Some, None, flat_map};
 ghost use Rattle.std.specs.List.{All};
 ghost use Rattle.sl_layout.specs.Serving.{served};
+ghost use Rattle.sl_layout.specs.Roster.{IsActor};
+ghost use Rattle.sl_route.specs.Routes.{IsRoutesOf};
 ghost use Rattle.sl_layout.specs.declared.actor.ActorId.{ActorId};
 ghost use Rattle.sl_model.specs.History.{history};
 ghost use Rattle.sl_model.specs.Setup.{setup_of};
@@ -21,16 +23,14 @@ use crate::message::copy_message;
 use crate::sends::add_out;
 use crate::tell::taken;
 use crate::units::add_unit;
-use crate::wires::{action_choice, actor_at, link_of, links_into, number_found};
+use crate::wires::{action_choice, observer};
+use sl_machine::Memory;
 use sl_model::{Message, Put, Puts, Step};
 use sl_net::{ActorId, Input, Net, Sort};
-use std::alloc::{AllocError, Global};
+use sl_route::Routes;
+use std::alloc::Global;
 
-fn message_at(
-    alloc: Global,
-    messages: &[Message],
-    place: usize,
-) -> Result<Option<Message>, AllocError>
+fn message_at(alloc: Global, messages: &[Message], place: usize) -> Result<Option<Message>, Memory>
     ensures { IfOk result (λ message. message ≡ slice_get messages.now place) }
 {
     match messages.get(place) {
@@ -47,10 +47,11 @@ fn front(
     actor: u32,
     choice: u32,
     link: u32,
-) -> Result<Option<Message>, AllocError>
+) -> Result<Option<Message>, Memory>
+    requires { link < length input.now.net.links }
     ensures { IfOk result (λ message. message ≡ front input.now.net (losses input.now) world.now actor choice link) }
 {
-    let sender = world.steps(link_of(&input.net, link).from);
+    let sender = world.steps(input.net.link(link).from);
     let messages = carried(alloc, input, link, sender)?;
     message_at(alloc, &messages, taken(choice as usize, world.steps(actor)))
 }
@@ -58,6 +59,7 @@ fn front(
 fn add_puts(
     alloc: Global,
     input: &Input,
+    routes: &Routes,
     puts: &mut Vec<Put>,
     actor: u32,
     of: ActorId,
@@ -65,14 +67,18 @@ fn add_puts(
     choice: u32,
     link: u32,
     message: &Message,
-) -> Result<(), AllocError>
+) -> Result<(), Memory>
+    requires actor { actor < length input.now.net.actors }
+    requires routes { IsRoutesOf input.now.net routes.now }
+    requires part { IsActor input.now.net.parts of }
+    requires link { link < length input.now.net.links }
     ensures { OnOk result (puts.new.items ≡ puts.old.items ++ puts_of (setup_of input.now) actor of (reverse steps.now) choice link message.now) }
 {
     match of {
         ActorId::Observer => Ok(()),
         ActorId::Control(_) => add_control(alloc, &input.net, puts, actor, steps, choice, message),
         ActorId::Unit(unit) => add_unit(
-            alloc, &input.net, puts, actor, unit, steps, choice, link, message,
+            alloc, &input.net, routes, puts, actor, unit, steps, choice, link, message,
         ),
         ActorId::Host(_) => Ok(()),
     }
@@ -81,23 +87,28 @@ fn add_puts(
 fn puts_of(
     alloc: Global,
     input: &Input,
+    routes: &Routes,
     actor: u32,
     of: ActorId,
     steps: &[Step],
     choice: u32,
     link: u32,
     message: &Message,
-) -> Result<Puts, AllocError>
+) -> Result<Puts, Memory>
+    requires actor { actor < length input.now.net.actors }
+    requires routes { IsRoutesOf input.now.net routes.now }
+    requires part { IsActor input.now.net.parts of }
+    requires link { link < length input.now.net.links }
     ensures { IfOk result (λ puts. puts ≡ puts_of (setup_of input.now) actor of (reverse steps.now) choice link message.now) }
 {
     let mut items = Vec::new(alloc);
     add_puts(
-        alloc, input, &mut items, actor, of, steps, choice, link, message,
+        alloc, input, routes, &mut items, actor, of, steps, choice, link, message,
     )?;
     Ok(Puts { items })
 }
 
-fn begin_all(alloc: Global, net: &Net, number: u64) -> Result<Puts, AllocError>
+fn begin_all(alloc: Global, net: &Net, number: u64) -> Result<Puts, Memory>
     ensures { IfOk result (λ puts. puts ≡ begin_all net.now number) }
 {
     let mut items = Vec::new(alloc);
@@ -105,19 +116,14 @@ fn begin_all(alloc: Global, net: &Net, number: u64) -> Result<Puts, AllocError>
         alloc,
         net,
         &mut items,
-        0,
+        observer(net),
         Sort::Begin,
         &Message::Begin(number),
     )?;
     Ok(Puts { items })
 }
 
-fn issue(
-    alloc: Global,
-    input: &Input,
-    floor: u64,
-    steps: &[Step],
-) -> Result<Option<Puts>, AllocError>
+fn issue(alloc: Global, input: &Input, floor: u64, steps: &[Step]) -> Result<Option<Puts>, Memory>
     ensures { IfOk result (λ puts. puts ≡ guarded (can_issue (setup_of input.now) floor (reverse steps.now)) (begin_all input.now.net (suc (issued input.now.net (reverse steps.now))))) }
 {
     if !can_issue(input, floor, steps) {
@@ -127,12 +133,7 @@ fn issue(
     Ok(Some(begin_all(alloc, &input.net, number)?))
 }
 
-fn resend(
-    alloc: Global,
-    input: &Input,
-    floor: u64,
-    steps: &[Step],
-) -> Result<Option<Puts>, AllocError>
+fn resend(alloc: Global, input: &Input, floor: u64, steps: &[Step]) -> Result<Option<Puts>, Memory>
     ensures { IfOk result (λ puts. puts ≡ guarded (can_resend (setup_of input.now) floor (reverse steps.now)) (begin_all input.now.net (issued input.now.net (reverse steps.now)))) }
 {
     if !can_resend(input, floor, steps) {
@@ -142,7 +143,8 @@ fn resend(
     Ok(Some(begin_all(alloc, &input.net, number)?))
 }
 
-fn sweep(alloc: Global, net: &Net, actor: u32, steps: &[Step]) -> Result<Option<Puts>, AllocError>
+fn sweep(alloc: Global, net: &Net, actor: u32, steps: &[Step]) -> Result<Option<Puts>, Memory>
+    requires { actor < length net.now.actors }
     ensures { IfOk result (λ puts. puts ≡ guarded (not (is_swept net.now actor (reverse steps.now))) (flat_map (λ v. poll_puts v (reverse steps.now)) (served net.now actor))) }
 {
     if is_swept(alloc, net, actor, steps)? {
@@ -153,7 +155,8 @@ fn sweep(alloc: Global, net: &Net, actor: u32, steps: &[Step]) -> Result<Option<
     Ok(Some(Puts { items }))
 }
 
-fn send_frame(alloc: Global, net: &Net, actor: u32, frame: &Message) -> Result<Puts, AllocError>
+fn send_frame(alloc: Global, net: &Net, actor: u32, frame: &Message) -> Result<Puts, Memory>
+    requires { actor < length net.now.actors }
     ensures { IfOk result (λ puts. puts ≡ send_all frame.now (links_out net.now actor Sort.FromHost)) }
 {
     let mut items = Vec::new(alloc);
@@ -167,8 +170,9 @@ fn inject(
     actor: u32,
     host: u32,
     steps: &[Step],
-) -> Result<Option<Puts>, AllocError>
-    requires { All HasAddresses input.now.flows }
+) -> Result<Option<Puts>, Memory>
+    requires actor { actor < length input.now.net.actors }
+    requires addresses { All HasAddresses input.now.flows }
     ensures { IfOk result (λ puts. puts ≡ action (setup_of input.now) 0 actor (ActorId.Host host) (reverse steps.now) zero) }
 {
     let place = taken(action_choice(&input.net, actor), steps);
@@ -185,7 +189,7 @@ fn observer_action(
     world: &World,
     actor: u32,
     number: usize,
-) -> Result<Option<Puts>, AllocError>
+) -> Result<Option<Puts>, Memory>
     ensures { IfOk result (λ puts. puts ≡ action (setup_of input.now) (floor_for input.now.net world.now ActorId.Observer) actor ActorId.Observer (history world.now actor) number) }
 {
     let floor = floor(alloc, &input.net, world)?;
@@ -204,8 +208,9 @@ fn action(
     actor: u32,
     of: ActorId,
     number: usize,
-) -> Result<Option<Puts>, AllocError>
-    requires { All HasAddresses input.now.flows }
+) -> Result<Option<Puts>, Memory>
+    requires actor { actor < length input.now.net.actors }
+    requires addresses { All HasAddresses input.now.flows }
     ensures { IfOk result (λ puts. puts ≡ action (setup_of input.now) (floor_for input.now.net world.now of) actor of (history world.now actor) number) }
 {
     match of {
@@ -219,12 +224,17 @@ fn action(
 fn step_of_link(
     alloc: Global,
     input: &Input,
+    routes: &Routes,
     world: &World,
     actor: u32,
     of: ActorId,
     choice: u32,
     link: u32,
-) -> Result<Option<Step>, AllocError>
+) -> Result<Option<Step>, Memory>
+    requires actor { actor < length input.now.net.actors }
+    requires routes { IsRoutesOf input.now.net routes.now }
+    requires part { IsActor input.now.net.parts of }
+    requires link { link < length input.now.net.links }
     ensures { IfOk result (λ step. step ≡ step_by (setup_of input.now) (losses input.now) world.now actor choice (Some link) of) }
 {
     let Some(message) = front(alloc, input, world, actor, choice, link)? else {
@@ -233,6 +243,7 @@ fn step_of_link(
     let puts = puts_of(
         alloc,
         input,
+        routes,
         actor,
         of,
         world.steps(actor),
@@ -254,8 +265,9 @@ fn step_of_action(
     actor: u32,
     of: ActorId,
     choice: u32,
-) -> Result<Option<Step>, AllocError>
-    requires { All HasAddresses input.now.flows }
+) -> Result<Option<Step>, Memory>
+    requires actor { actor < length input.now.net.actors }
+    requires addresses { All HasAddresses input.now.flows }
     ensures { IfOk result (λ step. step ≡ step_by (setup_of input.now) (losses input.now) world.now actor choice None of) }
 {
     let first = action_choice(&input.net, actor);
@@ -280,19 +292,22 @@ fn step_of_action(
 pub fn next_step(
     alloc: Global,
     input: &Input,
+    routes: &Routes,
     world: &World,
     actor: u32,
     choice: u32,
-) -> Result<Option<Step>, AllocError>
-    requires { All HasAddresses input.now.flows }
+) -> Result<Option<Step>, Memory>
+    requires addresses { All HasAddresses input.now.flows }
+    requires routes { IsRoutesOf input.now.net routes.now }
     ensures { IfOk result (λ step. step ≡ next_step (setup_of input.now) (losses input.now) world.now (actor, choice)) }
 {
-    let Some(of) = actor_at(&input.net, actor) else {
+    let net = &input.net;
+    if actor as usize >= net.actors().len() {
         return Ok(None);
-    };
-    let links = links_into(&input.net, actor);
-    match number_found(links, choice) {
-        Some(link) => step_of_link(alloc, input, world, actor, of, choice, link),
+    }
+    let of = net.actor(actor);
+    match net.links_into(actor).get(choice as usize) {
+        Some(link) => step_of_link(alloc, input, routes, world, actor, of, choice, *link),
         None => step_of_action(alloc, input, world, actor, of, choice),
     }
 }

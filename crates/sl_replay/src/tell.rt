@@ -5,8 +5,9 @@ ghost use Rattle.sl_model.specs.Knowledge.{known, puts_on};
 ghost use Rattle.sl_model.specs.Words.{least_of};
 
 use crate::message::copy_message;
+use sl_machine::Memory;
 use sl_model::{Message, Put, Step};
-use std::alloc::{AllocError, Global};
+use std::alloc::Global;
 
 /// The stamp of a message, if it has one.
 pub fn stamp_of(message: &Message) -> Option<u64>
@@ -71,12 +72,7 @@ pub fn taken(choice: usize, steps: &[Step]) -> usize
     taken
 }
 
-fn add_if_on(
-    alloc: Global,
-    messages: &mut Vec<Message>,
-    link: u32,
-    put: &Put,
-) -> Result<(), AllocError>
+fn add_if_on(alloc: Global, messages: &mut Vec<Message>, link: u32, put: &Put) -> Result<(), Memory>
     ensures { OnOk result (messages.new.items ≡ messages.old.items ++ cond (put.now.link == link) (put.now.message ∷ []) []) }
 {
     if put.link == link {
@@ -91,7 +87,7 @@ fn add_on_link(
     messages: &mut Vec<Message>,
     link: u32,
     puts: &[Put],
-) -> Result<(), AllocError>
+) -> Result<(), Memory>
     ensures { OnOk result (messages.new.items ≡ messages.old.items ++ on_link link puts.now) }
 {
     for put in puts {
@@ -102,7 +98,7 @@ fn add_on_link(
 
 /// All messages put on a link.
 #[tactic(auto, using(crate::proofs::ForwardSteps::reverse_more))]
-pub fn put(alloc: Global, link: u32, steps: &[Step]) -> Result<Vec<Message>, AllocError>
+pub fn put(alloc: Global, link: u32, steps: &[Step]) -> Result<Vec<Message>, Memory>
     ensures { IfOk result (λ messages. messages.items ≡ put link (reverse steps.now)) }
 {
     let mut messages = Vec::new(alloc);
@@ -112,22 +108,16 @@ pub fn put(alloc: Global, link: u32, steps: &[Step]) -> Result<Vec<Message>, All
     Ok(messages)
 }
 
-fn done_of(place: usize, message: &Message) -> Option<u64>
+fn done_of(place: u32, message: &Message) -> Option<u64>
     ensures { result ≡ done_of place message.now }
 {
     match message {
-        Message::Done(unit, count) => {
-            if place == *unit as usize {
-                Some(*count)
-            } else {
-                None
-            }
-        }
+        Message::Done(unit, count) => { if place == *unit { Some(*count) } else { None } }
         _ => None,
     }
 }
 
-fn done_taken(place: usize, step: &Step) -> Option<u64>
+fn done_taken(place: u32, step: &Step) -> Option<u64>
     ensures { result ≡ option_and_then (done_of place) step.now.taken }
 {
     match &step.taken {
@@ -138,7 +128,7 @@ fn done_taken(place: usize, step: &Step) -> Option<u64>
 
 /// How many steps of the unit at a place the observer knows.
 #[tactic(auto, using(crate::proofs::ForwardSteps::reverse_more))]
-pub fn known(place: usize, steps: &[Step]) -> u64
+pub fn known(place: u32, steps: &[Step]) -> u64
     ensures { result ≡ known place (reverse steps.now) }
 {
     let mut known = 0;

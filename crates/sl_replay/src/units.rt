@@ -1,17 +1,27 @@
 // What a unit puts.
-ghost use Rattle.std.specs.Prelude.{◌≡◌, ◌++◌, reverse, OnOk, IfOk};
-ghost use Rattle.sl_layout.specs.Net.{links_out};
+ghost use Rattle.std.specs.Prelude.{◌≡◌, ◌++◌, ◌<◌, length, reverse, OnOk, IfOk};
+ghost use Rattle.sl_layout.specs.declared.actor.ActorId.{ActorId};
+ghost use Rattle.sl_layout.specs.Net.{same_actor, links_out};
+ghost use Rattle.sl_route.specs.Routes.{IsRoutesOf};
 ghost use Rattle.sl_model.specs.Frame.{plain_frame};
 ghost use Rattle.sl_model.specs.Puts.{send_all, crossbar_to, onward, route, ingress_puts, egress_puts, notice_puts, dump_puts, unit_puts, is_own_port};
 
 use crate::frames::{packet_of, plain_frame};
-use crate::route::next_port;
 use crate::sends::{add_out, add_sends};
 use crate::tell::{id, last, stamp_of};
-use crate::wires::{is_unit_id, link_of, links_out};
+use crate::wires::links_out;
+use sl_machine::Memory;
 use sl_model::{Message, Put, Step};
-use sl_net::{Net, Packet, Side, Sort, UnitId, push_if};
-use std::alloc::{AllocError, Global};
+use sl_net::{ActorId, Net, Packet, Side, Sort, UnitId, push_if};
+use sl_route::Routes;
+use std::alloc::Global;
+
+/// Whether an actor is this unit.
+fn is_unit(actor: ActorId, unit: UnitId) -> bool
+    ensures { result ≡ same_actor actor (ActorId.Unit unit) }
+{
+    actor == ActorId::Unit(unit)
+}
 
 /// The crossbar links from a unit to the egress unit of a port of its device.
 fn crossbar_to(
@@ -20,7 +30,8 @@ fn crossbar_to(
     unit: u32,
     device: u32,
     port: u32,
-) -> Result<Vec<u32>, AllocError>
+) -> Result<Vec<u32>, Memory>
+    requires { unit < length net.now.actors }
     ensures { IfOk result (λ links. links.items ≡ crossbar_to net.now unit device port) }
 {
     let target = UnitId {
@@ -33,7 +44,7 @@ fn crossbar_to(
     for link in &all {
         push_if(
             &mut links,
-            is_unit_id(net, link_of(net, *link).to, target),
+            is_unit(net.actor(net.link(*link).to), target),
             *link,
         )?;
     }
@@ -46,7 +57,7 @@ fn add_across(
     links: &[u32],
     id: u64,
     packet: Packet,
-) -> Result<(), AllocError>
+) -> Result<(), Memory>
     ensures { OnOk result (puts.new.items ≡ puts.old.items ++ send_all (Message.Data id packet) links.now) }
 {
     add_sends(alloc, puts, &Message::Data(id, packet), links)
@@ -60,14 +71,15 @@ fn add_onward(
     device: u32,
     id: u64,
     packet: Packet,
-    port: Option<u32>,
-) -> Result<(), AllocError>
+    port: Option<u8>,
+) -> Result<(), Memory>
+    requires { unit < length net.now.actors }
     ensures { OnOk result (puts.new.items ≡ puts.old.items ++ onward net.now unit device id packet port) }
 {
     match port {
         None => Ok(()),
         Some(port) => {
-            let links = crossbar_to(alloc, net, unit, device, port)?;
+            let links = crossbar_to(alloc, net, unit, device, port as u32)?;
             add_across(alloc, puts, &links, id, packet)
         }
     }
@@ -77,18 +89,22 @@ fn add_onward(
 fn add_route(
     alloc: Global,
     net: &Net,
+    routes: &Routes,
     puts: &mut Vec<Put>,
     unit: u32,
     device: u32,
     id: u64,
     packet: Packet,
-) -> Result<(), AllocError>
+) -> Result<(), Memory>
+    requires unit { unit < length net.now.actors }
+    requires routes { IsRoutesOf net.now routes.now }
+    requires device { device < length net.now.parts.devices }
     ensures { OnOk result (puts.new.items ≡ puts.old.items ++ route net.now unit device id packet) }
 {
     if packet.hops == 0 {
         return Ok(());
     }
-    let port = next_port(alloc, net.parts(), device, packet.dst as u32)?;
+    let port = routes.next_port(device, packet.dst as u32);
     let onward = Packet {
         hops: packet.hops - 1,
         ..packet
@@ -103,7 +119,8 @@ fn add_probes(
     unit: u32,
     sort: Sort,
     id: u64,
-) -> Result<(), AllocError>
+) -> Result<(), Memory>
+    requires { unit < length net.now.actors }
     ensures { OnOk result (puts.new.items ≡ puts.old.items ++ send_all (Message.Probe id) (links_out net.now unit sort)) }
 {
     add_out(alloc, net, puts, unit, sort, &Message::Probe(id))
@@ -112,20 +129,24 @@ fn add_probes(
 fn add_ingress(
     alloc: Global,
     net: &Net,
+    routes: &Routes,
     puts: &mut Vec<Put>,
     unit: u32,
     device: u32,
     id: u64,
     message: &Message,
-) -> Result<(), AllocError>
+) -> Result<(), Memory>
+    requires unit { unit < length net.now.actors }
+    requires routes { IsRoutesOf net.now routes.now }
+    requires device { device < length net.now.parts.devices }
     ensures { OnOk result (puts.new.items ≡ puts.old.items ++ ingress_puts net.now unit device id message.now) }
 {
     match message {
         Message::Host(bytes) => match packet_of(bytes) {
-            Some(packet) => add_route(alloc, net, puts, unit, device, id, packet),
+            Some(packet) => add_route(alloc, net, routes, puts, unit, device, id, packet),
             None => Ok(()),
         },
-        Message::Data(_, packet) => add_route(alloc, net, puts, unit, device, id, *packet),
+        Message::Data(_, packet) => add_route(alloc, net, routes, puts, unit, device, id, *packet),
         Message::Init(_) => add_probes(alloc, net, puts, unit, Sort::Crossbar, id),
         _ => Ok(()),
     }
@@ -133,6 +154,7 @@ fn add_ingress(
 
 /// Whether a link comes from the ingress unit of a port.
 fn is_own_port(net: &Net, device: u32, port: u32, link: u32) -> bool
+    requires { link < length net.now.links }
     ensures { result ≡ is_own_port net.now device port link }
 {
     let own = UnitId {
@@ -140,7 +162,7 @@ fn is_own_port(net: &Net, device: u32, port: u32, link: u32) -> bool
         port,
         side: Side::Ingress,
     };
-    is_unit_id(net, link_of(net, link).from, own)
+    is_unit(net.actor(net.link(link).from), own)
 }
 
 fn add_to_cable(
@@ -150,7 +172,8 @@ fn add_to_cable(
     unit: u32,
     id: u64,
     packet: Packet,
-) -> Result<(), AllocError>
+) -> Result<(), Memory>
+    requires { unit < length net.now.actors }
     ensures { OnOk result (puts.new.items ≡ puts.old.items ++ send_all (Message.Data id packet) (links_out net.now unit Sort.Cable)) }
 {
     add_out(
@@ -169,7 +192,8 @@ fn add_to_host(
     puts: &mut Vec<Put>,
     unit: u32,
     packet: Packet,
-) -> Result<(), AllocError>
+) -> Result<(), Memory>
+    requires { unit < length net.now.actors }
     ensures { OnOk result (puts.new.items ≡ puts.old.items ++ send_all (Message.Host (plain_frame packet)) (links_out net.now unit Sort.ToHost)) }
 {
     let frame = Message::Host(plain_frame(alloc, packet)?);
@@ -183,7 +207,8 @@ fn add_egress_data(
     unit: u32,
     id: u64,
     packet: Packet,
-) -> Result<(), AllocError>
+) -> Result<(), Memory>
+    requires { unit < length net.now.actors }
     ensures { OnOk result (puts.new.items ≡ puts.old.items ++ (send_all (Message.Data id packet) (links_out net.now unit Sort.Cable) ++ send_all (Message.Host (plain_frame packet)) (links_out net.now unit Sort.ToHost))) }
 {
     add_to_cable(alloc, net, puts, unit, id, packet)?;
@@ -199,7 +224,9 @@ fn add_egress(
     id: u64,
     link: u32,
     message: &Message,
-) -> Result<(), AllocError>
+) -> Result<(), Memory>
+    requires unit { unit < length net.now.actors }
+    requires link { link < length net.now.links }
     ensures { OnOk result (puts.new.items ≡ puts.old.items ++ egress_puts net.now unit of.device of.port id link message.now) }
 {
     match message {
@@ -221,7 +248,8 @@ fn add_notice(
     unit: u32,
     before: u64,
     stamp: Option<u64>,
-) -> Result<(), AllocError>
+) -> Result<(), Memory>
+    requires { unit < length net.now.actors }
     ensures { OnOk result (puts.new.items ≡ puts.old.items ++ notice_puts net.now unit before stamp) }
 {
     match stamp {
@@ -242,7 +270,8 @@ fn add_dump(
     unit: u32,
     count: u64,
     message: &Message,
-) -> Result<(), AllocError>
+) -> Result<(), Memory>
+    requires { unit < length net.now.actors }
     ensures { OnOk result (puts.new.items ≡ puts.old.items ++ dump_puts net.now unit count message.now) }
 {
     match message {
@@ -255,6 +284,7 @@ fn add_dump(
 pub fn add_unit(
     alloc: Global,
     net: &Net,
+    routes: &Routes,
     puts: &mut Vec<Put>,
     unit: u32,
     of: UnitId,
@@ -262,13 +292,17 @@ pub fn add_unit(
     choice: u32,
     link: u32,
     message: &Message,
-) -> Result<(), AllocError>
+) -> Result<(), Memory>
+    requires unit { unit < length net.now.actors }
+    requires routes { IsRoutesOf net.now routes.now }
+    requires device { of.device < length net.now.parts.devices }
+    requires link { link < length net.now.links }
     ensures { OnOk result (puts.new.items ≡ puts.old.items ++ unit_puts net.now unit of (reverse steps.now) choice link message.now) }
 {
     let stamp = stamp_of(message);
     let after = stamp.unwrap_or(0).max(id(steps));
     match of.side {
-        Side::Ingress => add_ingress(alloc, net, puts, unit, of.device, after, message)?,
+        Side::Ingress => add_ingress(alloc, net, routes, puts, unit, of.device, after, message)?,
         Side::Egress => add_egress(alloc, net, puts, unit, of, after, link, message)?,
     }
     add_notice(alloc, net, puts, unit, last(choice, steps), stamp)?;

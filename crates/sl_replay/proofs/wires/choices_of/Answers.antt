@@ -1,9 +1,25 @@
-use Rattle.sl_parts.proofs.Lists.{filter_below_more}
-use Rattle.sl_layout.specs.Net.{link_of, same_sort}
-use Rattle.std.proofs.Common.{arith}
-use Rattle.std.proofs.lemmas.Grind.{common_steps}
+use Rattle.std.proofs.Common.{◌≡◌, ◌<◌, ◌≤◌, ℕ, List, ap, subst, sym, ◌∙◌, arith, length}
 use Rattle.std.specs.Prelude.{slice_index_or}
+use Rattle.std.specs.List.{All}
+use Rattle.std.proofs.lemmas.Grind.{common_steps}
+use Rattle.sl_parts.specs.Parts.{below}
+use Rattle.sl_layout.specs.Net.{link_of, same_sort}
+use Rattle.sl_parts.proofs.Lists.{filter_below_more, length_numbers, length_filter_le}
+use Rattle.sl_layout.proofs.UnitLists.{low_filter}
 use Rattle.sl_replay.proofs.wires.choices_of.Goals as goal
 
 pub loop-choice-preserved : goal.loop-choice-preserved
 loop-choice-preserved c = rw (filter_below_more (λ k. same_sort (link_of c.args.net.now (slice_index_or c.links_into-links.result.now k 0)).sort c.args.sort) c.loop-choice.choice) (grind (arith, common_steps))
+
+pub returns-clause-few : goal.returns-clause-few
+returns-clause-few c =
+    let test = λ (k : ℕ). same_sort (link_of c.args.net.now (slice_index_or c.links_into-links.result.now k 0)).sort c.args.sort in
+    subst (λ (xs : List ℕ). length xs ≤ 77888) (sym c.loop-choice.invariant)
+    (omega (arith, length_filter_le test (below c.loop-choice.choice), length_numbers 0 c.loop-choice.choice, c.loop-choice.auto.choice-end, c.links_into-links.ensures.few))
+
+pub returns-clause-each : goal.returns-clause-each
+returns-clause-each c =
+    let test = λ (k : ℕ). same_sort (link_of c.args.net.now (slice_index_or c.links_into-links.result.now k 0)).sort c.args.sort in
+    let whole : c.loop-choice.choice ≡ length c.links_into-links.result.now = omega (arith, c.loop-choice.auto.choice-end, c.loop-choice-test.false) in
+    subst (λ (n : ℕ). All (λ (k : ℕ). k < n) c.loop-choice.choices.items) (whole ∙ ap length c.links_into-links.ensures.links)
+    (subst (λ (xs : List ℕ). All (λ (k : ℕ). k < c.loop-choice.choice) xs) (sym c.loop-choice.invariant) (low_filter test c.loop-choice.choice))

@@ -6,6 +6,8 @@ mod actor;
 #[cfg(test)]
 mod link;
 #[cfg(test)]
+mod merge;
+#[cfg(test)]
 mod relay;
 #[cfg(test)]
 mod world;

@@ -1,0 +1,15 @@
+mod GetLemmas
+mod LineLemmas
+mod WeavingLemmas
+mod PartLemmas
+mod ForgettingLemmas
+mod BoundLemmas
+mod NumberLemmas
+mod RunLemmas
+mod BookLemmas
+mod CountLemmas
+mod MergeLemmas
+mod AscendingLemmas
+mod EndedLemmas
+mod LogLemmas
+mod ResumedLemmas

@@ -1,0 +1,4 @@
+pub mod Lamport
+pub mod Merging
+pub mod Outcome
+pub mod Ended

@@ -1,10 +1,8 @@
-// Tests of the top call, of the words of the command line, and of calls below the top call.
+// Tests of the top call and of the words of the command line.
 #![tactic(auto)]
 
 #[cfg(test)]
 mod app;
-#[cfg(test)]
-mod calls;
 #[cfg(test)]
 mod rows;
 #[cfg(test)]

@@ -8,7 +8,7 @@ ghost use Rattle.sl_layout.specs.Wires.{out_of};
 ghost use Rattle.sl_control.specs.Wires.{control_of, outs_of, unit_wires, unheard};
 
 use crate::known::{Known, UnitWires};
-use sl_net::{ActorId, Net, Sort, push_if};
+use sl_net::{ActorId, Net, Sort, nets_are_wired, push_if};
 use std::alloc::{AllocError, Global};
 
 fn is_control(actor: ActorId, device: u32) -> bool
@@ -44,6 +44,7 @@ pub fn control_of(net: &Net, device: u32) -> u32
 {
     // A net is that of its parts, and these have the device.
     let _parts = net.parts();
+    nets_are_wired();
     place_of(net.actors(), device) as u32
 }
 

@@ -21,7 +21,7 @@ use Rattle.sl_model.specs.declared.findings.Findings.{Findings}
 use Rattle.sl_model.specs.Findings.{findings}
 use Rattle.sl_model.specs.Cut.{cuts}
 use Rattle.sl_model.specs.Matching.{IsConsistentCut}
-use Rattle.sl_model.proofs.Trails.{run-kept}
+use Rattle.sl_model.specs.Turns.{TakesTurns}
 use Rattle.sl_world.specs.Scene.{Scene}
 use Rattle.sl_proto.specs.Nodes.{NodeState}
 use Rattle.sl_proto.specs.Meaning.{IsRunnable}
@@ -56,7 +56,7 @@ abbrev pub Numbers : Type 0
 Numbers = (es : List Entry) → IsBookOfTurns (record { entries = grown [] es }) es
 
 -- from the first scene v, whose book is empty, by the script to u and by finishing to t
-module _ (i : Input) (lost : Losses) (v u t : Scene NodeState Msg) (grows : Grows) (numbers : Numbers) (empty : v.book ≡ [])
+module _ (turns : TakesTurns) (i : Input) (lost : Losses) (v u t : Scene NodeState Msg) (grows : Grows) (numbers : Numbers) (empty : v.book ≡ [])
     (script : Follows (setup_of i) lost (run_at (case_of i lost) v) (expand i.net i.script) (run_at (case_of i lost) u))
     (ends : FinishesTo (case_of i lost) u t) where
   abbrev first : List Entry
@@ -94,7 +94,7 @@ module _ (i : Input) (lost : Losses) (v u t : Scene NodeState Msg) (grows : Grow
   }
 
   reached : world_of (case_of i lost) u ≡ world (setup_of i) lost (expand i.net i.script)
-  reached = ap (world (setup_of i) lost) script-book ∙ run-kept (setup_of i) lost (start i.net) (expand i.net i.script)
+  reached = ap (world (setup_of i) lost) script-book ∙ turns.kept (setup_of i) lost (start i.net) (expand i.net i.script)
 
   pub is-run : Bounded → Consistent → IsNet i.net → StandsFor i.net (case_of i lost) t → IsRunBook i lost t.book (length u.book)
   is-run bounded consistent net stands = record {

@@ -8,7 +8,10 @@ ghost use Rattle.sl_proto.specs.Standing.{case_of, StandsFor, HasObserver};
 ghost use Rattle.sl_emul.specs.Run.{CanRun, IsOutcome};
 
 use sl_machine::{Book, Memory};
-use sl_model::{Findings, cuts_are_consistent, inputs_are_bounded, inputs_spare_reliable_links};
+use sl_model::{
+    Findings, cuts_are_consistent, inputs_are_bounded, inputs_spare_reliable_links,
+    worlds_take_turns,
+};
 use sl_net::Input;
 use sl_proto::{
     Node, Taker, books_grow_by_turns, build_world, drive_script, findings, finish, make_losses,
@@ -49,6 +52,7 @@ pub fn run_stepped(alloc: Global, input: &Input) -> Result<Run, Memory>
 {
     inputs_are_bounded();
     cuts_are_consistent();
+    worlds_take_turns();
     books_grow_by_turns();
     let mut world = first_world(alloc, input)?;
     drive_script(alloc, &input.net, &mut world, input.script.as_slice())?;

@@ -24,22 +24,22 @@ use Rattle.sl_model.specs.History.{History, history, first, on_link}
 use Rattle.sl_model.specs.Knowledge.{told_of, is_outstanding, asks, is_again}
 use Rattle.sl_model.specs.Puts.{send_all, poll_puts, dump_answer, control_puts}
 use Rattle.sl_model.specs.World.{start}
-use Rattle.sl_model.proofs.Turns.{start-empty}
-use Rattle.sl_net.proofs.Sorts.{IsOut, each-out}
-use Rattle.sl_model.specs.Polls.{IsAsked}
+use Rattle.sl_net.specs.Ways.{IsOut}
+use Rattle.sl_model.specs.Polls.{IsAsked, IsServed}
+use Rattle.sl_model.specs.Turns.{TakesTurns}
 use Rattle.sl_image.specs.Messages.{AreSent}
 use Rattle.sl_image.specs.ControlImage.{known_of, IsControlOf, told_at}
-use Rattle.sl_model.proofs.Polls.{send-off, own-link, polls-else, again-else, if-off, answer-on, IsServed, is-served}
+use Rattle.sl_model.proofs.Polls.{send-off, own-link, polls-else, again-else, if-off, answer-on, is-served}
 use Rattle.sl_image.proofs.ControlUnits.{seen, unheard-is, still, asked-is, dumped-is}
 use Rattle.sl_image.proofs.ControlTells.{Tells, answered-is, done-is, read-is}
 use Rattle.sl_image.proofs.ControlWays.{unit-at, dump-from, no-dump}
 use Rattle.sl_image.proofs.ControlPuts.{sent-each, flat-map, sent-if, sent-polls, sent-answer}
 
-pub starts : (net : Net) (a ring : ℕ) → IsControlOf net ring (history (start net)) a (first_control net a ring)
-starts net a ring = record { wires = refl; units = each (served net a) }
+pub starts : TakesTurns → (net : Net) (a ring : ℕ) → IsControlOf net ring (history (start net)) a (first_control net a ring)
+starts turns net a ring = record { wires = refl; units = each (served net a) }
   where
     one : (v : Served) → unheard (unit_wires net v) ≡ known_of net (history (start net)) a v
-    one v = sym (unheard-is net (action_choice net a) v) ∙ sym (λ i. seen net (action_choice net a) v (start-empty net a i) (start-empty net v.unit i))
+    one v = sym (unheard-is net (action_choice net a) v) ∙ sym (λ i. seen net (action_choice net a) v (turns.starts net a i) (turns.starts net v.unit i))
 
     each : (vs : List Served) → map (λ v. unheard (unit_wires net v)) vs ≡ map (known_of net (history (start net)) a) vs
     each [] = refl
@@ -64,7 +64,7 @@ same-units g i vs [] h = refl
 same-units g i vs (l ∷ ls) h = let x = h.0 in let y = same-units g i vs ls h.1 in λ j. x j ∷ y j
 
 pub served-at : (net : Net) (a l : ℕ) → IsWired net → Member l (links_out net a Poll) → IsServed net a l
-served-at net a l z m = is-served net a l z (each-at (IsOut net a Poll) l (links_out net a Poll) (each-out net a Poll) m)
+served-at net a l z m = is-served net a l z (each-at (IsOut net a Poll) l (links_out net a Poll) (z.ways.outs a Poll) m)
 
 not-control : (net : Net) (a d l : ℕ) → actor_of net a ≡ Control d → IsServed net a l → (link_of net l).to ≡ a → ⊥
 not-control net a d l q v e = let x : OfUnit v.unit ≡ Control d = sym v.is_unit ∙ ap (actor_of net) e ∙ q in cc
@@ -81,7 +81,7 @@ pub begin-one : (net : Net) (us ws : ℕ → History) (a d l k b : ℕ) (step : 
     → step.taken ≡ Some (BeginMsg b) → step.puts ≡ send_all (InitMsg b) (links_out net a Init) → known_of net us a (serving net a l) ≡ known_of net ws a (serving net a l)
 begin-one net us ws a d l k b step z q t m i o e p = let v = served-at net a l z m in
     sym (still net (action_choice net a) (serving net a l) step (us a) (us (link_of net l).to) (λ c. let x : Begin ≡ Dump = sym o ∙ (dump-from net a l step.choice k v i c).sort in cc)
-    (ap (λ y. asked-by y) e) (ap (on_link l) p ∙ send-off net a l Init (InitMsg b) (λ y. let x : Poll ≡ Init = sym (each-at (IsOut net a Poll) l (links_out net a Poll) (each-out net a Poll) m).sort ∙ y in cc)))
+    (ap (λ y. asked-by y) e) (ap (on_link l) p ∙ send-off net a l Init (InitMsg b) (λ y. let x : Poll ≡ Init = sym (each-at (IsOut net a Poll) l (links_out net a Poll) (z.ways.outs a Poll) m).sort ∙ y in cc)))
     ∙ after-is net us ws a d l step q v t
   where
     asked-by : Option Message → Bool
@@ -219,7 +219,7 @@ answer-one net ring us ws a c e l n step d z q t m f = by_test (eqb_tells c (ser
     by_test (inl x) = let y = f x.1 in let b = takes-it net ring us a c l n d y x.0 in
         subst (λ y. AreSent net ring ws a (told_at net us a) (if y then dump_answer net a (us a) n (serving net a l) else []) (dump_puts ring (control_wires net a ring).done c d r)) (sym x.0)
         (subst (λ y. AreSent net ring ws a (told_at net us a) (dump_answer net a (us a) n (serving net a l)) (cond y (answer_by (control_wires net a ring).done d r) [])) (sym b)
-        (sent-answer net ring us ws a v.reports.done n s d dones (unit-at net (link_of net l).to v.unit v.is_unit) refl (t.other (link_of net l).to (not-control net a e l q v))
+        (sent-answer net ring us ws a v.reports.done n s d dones (unit-at net (link_of net l).to (z.ways.unit (link_of net l).to v.unit v.is_unit)) refl (t.other (link_of net l).to (not-control net a e l q v))
         (done-is net ring s (told_of us s (us a)) (first n (us (link_of net l).to)) d (is_outstanding s (us a)) (is_again (action_choice net a) s (us a)) y.tells)))
     by_test (inr x) = let b = leaves-it net ring us a c l d x.0 in
         subst (λ y. AreSent net ring ws a (told_at net us a) (if y then dump_answer net a (us a) n (serving net a l) else []) (dump_puts ring (control_wires net a ring).done c d r)) (sym x.0)

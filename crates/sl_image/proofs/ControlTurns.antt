@@ -10,7 +10,7 @@ use Rattle.sl_layout.specs.declared.actor.ActorId.TheVariants.{Control}
 use Rattle.sl_layout.specs.declared.actor.Sort.TheVariants.{Init, Poll, Notice, Dump, Begin}
 use Rattle.sl_layout.specs.Net.{Net, nobody, actor_of, link_of, link_at, links_into, links_out, action_choice, data_channels}
 use Rattle.sl_layout.specs.Serving.{Served, serving, served}
-use Rattle.sl_net.specs.Wired.{IsNet, IsWired, receives}
+use Rattle.sl_net.specs.Wired.{IsWired, receives}
 use Rattle.sl_saves.specs.declared.entry.View.{View}
 use Rattle.sl_saves.specs.Views.{IsShown, IsLive, held_saved, read}
 use Rattle.sl_wire.specs.declared.message.PlainDump.{PlainDump}
@@ -26,27 +26,21 @@ use Rattle.sl_model.specs.declared.message.Put.{Put}
 use Rattle.sl_model.specs.declared.message.Step.{Step}
 use Rattle.sl_parts.specs.Lists.{Each, Member}
 use Rattle.sl_parts.proofs.Lists.{each-of, each-at}
-use Rattle.sl_model.specs.History.{History, World, Losses, history, id, first, takes}
+use Rattle.sl_model.specs.History.{History, World, Losses, history, id, first}
 use Rattle.sl_model.specs.Setup.{Setup}
 use Rattle.sl_model.specs.Knowledge.{upto_of, dumped, is_outstanding, is_again, is_swept}
-use Rattle.sl_model.specs.Puts.{poll_puts, dump_answer, control_puts, guarded, action}
-use Rattle.sl_model.specs.World.{Entry, next_step, step_by, acting, turn, after, world}
+use Rattle.sl_model.specs.Puts.{poll_puts, dump_answer, control_puts, puts_of, guarded, action}
+use Rattle.sl_model.specs.World.{Entry, next_step, step_by, acting, turn, world}
 use Rattle.sl_model.specs.Fit.{fits_link}
-use Rattle.sl_model.proofs.Turns.{GrowsAt, grows-after, next-within}
-use Rattle.sl_model.proofs.Ran.{Takes, Acts, next-view, ran, ran-turn}
-use Rattle.sl_model.proofs.Stamps.{took-by, acted-by}
-use Rattle.sl_model.proofs.Begins.{fit-taken, fit-last}
-use Rattle.sl_model.proofs.Near.{in-window}
-use Rattle.sl_net.proofs.Sorts.{IsOut, is-into}
+use Rattle.sl_net.specs.Ways.{IsOut}
 use Rattle.sl_model.specs.Calls.{calls}
 use Rattle.sl_model.specs.Rows.{row}
 use Rattle.sl_model.specs.Brought.{IsBrought}
-use Rattle.sl_model.specs.Polls.{IsAsked}
+use Rattle.sl_model.specs.Polls.{IsAsked, IsServed}
+use Rattle.sl_model.specs.Turns.{Takes, Acts, TakesTurns}
 use Rattle.sl_image.specs.Messages.{IsDumpOf, IsMessage, AreSent}
 use Rattle.sl_image.specs.ControlImage.{known_of, IsControlOf, ControlSimulates, ControlActSimulates, told_at}
-use Rattle.sl_model.proofs.Polls.{IsServed, all-asked, next-asked}
-use Rattle.sl_model.proofs.Brought.{world-length, next-dump}
-use Rattle.sl_image.proofs.ControlWays.{dump-from, is_heard, heard, begin-sort, notice-sort, step-choice}
+use Rattle.sl_image.proofs.ControlWays.{dump-from, is_heard, heard, begin-sort, notice-sort}
 use Rattle.sl_image.proofs.ControlPuts.{sent-each, flat-map, sent-inits}
 use Rattle.sl_image.proofs.ControlSteps.{Turns, Answers, each-unmap, units-are, same-units, served-at, begin-one, notice-one, notice-sent, sweep-one, sweep-sent, dump-one, answer-one}
 
@@ -134,15 +128,6 @@ sweep-acts net ring us ws a d step z q t b i c n e p = record {
 
 -- In a world.
 
-pub turns : (s : Setup) (lost : Losses) (es : List Entry) (e : Entry) (step : Step) → next_step s lost (world s lost es) e ≡ Some step → Turns (history (world s lost es)) (history (turn s lost (world s lost es) e)) e.0 step
-turns s lost es e step n = let w = world s lost es in
-    let g : GrowsAt w (turn s lost w e) e.0 step = subst (λ o. GrowsAt w (after w e.0 o) e.0 step) (sym n)
-    (grows-after w e.0 step (let a = next-within s lost w e step n in let b = world-length s lost es in omega (arith, a, b))) in
-    record { same = g.same; other = g.other }
-
-asked-at : (s : Setup) (lost : Losses) (es : List Entry) (a d : ℕ) → IsWired s.net → actor_of s.net a ≡ Control d → Each (λ l. IsAsked (serving s.net a l) (history (world s lost es) a)) (links_out s.net a Poll)
-asked-at s lost es a d z q = each-unmap (λ v. IsAsked v (history (world s lost es) a)) (serving s.net a) (links_out s.net a Poll) (all-asked s lost (world s lost es) a d z (ran s lost es) q)
-
 -- that the rows of a dump can be read, and what is read
 abbrev pub AreLive : Type 0
 AreLive = (net : Net) (window u : ℕ) (h : History) (m n : ℕ) (cs : List ℕ) (view : View) (k : ℕ) → IsBrought net window u h m n → IsShown view (calls cs (first n h)) → window ≤ length view.slots
@@ -152,21 +137,39 @@ abbrev pub AreRead : Type 0
 AreRead = (net : Net) (window u : ℕ) (h : History) (m n : ℕ) (cs : List ℕ) (view : View) (k : ℕ) → IsBrought net window u h m n → IsShown view (calls cs (first n h)) → window ≤ length view.slots
     → upto_of net u (first m h) < k → k ≤ upto_of net u (first n h) → read view (id (first n h)) k ≡ held_saved (row cs k (first n h))
 
+-- what the laws of worlds say of control planes
+pub record Given (s : Setup) : Type 0 where
+  pub turns : TakesTurns
+  pub asked : (lost : Losses) (es : List Entry) (a d : ℕ) → actor_of s.net a ≡ Control d → Each (λ v. IsAsked v (history (world s lost es) a)) (served s.net a)
+  pub awaited : (lost : Losses) (es : List Entry) (e : Entry) (step : Step) → next_step s lost (world s lost es) e ≡ Some step
+      → Each (λ v. step.choice ≡ v.dump → is_outstanding v (history (world s lost es) e.0) ≡ true) (served s.net e.0)
+  pub brought : (lost : Losses) (es : List Entry) (e : Entry) (n : ℕ) (step : Step) → next_step s lost (world s lost es) e ≡ Some step → step.taken ≡ Some (DumpMsg n)
+      → Each (λ v. step.choice ≡ v.dump → IsBrought s.net s.window v.unit (history (world s lost es) v.unit) (dumped v.dump (history (world s lost es) e.0)) n) (served s.net e.0)
+  pub live : AreLive
+  pub reads : AreRead
+
+turns-at : (s : Setup) (lost : Losses) (es : List Entry) (e : Entry) (step : Step) → Given s → next_step s lost (world s lost es) e ≡ Some step
+    → Turns (history (world s lost es)) (history (turn s lost (world s lost es) e)) e.0 step
+turns-at s lost es e step given n = let g = given.turns.grows s lost es e step n in record { same = g.same; other = g.other }
+
+asked-at : (s : Setup) (lost : Losses) (es : List Entry) (a d : ℕ) → Given s → actor_of s.net a ≡ Control d → Each (λ l. IsAsked (serving s.net a l) (history (world s lost es) a)) (links_out s.net a Poll)
+asked-at s lost es a d given q = each-unmap (λ v. IsAsked v (history (world s lost es) a)) (serving s.net a) (links_out s.net a Poll) (given.asked lost es a d q)
+
 -- the dump of a unit that a control plane takes
-answers : (s : Setup) (lost : Losses) (es : List Entry) (e : Entry) (ring k n l : ℕ) (step : Step) (d : PlainDump) → AreLive → AreRead → IsNet s.net → IsWired s.net → s.window ≤ ring → next_step s lost (world s lost es) e ≡ Some step → step.taken ≡ Some (DumpMsg n)
+answers : (s : Setup) (lost : Losses) (es : List Entry) (e : Entry) (ring k n l : ℕ) (step : Step) (d : PlainDump) → Given s → IsWired s.net → s.window ≤ ring → next_step s lost (world s lost es) e ≡ Some step → step.taken ≡ Some (DumpMsg n)
     → slice_get (links_into s.net e.0) step.choice ≡ Some k → IsDumpOf s.net ring (link_of s.net k).from (first n (history (world s lost es) (link_of s.net k).from)) d → Member l (links_out s.net e.0 Poll)
     → step.choice ≡ (serving s.net e.0 l).dump → Answers s.net ring (history (world s lost es)) e.0 l n d
-answers s lost es e ring k n l step d live reads i z p x t g of m c = record {
+answers s lost es e ring k n l step d given z p x t g of m c = record {
   tells = record {
     dump = is;
     few = z.few_channels u v.unit v.is_unit;
     one = z.one_init u v.unit v.is_unit;
     near = λ j q. let y = brought.near j q in omega (arith, y, p);
-    live = λ j q r. live s.net s.window u (history w u) (dumped (serving s.net e.0 l).dump (history w e.0)) n (data_channels s.net u) d.view j brought is.shown size q r;
-    reads = λ j q r. reads s.net s.window u (history w u) (dumped (serving s.net e.0 l).dump (history w e.0)) n (data_channels s.net u) d.view j brought is.shown size q r;
+    live = λ j q r. given.live s.net s.window u (history w u) (dumped (serving s.net e.0 l).dump (history w e.0)) n (data_channels s.net u) d.view j brought is.shown size q r;
+    reads = λ j q r. given.reads s.net s.window u (history w u) (dumped (serving s.net e.0 l).dump (history w e.0)) n (data_channels s.net u) d.view j brought is.shown size q r;
   };
   waits = each-at (λ l. step.choice ≡ (serving s.net e.0 l).dump → is_outstanding (serving s.net e.0 l) (history w e.0) ≡ true) l (links_out s.net e.0 Poll)
-      (each-unmap (λ v. step.choice ≡ v.dump → is_outstanding v (history w e.0) ≡ true) (serving s.net e.0) (links_out s.net e.0 Poll) (next-asked s lost w e.0 step z (ran s lost es) view)) m c;
+      (each-unmap (λ v. step.choice ≡ v.dump → is_outstanding v (history w e.0) ≡ true) (serving s.net e.0) (links_out s.net e.0 Poll) (given.awaited lost es e step x)) m c;
 }
   where
     w : World
@@ -174,9 +177,6 @@ answers s lost es e ring k n l step d live reads i z p x t g of m c = record {
 
     u : ℕ
     u = (link_of s.net l).to
-
-    view : Takes s lost w e.0 step ⊎ Acts s w e.0 step
-    view = next-view s lost w e step x
 
     v : IsServed s.net e.0 l
     v = served-at s.net e.0 l z m
@@ -193,38 +193,33 @@ answers s lost es e ring k n l step d live reads i z p x t g of m c = record {
     brought : IsBrought s.net s.window u (history w u) (dumped (serving s.net e.0 l).dump (history w e.0)) n
     brought = each-at (λ l. step.choice ≡ (serving s.net e.0 l).dump → IsBrought s.net s.window (link_of s.net l).to (history w (link_of s.net l).to) (dumped (serving s.net e.0 l).dump (history w e.0)) n) l (links_out s.net e.0 Poll)
         (each-unmap (λ v. step.choice ≡ v.dump → IsBrought s.net s.window v.unit (history w v.unit) (dumped v.dump (history w e.0)) n) (serving s.net e.0) (links_out s.net e.0 Poll)
-        (next-dump s lost w e.0 n step z (ran s lost es) (in-window s lost es z) view t)) m c
+        (given.brought lost es e n step x t)) m c
 
--- a message that fits its link
-message-fits : (s : Setup) (lost : Losses) (es : List Entry) (e : Entry) (step : Step) → next_step s lost (world s lost es) e ≡ Some step → (t : Takes s lost (world s lost es) e.0 step) → fits_link s.net t.took.link t.took.message ≡ true
-message-fits s lost es e step n t = let w = world s lost es in
-    fit-last s e.0 step (history w e.0) (λ c l k. subst (λ h. Each (λ m. fits_link s.net l m ≡ true) (takes c h)) (turns s lost es e step n).same (fit-taken s lost (turn s lost w e) e.0 (ran-turn s lost w e (ran s lost es)) c l k)) t.took
-
--- and that a control plane takes
+-- a message that fits its link, at a control plane
 message-heard : (s : Setup) (a d c k : ℕ) (m : Message) → IsWired s.net → actor_of s.net a ≡ Control d → slice_get (links_into s.net a) c ≡ Some k → fits_link s.net k m ≡ true → is_heard m ≡ true
-message-heard s a d c k m z q i f = let x = is-into s.net a c k i in
+message-heard s a d c k m z q i f = let x = z.ways.into a c k i in
     heard d (link_of s.net k).sort m (subst (λ y. receives y (link_of s.net k).sort ≡ true) (ap (actor_of s.net) x.to ∙ q) (z.receiver k x.is_link)) f
 
-take-of : (s : Setup) (lost : Losses) (es : List Entry) (e : Entry) (d ring k : ℕ) (step : Step) (m : Message) (told : ℕ → ℕ) (x : Msg) → AreLive → AreRead → IsNet s.net → IsWired s.net → actor_of s.net e.0 ≡ Control d → s.window ≤ ring
+take-of : (s : Setup) (lost : Losses) (es : List Entry) (e : Entry) (d ring k : ℕ) (step : Step) (m : Message) (told : ℕ → ℕ) (x : Msg) → Given s → IsWired s.net → actor_of s.net e.0 ≡ Control d → s.window ≤ ring
     → next_step s lost (world s lost es) e ≡ Some step → step.taken ≡ Some m → slice_get (links_into s.net e.0) step.choice ≡ Some k → step.puts ≡ control_puts s.net e.0 (history (world s lost es) e.0) step.choice m → fits_link s.net k m ≡ true → is_heard m ≡ true
     → IsMessage s.net ring (history (world s lost es)) (link_of s.net k).from told m x
     → ControlSimulates s.net ring (history (world s lost es)) (history (turn s lost (world s lost es) e)) e.0 step.puts (control_take (control_at s.net ring (history (world s lost es)) e.0) step.choice x)
-take-of s lost es e d ring k step (BeginMsg b) told x live reads i z q p n t g o f y is =
+take-of s lost es e d ring k step (BeginMsg b) told x given z q p n t g o f y is =
     subst (λ x. ControlSimulates s.net ring (history (world s lost es)) (history (turn s lost (world s lost es) e)) e.0 step.puts (control_take (control_at s.net ring (history (world s lost es)) e.0) step.choice x)) (sym is)
-    (take-begin s.net ring (history (world s lost es)) (history (turn s lost (world s lost es) e)) e.0 d k b step z q (turns s lost es e step n) g (begin-sort (link_of s.net k).sort b f) t o)
-take-of s lost es e d ring k step NoticeMsg told x live reads i z q p n t g o f y is =
+    (take-begin s.net ring (history (world s lost es)) (history (turn s lost (world s lost es) e)) e.0 d k b step z q (turns-at s lost es e step given n) g (begin-sort (link_of s.net k).sort b f) t o)
+take-of s lost es e d ring k step NoticeMsg told x given z q p n t g o f y is =
     subst (λ x. ControlSimulates s.net ring (history (world s lost es)) (history (turn s lost (world s lost es) e)) e.0 step.puts (control_take (control_at s.net ring (history (world s lost es)) e.0) step.choice x)) (sym is)
-    (take-notice s.net ring (history (world s lost es)) (history (turn s lost (world s lost es) e)) e.0 d k step z q (turns s lost es e step n) (asked-at s lost es e.0 d z q) g (notice-sort (link_of s.net k).sort f) t o)
-take-of s lost es e d ring k step (DumpMsg b) told x live reads i z q p n t g o f y is =
+    (take-notice s.net ring (history (world s lost es)) (history (turn s lost (world s lost es) e)) e.0 d k step z q (turns-at s lost es e step given n) (asked-at s lost es e.0 d given q) g (notice-sort (link_of s.net k).sort f) t o)
+take-of s lost es e d ring k step (DumpMsg b) told x given z q p n t g o f y is =
     subst (λ x. ControlSimulates s.net ring (history (world s lost es)) (history (turn s lost (world s lost es) e)) e.0 step.puts (control_take (control_at s.net ring (history (world s lost es)) e.0) step.choice x)) (sym is.is)
-    (take-dump s.net ring (history (world s lost es)) (history (turn s lost (world s lost es) e)) e.0 d b step is.dump z q (turns s lost es e step n) (asked-at s lost es e.0 d z q)
-    (λ l m. answers s lost es e ring k b l step is.dump live reads i z p n t g is.of m) t o)
-take-of s lost es e d ring k step _ told x live reads i z q p n t g o f y is = absurd cc
+    (take-dump s.net ring (history (world s lost es)) (history (turn s lost (world s lost es) e)) e.0 d b step is.dump z q (turns-at s lost es e step given n) (asked-at s lost es e.0 d given q)
+    (λ l m. answers s lost es e ring k b l step is.dump given z p n t g is.of m) t o)
+take-of s lost es e d ring k step _ told x given z q p n t g o f y is = absurd cc
 
-pub takes-message : (s : Setup) (lost : Losses) (es : List Entry) (e : Entry) (d ring : ℕ) (step : Step) (m : Message) (told : ℕ → ℕ) (x : Msg) (t : ControlState) → AreLive → AreRead → IsNet s.net → IsWired s.net → actor_of s.net e.0 ≡ Control d → s.window ≤ ring
+pub takes-message : (s : Setup) (lost : Losses) (es : List Entry) (e : Entry) (d ring : ℕ) (step : Step) (m : Message) (told : ℕ → ℕ) (x : Msg) (t : ControlState) → Given s → IsWired s.net → actor_of s.net e.0 ≡ Control d → s.window ≤ ring
     → next_step s lost (world s lost es) e ≡ Some step → step.taken ≡ Some m → IsMessage s.net ring (history (world s lost es)) (link_of s.net (link_at s.net e.0 e.1)).from told m x → IsControlOf s.net ring (history (world s lost es)) e.0 t
     → ControlSimulates s.net ring (history (world s lost es)) (history (turn s lost (world s lost es) e)) e.0 step.puts (control_take t e.1 x)
-takes-message s lost es e d ring step m told x t live reads i z q p n k is r = by_view (next-view s lost (world s lost es) e step n)
+takes-message s lost es e d ring step m told x t given z q p n k is r = by_view (given.turns.view s lost (world s lost es) e step n)
   where
     us : ℕ → History
     us = history (world s lost es)
@@ -233,17 +228,17 @@ takes-message s lost es e d ring step m told x t live reads i z q p n k is r = b
     ws = history (turn s lost (world s lost es) e)
 
     c : step.choice ≡ e.1
-    c = step-choice s lost (world s lost es) e step n
+    c = given.turns.choice s lost (world s lost es) e step n
 
     by_view : Takes s lost (world s lost es) e.0 step ⊎ Acts s (world s lost es) e.0 step → ControlSimulates s.net ring us ws e.0 step.puts (control_take t e.1 x)
     by_view (inr y) = absurd (let o : None ≡ Some m = sym y.acted.taken ∙ k in cc)
     by_view (inl y) = let same : y.took.message ≡ m = of_message (sym y.took.taken ∙ k) in
         let at : link_at s.net e.0 e.1 ≡ y.took.link = get_or_from_slice_get (links_into s.net e.0) e.1 y.took.link 0 (ap (slice_get (links_into s.net e.0)) (sym c) ∙ y.took.into) in
-        let f : fits_link s.net y.took.link m ≡ true = ap (fits_link s.net y.took.link) (sym same) ∙ message-fits s lost es e step n y in
-        let puts : step.puts ≡ control_puts s.net e.0 (us e.0) step.choice m = took-by s e.0 (us e.0) step (Control d) q y.took ∙ ap (control_puts s.net e.0 (us e.0) step.choice) same in
+        let f : fits_link s.net y.took.link m ≡ true = ap (fits_link s.net y.took.link) (sym same) ∙ given.turns.fits s lost (world s lost es) e.0 step (given.turns.ran s lost es) y in
+        let puts : step.puts ≡ control_puts s.net e.0 (us e.0) step.choice m = y.took.puts ∙ ap (λ x. puts_of s e.0 x (us e.0) step.choice y.took.link y.took.message) q ∙ ap (control_puts s.net e.0 (us e.0) step.choice) same in
         subst (λ b. ControlSimulates s.net ring us ws e.0 step.puts (control_take t b x)) c
         (subst (λ t. ControlSimulates s.net ring us ws e.0 step.puts (control_take t step.choice x)) (sym (is-at s.net ring us e.0 t r))
-        (take-of s lost es e d ring y.took.link step m told x live reads i z q p n k y.took.into puts f (message-heard s e.0 d step.choice y.took.link m z q y.took.into f)
+        (take-of s lost es e d ring y.took.link step m told x given z q p n k y.took.into puts f (message-heard s e.0 d step.choice y.took.link m z q y.took.into f)
         (subst (λ l. IsMessage s.net ring us (link_of s.net l).from told m x) at is)))
       where
         of_message : {x y : Message} → Some x ≡ Some y → x ≡ y
@@ -256,10 +251,10 @@ get-none [] n h = omega arith
 get-none (x ∷ xs) zero h = absurd cc
 get-none (x ∷ xs) (suc n) h = omega (arith, get-none xs n h)
 
-pub acts : (s : Setup) (lost : Losses) (es : List Entry) (e : Entry) (d ring : ℕ) (step : Step) (t : ControlState) → IsWired s.net → actor_of s.net e.0 ≡ Control d
+pub acts : (s : Setup) (lost : Losses) (es : List Entry) (e : Entry) (d ring : ℕ) (step : Step) (t : ControlState) → Given s → IsWired s.net → actor_of s.net e.0 ≡ Control d
     → next_step s lost (world s lost es) e ≡ Some step → step.taken ≡ None → IsControlOf s.net ring (history (world s lost es)) e.0 t
     → ControlActSimulates s.net ring (history (world s lost es)) (history (turn s lost (world s lost es) e)) e.0 step.puts (control_act t e.1)
-acts s lost es e d ring step t z q n k r = by_view (next-view s lost (world s lost es) e step n)
+acts s lost es e d ring step t given z q n k r = by_view (given.turns.view s lost (world s lost es) e step n)
   where
     us : ℕ → History
     us = history (world s lost es)
@@ -268,18 +263,18 @@ acts s lost es e d ring step t z q n k r = by_view (next-view s lost (world s lo
     ws = history (turn s lost (world s lost es) e)
 
     c : step.choice ≡ e.1
-    c = step-choice s lost (world s lost es) e step n
+    c = given.turns.choice s lost (world s lost es) e step n
 
     by_view : Takes s lost (world s lost es) e.0 step ⊎ Acts s (world s lost es) e.0 step → ControlActSimulates s.net ring us ws e.0 step.puts (control_act t e.1)
     by_view (inl y) = absurd (let o : None ≡ Some y.took.message = sym k ∙ y.took.taken in cc)
-    by_view (inr y) = of_choice (step.choice - action_choice s.net e.0) refl (acted-by s e.0 (us e.0) step (Control d) q y.acted)
+    by_view (inr y) = of_choice (step.choice - action_choice s.net e.0) refl (subst (λ x. action s y.acted.floor e.0 x (us e.0) (step.choice - action_choice s.net e.0) ≡ Some step.puts) q y.acted.puts)
       where
         of_guard : step.choice ≡ action_choice s.net e.0 → (b : Bool) → is_swept s.net e.0 (us e.0) ≡ b → guarded (not b) (flat_map (λ v. poll_puts v (us e.0)) (served s.net e.0)) ≡ Some step.puts → ControlActSimulates s.net ring us ws e.0 step.puts (control_act t e.1)
         of_guard at true g h = absurd cc
         of_guard at false g h = let p : flat_map (λ v. poll_puts v (us e.0)) (served s.net e.0) ≡ step.puts = cc in
             subst (λ b. ControlActSimulates s.net ring us ws e.0 step.puts (control_act t b)) c
             (subst (λ t. ControlActSimulates s.net ring us ws e.0 step.puts (control_act t step.choice)) (sym (is-at s.net ring us e.0 t r))
-            (sweep-acts s.net ring us ws e.0 d step z q (turns s lost es e step n) (asked-at s lost es e.0 d z q) y.acted.past at g k (sym p)))
+            (sweep-acts s.net ring us ws e.0 d step z q (turns-at s lost es e step given n) (asked-at s lost es e.0 d given q) y.acted.past at g k (sym p)))
 
         of_choice : (j : ℕ) → step.choice - action_choice s.net e.0 ≡ j → action s y.acted.floor e.0 (Control d) (us e.0) j ≡ Some step.puts → ControlActSimulates s.net ring us ws e.0 step.puts (control_act t e.1)
         of_choice zero j h = let l : action_choice s.net e.0 ≤ step.choice = get-none (links_into s.net e.0) step.choice y.acted.past in of_guard (omega (arith, j, l)) (is_swept s.net e.0 (us e.0)) refl h

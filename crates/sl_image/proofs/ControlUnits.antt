@@ -16,8 +16,6 @@ use Rattle.sl_model.specs.Words.{least_of}
 use Rattle.sl_model.specs.History.{History, last, first, dump_of, taken, on_link, put}
 use Rattle.sl_model.specs.Knowledge.{dumped, is_outstanding, puts_on, asks, is_again}
 use Rattle.sl_model.specs.Puts.{send, poll_puts}
-use Rattle.sl_model.proofs.Turns.{taken-this, taken-other}
-use Rattle.sl_model.proofs.Begins.{heard-this}
 use Rattle.sl_image.specs.Messages.{eight, lasts}
 use Rattle.sl_model.specs.Polls.{IsAsked}
 use Rattle.sl_image.specs.ControlImage.{known_by}
@@ -44,7 +42,7 @@ more-zeros (suc n) (suc m) i p = ap (λ xs. 0 ∷ xs) (more-zeros n m i (omega (
 no-last : (net : Net) (u : ℕ) → eight (lasts net u []) ≡ nulls 8
 no-last net u = ap eight (zeros (data_channels net u)) ∙ more-zeros 8 (length (data_channels net u)) 8 (omega arith)
 
-least-zero : (cs : List ℕ) → least_of 0 (map (λ c. last c []) cs) ≡ 0
+pub least-zero : (cs : List ℕ) → least_of 0 (map (λ c. last c []) cs) ≡ 0
 least-zero [] = refl
 least-zero (c ∷ cs) = least-zero cs
 
@@ -85,6 +83,9 @@ again-by : (sweep : ℕ) (v : Served) (s : Step) (h : History) (ms : List Messag
     → is_again sweep v (s ∷ h) ≡ (if some ms then false else asks sweep v s.choice s.taken || is_again sweep v h)
 again-by sweep v s h ms q = ap (λ b. if b then false else asks sweep v s.choice s.taken || is_again sweep v h) (on-some v.poll s.puts ∙ ap some q)
 
+taken-same : (c : ℕ) (s : Step) (h : History) → (s.choice ≡ c → ⊥) → taken c (s ∷ h) ≡ taken c h
+taken-same c s h ne = ap (λ b. if b then suc (taken c h) else taken c h) (ne_eqb s.choice c ne)
+
 dumped-same : (c : ℕ) (s : Step) (h : History) → (s.choice ≡ c → ⊥) → dumped c (s ∷ h) ≡ dumped c h
 dumped-same c s h ne = ap (λ b. if b then unwrap_or (option_and_then dump_of s.taken) (dumped c h) else dumped c h) (ne_eqb s.choice c ne)
 
@@ -92,7 +93,7 @@ dumped-same c s h ne = ap (λ b. if b then unwrap_or (option_and_then dump_of s.
 
 pub still : (net : Net) (sweep : ℕ) (v : Served) (s : Step) (h g : History) → (s.choice ≡ v.dump → ⊥) → asks sweep v s.choice s.taken ≡ false → on_link v.poll s.puts ≡ [] → seen net sweep v (s ∷ h) g ≡ seen net sweep v h g
 still net sweep v s h g d n p =
-    let t : taken v.dump (s ∷ h) ≡ taken v.dump h = taken-other v.dump s h d in
+    let t : taken v.dump (s ∷ h) ≡ taken v.dump h = taken-same v.dump s h d in
     let l : length (put v.poll (s ∷ h)) ≡ length (put v.poll h) = ap (λ ms. length (put v.poll h ++ ms)) p ∙ ap length (append-nil (put v.poll h)) in
     let x : dumped v.dump (s ∷ h) ≡ dumped v.dump h = dumped-same v.dump s h d in
     let a : is_again sweep v (s ∷ h) ≡ is_again sweep v h = again-by sweep v s h [] p ∙ ap (λ b. b || is_again sweep v h) n in
@@ -108,7 +109,7 @@ pub asked-is : (net : Net) (sweep : ℕ) (v : Served) (s : Step) (h g : History)
 asked-is net sweep v s h g d n p b = by_waits (cases_Bool (is_outstanding v h))
   where
     t : taken v.dump (s ∷ h) ≡ taken v.dump h
-    t = taken-other v.dump s h d
+    t = taken-same v.dump s h d
 
     x : dumped v.dump (s ∷ h) ≡ dumped v.dump h
     x = dumped-same v.dump s h d
@@ -139,10 +140,10 @@ pub dumped-is : (net : Net) (sweep : ℕ) (v : Served) (s : Step) (h g : History
 dumped-is net sweep v s h g n d m p o b = by_again (cases_Bool (is_again sweep v h))
   where
     t : taken v.dump (s ∷ h) ≡ suc (taken v.dump h)
-    t = taken-this v.dump s h d
+    t = ap (λ b. if b then suc (taken v.dump h) else taken v.dump h) (eq-eqb s.choice v.dump d)
 
     x : dumped v.dump (s ∷ h) ≡ n
-    x = heard-this dump_of v.dump n s h (DumpMsg n) d m refl
+    x = ap (λ b. if b then unwrap_or (option_and_then dump_of s.taken) (dumped v.dump h) else dumped v.dump h) (eq-eqb s.choice v.dump d) ∙ ap (λ o. unwrap_or (option_and_then dump_of o) (dumped v.dump h)) m
 
     lt : taken v.dump h < length (put v.poll h)
     lt = ltb-true (taken v.dump h) (length (put v.poll h)) o

@@ -1,43 +1,25 @@
 -- By which links and choices a control plane is joined to its units.
-use Rattle.std.proofs.Common.{◌≡◌, ℕ, zero, suc, ◌+◌, ◌-◌, ◌≤◌, List, [], ◌∷◌, ◌++◌, length, refl, sym, ap, subst, ◌∙◌, Option, Some, None, arith, get_or, map, inl, inr}
-use Rattle.std.specs.Prelude.{true, false, Bool, nat_eq, ◌==◌, ◌⊎◌, if◌then◌else◌, filter, slice_get, slice_index, option_map}
+use Rattle.std.proofs.Common.{◌≡◌, ℕ, zero, suc, ◌+◌, ◌≤◌, List, [], ◌∷◌, refl, sym, ap, subst, ◌∙◌, Some, None, arith, get_or, inl, inr}
+use Rattle.std.specs.Prelude.{true, false, Bool, nat_eq, ◌==◌, ◌⊎◌, if◌then◌else◌, slice_get, slice_index}
 use Rattle.std.proofs.lemmas.Bool.Decides.{eqb_tells}
-use Rattle.sl_layout.specs.declared.actor.ActorId.{ActorId}
-use Rattle.sl_layout.specs.declared.actor.ActorId.TheVariants.{Control, Unit as OfUnit}
-use Rattle.sl_layout.specs.declared.actor.UnitId.{UnitId}
-use Rattle.sl_layout.specs.declared.actor.Side.{Side}
-use Rattle.sl_layout.specs.declared.actor.Side.TheVariants.{Ingress, Egress}
+use Rattle.sl_layout.specs.declared.actor.ActorId.TheVariants.{Control}
 use Rattle.sl_layout.specs.declared.actor.Sort.{Sort}
-use Rattle.sl_layout.specs.declared.actor.Sort.TheVariants.{Crossbar, Init, Poll, Notice, Dump, Begin}
-use Rattle.sl_parts.specs.declared.parts.PortRef.{PortRef}
-use Rattle.sl_parts.specs.Parts.{Parts, other_end, host_at, used_ports}
-use Rattle.sl_net.specs.Wired.{IsNet, receives}
-use Rattle.sl_layout.specs.Net.{Net, ingress, net_of, actor_of, link_of, links_into, choices_of, action_choice, choice_of, unit_incoming, from_host_or_cable, place_in, units, unit_place}
+use Rattle.sl_layout.specs.declared.actor.Sort.TheVariants.{Notice, Dump, Begin}
+use Rattle.sl_net.specs.Wired.{IsWired, receives}
+use Rattle.sl_layout.specs.Net.{Net, actor_of, link_of, links_into, choice_of, place_in, units, unit_place}
 use Rattle.sl_layout.specs.Serving.{serving}
 use Rattle.sl_parts.specs.Lists.{Member}
-use Rattle.sl_net.proofs.Sorts.{IsOut}
-use Rattle.sl_net.proofs.Linked.{is-at}
-use Rattle.sl_net.proofs.ReportWays.{unit-listed, only-is-out}
+use Rattle.sl_net.specs.Ways.{IsOut}
 use Rattle.sl_control.specs.Wires.{control_of}
 use Rattle.sl_model.specs.declared.message.Message.{Message}
 use Rattle.sl_model.specs.declared.message.Message.TheVariants.{Notice as NoticeMsg, Dump as DumpMsg, Begin as BeginMsg}
-use Rattle.sl_model.specs.declared.message.Step.{Step}
-use Rattle.sl_model.specs.History.{World, Losses, history}
-use Rattle.sl_model.specs.Setup.{Setup}
-use Rattle.sl_model.specs.Puts.{puts_of, action}
-use Rattle.sl_model.specs.World.{Entry, next_step, step_by, front, taking, acting, floor_for}
 use Rattle.sl_model.specs.Fit.{fits}
-use Rattle.sl_model.proofs.Turns.{stepped}
-use Rattle.sl_model.proofs.Reported.{dumps-into}
-use Rattle.sl_model.proofs.Polls.{IsServed}
+use Rattle.sl_model.specs.Polls.{IsServed}
 
 -- The control plane of a device.
 
-place-of : (parts : Parts) (a d : ℕ) → actor_of (net_of parts) a ≡ Control d → control_of (net_of parts) d ≡ a
-place-of parts a d q = (is-at parts a (Control d) q (λ e. cc)).place
-
-pub control-place : (net : Net) (a d : ℕ) → IsNet net → actor_of net a ≡ Control d → control_of net d ≡ a
-control-place net a d n = subst (λ m. actor_of m a ≡ Control d → control_of m d ≡ a) (sym n.made) (place-of net.parts a d)
+pub control-place : (net : Net) (a d : ℕ) → IsWired net → actor_of net a ≡ Control d → control_of net d ≡ a
+control-place net a d w q = w.numbered a (Control d) q (λ e. cc)
 
 -- The unit at its place.
 
@@ -61,8 +43,8 @@ place-get n x (y ∷ ys) i m e = by_tells (λ i m e. place-get (suc n) x ys i m 
     by_tells ih (suc i) e (inl m) (inr q) = absurd (q.1 (sym m))
     by_tells ih (suc i) e (inr m) (inr q) = let z : place_in (suc n) x ys ≡ n + suc i = sym (ap (λ b. if b then n else place_in (suc n) x ys) q.0) ∙ e in ih i m (omega (arith, z))
 
-pub unit-at : (net : Net) (u : ℕ) (i : UnitId) → actor_of net u ≡ OfUnit i → slice_index (units net) (unit_place net u) ≡ u
-unit-at net u i q = place-get 0 u (units net) (unit_place net u) (unit-listed net u i q) (omega arith)
+pub unit-at : (net : Net) (u : ℕ) → Member u (units net) → slice_index (units net) (unit_place net u) ≡ u
+unit-at net u m = place-get 0 u (units net) (unit_place net u) m (omega arith)
 
 -- Choices.
 
@@ -70,11 +52,11 @@ of_some : {x y : ℕ} → Some x ≡ Some y → x ≡ y
 of_some e = cc
 
 dump-into : (net : Net) (a l c : ℕ) → (v : IsServed net a l) → c ≡ (serving net a l).dump → slice_get (links_into net a) c ≡ Some v.reports.dump
-dump-into net a l c v e = ap (slice_get (links_into net a)) (e ∙ v.dump) ∙ ap (λ b. slice_get (links_into net b) (choice_of net v.reports.dump)) v.control ∙ dumps-into net (link_of net l).to v.reports
+dump-into net a l c v e = ap (slice_get (links_into net a)) (e ∙ v.dump) ∙ ap (λ b. slice_get (links_into net b) (choice_of net v.reports.dump)) v.control ∙ v.reports.dump_taken
 
 -- what is taken by the choice of a unit's dumps comes on its link of dumps
 pub dump-from : (net : Net) (a l c k : ℕ) → IsServed net a l → slice_get (links_into net a) c ≡ Some k → c ≡ (serving net a l).dump → IsOut net (link_of net l).to Dump k
-dump-from net a l c k v i e = subst (IsOut net (link_of net l).to Dump) (of_some (sym (dump-into net a l c v e) ∙ i)) (only-is-out net (link_of net l).to Dump v.reports.dump v.reports.dumps)
+dump-from net a l c k v i e = subst (IsOut net (link_of net l).to Dump) (of_some (sym (dump-into net a l c v e) ∙ i)) v.reports.dump_out
 
 -- an action is no such choice
 pub no-dump : (net : Net) (a l c : ℕ) → IsServed net a l → slice_get (links_into net a) c ≡ None → c ≡ (serving net a l).dump → ⊥
@@ -105,16 +87,3 @@ begin-sort _ k f = absurd cc
 pub notice-sort : (t : Sort) → fits t NoticeMsg ≡ true → t ≡ Notice
 notice-sort Notice f = refl
 notice-sort _ f = absurd cc
-
--- The choice of a step is that of its entry.
-
-pub step-choice : (s : Setup) (lost : Losses) (w : World) (e : Entry) (step : Step) → next_step s lost w e ≡ Some step → step.choice ≡ e.1
-step-choice s lost w e step n = let t = stepped s lost w e step n in of_link (slice_get (links_into s.net e.0) e.1) t.actor t.by
-  where
-    mapped : {X : Type 0} (f : X → Step) (o : Option X) → ((x : X) → (f x).choice ≡ e.1) → option_map f o ≡ Some step → step.choice ≡ e.1
-    mapped f None h q = absurd cc
-    mapped f (Some x) h q = let z : f x ≡ step = cc in ap (λ y. y.choice) (sym z) ∙ h x
-
-    of_link : (o : Option ℕ) (i : ActorId) → step_by s lost w e.0 e.1 o i ≡ Some step → step.choice ≡ e.1
-    of_link (Some l) i q = mapped (λ m. taking e.1 m (puts_of s e.0 i (history w e.0) e.1 l m)) (front s.net lost w e.0 e.1 l) (λ m. refl) q
-    of_link None i q = mapped (acting e.1) (action s (floor_for s.net w i) e.0 i (history w e.0) (e.1 - action_choice s.net e.0)) (λ ps. refl) q

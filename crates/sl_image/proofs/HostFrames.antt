@@ -12,7 +12,7 @@ use Rattle.sl_model.specs.Frame.{plain_frame}
 use Rattle.sl_model.specs.History.{Losses, history, taken}
 use Rattle.sl_model.specs.Setup.{frames_of, setup_of}
 use Rattle.sl_model.specs.World.{world}
-use Rattle.sl_model.proofs.Turns.{start-empty}
+use Rattle.sl_model.specs.Turns.{TakesTurns}
 use Rattle.sl_image.specs.HostImage.{host_of}
 use Rattle.sl_image.proofs.UnitFrames.{frame-is}
 
@@ -23,6 +23,6 @@ map-each (p ∷ ps) = let a = frame-is p in let b = map-each ps in λ i. a i ∷
 pub frames-same : (i : Input) (h : ℕ) → frames_there i h ≡ frames_of (setup_of i) h
 frames-same i h = ap (λ fs. fs ++ raws_of i.raws h) (map-each (packets_of i.flows h))
 
-pub host-start : (i : Input) (lost : Losses) (a h : ℕ) → record { messages = frames_there i h; sent = 0; delivered = 0 } ≡ host_of (setup_of i) a h (history (world (setup_of i) lost []) a)
-host-start i lost a h = let m = frames-same i h in let e = start-empty i.net a in let s = sym (ap (taken (action_choice i.net a)) e) in let d = sym (ap (taken 0) e) in
+pub host-start : TakesTurns → (i : Input) (lost : Losses) (a h : ℕ) → record { messages = frames_there i h; sent = 0; delivered = 0 } ≡ host_of (setup_of i) a h (history (world (setup_of i) lost []) a)
+host-start turns i lost a h = let m = frames-same i h in let e = turns.starts i.net a in let s = sym (ap (taken (action_choice i.net a)) e) in let d = sym (ap (taken 0) e) in
     λ j. record { messages = m j; sent = s j; delivered = d j }

@@ -6,10 +6,9 @@ use Rattle.sl_machine.specs.Machine.{After}
 use Rattle.sl_layout.specs.declared.actor.ActorId.TheVariants.{Host as OfHost}
 use Rattle.sl_layout.specs.declared.actor.Sort.{Sort}
 use Rattle.sl_layout.specs.declared.actor.Sort.TheVariants.{FromHost, ToHost, Cable, Crossbar, Init, Poll, Notice, Dump, Begin, Done}
-use Rattle.sl_layout.specs.Net.{Net, actor_of, action_choice, link_of, links_into, links_from, links_out}
-use Rattle.sl_layout.specs.Wires.{out_of}
+use Rattle.sl_layout.specs.Net.{actor_of, action_choice, link_of, links_into, links_out}
 use Rattle.sl_net.specs.Wired.{IsWired, receives, HostLinks}
-use Rattle.sl_net.proofs.Sorts.{IsInto, is-into}
+use Rattle.sl_net.specs.Ways.{IsInto}
 use Rattle.sl_wire.specs.declared.message.Msg.{Msg}
 use Rattle.sl_wire.specs.declared.message.Msg.TheVariants as wire
 use Rattle.sl_machine.specs.Counting.{one_more}
@@ -18,31 +17,21 @@ use Rattle.sl_model.specs.declared.message.Message.{Message}
 use Rattle.sl_model.specs.declared.message.Message.TheVariants.{Host as HostMsg, Data, Probe as ProbeMsg, Init as InitMsg, Poll as PollMsg, Notice as NoticeMsg, Dump as DumpMsg, Begin as BeginMsg, Done as DoneMsg}
 use Rattle.sl_model.specs.declared.message.Step.{Step}
 use Rattle.sl_model.specs.Fit.{fits, fits_link}
-use Rattle.sl_model.specs.History.{History, World, Losses, history, taken, put}
+use Rattle.sl_model.specs.History.{World, Losses, history, taken}
 use Rattle.sl_model.specs.Made.{Ran}
-use Rattle.sl_model.specs.Puts.{send_all, action}
+use Rattle.sl_model.specs.Puts.{send_all, action, puts_of}
 use Rattle.sl_model.specs.Setup.{Setup, frames_of}
-use Rattle.sl_model.specs.World.{Entry, next_step, step_by, acting, carried, turn, world}
-use Rattle.sl_model.proofs.Ran.{Takes, Acts, next-view, ran}
-use Rattle.sl_model.proofs.Steps.{history_size}
-use Rattle.sl_model.proofs.Sizes.{world_size}
-use Rattle.sl_model.proofs.Stamps.{took-by, acted-by, each-lost, put-fits}
-use Rattle.sl_model.proofs.Turns.{Steps, turn-cases, taken-this, taken-other, taken-step}
+use Rattle.sl_model.specs.World.{Entry, next_step, step_by, acting, turn, world}
+use Rattle.sl_model.specs.Turns.{Takes, Acts, TakesTurns}
 use Rattle.sl_image.specs.HostImage.{host_of, IsHostOf}
 use Rattle.sl_image.specs.Simulates.{Simulates, ActSimulates}
 use Rattle.sl_image.specs.Messages.{IsMessage, AreSent}
 use Rattle.sl_image.proofs.ObserverActs.{past-end, get-past}
-use Rattle.sl_image.proofs.ObserverWorlds.{grows-turn}
-use Rattle.sl_model.proofs.Windows.{each-get}
 
 -- Another actor's turn.
 
-pub host-stays : (s : Setup) (lost : Losses) (w : World) (a i : ℕ) (e : Entry) → e.0 ≢ a → host_of s a i (history (turn s lost w e) a) ≡ host_of s a i (history w a)
-host-stays s lost w a i e ne = ap (host_of s a i) (by_cases (turn-cases s lost w e))
-  where
-    by_cases : (turn s lost w e ≡ w) ⊎ Steps s lost w e (turn s lost w e) → history (turn s lost w e) a ≡ history w a
-    by_cases (inl q) = ap (λ v. history v a) q
-    by_cases (inr t) = t.grows.other a (λ q. ne (sym q))
+pub host-stays : TakesTurns → (s : Setup) (lost : Losses) (w : World) (a i : ℕ) (e : Entry) → e.0 ≢ a → host_of s a i (history (turn s lost w e) a) ≡ host_of s a i (history w a)
+host-stays turns s lost w a i e ne = ap (host_of s a i) (turns.others s lost w e a (λ q. ne (sym q)))
 
 -- What comes to a host is a frame.
 
@@ -69,34 +58,29 @@ frame-fits (DumpMsg n) q = absurd cc
 frame-fits (BeginMsg k) q = absurd cc
 frame-fits (DoneMsg u n) q = absurd cc
 
-comes-frame : (s : Setup) (lost : Losses) (w : World) (a i : ℕ) (step : Step) → IsWired s.net → Ran s lost w → actor_of s.net a ≡ OfHost i → (t : Takes s lost w a step) → (b : List ℕ) × (t.took.message ≡ HostMsg b)
-comes-frame s lost w a i step z r q t = frame-fits t.took.message (ap (λ k. fits k t.took.message) (sym sort) ∙ fit)
+comes-frame : TakesTurns → (s : Setup) (lost : Losses) (w : World) (a i : ℕ) (step : Step) → IsWired s.net → Ran s lost w → actor_of s.net a ≡ OfHost i → (t : Takes s lost w a step) → (b : List ℕ) × (t.took.message ≡ HostMsg b)
+comes-frame turns s lost w a i step z r q t = frame-fits t.took.message (ap (λ k. fits k t.took.message) (sym sort) ∙ fit)
   where
     into : IsInto s.net a t.took.link
-    into = is-into s.net a step.choice t.took.link t.took.into
+    into = z.ways.into a step.choice t.took.link t.took.into
 
     sort : (link_of s.net t.took.link).sort ≡ ToHost
     sort = to-host i (link_of s.net t.took.link).sort (ap (λ x. receives x (link_of s.net t.took.link).sort) (sym (ap (actor_of s.net) into.to ∙ q)) ∙ z.receiver t.took.link into.is_link)
 
     fit : fits_link s.net t.took.link t.took.message ≡ true
-    fit = let from = (link_of s.net t.took.link).from in each-get (λ m. fits_link s.net t.took.link m ≡ true) (carried s.net lost w t.took.link) (taken step.choice (history w a)) t.took.message
-        (each-lost (λ m. fits_link s.net t.took.link m ≡ true) (lost t.took.link) 0 (put t.took.link (history w from)) (put-fits s from t.took.link (history w from) (r.made from))) t.found
+    fit = turns.fits s lost w a step r t
 
-few-taken : (c : ℕ) (h : History) → taken c h ≤ length h
-few-taken c [] = omega arith
-few-taken c (step ∷ h) = let p = few-taken c h in let q = taken-step c step h in omega (arith, p, q)
-
-module _ (s : Setup) (lost : Losses) (es : List Entry) (a c i ring : ℕ) (told : ℕ → ℕ) (step : Step) (z : IsWired s.net) (q : actor_of s.net a ≡ OfHost i) (k : HostLinks s.net a) (x : next_step s lost (world s lost es) (a, c) ≡ Some step) where
+module _ (turns : TakesTurns) (s : Setup) (lost : Losses) (es : List Entry) (a c i ring : ℕ) (told : ℕ → ℕ) (step : Step) (z : IsWired s.net) (q : actor_of s.net a ≡ OfHost i) (k : HostLinks s.net a) (x : next_step s lost (world s lost es) (a, c) ≡ Some step) where
   abbrev SimulatesIt : After HostState Msg → Type 0
   SimulatesIt y = Simulates (IsHostOf s a i (turn s lost (world s lost es) (a, c))) s.net ring (λ u. history (turn s lost (world s lost es) (a, c)) u) a told step.puts y
 
   takes-frame : (b : List ℕ) → step.choice ≡ 0 → step.puts ≡ [] → length es < 2 ^ 40 → SimulatesIt (host_take (host_of s a i (history (world s lost es) a)) c (wire.Host b))
   takes-frame b e ps l =
-      let w = world s lost es in let h = history w a in let g = grows-turn s lost es (a, c) step x in
-      let n = few-taken 0 h in let m = history_size w a in let size = world_size s lost w es refl in let one = k.one_in in
-      let sent : taken (action_choice s.net a) h ≡ taken (action_choice s.net a) (history (turn s lost w (a, c)) a) = sym (ap (taken (action_choice s.net a)) g.same ∙ taken-other (action_choice s.net a) step h (λ p. absurd (omega (arith, p, e, one)))) in
-      let more : one_more (taken 0 h) ≡ suc (taken 0 h) = omega (arith, n, m, size, l) in
-      let delivered : one_more (taken 0 h) ≡ taken 0 (history (turn s lost w (a, c)) a) = more ∙ sym (ap (taken 0) g.same ∙ taken-this 0 step h e) in
+      let w = world s lost es in let h = history w a in let g = turns.grows s lost es (a, c) step x in
+      let n = turns.at_most 0 h in let m = turns.few s lost es a in let one = k.one_in in
+      let sent : taken (action_choice s.net a) h ≡ taken (action_choice s.net a) (history (turn s lost w (a, c)) a) = sym (ap (taken (action_choice s.net a)) g.same ∙ turns.uncounted (action_choice s.net a) step h (λ p. absurd (omega (arith, p, e, one)))) in
+      let more : one_more (taken 0 h) ≡ suc (taken 0 h) = omega (arith, n, m, l) in
+      let delivered : one_more (taken 0 h) ≡ taken 0 (history (turn s lost w (a, c)) a) = more ∙ sym (ap (taken 0) g.same ∙ turns.counted 0 step h e) in
       record {
         stands = λ j. record { messages = frames_of s i; sent = sent j; delivered = delivered j };
         sent = subst (λ ps. AreSent s.net ring (λ u. history (turn s lost w (a, c)) u) a told ps []) (sym ps) tt;
@@ -104,16 +88,16 @@ module _ (s : Setup) (lost : Losses) (es : List Entry) (a c i ring : ℕ) (told 
 
   pub host-takes : (b : ℕ) (before : ℕ → ℕ) (m : Message) (y : Msg) → step.taken ≡ Some m → length es < 2 ^ 40 → IsMessage s.net ring (λ u. history (world s lost es) u) b before m y
       → SimulatesIt (host_take (host_of s a i (history (world s lost es) a)) c y)
-  host-takes b before m y e l is = by_view (next-view s lost (world s lost es) (a, c) step x)
+  host-takes b before m y e l is = by_view (turns.view s lost (world s lost es) (a, c) step x)
     where
       by_view : Takes s lost (world s lost es) a step ⊎ Acts s (world s lost es) a step → SimulatesIt (host_take (host_of s a i (history (world s lost es) a)) c y)
       by_view (inl t) =
-          let f = comes-frame s lost (world s lost es) a i step z (ran s lost es) q t in
+          let f = comes-frame turns s lost (world s lost es) a i step z (turns.ran s lost es) q t in
           let same : m ≡ HostMsg f.0 = (let u : Some m ≡ Some t.took.message = sym e ∙ t.took.taken in let v : m ≡ t.took.message = cc in v ∙ f.1) in
           let frame : y ≡ wire.Host f.0 = subst (λ m. IsMessage s.net ring (λ u. history (world s lost es) u) b before m y) same is in
           let low = slice_get_within (links_into s.net a) step.choice t.took.link t.took.into in let one = k.one_in in
           subst (λ y. SimulatesIt (host_take (host_of s a i (history (world s lost es) a)) c y)) (sym frame)
-          (takes-frame f.0 (omega (arith, low, one)) (took-by s a (history (world s lost es) a) step (OfHost i) q t.took) l)
+          (takes-frame f.0 (omega (arith, low, one)) (t.took.puts ∙ ap (λ y. puts_of s a y (history (world s lost es) a) step.choice t.took.link t.took.message) q) l)
       by_view (inr t) = absurd (let u : None ≡ Some m = sym t.acted.taken ∙ e in cc)
 
   -- the frame that a host injects
@@ -133,15 +117,15 @@ module _ (s : Setup) (lost : Losses) (es : List Entry) (a c i ring : ℕ) (told 
   injects fl (suc n) d p = absurd cc
 
   pub host-acts : step.taken ≡ None → ActSimulates (IsHostOf s a i (turn s lost (world s lost es) (a, c))) s.net ring (λ u. history (turn s lost (world s lost es) (a, c)) u) a told step.puts (host_act (host_of s a i (history (world s lost es) a)) c)
-  host-acts e = by_view (next-view s lost (world s lost es) (a, c) step x)
+  host-acts e = by_view (turns.view s lost (world s lost es) (a, c) step x)
     where
       of_frame : length (links_into s.net a) ≤ step.choice → Injects
           → ActSimulates (IsHostOf s a i (turn s lost (world s lost es) (a, c))) s.net ring (λ u. history (turn s lost (world s lost es) (a, c)) u) a told step.puts (host_act (host_of s a i (history (world s lost es) a)) c)
       of_frame p f =
-          let w = world s lost es in let h = history w a in let g = grows-turn s lost es (a, c) step x in let d = f.choice in let one = k.one_in in
+          let w = world s lost es in let h = history w a in let g = turns.grows s lost es (a, c) step x in let d = f.choice in let one = k.one_in in
           let here : step.choice ≡ action_choice s.net a = omega (arith, p, d) in
-          let sent : suc (taken (action_choice s.net a) h) ≡ taken (action_choice s.net a) (history (turn s lost w (a, c)) a) = sym (ap (taken (action_choice s.net a)) g.same ∙ taken-this (action_choice s.net a) step h here) in
-          let delivered : taken 0 h ≡ taken 0 (history (turn s lost w (a, c)) a) = sym (ap (taken 0) g.same ∙ taken-other 0 step h (λ r. absurd (omega (arith, r, here, one)))) in
+          let sent : suc (taken (action_choice s.net a) h) ≡ taken (action_choice s.net a) (history (turn s lost w (a, c)) a) = sym (ap (taken (action_choice s.net a)) g.same ∙ turns.counted (action_choice s.net a) step h here) in
+          let delivered : taken 0 h ≡ taken 0 (history (turn s lost w (a, c)) a) = sym (ap (taken 0) g.same ∙ turns.uncounted 0 step h (λ r. absurd (omega (arith, r, here, one)))) in
           record {
             after = sending (host_of s a i h) f.bytes;
             is = ap (option_map (sending (host_of s a i h))) f.found;
@@ -155,7 +139,7 @@ module _ (s : Setup) (lost : Losses) (es : List Entry) (a c i ring : ℕ) (told 
           → ActSimulates (IsHostOf s a i (turn s lost (world s lost es) (a, c))) s.net ring (λ u. history (turn s lost (world s lost es) (a, c)) u) a told step.puts (host_act (host_of s a i (history (world s lost es) a)) c)
       by_view (inl t) = absurd (let u : None ≡ Some t.took.message = sym e ∙ t.took.taken in cc)
       by_view (inr t) = of_frame (past-end (links_into s.net a) step.choice t.acted.past)
-          (injects t.acted.floor (step.choice - action_choice s.net a) refl (acted-by s a (history (world s lost es) a) step (OfHost i) q t.acted))
+          (injects t.acted.floor (step.choice - action_choice s.net a) refl (subst (λ y. action s t.acted.floor a y (history (world s lost es) a) (step.choice - action_choice s.net a) ≡ Some step.puts) q t.acted.puts))
 
 -- Where nothing is left to inject.
 

@@ -10,20 +10,14 @@ use Rattle.sl_net.specs.declared.input.Snapshot.{Snapshot}
 use Rattle.sl_parts.specs.Parts.{numbers_from}
 use Rattle.sl_layout.specs.Net.{Net, actor_of, units, unit_place, data_channels}
 use Rattle.sl_net.specs.Wired.{IsWired}
-use Rattle.sl_parts.proofs.Lists.{length_numbers, place-of-member, each-imp, number-found}
+use Rattle.sl_parts.proofs.Lists.{length_numbers, place-of-member, number-found}
 use Rattle.std.proofs.lemmas.Simd.{map-map}
-use Rattle.sl_net.proofs.ReportWays.{unit-listed}
+use Rattle.sl_net.specs.Ways.{HasWays}
 use Rattle.std.proofs.lemmas.List.{length-map}
 use Rattle.sl_saves.specs.Views.{held_saved}
 use Rattle.sl_observe.specs.Observer.{new_unit, unit_at, saved_of}
-use Rattle.sl_model.specs.History.{History, World, Losses, history, id, last, first}
-use Rattle.sl_model.specs.Setup.{Setup}
-use Rattle.sl_model.specs.Knowledge.{observer, known, collected, upto_of, floor_of}
-use Rattle.sl_model.specs.Made.{Ran}
-use Rattle.sl_model.proofs.Collected.{Reached, lag-of}
-use Rattle.sl_model.proofs.Near.{least-start, least-each}
-use Rattle.sl_model.proofs.Prefixes.{first-all}
-use Rattle.sl_model.proofs.Reported.{knows}
+use Rattle.sl_model.specs.History.{History, World, history, id}
+use Rattle.sl_model.specs.Knowledge.{collected, upto_of, floor_of}
 use Rattle.sl_model.specs.Accounts.{account, accounts}
 use Rattle.sl_image.specs.ObserverImage.{unit_of, observer_of, account_of}
 use Rattle.sl_model.specs.Rows.{row}
@@ -31,12 +25,11 @@ use Rattle.sl_image.proofs.ObserverLists.{map-same, map-numbers}
 use Rattle.sl_image.proofs.ObserverTakes.{place-of-unit}
 use Rattle.sl_image.proofs.ObserverUnits.{channels-are}
 use Rattle.sl_image.proofs.ObserverWorlds.{unit-at}
-use Rattle.sl_model.proofs.Settled.{row-later}
 
 -- The unit at its place.
 
-pub unit-there : (net : Net) (table : Snapshot) (w : World) (u : ℕ) (i : UnitId) → actor_of net u ≡ OfUnit i → unit_at (observer_of net table w).units (unit_place net u) ≡ unit_of net u (collected net w u)
-unit-there net table w u i q = let m = place-of-member u (units net) (unit-listed net u i q) in let f = λ (u : ℕ). unit_of net u (collected net w u) in
+pub unit-there : (net : Net) → HasWays net → (table : Snapshot) (w : World) (u : ℕ) (i : UnitId) → actor_of net u ≡ OfUnit i → unit_at (observer_of net table w).units (unit_place net u) ≡ unit_of net u (collected net w u)
+unit-there net ways table w u i q = let m = place-of-member u (units net) (ways.unit u i q) in let f = λ (u : ℕ). unit_of net u (collected net w u) in
     let p : unit_place net u ≡ m.0 = ap (unit_place net) (sym (m.2 0)) ∙ place-of-unit net m.0 m.1 in
     ap (unit_at (map f (units net))) p ∙ get_or-map f (units net) m.0 0 (new_unit 0 0) m.1 ∙ ap f (m.2 0)
 
@@ -60,28 +53,15 @@ held-at net u g k one p = ap (λ b. if b then None else slice_get (unit_of net u
     ∙ ap (option_map (λ k. held_saved (row (data_channels net u) k g))) (number-found 1 (upto_of net u g) (k - 1) (omega (arith, one, p)))
     ∙ ap (λ j. Some (held_saved (row (data_channels net u) j g))) (let e : 1 + (k - 1) ≡ k = omega (arith, one) in e)
 
-pub none-past : (net : Net) (table : Snapshot) (w : World) (u k : ℕ) (i : UnitId) → actor_of net u ≡ OfUnit i → upto_of net u (collected net w u) < k → saved_of (unit_at (observer_of net table w).units (unit_place net u)) k ≡ None
-none-past net table w u k i q p = let g = collected net w u in ap (λ x. saved_of x k) (unit-there net table w u i q) ∙ ap (λ b. if b then None else slice_get (unit_of net u g).rows (k - 1)) (not-zero k (omega (arith, p)))
+pub none-past : (net : Net) → HasWays net → (table : Snapshot) (w : World) (u k : ℕ) (i : UnitId) → actor_of net u ≡ OfUnit i → upto_of net u (collected net w u) < k → saved_of (unit_at (observer_of net table w).units (unit_place net u)) k ≡ None
+none-past net ways table w u k i q p = let g = collected net w u in ap (λ x. saved_of x k) (unit-there net ways table w u i q) ∙ ap (λ b. if b then None else slice_get (unit_of net u g).rows (k - 1)) (not-zero k (omega (arith, p)))
     ∙ get-past (unit_of net u g).rows (k - 1) (let n = length-map (numbers_from 1 (upto_of net u g)) (λ k. held_saved (row (data_channels net u) k g)) in let m = length_numbers 1 (upto_of net u g) in omega (arith, n, m, p))
 
-reached-upto : (net : Net) (u k : ℕ) (h : History) → k ≤ upto_of net u h → Reached net k u h
-reached-upto net u k h p = record {
-  id_at = let b = least-start (map (λ c. last c h) (data_channels net u)) (id h) in omega (arith, p, b);
-  lasts = each-imp (λ c. upto_of net u h ≤ last c h) (λ c. k ≤ last c h) (data_channels net u) (λ c b. omega (arith, p, b)) (least-each (λ c. last c h) (data_channels net u) (id h));
-}
-
 -- what was collected is the row of the unit's whole history
-row-whole : (s : Setup) (lost : Losses) (w : World) (u k : ℕ) (i : UnitId) → IsWired s.net → Ran s lost w → actor_of s.net u ≡ OfUnit i → k ≤ upto_of s.net u (collected s.net w u)
-    → row (data_channels s.net u) k (collected s.net w u) ≡ row (data_channels s.net u) k (history w u)
-row-whole s lost w u k i n r q p = let m = known (unit_place s.net u) (observer w) in let a = (knows s lost w u i n r (n.reports u i q) q).at_most in
-    sym (row-later s lost w (data_channels s.net u) u k m (length (history w u)) n r a (lag-of s.net k u (first m (history w u)) (reached-upto s.net u k (first m (history w u)) p)))
-    ∙ ap (row (data_channels s.net u) k) (first-all (length (history w u)) (history w u) (omega arith))
-
-pub saved-there : (s : Setup) (lost : Losses) (table : Snapshot) (w : World) (u k : ℕ) (i : UnitId) → IsWired s.net → Ran s lost w → actor_of s.net u ≡ OfUnit i
-    → held_saved (row (data_channels s.net u) k (collected s.net w u)) ≡ row (data_channels s.net u) k (collected s.net w u) → 1 ≤ k → k ≤ upto_of s.net u (collected s.net w u)
-    → saved_of (unit_at (observer_of s.net table w).units (unit_place s.net u)) k ≡ Some (row (data_channels s.net u) k (history w u))
-saved-there s lost table w u k i n r q h one p = ap (λ x. saved_of x k) (unit-there s.net table w u i q) ∙ held-at s.net u (collected s.net w u) k one p
-    ∙ ap Some (h ∙ row-whole s lost w u k i n r q p)
+pub saved-there : (net : Net) → HasWays net → (table : Snapshot) (w : World) (u k : ℕ) (i : UnitId) → actor_of net u ≡ OfUnit i → row (data_channels net u) k (collected net w u) ≡ row (data_channels net u) k (history w u)
+    → held_saved (row (data_channels net u) k (collected net w u)) ≡ row (data_channels net u) k (collected net w u) → 1 ≤ k → k ≤ upto_of net u (collected net w u)
+    → saved_of (unit_at (observer_of net table w).units (unit_place net u)) k ≡ Some (row (data_channels net u) k (history w u))
+saved-there net ways table w u k i q whole h one p = ap (λ x. saved_of x k) (unit-there net ways table w u i q) ∙ held-at net u (collected net w u) k one p ∙ ap Some (h ∙ whole)
 
 -- Accounts.
 

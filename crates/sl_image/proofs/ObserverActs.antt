@@ -26,16 +26,12 @@ use Rattle.sl_model.specs.Setup.{Setup}
 use Rattle.sl_model.specs.Knowledge.{observer, issued, resent, collected, floors, floor, can_issue, can_resend}
 use Rattle.sl_model.specs.Puts.{send_all, begin_all, guarded, action}
 use Rattle.sl_model.specs.World.{Entry, next_step, step_by, acting, floor_for, turn, world}
-use Rattle.sl_model.proofs.Turns.{taken-this, taken-other}
-use Rattle.sl_model.proofs.Ran.{Takes, Acts, next-view}
-use Rattle.sl_model.proofs.Said.{Begins, observer-acts}
-use Rattle.sl_model.proofs.Stamps.{acted-by}
+use Rattle.sl_model.specs.Turns.{Takes, Acts, Begins, TakesTurns}
 use Rattle.sl_image.specs.Simulates.{ActSimulates}
 use Rattle.sl_image.specs.Messages.{AreSent}
 use Rattle.sl_image.specs.ObserverImage.{unit_of, observer_of, IsObserverOf, IsTableOf}
 use Rattle.sl_image.proofs.ObserverLists.{place-at, least-same}
 use Rattle.sl_image.proofs.ObserverTakes.{same-units}
-use Rattle.sl_image.proofs.ObserverWorlds.{grows-turn, step-choice}
 
 -- The floor and the guards.
 
@@ -80,13 +76,13 @@ past-end [] k e = omega arith
 past-end (x ∷ xs) zero e = absurd cc
 past-end (x ∷ xs) (suc k) e = let p = past-end xs k e in omega (arith, p)
 
-module _ (s : Setup) (lost : Losses) (table : Snapshot) (es : List Entry) (c ring : ℕ) (told : ℕ → ℕ) (step : Step) (z : IsWired s.net) (f : IsTableOf s table) (all : links_out s.net 0 BeginSort ≡ links_from s.net 0)
+module _ (turns : TakesTurns) (s : Setup) (lost : Losses) (table : Snapshot) (es : List Entry) (c ring : ℕ) (told : ℕ → ℕ) (step : Step) (z : IsWired s.net) (f : IsTableOf s table) (all : links_out s.net 0 BeginSort ≡ links_from s.net 0)
     (x : next_step s lost (world s lost es) (0, c) ≡ Some step) (e : step.taken ≡ None) where
   abbrev ActSimulatesIt : Option (After ObserverState Msg) → Type 0
   ActSimulatesIt o = ActSimulates (IsObserverOf s.net table (turn s lost (world s lost es) (0, c))) s.net ring (λ u. history (turn s lost (world s lost es) (0, c)) u) 0 told step.puts o
 
   units-stay : map (λ u. unit_of s.net u (collected s.net (world s lost es) u)) (units s.net) ≡ map (λ u. unit_of s.net u (collected s.net (turn s lost (world s lost es) (0, c)) u)) (units s.net)
-  units-stay = same-units s table (world s lost es) (turn s lost (world s lost es) (0, c)) step z (grows-turn s lost es (0, c) step x) (λ u i q. ap (option_and_then (done_of (unit_place s.net u))) e)
+  units-stay = same-units turns s table (world s lost es) (turn s lost (world s lost es) (0, c)) step z (turns.grows s lost es (0, c) step x) (λ u i q. ap (option_and_then (done_of (unit_place s.net u))) e)
 
   sends : (k : ℕ) → step.puts ≡ begin_all s.net k → AreSent s.net ring (λ u. history (turn s lost (world s lost es) (0, c)) u) 0 told step.puts (begins_out (length (links_from s.net 0)) k)
   sends k q = subst (λ ps. AreSent s.net ring (λ u. history (turn s lost (world s lost es) (0, c)) u) 0 told ps (begins_out (length (links_from s.net 0)) k)) (sym q)
@@ -95,13 +91,13 @@ module _ (s : Setup) (lost : Losses) (table : Snapshot) (es : List Entry) (c rin
   issues : step.choice ≡ action_choice s.net 0 → can_issue s (floor s.net (world s lost es)) (observer (world s lost es)) ≡ true → step.puts ≡ begin_all s.net (suc (issued s.net (observer (world s lost es))))
       → ActSimulatesIt (observer_act (observer_of s.net table (world s lost es)) c)
   issues q can ps =
-      let w = world s lost es in let g = grows-turn s lost es (0, c) step x in let S = observer_of s.net table w in
-      let k : suc (issued s.net (observer w)) ≡ issued s.net (observer (turn s lost w (0, c))) = sym (ap (issued s.net) g.same ∙ taken-this (action_choice s.net 0) step (observer w) q) in
-      let r : resent s.net (observer w) ≡ resent s.net (observer (turn s lost w (0, c))) = sym (ap (resent s.net) g.same ∙ taken-other (suc (action_choice s.net 0)) step (observer w) (λ p. absurd (omega (arith, p, q)))) in
+      let w = world s lost es in let g = turns.grows s lost es (0, c) step x in let S = observer_of s.net table w in
+      let k : suc (issued s.net (observer w)) ≡ issued s.net (observer (turn s lost w (0, c))) = sym (ap (issued s.net) g.same ∙ turns.counted (action_choice s.net 0) step (observer w) q) in
+      let r : resent s.net (observer w) ≡ resent s.net (observer (turn s lost w (0, c))) = sym (ap (resent s.net) g.same ∙ turns.uncounted (suc (action_choice s.net 0)) step (observer w) (λ p. absurd (omega (arith, p, q)))) in
       let u = units-stay in
       record {
         after = record { state = record S { issued = suc (issued s.net (observer w)) }; puts = begins_out (length (links_from s.net 0)) (suc (issued s.net (observer w))) };
-        is = ap (λ b. if b then issue S else resend S) (eq-eqb c (action_choice s.net 0) (sym (step-choice s lost w (0, c) step x) ∙ q))
+        is = ap (λ b. if b then issue S else resend S) (eq-eqb c (action_choice s.net 0) (sym (turns.choice s lost w (0, c) step x) ∙ q))
             ∙ ap (λ b. if b then Some (record { state = record S { issued = suc (issued s.net (observer w)) }; puts = begins_out (length (links_from s.net 0)) (suc (issued s.net (observer w))) }) else None)
             (issue-same s table w f ∙ can);
         simulates = record {
@@ -114,15 +110,15 @@ module _ (s : Setup) (lost : Losses) (table : Snapshot) (es : List Entry) (c rin
   not-first q = by_tells (eqb_tells c (action_choice s.net 0))
     where
       by_tells : ((nat_eq c (action_choice s.net 0) ≡ true) × (c ≡ action_choice s.net 0)) ⊎ ((nat_eq c (action_choice s.net 0) ≡ false) × (c ≡ action_choice s.net 0 → ⊥)) → (c == action_choice s.net 0) ≡ false
-      by_tells (inl p) = absurd (let d = step-choice s lost (world s lost es) (0, c) step x in let y : c ≡ action_choice s.net 0 = p.1 in omega (arith, d, q, y))
+      by_tells (inl p) = absurd (let d = turns.choice s lost (world s lost es) (0, c) step x in let y : c ≡ action_choice s.net 0 = p.1 in omega (arith, d, q, y))
       by_tells (inr p) = p.0
 
   resends : step.choice ≡ suc (action_choice s.net 0) → can_resend s (floor s.net (world s lost es)) (observer (world s lost es)) ≡ true → step.puts ≡ begin_all s.net (issued s.net (observer (world s lost es)))
       → ActSimulatesIt (observer_act (observer_of s.net table (world s lost es)) c)
   resends q can ps =
-      let w = world s lost es in let g = grows-turn s lost es (0, c) step x in let S = observer_of s.net table w in
-      let k : issued s.net (observer w) ≡ issued s.net (observer (turn s lost w (0, c))) = sym (ap (issued s.net) g.same ∙ taken-other (action_choice s.net 0) step (observer w) (λ p. absurd (omega (arith, p, q)))) in
-      let r : suc (resent s.net (observer w)) ≡ resent s.net (observer (turn s lost w (0, c))) = sym (ap (resent s.net) g.same ∙ taken-this (suc (action_choice s.net 0)) step (observer w) q) in
+      let w = world s lost es in let g = turns.grows s lost es (0, c) step x in let S = observer_of s.net table w in
+      let k : issued s.net (observer w) ≡ issued s.net (observer (turn s lost w (0, c))) = sym (ap (issued s.net) g.same ∙ turns.uncounted (action_choice s.net 0) step (observer w) (λ p. absurd (omega (arith, p, q)))) in
+      let r : suc (resent s.net (observer w)) ≡ resent s.net (observer (turn s lost w (0, c))) = sym (ap (resent s.net) g.same ∙ turns.counted (suc (action_choice s.net 0)) step (observer w) q) in
       let u = units-stay in
       record {
         after = record { state = record S { resent = suc (resent s.net (observer w)) }; puts = begins_out (length (links_from s.net 0)) (issued s.net (observer w)) };
@@ -136,7 +132,7 @@ module _ (s : Setup) (lost : Losses) (table : Snapshot) (es : List Entry) (c rin
       }
 
   pub acts : ActSimulatesIt (observer_act (observer_of s.net table (world s lost es)) c)
-  acts = by_view (next-view s lost (world s lost es) (0, c) step x)
+  acts = by_view (turns.view s lost (world s lost es) (0, c) step x)
     where
       of_begins : (fl : ℕ) → fl ≡ floor s.net (world s lost es) → length (links_into s.net 0) ≤ step.choice → Begins s fl (observer (world s lost es)) (step.choice - action_choice s.net 0) step.puts → ActSimulatesIt (observer_act (observer_of s.net table (world s lost es)) c)
       of_begins fl y p b = by_kind b.kind
@@ -149,7 +145,8 @@ module _ (s : Setup) (lost : Losses) (table : Snapshot) (es : List Entry) (c rin
       by_view : Takes s lost (world s lost es) 0 step ⊎ Acts s (world s lost es) 0 step → ActSimulatesIt (observer_act (observer_of s.net table (world s lost es)) c)
       by_view (inl t) = absurd (let q : None ≡ Some t.took.message = sym e ∙ t.took.taken in cc)
       by_view (inr t) = of_begins t.acted.floor (t.now ∙ ap (floor_for s.net (world s lost es)) z.observer) (past-end (links_into s.net 0) step.choice t.acted.past)
-          (observer-acts s t.acted.floor 0 (step.choice - action_choice s.net 0) (observer (world s lost es)) step.puts (acted-by s 0 (observer (world s lost es)) step Observer z.observer t.acted))
+          (turns.begins s t.acted.floor (step.choice - action_choice s.net 0) (observer (world s lost es)) step.puts
+          (subst (λ y. action s t.acted.floor 0 y (observer (world s lost es)) (step.choice - action_choice s.net 0) ≡ Some step.puts) z.observer t.acted.puts))
 
 -- Actions that are not done.
 

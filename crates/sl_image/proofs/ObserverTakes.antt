@@ -11,7 +11,7 @@ use Rattle.sl_layout.specs.declared.actor.UnitId.{UnitId}
 use Rattle.sl_net.specs.declared.input.Snapshot.{Snapshot}
 use Rattle.sl_parts.specs.Parts.{below}
 use Rattle.sl_layout.specs.Net.{Net, actor_of, action_choice, links_into, links_from, choice_of, is_unit, units, unit_place, data_channels}
-use Rattle.sl_net.specs.Wired.{IsNet, IsWired}
+use Rattle.sl_net.specs.Wired.{IsWired}
 use Rattle.sl_parts.specs.Lists.{Member, Distinct}
 use Rattle.sl_parts.proofs.Lists.{distinct-filter, distinct-from, each-at, each-passes}
 use Rattle.std.proofs.lemmas.List.{length-map}
@@ -25,20 +25,18 @@ use Rattle.sl_model.specs.declared.message.Step.{Step}
 use Rattle.sl_model.specs.History.{World, Losses, history, done_of, heard as heard_by, first}
 use Rattle.sl_model.specs.Setup.{Setup}
 use Rattle.sl_model.specs.Knowledge.{observer, known, issued, resent, collected}
+use Rattle.sl_model.specs.Puts.{puts_of}
 use Rattle.sl_model.specs.World.{Entry, next_step, turn, world}
 use Rattle.sl_model.specs.Made.{Ran}
-use Rattle.sl_model.proofs.Turns.{GrowsAt, taken-other}
-use Rattle.sl_model.proofs.Ran.{Takes, Acts, next-view, ran, ran-turn}
-use Rattle.sl_model.proofs.Reported.{knows}
-use Rattle.sl_model.proofs.Stamps.{took-by}
 use Rattle.sl_model.specs.Brought.{IsBrought}
+use Rattle.sl_model.specs.Turns.{GrowsAt, Takes, Acts, TakesTurns}
+use Rattle.sl_model.specs.Reported.{AreReported}
 use Rattle.sl_image.specs.Simulates.{Simulates}
 use Rattle.sl_image.specs.Messages.{IsDoneOf, IsMessage, AreSent}
 use Rattle.sl_image.specs.ObserverImage.{unit_of, observer_of, IsObserverOf, IsTableOf, known_at}
-use Rattle.sl_model.proofs.Brought.{unit-done}
 use Rattle.sl_image.proofs.ObserverLists.{place-at, place-past, map-same, map-set}
 use Rattle.sl_image.proofs.ObserverUnits.{Brings, hears}
-use Rattle.sl_image.proofs.ObserverWorlds.{unit-at, grows-turn, step-choice}
+use Rattle.sl_image.proofs.ObserverWorlds.{unit-at}
 
 -- Places of units.
 
@@ -58,7 +56,7 @@ place-of-none net z = let e = place-past (units net) 0 0 no in omega (arith, e)
 
 -- What a step of the observer changes. It leads from the world w to v.
 
-module _ (s : Setup) (table : Snapshot) (w v : World) (step : Step) (z : IsWired s.net) (g : GrowsAt w v 0 step) where
+module _ (turns : TakesTurns) (s : Setup) (table : Snapshot) (w v : World) (step : Step) (z : IsWired s.net) (g : GrowsAt w v 0 step) where
   pub same-unit : (u : ℕ) (i : UnitId) → actor_of s.net u ≡ OfUnit i → history v u ≡ history w u
   same-unit u i q = g.other u (λ e. let b : Observer ≡ OfUnit i = sym z.observer ∙ ap (actor_of s.net) (sym e) ∙ q in cc)
 
@@ -71,8 +69,8 @@ module _ (s : Setup) (table : Snapshot) (w v : World) (step : Step) (z : IsWired
   pub state-after : step.choice < action_choice s.net 0 → (us : List UnitState) → us ≡ map (λ u. unit_of s.net u (collected s.net v u)) (units s.net)
       → record { ins = length (links_into s.net 0); outs = length (links_from s.net 0); snapshot = table; issued = issued s.net (observer w); resent = resent s.net (observer w); units = us } ≡ observer_of s.net table v
   state-after l us e =
-      let k : issued s.net (observer v) ≡ issued s.net (observer w) = ap (issued s.net) g.same ∙ taken-other (action_choice s.net 0) step (observer w) (λ q. absurd (omega (arith, q, l))) in
-      let r : resent s.net (observer v) ≡ resent s.net (observer w) = ap (resent s.net) g.same ∙ taken-other (suc (action_choice s.net 0)) step (observer w) (λ q. absurd (omega (arith, q, l))) in
+      let k : issued s.net (observer v) ≡ issued s.net (observer w) = ap (issued s.net) g.same ∙ turns.uncounted (action_choice s.net 0) step (observer w) (λ q. absurd (omega (arith, q, l))) in
+      let r : resent s.net (observer v) ≡ resent s.net (observer w) = ap (resent s.net) g.same ∙ turns.uncounted (suc (action_choice s.net 0)) step (observer w) (λ q. absurd (omega (arith, q, l))) in
       let a = sym k in let b = sym r in
       λ i. record { ins = length (links_into s.net 0); outs = length (links_from s.net 0); snapshot = table; issued = a i; resent = b i; units = e i }
 
@@ -91,9 +89,9 @@ done-elsewhere place unit n ne = by_tells (eqb_tells place unit)
     by_tells (inr q) = ap (λ b. if b then Some n else None) q.0
 
 -- a Done of a unit comes by the choice of its device, or tells what is known already
-by-device : (s : Setup) (lost : Losses) (w v : World) (step : Step) (u n : ℕ) (i : UnitId) → IsNet s.net → (z : IsWired s.net) → Ran s lost w → Ran s lost v → GrowsAt w v 0 step → actor_of s.net u ≡ OfUnit i
+by-device : (s : Setup) (lost : Losses) (w v : World) (step : Step) (u n : ℕ) (i : UnitId) → AreReported s → (z : IsWired s.net) → Ran s lost w → Ran s lost v → GrowsAt w v 0 step → actor_of s.net u ≡ OfUnit i
     → step.taken ≡ Some (DoneMsg (unit_place s.net u) n) → (known (unit_place s.net u) (observer v) ≡ n) × ((device_of (actor_of s.net u) ≡ step.choice) ⊎ (known (unit_place s.net u) (observer w) ≡ n))
-by-device s lost w v step u n i t z r k g q e = (now, by_tells (eqb_tells step.choice (choice_of s.net (z.reports u i q).done)))
+by-device s lost w v step u n i reported z r k g q e = (now, by_tells (eqb_tells step.choice (choice_of s.net (z.reports u i q).done)))
   where
     told : option_and_then (done_of (unit_place s.net u)) step.taken ≡ Some n
     told = ap (option_and_then (done_of (unit_place s.net u))) e ∙ ap (λ b. if b then Some n else None) (eq-eqb (unit_place s.net u) (unit_place s.net u) refl)
@@ -104,12 +102,17 @@ by-device s lost w v step u n i t z r k g q e = (now, by_tells (eqb_tells step.c
     by_tells : ((nat_eq step.choice (choice_of s.net (z.reports u i q).done) ≡ true) × (step.choice ≡ choice_of s.net (z.reports u i q).done)) ⊎ ((nat_eq step.choice (choice_of s.net (z.reports u i q).done) ≡ false) × (step.choice ≡ choice_of s.net (z.reports u i q).done → ⊥))
         → (device_of (actor_of s.net u) ≡ step.choice) ⊎ (known (unit_place s.net u) (observer w) ≡ n)
     by_tells (inl y) = inl (ap device_of q ∙ sym (z.done_choice u i q (z.reports u i q)) ∙ sym y.1)
-    by_tells (inr y) = let d = (z.reports u i q).done in inr ((knows s lost w u i z r (z.reports u i q) q).told
+    by_tells (inr y) = let d = (z.reports u i q).done in inr ((reported lost w u i (z.reports u i q) r q).told
         ∙ sym (ap (λ b. if b then unwrap_or (option_and_then (done_of (unit_place s.net u)) step.taken) (heard_by (done_of (unit_place s.net u)) (choice_of s.net d) (observer w)) else heard_by (done_of (unit_place s.net u)) (choice_of s.net d) (observer w)) y.0)
         ∙ sym (ap (heard_by (done_of (unit_place s.net u)) (choice_of s.net d)) g.same)
-        ∙ sym (knows s lost v u i z k (z.reports u i q) q).told ∙ now)
+        ∙ sym (reported lost v u i (z.reports u i q) k q).told ∙ now)
 
-module _ (s : Setup) (lost : Losses) (table : Snapshot) (es : List Entry) (c n : ℕ) (step : Step) (y : Done) (t : IsNet s.net) (z : IsWired s.net) (f : IsTableOf s table) (x : next_step s lost (world s lost es) (0, c) ≡ Some step) where
+-- what a step brings of each unit
+abbrev pub BringsRows : Setup → Losses → List Entry → Step → Type 0
+BringsRows s lost es step = (u n : ℕ) (i : UnitId) → actor_of s.net u ≡ OfUnit i → step.taken ≡ Some (DoneMsg (unit_place s.net u) n)
+    → IsBrought s.net s.window u (history (world s lost es) u) (known (unit_place s.net u) (observer (world s lost es))) n
+
+module _ (turns : TakesTurns) (s : Setup) (lost : Losses) (table : Snapshot) (es : List Entry) (c n : ℕ) (step : Step) (y : Done) (reported : AreReported s) (rows : BringsRows s lost es step) (z : IsWired s.net) (f : IsTableOf s table) (x : next_step s lost (world s lost es) (0, c) ≡ Some step) where
   abbrev w : World
   w = world s lost es
 
@@ -123,19 +126,19 @@ module _ (s : Setup) (lost : Losses) (table : Snapshot) (es : List Entry) (c n :
   new u = unit_of s.net u (collected s.net v u)
 
   grows : GrowsAt w v 0 step
-  grows = grows-turn s lost es (0, c) step x
+  grows = turns.grows s lost es (0, c) step x
 
   -- its unit
   unit-done-is : (u : ℕ) (i : UnitId) → actor_of s.net u ≡ OfUnit i → step.taken ≡ Some (DoneMsg (unit_place s.net u) n) → IsDoneOf s.net u (collected s.net w u) (first n (history w u)) y
       → after_done table.ring c y (old u) ≡ new u
-  unit-done-is u i q e d = let k = sym known_by.0 in let h = sym (same-unit s table w v step z grows u i q) in
+  unit-done-is u i q e d = let k = sym known_by.0 in let h = sym (same-unit turns s table w v step z grows u i q) in
       hears s.net u table.ring c (collected s.net w u) (first n (history w u)) y brings (by_choice known_by.1) ∙ ap (unit_of s.net u) (λ j. first (k j) (h j))
     where
       known_by : (known (unit_place s.net u) (observer v) ≡ n) × ((device_of (actor_of s.net u) ≡ step.choice) ⊎ (known (unit_place s.net u) (observer w) ≡ n))
-      known_by = by-device s lost w v step u n i t z (ran s lost es) (ran-turn s lost w (0, c) (ran s lost es)) grows q e
+      known_by = by-device s lost w v step u n i reported z (turns.ran s lost es) (turns.goes_on s lost w (0, c) (turns.ran s lost es)) grows q e
 
       brought : IsBrought s.net s.window u (history w u) (known (unit_place s.net u) (observer w)) n
-      brought = unit-done s lost es c n step z x u i q e
+      brought = rows u n i q e
 
       brings : Brings s.net u table.ring (collected s.net w u) (first n (history w u)) y
       brings = record {
@@ -147,13 +150,13 @@ module _ (s : Setup) (lost : Losses) (table : Snapshot) (es : List Entry) (c n :
       }
 
       by_choice : (device_of (actor_of s.net u) ≡ step.choice) ⊎ (known (unit_place s.net u) (observer w) ≡ n) → (device_of (actor_of s.net u) ≡ c) ⊎ (collected s.net w u ≡ first n (history w u))
-      by_choice (inl q) = inl (q ∙ step-choice s lost w (0, c) step x)
+      by_choice (inl q) = inl (q ∙ turns.choice s lost w (0, c) step x)
       by_choice (inr q) = inr (ap (λ k. first k (history w u)) q)
 
   -- any other unit
   other-unit : (place j : ℕ) → j < length (units s.net) → (j ≡ place → ⊥) → step.taken ≡ Some (DoneMsg place n) → old (get_or (units s.net) j 0) ≡ new (get_or (units s.net) j 0)
   other-unit place j l ne e = let a = unit-at s.net j l in let u = get_or (units s.net) j 0 in
-      ap (unit_of s.net u) (sym (same-collected s table w v step z grows u a.0 a.1
+      ap (unit_of s.net u) (sym (same-collected turns s table w v step z grows u a.0 a.1
       (ap (option_and_then (done_of (unit_place s.net u))) e ∙ done-elsewhere (unit_place s.net u) place n (λ q. let b = place-of-unit s.net j l in ne (omega (arith, q, b))))))
 
   -- all units, after a Done of the one at a place
@@ -185,28 +188,28 @@ record IsTake (s : Setup) (step : Step) : Type 0 where
   pub low : step.choice < action_choice s.net 0
   pub puts : step.puts ≡ []
 
-is-take : (s : Setup) (lost : Losses) (w : World) (c : ℕ) (step : Step) (m : Message) → IsWired s.net → next_step s lost w (0, c) ≡ Some step → step.taken ≡ Some m → IsTake s step
-is-take s lost w c step m z x e = by_view (next-view s lost w (0, c) step x)
+is-take : TakesTurns → (s : Setup) (lost : Losses) (w : World) (c : ℕ) (step : Step) (m : Message) → IsWired s.net → next_step s lost w (0, c) ≡ Some step → step.taken ≡ Some m → IsTake s step
+is-take turns s lost w c step m z x e = by_view (turns.view s lost w (0, c) step x)
   where
     by_view : Takes s lost w 0 step ⊎ Acts s w 0 step → IsTake s step
-    by_view (inl t) = record { low = slice_get_within (links_into s.net 0) step.choice t.took.link t.took.into; puts = took-by s 0 (history w 0) step Observer z.observer t.took }
+    by_view (inl t) = record { low = slice_get_within (links_into s.net 0) step.choice t.took.link t.took.into; puts = t.took.puts ∙ ap (λ y. puts_of s 0 y (history w 0) step.choice t.took.link t.took.message) z.observer }
     by_view (inr t) = absurd (let q : None ≡ Some m = sym t.acted.taken ∙ e in cc)
 
-module _ (s : Setup) (lost : Losses) (table : Snapshot) (es : List Entry) (c ring a : ℕ) (told : ℕ → ℕ) (step : Step) (t : IsNet s.net) (z : IsWired s.net) (f : IsTableOf s table) (x : next_step s lost (world s lost es) (0, c) ≡ Some step) where
+module _ (turns : TakesTurns) (s : Setup) (lost : Losses) (table : Snapshot) (es : List Entry) (c ring a : ℕ) (told : ℕ → ℕ) (step : Step) (reported : AreReported s) (rows : BringsRows s lost es step) (z : IsWired s.net) (f : IsTableOf s table) (x : next_step s lost (world s lost es) (0, c) ≡ Some step) where
   abbrev SimulatesIt : After ObserverState Msg → Type 0
   SimulatesIt y = Simulates (IsObserverOf s.net table (turn s lost (world s lost es) (0, c))) s.net ring (λ u. history (turn s lost (world s lost es) (0, c)) u) 0 told step.puts y
 
   leaves : (m : Message) → step.taken ≡ Some m → (us : List UnitState) → us ≡ map (λ u. unit_of s.net u (collected s.net (turn s lost (world s lost es) (0, c)) u)) (units s.net)
       → SimulatesIt (record { state = record (observer_of s.net table (world s lost es)) { units = us }; puts = [] })
-  leaves m e us q = let k = is-take s lost (world s lost es) c step m z x e in record {
-    stands = state-after s table (world s lost es) (turn s lost (world s lost es) (0, c)) step z (grows-turn s lost es (0, c) step x) k.low us q;
+  leaves m e us q = let k = is-take turns s lost (world s lost es) c step m z x e in record {
+    stands = state-after turns s table (world s lost es) (turn s lost (world s lost es) (0, c)) step z (turns.grows s lost es (0, c) step x) k.low us q;
     sent = subst (λ ps. AreSent s.net ring (λ u. history (turn s lost (world s lost es) (0, c)) u) 0 told ps []) (sym k.puts) tt;
   }
 
   -- a message that is no Done
   quiet : (m : Message) → step.taken ≡ Some m → ((place : ℕ) → done_of place m ≡ None) → SimulatesIt (record { state = observer_of s.net table (world s lost es); puts = [] })
   quiet m e h = leaves m e (map (λ u. unit_of s.net u (collected s.net (world s lost es) u)) (units s.net))
-      (same-units s table (world s lost es) (turn s lost (world s lost es) (0, c)) step z (grows-turn s lost es (0, c) step x) (λ u i q. ap (option_and_then (done_of (unit_place s.net u))) e ∙ h (unit_place s.net u)))
+      (same-units turns s table (world s lost es) (turn s lost (world s lost es) (0, c)) step z (turns.grows s lost es (0, c) step x) (λ u i q. ap (option_and_then (done_of (unit_place s.net u))) e ∙ h (unit_place s.net u)))
 
   pub takes : (m : Message) (y : Msg) → step.taken ≡ Some m → IsMessage s.net ring (λ u. history (world s lost es) u) a (known_at (world s lost es)) m y → SimulatesIt (observer_take (observer_of s.net table (world s lost es)) c y)
   takes (Host b) y e k = subst (λ y. SimulatesIt (observer_take (observer_of s.net table (world s lost es)) c y)) (sym k) (quiet (Host b) e (λ p. refl))
@@ -218,4 +221,4 @@ module _ (s : Setup) (lost : Losses) (table : Snapshot) (es : List Entry) (c rin
   takes (DumpMsg n) y e k = subst (λ y. SimulatesIt (observer_take (observer_of s.net table (world s lost es)) c y)) (sym k.is) (quiet (DumpMsg n) e (λ p. refl))
   takes (Begin n) y e k = subst (λ y. SimulatesIt (observer_take (observer_of s.net table (world s lost es)) c y)) (sym k) (quiet (Begin n) e (λ p. refl))
   takes (DoneMsg place n) y e k = subst (λ y. SimulatesIt (observer_take (observer_of s.net table (world s lost es)) c y)) (sym k.is)
-      (leaves (DoneMsg place n) e (units_after table.ring c k.done (map (λ u. unit_of s.net u (collected s.net (world s lost es) u)) (units s.net))) (units-done s lost table es c n step k.done t z f x place e k.of))
+      (leaves (DoneMsg place n) e (units_after table.ring c k.done (map (λ u. unit_of s.net u (collected s.net (world s lost es) u)) (units s.net))) (units-done turns s lost table es c n step k.done reported rows z f x place e k.of))

@@ -1,5 +1,5 @@
 -- A unit as the observer has it: what a report changes.
-use Rattle.std.proofs.Common.{◌≡◌, ℕ, suc, ◌+◌, ◌-◌, ◌≤◌, List, [], ◌++◌, length, sym, ap, ◌∙◌, arith, inl, inr, eq-eqb}
+use Rattle.std.proofs.Common.{◌≡◌, ℕ, suc, ◌+◌, ◌-◌, ◌≤◌, [], ◌++◌, length, sym, ap, ◌∙◌, arith, inl, inr, eq-eqb}
 use Rattle.std.specs.Prelude.{◌⊎◌, ◌==◌, ◌&&◌, true, false, Bool, map, take, replicate, if◌then◌else◌}
 use Rattle.std.proofs.lemmas.Bool.{le-leb, and_from}
 use Rattle.std.proofs.lemmas.List.{map-append}
@@ -22,7 +22,7 @@ use Rattle.sl_model.specs.Knowledge.{upto_of, floor_of}
 use Rattle.sl_model.specs.Rows.{row}
 use Rattle.sl_image.specs.Messages.{eight, lasts, held_row, IsDoneOf}
 use Rattle.sl_image.specs.ObserverImage.{unit_of}
-use Rattle.sl_model.proofs.Near.{least-start}
+use Rattle.sl_image.proofs.ControlUnits.{least-zero}
 use Rattle.sl_image.proofs.ObserverLists.{map-numbers, numbers-more, rows-follow, take-front, take-zeros, least-of-same}
 
 abbrev held : Net → ℕ → History → ℕ → Saved
@@ -100,14 +100,11 @@ hears net u ring c before now d b (inr q) = by_bool ((device_of (actor_of net u)
 
 -- Before the first report.
 
-least-zero : (cs : List ℕ) → least_of 0 (map (λ c. last c []) cs) ≡ 0
-least-zero cs = let l = least-start (map (λ c. last c []) cs) 0 in omega (arith, l)
-
 upto-zero : (net : Net) (u : ℕ) → upto_of net u [] ≡ 0
 upto-zero net u = least-zero (data_channels net u)
 
 floor-zero : (net : Net) (u : ℕ) → floor_of net u [] ≡ 0
-floor-zero net u = let z = upto-zero net u in let l = least-start (map (λ c. last c []) (choices_of net u Init)) (upto_of net u []) in omega (arith, l, z)
+floor-zero net u = ap (λ n. least_of n (map (λ c. last c []) (choices_of net u Init))) (upto-zero net u) ∙ least-zero (choices_of net u Init)
 
 pub unit-start : (net : Net) (u : ℕ) → first_unit net u ≡ unit_of net u []
 unit-start net u = let l = sym (take-zeros (data_channels net u) 8 8 (omega arith)) in let f = sym (floor-zero net u) in let r = ap (λ n. map (held net u []) (numbers_from 1 n)) (sym (upto-zero net u)) in

@@ -1,5 +1,5 @@
 -- A unit's machine takes a message, of each kind, as the unit's history says.
-use Rattle.std.proofs.Common.{◌≡◌, ℕ, suc, ◌+◌, ◌^◌, ◌<◌, ◌≤◌, List, [], ◌∷◌, ◌++◌, length, refl, sym, ap, subst, ◌∙◌, Option, Some, None, arith}
+use Rattle.std.proofs.Common.{◌≡◌, ℕ, suc, ◌+◌, ◌-◌, ◌^◌, ◌<◌, ◌≤◌, List, [], ◌∷◌, ◌++◌, length, refl, sym, ap, subst, ◌∙◌, Option, Some, None, arith}
 use Rattle.std.specs.Prelude.{true, false, Bool, not, ◌&&◌, slice_index_or, ◌==◌, if◌then◌else◌, is_none, unwrap_or, option_map}
 use Rattle.std.proofs.lemmas.Bool.{lt-ltb}
 use Rattle.sl_layout.specs.declared.actor.Side.{Side}
@@ -12,8 +12,7 @@ use Rattle.sl_net.specs.declared.input.Snapshot.{Snapshot}
 use Rattle.sl_layout.specs.Net.{Net, actor_of, links_out, data_channels, choices_of, place_in}
 use Rattle.sl_parts.specs.Lists.{Member}
 use Rattle.sl_route.specs.Route.{next_port}
-use Rattle.sl_saves.specs.Keeping.{Listed}
-use Rattle.sl_saves.proofs.Lists.{list-shown, length-view}
+use Rattle.sl_saves.specs.declared.entry.View.{View}
 use Rattle.sl_wire.specs.declared.message.Msg.TheVariants as wire
 use Rattle.sl_unit.specs.declared.wires.Entrance.TheVariants as entrance
 use Rattle.sl_unit.specs.declared.wires.Way.TheVariants.{All}
@@ -43,23 +42,28 @@ use Rattle.sl_image.proofs.UnitRegisters.{regs, Moves, HasChannels, HasRoom, has
 use Rattle.sl_image.proofs.UnitTurns.{wires_at, wires-are, one_if, Routes, routes, Ends, stamped-ends, takeable-near}
 
 -- what is given of a turn by the choice c that takes m, after the history h
-pub record IsGiven (net : Net) (table : Snapshot) (u d p : ℕ) (side : Side) (c : ℕ) (h : History) (saved : Listed) (m : Message) : Type 0 where
+pub record IsGiven (net : Net) (table : Snapshot) (u d p : ℕ) (side : Side) (c : ℕ) (h : History) (saved : View) (m : Message) : Type 0 where
   pub actor : actor_of net u ≡ OfUnit (record { device = d; port = p; side = side })
   pub chans : HasChannels net u
   pub keeps : Keeps table.ring saved (calls (data_channels net u) h)
   pub room : HasRoom h m
   pub few : length h + 1 < 2 ^ 64
   pub near : (k : ℕ) → stamp_of m ≡ Some k → IsTakeable table.window c h k
+  pub holds : table.window ≤ table.ring
 
 abbrev pub unit_at : ℕ → ℕ → Side → UnitId
 unit_at d p side = record { device = d; port = p; side = side }
 
 -- the registers and the state that stand for h, with these saved entries
-abbrev pub regs_at : Net → ℕ → ℕ → Side → History → Listed → Registers
+abbrev pub regs_at : Net → ℕ → ℕ → Side → History → View → Registers
 regs_at net u d side h saved = regs net u h (dropped side (bad h)) (dropped side (expired h)) (dropped side (noroute net.parts d h)) saved
 
-abbrev pub state_at : Net → Snapshot → ℕ → ℕ → Side → History → Listed → UnitState
+abbrev pub state_at : Net → Snapshot → ℕ → ℕ → Side → History → View → UnitState
 state_at net table u d side h saved = record { wires = wires_at net u d side table; window = table.window; registers = regs_at net u d side h saved }
+
+-- an adoption is by no more than a ring has slots
+adopts-by : (window ring c k : ℕ) (h : History) → IsTakeable window c h k → window ≤ ring → k - id h ≤ ring
+adopts-by window ring c k h t holds = let a = t.above in omega (arith, a, holds)
 
 tally-le : (t : Step → Bool) (h : History) → tally t h ≤ length h
 tally-le t [] = omega arith
@@ -80,12 +84,12 @@ place net u c = place_in 0 c (data_channels net u)
 
 -- Data packets and probes of the cable.
 
-pub cable-data : (net : Net) (table : Snapshot) (u d p : ℕ) (us : ℕ → History) (told : ℕ → ℕ) (c k : ℕ) (q : Packet) (ps : List Put) (h : History) (saved : Listed)
+pub cable-data : (net : Net) (table : Snapshot) (u d p : ℕ) (us : ℕ → History) (told : ℕ → ℕ) (c k : ℕ) (q : Packet) (ps : List Put) (h : History) (saved : View)
     → IsGiven net table u d p Ingress c h saved (Data k q) → Member c (data_channels net u) → (Member c (choices_of net u InitSort) → ⊥)
     → Ends net table u (unit_at d p Ingress) us told (taking c (Data k q) ps ∷ h) (route net u d (id (taking c (Data k q) ps ∷ h)) q ++ (notice_puts net u (last c h) (Some k) ++ []))
     (take_at (entrance.Cable (place net u c)) (state_at net table u d Ingress h saved) (wire.Data k q))
 cable-data net table u d p us told c k q ps h saved g m out =
-    of_moves (data-moves net table.ring u c k q ps h (bad h) (expired h) (noroute net.parts d h) saved g.chans g.room m out g.keeps)
+    of_moves (data-moves net table.ring u c k q ps h (bad h) (expired h) (noroute net.parts d h) saved g.chans g.room m out g.keeps (adopts-by table.window table.ring c k h (g.near k refl) g.holds))
   where
     of_routes : (v : Moves net table.ring u (taking c (Data k q) ps ∷ h) (bad h) (expired h) (noroute net.parts d h) (after_data (place net u c) k q (regs_at net u d Ingress h saved)))
         → Routes net table.ring us told u d (taking c (Data k q) ps ∷ h) (bad h) (expired h) (noroute net.parts d h) v.saved q
@@ -107,12 +111,12 @@ cable-data net table u d p us told c k q ps h saved g m out =
     of_moves v = of_routes v (routes net table.ring us told u d (taking c (Data k q) ps ∷ h) (bad h) (expired h) (noroute net.parts d h) v.saved q table
         (omega (arith, g.few, tally-le (λ s. is_expired (counted s)) h)) (omega (arith, g.few, tally-le (λ s. is_noroute net.parts d (counted s)) h)))
 
-pub cable-probe : (net : Net) (table : Snapshot) (u d p : ℕ) (us : ℕ → History) (told : ℕ → ℕ) (c k : ℕ) (ps : List Put) (h : History) (saved : Listed)
+pub cable-probe : (net : Net) (table : Snapshot) (u d p : ℕ) (us : ℕ → History) (told : ℕ → ℕ) (c k : ℕ) (ps : List Put) (h : History) (saved : View)
     → IsGiven net table u d p Ingress c h saved (ProbeMsg k) → Member c (data_channels net u) → (Member c (choices_of net u InitSort) → ⊥)
     → Ends net table u (unit_at d p Ingress) us told (taking c (ProbeMsg k) ps ∷ h) ([] ++ (notice_puts net u (last c h) (Some k) ++ []))
     (take_at (entrance.Cable (place net u c)) (state_at net table u d Ingress h saved) (wire.Probe k))
 cable-probe net table u d p us told c k ps h saved g m out =
-    of_moves (probe-moves net table.ring u c k ps h (bad h) (expired h) (noroute net.parts d h) saved g.chans m out g.keeps)
+    of_moves (probe-moves net table.ring u c k ps h (bad h) (expired h) (noroute net.parts d h) saved g.chans m out g.keeps (adopts-by table.window table.ring c k h (g.near k refl) g.holds))
   where
     of_moves : Moves net table.ring u (taking c (ProbeMsg k) ps ∷ h) (bad h) (expired h) (noroute net.parts d h) (after_stamp (Upstream (place net u c)) k (regs_at net u d Ingress h saved))
         → Ends net table u (unit_at d p Ingress) us told (taking c (ProbeMsg k) ps ∷ h) ([] ++ (notice_puts net u (last c h) (Some k) ++ []))
@@ -126,12 +130,12 @@ cable-probe net table u d p us told c k ps h saved g m out =
 
 -- Initiations.
 
-pub init-stamp : (net : Net) (table : Snapshot) (u d p : ℕ) (us : ℕ → History) (told : ℕ → ℕ) (c k : ℕ) (ps : List Put) (h : History) (saved : Listed)
+pub init-stamp : (net : Net) (table : Snapshot) (u d p : ℕ) (us : ℕ → History) (told : ℕ → ℕ) (c k : ℕ) (ps : List Put) (h : History) (saved : View)
     → IsGiven net table u d p Ingress c h saved (InitMsg k) → Member c (choices_of net u InitSort) → (Member c (data_channels net u) → ⊥)
     → Ends net table u (unit_at d p Ingress) us told (taking c (InitMsg k) ps ∷ h) (send_all (ProbeMsg (id (taking c (InitMsg k) ps ∷ h))) (links_out net u CrossbarSort) ++ (notice_puts net u (last c h) (Some k) ++ []))
     (take_at entrance.Init (state_at net table u d Ingress h saved) (wire.Init k))
 init-stamp net table u d p us told c k ps h saved g m out =
-    of_moves (init-moves net table.ring u c k ps h (bad h) (expired h) (noroute net.parts d h) saved g.chans m out g.keeps)
+    of_moves (init-moves net table.ring u c k ps h (bad h) (expired h) (noroute net.parts d h) saved g.chans m out g.keeps (adopts-by table.window table.ring c k h (g.near k refl) g.holds))
   where
     of_moves : Moves net table.ring u (taking c (InitMsg k) ps ∷ h) (bad h) (expired h) (noroute net.parts d h) (after_stamp Cpu k (regs_at net u d Ingress h saved))
         → Ends net table u (unit_at d p Ingress) us told (taking c (InitMsg k) ps ∷ h) (send_all (ProbeMsg (id (taking c (InitMsg k) ps ∷ h))) (links_out net u CrossbarSort) ++ (notice_puts net u (last c h) (Some k) ++ []))
@@ -147,12 +151,12 @@ init-stamp net table u d p us told c k ps h saved g m out =
 
 -- Data packets and probes of the crossbar.
 
-pub crossbar-data : (net : Net) (table : Snapshot) (u d p : ℕ) (us : ℕ → History) (told : ℕ → ℕ) (c k : ℕ) (own : Bool) (q : Packet) (ps : List Put) (h : History) (saved : Listed)
+pub crossbar-data : (net : Net) (table : Snapshot) (u d p : ℕ) (us : ℕ → History) (told : ℕ → ℕ) (c k : ℕ) (own : Bool) (q : Packet) (ps : List Put) (h : History) (saved : View)
     → IsGiven net table u d p Egress c h saved (Data k q) → Member c (data_channels net u) → (Member c (choices_of net u InitSort) → ⊥)
     → Ends net table u (unit_at d p Egress) us told (taking c (Data k q) ps ∷ h)
     ((send_all (Data (id (taking c (Data k q) ps ∷ h)) q) (links_out net u CableSort) ++ send_all (HostMsg (plain_frame q)) (links_out net u ToHost)) ++ (notice_puts net u (last c h) (Some k) ++ []))
     (take_at (entrance.Crossbar (place net u c) own) (state_at net table u d Egress h saved) (wire.Data k q))
-crossbar-data net table u d p us told c k own q ps h saved g m out = of_moves (data-moves net table.ring u c k q ps h 0 0 0 saved g.chans g.room m out g.keeps)
+crossbar-data net table u d p us told c k own q ps h saved g m out = of_moves (data-moves net table.ring u c k q ps h 0 0 0 saved g.chans g.room m out g.keeps (adopts-by table.window table.ring c k h (g.near k refl) g.holds))
   where
     of_moves : Moves net table.ring u (taking c (Data k q) ps ∷ h) 0 0 0 (after_data (place net u c) k q (regs_at net u d Egress h saved))
         → Ends net table u (unit_at d p Egress) us told (taking c (Data k q) ps ∷ h)
@@ -169,12 +173,12 @@ crossbar-data net table u d p us told c k own q ps h saved g m out = of_moves (d
         (sort-sent net table.ring us u told (Data (id (taking c (Data k q) ps ∷ h)) q) (wire.Data (after_data (place net u c) k q (regs_at net u d Egress h saved)).id q) CableSort (wires_at net u d Egress table) refl (ap (λ r. wire.Data r.id q) v.is))
         (sort-sent net table.ring us u told (HostMsg (plain_frame q)) (wire.Host (wire_frame q)) ToHost (wires_at net u d Egress table) refl (ap wire.Host (frame-is q))))
 
-pub crossbar-probe : (net : Net) (table : Snapshot) (u d p : ℕ) (us : ℕ → History) (told : ℕ → ℕ) (c k : ℕ) (own : Bool) (ps : List Put) (h : History) (saved : Listed)
+pub crossbar-probe : (net : Net) (table : Snapshot) (u d p : ℕ) (us : ℕ → History) (told : ℕ → ℕ) (c k : ℕ) (own : Bool) (ps : List Put) (h : History) (saved : View)
     → IsGiven net table u d p Egress c h saved (ProbeMsg k) → Member c (data_channels net u) → (Member c (choices_of net u InitSort) → ⊥)
     → Ends net table u (unit_at d p Egress) us told (taking c (ProbeMsg k) ps ∷ h)
     ((if own then send_all (ProbeMsg (id (taking c (ProbeMsg k) ps ∷ h))) (links_out net u CableSort) else []) ++ (notice_puts net u (last c h) (Some k) ++ []))
     (take_at (entrance.Crossbar (place net u c) own) (state_at net table u d Egress h saved) (wire.Probe k))
-crossbar-probe net table u d p us told c k own ps h saved g m out = of_moves (probe-moves net table.ring u c k ps h 0 0 0 saved g.chans m out g.keeps)
+crossbar-probe net table u d p us told c k own ps h saved g m out = of_moves (probe-moves net table.ring u c k ps h 0 0 0 saved g.chans m out g.keeps (adopts-by table.window table.ring c k h (g.near k refl) g.holds))
   where
     of_moves : Moves net table.ring u (taking c (ProbeMsg k) ps ∷ h) 0 0 0 (after_stamp (Upstream (place net u c)) k (regs_at net u d Egress h saved))
         → Ends net table u (unit_at d p Egress) us told (taking c (ProbeMsg k) ps ∷ h)
@@ -197,7 +201,7 @@ one_of o = unwrap_or (option_map (λ q. 1) o) 0
 abbrev long_of : Option Packet → ℕ
 long_of o = unwrap_or (option_map (λ q. q.len) o) 0
 
-pub host-frame : (net : Net) (table : Snapshot) (u d p : ℕ) (us : ℕ → History) (told : ℕ → ℕ) (c : ℕ) (bs : List ℕ) (ps : List Put) (h : History) (saved : Listed)
+pub host-frame : (net : Net) (table : Snapshot) (u d p : ℕ) (us : ℕ → History) (told : ℕ → ℕ) (c : ℕ) (bs : List ℕ) (ps : List Put) (h : History) (saved : View)
     → IsGiven net table u d p Ingress c h saved (HostMsg bs)
     → Ends net table u (unit_at d p Ingress) us told (taking c (HostMsg bs) ps ∷ h) (route_frame net u d (id (taking c (HostMsg bs) ps ∷ h)) (packet_of bs) ++ [])
     (take_at entrance.Host (state_at net table u d Ingress h saved) (wire.Host bs))
@@ -260,11 +264,11 @@ dump-is net ring u h b e n r m = subst (λ r. IsDumpOf net ring u h (dump_of r))
   id = refl;
   cpu = refl;
   last = refl;
-  size = length-view m.saved.size m.saved.entries ∙ m.keeps.size;
-  shown = list-shown m.saved (calls (data_channels net u) h) m.keeps.listed;
+  size = m.keeps.size;
+  shown = m.keeps.shown;
 })
 
-pub poll-dump : (net : Net) (table : Snapshot) (u d p : ℕ) (side : Side) (us : ℕ → History) (told : ℕ → ℕ) (c : ℕ) (ps : List Put) (h : History) (saved : Listed)
+pub poll-dump : (net : Net) (table : Snapshot) (u d p : ℕ) (side : Side) (us : ℕ → History) (told : ℕ → ℕ) (c : ℕ) (ps : List Put) (h : History) (saved : View)
     → IsGiven net table u d p side c h saved PollMsg → us u ≡ taking c PollMsg ps ∷ h
     → Ends net table u (unit_at d p side) us told (taking c PollMsg ps ∷ h) (send_all (DumpMsg (suc (length h))) (links_out net u DumpSort))
     (take_at entrance.Poll (state_at net table u d side h saved) wire.Poll)

@@ -11,9 +11,9 @@ use Rattle.sl_net.specs.declared.input.Snapshot.{Snapshot}
 use Rattle.sl_layout.specs.Net.{Net, actor_of, link_of, links_into, data_channels, choices_of}
 use Rattle.sl_net.specs.Wired.{unit_receives}
 use Rattle.sl_parts.specs.Lists.{Member}
-use Rattle.sl_parts.proofs.Lists.{each-of, each-at}
-use Rattle.sl_net.proofs.Sorts.{IsChoice, each-choice, of-choice}
-use Rattle.sl_saves.specs.Keeping.{Listed}
+use Rattle.sl_parts.proofs.Lists.{each-at}
+use Rattle.sl_net.specs.Ways.{IsChoice, HasWays}
+use Rattle.sl_saves.specs.declared.entry.View.{View}
 use Rattle.sl_wire.specs.declared.message.Msg.{Msg}
 use Rattle.sl_unit.specs.Wires.{entrance_at}
 use Rattle.sl_unit.specs.Made.{entrance, is_own}
@@ -40,8 +40,8 @@ came-by net table u d p side c l q k = let at = get_or_from_slice_get (links_int
     ∙ (λ j. entrance (link_of net (at j)).sort (place net u c) (is_own (q j) (actor_of net (link_of net (at j)).from)))
 
 -- a data channel is no choice of initiations
-no-init : (net : Net) (u c l : ℕ) → slice_get (links_into net u) c ≡ Some l → ((link_of net l).sort ≡ Init → ⊥) → Member c (choices_of net u Init) → ⊥
-no-init net u c l k n m = n (ap (λ l. (link_of net l).sort) (sym (get_or_from_slice_get (links_into net u) c l 0 k)) ∙ (each-at (IsChoice net u Init) c (choices_of net u Init) (each-choice net u Init) m).sort)
+no-init : (net : Net) → HasWays net → (u c l : ℕ) → slice_get (links_into net u) c ≡ Some l → ((link_of net l).sort ≡ Init → ⊥) → Member c (choices_of net u Init) → ⊥
+no-init net ways u c l k n m = n (ap (λ l. (link_of net l).sort) (sym (get_or_from_slice_get (links_into net u) c l 0 k)) ∙ (each-at (IsChoice net u Init) c (choices_of net u Init) (ways.choices u Init) m).sort)
 
 no-channel : (net : Net) (u c l : ℕ) → slice_get (links_into net u) c ≡ Some l → (link_of net l).sort ≡ Init → Member c (data_channels net u) → ⊥
 no-channel net u c l k n m = of_channel (each-at (IsChannel net u) c (data_channels net u) (each-channel net u) m)
@@ -53,52 +53,52 @@ no-channel net u c l k n m = of_channel (each-at (IsChannel net u) c (data_chann
         by_sort x (inl y) = let z : Init ≡ Cable = sym x ∙ y in cc
         by_sort x (inr y) = let z : Init ≡ Crossbar = sym x ∙ y in cc
 
-is-init : (net : Net) (u c l : ℕ) → slice_get (links_into net u) c ≡ Some l → (link_of net l).sort ≡ Init → Member c (choices_of net u Init)
-is-init net u c l k n = of-choice net u Init (λ c. Member c (choices_of net u Init)) c l (each-of (λ c. Member c (choices_of net u Init)) (choices_of net u Init) (λ c m. m)) k n
+is-init : (net : Net) → HasWays net → (u c l : ℕ) → slice_get (links_into net u) c ≡ Some l → (link_of net l).sort ≡ Init → Member c (choices_of net u Init)
+is-init net ways u c l k n = ways.chosen u Init c l k n
 
 -- A message of each kind.
 
 -- the goal for a message that comes by a link of a sort
-abbrev Goes : Net → Snapshot → ℕ → ℕ → ℕ → Side → (ℕ → History) → (ℕ → ℕ) → ℕ → ℕ → History → Listed → Sort → Message → Msg → Type 0
+abbrev Goes : Net → Snapshot → ℕ → ℕ → ℕ → Side → (ℕ → History) → (ℕ → ℕ) → ℕ → ℕ → History → View → Sort → Message → Msg → Type 0
 Goes net table u d p side us told c l h saved t m x = Ends net table u (unit_at d p side) us told (taking c m (unit_puts net u (unit_at d p side) h c l m) ∷ h) (unit_puts net u (unit_at d p side) h c l m)
     (take_at (entrance t (place net u c) (is_own_port net d p l)) (state_at net table u d side h saved) x)
 
-ingress-goes : (net : Net) (table : Snapshot) (u d p : ℕ) (us vs : ℕ → History) (told was : ℕ → ℕ) (a c l : ℕ) (h : History) (saved : Listed) (t : Sort) (m : Message) (x : Msg)
+ingress-goes : (net : Net) → HasWays net → (table : Snapshot) (u d p : ℕ) (us vs : ℕ → History) (told was : ℕ → ℕ) (a c l : ℕ) (h : History) (saved : View) (t : Sort) (m : Message) (x : Msg)
     → IsGiven net table u d p Ingress c h saved m → slice_get (links_into net u) c ≡ Some l → (link_of net l).sort ≡ t → unit_receives Ingress t ≡ true → fits t m ≡ true → IsMessage net table.ring vs a was m x
     → us u ≡ taking c m (unit_puts net u (unit_at d p Ingress) h c l m) ∷ h → Goes net table u d p Ingress us told c l h saved t m x
-ingress-goes net table u d p us vs told was a c l h saved FromHost (HostMsg bs) x g k s r f e now = subst (Goes net table u d p Ingress us told c l h saved FromHost (HostMsg bs)) (sym e)
+ingress-goes net ways table u d p us vs told was a c l h saved FromHost (HostMsg bs) x g k s r f e now = subst (Goes net table u d p Ingress us told c l h saved FromHost (HostMsg bs)) (sym e)
     (host-frame net table u d p us told c bs (unit_puts net u (unit_at d p Ingress) h c l (HostMsg bs)) h saved g)
-ingress-goes net table u d p us vs told was a c l h saved Cable (Data j q) x g k s r f e now = subst (Goes net table u d p Ingress us told c l h saved Cable (Data j q)) (sym e)
-    (cable-data net table u d p us told c j q (unit_puts net u (unit_at d p Ingress) h c l (Data j q)) h saved g (is-channel net u c l k (inl s)) (no-init net u c l k (λ z. let y : Cable ≡ Init = sym s ∙ z in cc)))
-ingress-goes net table u d p us vs told was a c l h saved Cable (ProbeMsg j) x g k s r f e now = subst (Goes net table u d p Ingress us told c l h saved Cable (ProbeMsg j)) (sym e)
-    (cable-probe net table u d p us told c j (unit_puts net u (unit_at d p Ingress) h c l (ProbeMsg j)) h saved g (is-channel net u c l k (inl s)) (no-init net u c l k (λ z. let y : Cable ≡ Init = sym s ∙ z in cc)))
-ingress-goes net table u d p us vs told was a c l h saved Init (InitMsg j) x g k s r f e now = subst (Goes net table u d p Ingress us told c l h saved Init (InitMsg j)) (sym e)
-    (init-stamp net table u d p us told c j (unit_puts net u (unit_at d p Ingress) h c l (InitMsg j)) h saved g (is-init net u c l k s) (no-channel net u c l k s))
-ingress-goes net table u d p us vs told was a c l h saved Poll PollMsg x g k s r f e now = subst (Goes net table u d p Ingress us told c l h saved Poll PollMsg) (sym e)
+ingress-goes net ways table u d p us vs told was a c l h saved Cable (Data j q) x g k s r f e now = subst (Goes net table u d p Ingress us told c l h saved Cable (Data j q)) (sym e)
+    (cable-data net table u d p us told c j q (unit_puts net u (unit_at d p Ingress) h c l (Data j q)) h saved g (is-channel net u c l k (inl s)) (no-init net ways u c l k (λ z. let y : Cable ≡ Init = sym s ∙ z in cc)))
+ingress-goes net ways table u d p us vs told was a c l h saved Cable (ProbeMsg j) x g k s r f e now = subst (Goes net table u d p Ingress us told c l h saved Cable (ProbeMsg j)) (sym e)
+    (cable-probe net table u d p us told c j (unit_puts net u (unit_at d p Ingress) h c l (ProbeMsg j)) h saved g (is-channel net u c l k (inl s)) (no-init net ways u c l k (λ z. let y : Cable ≡ Init = sym s ∙ z in cc)))
+ingress-goes net ways table u d p us vs told was a c l h saved Init (InitMsg j) x g k s r f e now = subst (Goes net table u d p Ingress us told c l h saved Init (InitMsg j)) (sym e)
+    (init-stamp net table u d p us told c j (unit_puts net u (unit_at d p Ingress) h c l (InitMsg j)) h saved g (is-init net ways u c l k s) (no-channel net u c l k s))
+ingress-goes net ways table u d p us vs told was a c l h saved Poll PollMsg x g k s r f e now = subst (Goes net table u d p Ingress us told c l h saved Poll PollMsg) (sym e)
     (poll-dump net table u d p Ingress us told c (unit_puts net u (unit_at d p Ingress) h c l PollMsg) h saved g now)
-ingress-goes net table u d p us vs told was a c l h saved _ _ x g k s r f e now = absurd cc
+ingress-goes net ways table u d p us vs told was a c l h saved _ _ x g k s r f e now = absurd cc
 
-egress-goes : (net : Net) (table : Snapshot) (u d p : ℕ) (us vs : ℕ → History) (told was : ℕ → ℕ) (a c l : ℕ) (h : History) (saved : Listed) (t : Sort) (m : Message) (x : Msg)
+egress-goes : (net : Net) → HasWays net → (table : Snapshot) (u d p : ℕ) (us vs : ℕ → History) (told was : ℕ → ℕ) (a c l : ℕ) (h : History) (saved : View) (t : Sort) (m : Message) (x : Msg)
     → IsGiven net table u d p Egress c h saved m → slice_get (links_into net u) c ≡ Some l → (link_of net l).sort ≡ t → unit_receives Egress t ≡ true → fits t m ≡ true → IsMessage net table.ring vs a was m x
     → us u ≡ taking c m (unit_puts net u (unit_at d p Egress) h c l m) ∷ h → Goes net table u d p Egress us told c l h saved t m x
-egress-goes net table u d p us vs told was a c l h saved Crossbar (Data j q) x g k s r f e now = subst (Goes net table u d p Egress us told c l h saved Crossbar (Data j q)) (sym e)
-    (crossbar-data net table u d p us told c j (is_own_port net d p l) q (unit_puts net u (unit_at d p Egress) h c l (Data j q)) h saved g (is-channel net u c l k (inr s)) (no-init net u c l k (λ z. let y : Crossbar ≡ Init = sym s ∙ z in cc)))
-egress-goes net table u d p us vs told was a c l h saved Crossbar (ProbeMsg j) x g k s r f e now = subst (Goes net table u d p Egress us told c l h saved Crossbar (ProbeMsg j)) (sym e)
-    (crossbar-probe net table u d p us told c j (is_own_port net d p l) (unit_puts net u (unit_at d p Egress) h c l (ProbeMsg j)) h saved g (is-channel net u c l k (inr s)) (no-init net u c l k (λ z. let y : Crossbar ≡ Init = sym s ∙ z in cc)))
-egress-goes net table u d p us vs told was a c l h saved Poll PollMsg x g k s r f e now = subst (Goes net table u d p Egress us told c l h saved Poll PollMsg) (sym e)
+egress-goes net ways table u d p us vs told was a c l h saved Crossbar (Data j q) x g k s r f e now = subst (Goes net table u d p Egress us told c l h saved Crossbar (Data j q)) (sym e)
+    (crossbar-data net table u d p us told c j (is_own_port net d p l) q (unit_puts net u (unit_at d p Egress) h c l (Data j q)) h saved g (is-channel net u c l k (inr s)) (no-init net ways u c l k (λ z. let y : Crossbar ≡ Init = sym s ∙ z in cc)))
+egress-goes net ways table u d p us vs told was a c l h saved Crossbar (ProbeMsg j) x g k s r f e now = subst (Goes net table u d p Egress us told c l h saved Crossbar (ProbeMsg j)) (sym e)
+    (crossbar-probe net table u d p us told c j (is_own_port net d p l) (unit_puts net u (unit_at d p Egress) h c l (ProbeMsg j)) h saved g (is-channel net u c l k (inr s)) (no-init net ways u c l k (λ z. let y : Crossbar ≡ Init = sym s ∙ z in cc)))
+egress-goes net ways table u d p us vs told was a c l h saved Poll PollMsg x g k s r f e now = subst (Goes net table u d p Egress us told c l h saved Poll PollMsg) (sym e)
     (poll-dump net table u d p Egress us told c (unit_puts net u (unit_at d p Egress) h c l PollMsg) h saved g now)
-egress-goes net table u d p us vs told was a c l h saved _ _ x g k s r f e now = absurd cc
+egress-goes net ways table u d p us vs told was a c l h saved _ _ x g k s r f e now = absurd cc
 
 -- what a unit takes
-pub goes : (net : Net) (table : Snapshot) (u d p : ℕ) (side : Side) (us vs : ℕ → History) (told was : ℕ → ℕ) (a c l : ℕ) (h : History) (saved : Listed) (m : Message) (x : Msg)
+pub goes : (net : Net) → HasWays net → (table : Snapshot) (u d p : ℕ) (side : Side) (us vs : ℕ → History) (told was : ℕ → ℕ) (a c l : ℕ) (h : History) (saved : View) (m : Message) (x : Msg)
     → IsGiven net table u d p side c h saved m → slice_get (links_into net u) c ≡ Some l → unit_receives side (link_of net l).sort ≡ true → fits_link net l m ≡ true → IsMessage net table.ring vs a was m x
     → us u ≡ taking c m (unit_puts net u (unit_at d p side) h c l m) ∷ h
     → Ends net table u (unit_at d p side) us told (taking c m (unit_puts net u (unit_at d p side) h c l m) ∷ h) (unit_puts net u (unit_at d p side) h c l m) (unit_take (state_at net table u d side h saved) c x)
-goes net table u d p side us vs told was a c l h saved m x g k r f e now =
+goes net ways table u d p side us vs told was a c l h saved m x g k r f e now =
     subst (λ t. Ends net table u (unit_at d p side) us told (taking c m (unit_puts net u (unit_at d p side) h c l m) ∷ h) (unit_puts net u (unit_at d p side) h c l m) (take_at t (state_at net table u d side h saved) x))
     (sym (came-by net table u d p side c l g.actor k)) (by_side side g r now)
   where
     by_side : (side : Side) → IsGiven net table u d p side c h saved m → unit_receives side (link_of net l).sort ≡ true → us u ≡ taking c m (unit_puts net u (unit_at d p side) h c l m) ∷ h
         → Goes net table u d p side us told c l h saved (link_of net l).sort m x
-    by_side Ingress g r now = ingress-goes net table u d p us vs told was a c l h saved (link_of net l).sort m x g k refl r f e now
-    by_side Egress g r now = egress-goes net table u d p us vs told was a c l h saved (link_of net l).sort m x g k refl r f e now
+    by_side Ingress g r now = ingress-goes net ways table u d p us vs told was a c l h saved (link_of net l).sort m x g k refl r f e now
+    by_side Egress g r now = egress-goes net ways table u d p us vs told was a c l h saved (link_of net l).sort m x g k refl r f e now

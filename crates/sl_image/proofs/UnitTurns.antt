@@ -18,7 +18,7 @@ use Rattle.sl_layout.specs.Net.{Net, actor_of, links_out}
 use Rattle.sl_parts.proofs.Lists.{at_below, length_numbers}
 use Rattle.sl_route.specs.Least.{least}
 use Rattle.sl_route.specs.Route.{next_port, least_walks, first_port}
-use Rattle.sl_saves.specs.Keeping.{Listed}
+use Rattle.sl_saves.specs.declared.entry.View.{View}
 use Rattle.sl_wire.specs.declared.message.Msg.{Msg}
 use Rattle.sl_wire.specs.declared.message.Msg.TheVariants as wire
 use Rattle.sl_unit.specs.declared.registers.Channel.{Channel}
@@ -77,11 +77,11 @@ port-is net u d host n = by_cases (cases_lt host (length net.parts.hosts))
 abbrev pub one_if : Bool → ℕ
 one_if b = if b then 1 else 0
 
-pub record Routes (net : Net) (ring : ℕ) (us : ℕ → History) (told : ℕ → ℕ) (u d : ℕ) (h : History) (b e n : ℕ) (saved : Listed) (p : Packet) (a : After Registers Msg) : Type 0 where
+pub record Routes (net : Net) (ring : ℕ) (us : ℕ → History) (told : ℕ → ℕ) (u d : ℕ) (h : History) (b e n : ℕ) (saved : View) (p : Packet) (a : After Registers Msg) : Type 0 where
   pub state : a.state ≡ regs net u h b (one_if (p.hops == 0) + e) (one_if (not (p.hops == 0) && is_none (next_port net.parts d p.dst)) + n) saved
   pub sent : AreSent net ring us u told (route net u d (id h) p) a.puts
 
-pub routes : (net : Net) (ring : ℕ) (us : ℕ → History) (told : ℕ → ℕ) (u d : ℕ) (h : History) (b e n : ℕ) (saved : Listed) (p : Packet) (t : Snapshot) → e + 1 < 2 ^ 64 → n + 1 < 2 ^ 64
+pub routes : (net : Net) (ring : ℕ) (us : ℕ → History) (told : ℕ → ℕ) (u d : ℕ) (h : History) (b e n : ℕ) (saved : View) (p : Packet) (t : Snapshot) → e + 1 < 2 ^ 64 → n + 1 < 2 ^ 64
     → Routes net ring us told u d h b e n saved p (routed (wires_at net u d Ingress t) p (regs net u h b e n saved))
 routes net ring us told u d h b e n saved p t room more_room = of_port (by_hops (p.hops == 0) (next_port net.parts d p.dst))
   where

@@ -1,8 +1,8 @@
 -- What the machine of a unit stands for. table is the snapshot table, u the unit's number, i the unit, h its history.
---     Keeps ring saved calls         the entries that a machine saved keep what some calls saved
+--     Keeps ring saved calls         the ring of a machine keeps what some calls saved
 --     IsUnitOf net table u i h m     the state m stands for the history h
 --     UnitSimulates ..               a turn of the machine simulates a step of the unit
-use Rattle.std.specs.Prelude.{◌≡◌, ℕ, List}
+use Rattle.std.specs.Prelude.{◌≡◌, ℕ, List, length}
 use Rattle.sl_machine.specs.Machine.{After}
 use Rattle.sl_layout.specs.declared.actor.Side.{Side}
 use Rattle.sl_layout.specs.declared.actor.Side.TheVariants.{Ingress, Egress}
@@ -10,7 +10,8 @@ use Rattle.sl_layout.specs.declared.actor.UnitId.{UnitId}
 use Rattle.sl_net.specs.declared.input.Snapshot.{Snapshot}
 use Rattle.sl_layout.specs.Net.{Net, data_channels}
 use Rattle.sl_saves.specs.Calls.{Call}
-use Rattle.sl_saves.specs.Keeping.{Listed, IsListed}
+use Rattle.sl_saves.specs.declared.entry.View.{View}
+use Rattle.sl_saves.specs.Views.{IsShown}
 use Rattle.sl_wire.specs.declared.message.Msg.{Msg}
 use Rattle.sl_unit.specs.Registers.{Registers}
 use Rattle.sl_unit.specs.Step.{UnitState}
@@ -22,10 +23,10 @@ use Rattle.sl_model.specs.Calls.{calls}
 use Rattle.sl_image.specs.Messages.{eight, lasts, cpu_last}
 use Rattle.sl_image.specs.Simulates.{Simulates}
 
--- they are shown in views of as many slots as the ring has
-pub record Keeps (ring : ℕ) (saved : Listed) (calls : List Call) : Type 0 where
-  pub listed : IsListed saved calls
-  pub size : saved.size ≡ ring
+-- it has so many slots, and shows them
+pub record Keeps (ring : ℕ) (saved : View) (calls : List Call) : Type 0 where
+  pub shown : IsShown saved calls
+  pub size : length saved.slots ≡ ring
 
 -- the state of a new unit
 abbrev pub new_state : Net → ℕ → Snapshot → Side → UnitState

@@ -15,7 +15,10 @@ ghost use Rattle.sl_model.specs.World.{Entry, start, next_step, turn, world};
 ghost use Rattle.sl_image.specs.Messages.{IsMessage};
 ghost use Rattle.sl_image.specs.ControlImage.{IsControlOf, ControlSimulates, ControlActSimulates};
 
-use sl_model::brought_rows_are_read;
+use sl_model::{
+    brought_rows_are_read, dumps_answer_polls, dumps_bring_rows, known_steps_are_made,
+    worlds_take_turns,
+};
 use sl_net::nets_are_wired;
 
 /// At the start the machine of a control plane stands for the world at the start. The machine of a
@@ -23,7 +26,10 @@ use sl_net::nets_are_wired;
 pub fn controls_start()
     ensures place { (net : Net) (a d : ℕ) → IsNet net → actor_of net a ≡ Control d → control_of net d ≡ a }
     ensures stands { (net : Net) (a ring : ℕ) → IsControlOf net ring (history (start net)) a (first_control net a ring) }
-{}
+{
+    nets_are_wired();
+    worlds_take_turns()
+}
 
 /// A machine that stands for a control plane's history, and takes what stands for the message of
 /// its next step, stands for the history with this step, and its puts are those of the step. The
@@ -37,7 +43,10 @@ pub fn controls_take()
         → ControlSimulates s.net ring (history (world s lost es)) (history (turn s lost (world s lost es) e)) e.0 step.puts (control_take t e.1 x) }
 {
     nets_are_wired();
-    brought_rows_are_read()
+    brought_rows_are_read();
+    worlds_take_turns();
+    dumps_answer_polls();
+    dumps_bring_rows()
 }
 
 /// Such a machine acts where the control plane's next step is its sweep, and then stands for the
@@ -52,7 +61,11 @@ pub fn controls_act()
         → actor_of s.net e.0 ≡ Control d → next_step s lost (world s lost es) e ≡ None
         → IsControlOf s.net ring (history (world s lost es)) e.0 t → control_act t e.1 ≡ None }
 {
-    nets_are_wired()
+    nets_are_wired();
+    worlds_take_turns();
+    dumps_answer_polls();
+    dumps_bring_rows();
+    brought_rows_are_read()
 }
 
 /// It stands for the world after a turn of any other actor.
@@ -60,5 +73,7 @@ pub fn controls_stay()
     ensures { (s : Setup) (lost : Losses) (es : List Entry) (e : Entry) (a ring : ℕ) (t : ControlState) → IsNet s.net → a ≢ e.0
         → IsControlOf s.net ring (history (world s lost es)) a t → IsControlOf s.net ring (history (turn s lost (world s lost es) e)) a t }
 {
-    nets_are_wired()
+    nets_are_wired();
+    worlds_take_turns();
+    known_steps_are_made()
 }

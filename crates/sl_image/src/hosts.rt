@@ -15,6 +15,7 @@ ghost use Rattle.sl_model.specs.World.{Entry, next_step, turn, world};
 ghost use Rattle.sl_image.specs.HostImage.{IsHostOf, HostSimulates, HostActSimulates};
 ghost use Rattle.sl_image.specs.Messages.{IsMessage};
 
+use sl_model::worlds_take_turns;
 use sl_net::nets_are_wired;
 
 /// A host has one link to it and one from it.
@@ -29,13 +30,17 @@ pub fn hosts_have_two_links()
 pub fn hosts_start()
     ensures { (i : Input) (lost : Losses) (a h : ℕ)
         → IsHostOf (setup_of i) a h (world (setup_of i) lost []) (record { messages = frames_of i h; sent = 0; delivered = 0 }) }
-{}
+{
+    worlds_take_turns()
+}
 
 /// A turn of another actor changes nothing of what the machine stands for.
 pub fn hosts_stay()
     ensures { (s : Setup) (lost : Losses) (es : List Entry) (a i : ℕ) (e : Entry) (o : HostState) → e.0 ≢ a
         → IsHostOf s a i (world s lost es) o → IsHostOf s a i (turn s lost (world s lost es) e) o }
-{}
+{
+    worlds_take_turns()
+}
 
 /// A message that a host takes next, which stands for that of its step, leaves a state that stands
 /// for the world after the step, and the host puts nothing.
@@ -48,6 +53,7 @@ pub fn hosts_take()
         → HostSimulates s ring a i (turn s lost (world s lost es) (a, c)) told step.puts (host_take o c x) }
 {
     nets_are_wired();
+    worlds_take_turns()
 }
 
 /// A host's machine injects where the world's host does, leaves a state that stands for the world
@@ -62,4 +68,5 @@ pub fn hosts_act()
         → host_act o (action_choice s.net a) ≡ None }
 {
     nets_are_wired();
+    worlds_take_turns()
 }

@@ -25,14 +25,19 @@ ghost use Rattle.sl_image.specs.Messages.{IsMessage};
 ghost use Rattle.sl_image.specs.ObserverImage.{IsObserverOf, IsTableOf, known_at, account_of, seen_by};
 ghost use Rattle.sl_image.specs.ObserverImage.{ObserverSimulates, ObserverActSimulates};
 
-use sl_model::{accounts_give_findings, rows_are_held};
-use sl_net::nets_are_wired;
+use sl_model::{
+    accounts_give_findings, dones_bring_rows, known_steps_are_made, rows_are_final, rows_are_held,
+    worlds_take_turns,
+};
+use sl_net::{nets_are_wired, nets_have_ways};
 use sl_observe::begins_take_all_links;
 
 /// The machine's first state stands for the world in which nothing has happened.
 pub fn observers_start()
     ensures { (s : Setup) (lost : Losses) (table : Snapshot) → IsObserverOf s.net table (world s lost []) (first_state s.net table) }
-{}
+{
+    worlds_take_turns()
+}
 
 /// A turn of another actor changes nothing of what the machine stands for.
 pub fn observers_stay()
@@ -40,6 +45,8 @@ pub fn observers_stay()
         → IsObserverOf s.net table (world s lost es) o → IsObserverOf s.net table (turn s lost (world s lost es) e) o }
 {
     nets_are_wired();
+    worlds_take_turns();
+    known_steps_are_made()
 }
 
 /// A message that the observer takes next, which stands for that of its step by what was told
@@ -52,6 +59,9 @@ pub fn observers_take()
         → ObserverSimulates s.net table ring (turn s lost (world s lost es) (0, c)) told step.puts (observer_take o c x) }
 {
     nets_are_wired();
+    worlds_take_turns();
+    known_steps_are_made();
+    dones_bring_rows()
 }
 
 /// The observer's machine issues and resends where the world's observer does, leaves a state that
@@ -67,7 +77,8 @@ pub fn observers_act()
         → observer_act o c ≡ None }
 {
     nets_are_wired();
-    begins_take_all_links()
+    begins_take_all_links();
+    worlds_take_turns()
 }
 
 /// What the machine tells of its floor, of how many snapshots it issued and how often it resent, and
@@ -94,7 +105,9 @@ pub fn observers_tell()
         → saved_of (unit_at o.units (unit_place s.net u)) k ≡ None }
 {
     nets_are_wired();
+    nets_have_ways();
     rows_are_held();
+    rows_are_final()
 }
 
 /// The machine's units are the accounts of the units of the world, and give its findings: up to the

@@ -1,6 +1,6 @@
 // Laws of the machines of units: each stands for its unit's history, whatever the schedule. The
 // functions do nothing: their contracts are the laws, and the proofs are in proofs/.
-ghost use Rattle.std.specs.Prelude.{◌≡◌, ℕ, ◌^◌, ◌<◌, List, [], length, slice_get, Some, None, IsSome};
+ghost use Rattle.std.specs.Prelude.{◌≡◌, ℕ, ◌^◌, ◌<◌, ◌≤◌, List, [], length, slice_get, Some, None, IsSome};
 ghost use Rattle.sl_layout.specs.declared.actor.ActorId.TheVariants.{Unit as OfUnit};
 ghost use Rattle.sl_layout.specs.declared.actor.Side.TheVariants.{Ingress, Egress};
 ghost use Rattle.sl_layout.specs.declared.actor.UnitId.{UnitId};
@@ -21,6 +21,7 @@ ghost use Rattle.sl_image.specs.Messages.{IsMessage};
 ghost use Rattle.sl_model.specs.Short.{SendsShort};
 ghost use Rattle.sl_image.specs.UnitImage.{IsUnitOf, UnitSimulates, dropped};
 
+use sl_model::{counts_fit, packets_are_short, stamps_are_in_window, worlds_take_turns};
 use sl_net::nets_are_wired;
 
 /// The state of a new unit stands for the empty history.
@@ -37,7 +38,7 @@ pub fn new_units_stand()
 /// the link of its entry's choice, and its machine has no actions.
 pub fn units_take_messages()
     ensures follows { (s : Setup) (table : Snapshot) (lost : Losses) (es : List Entry) (u c a : ℕ) (i : UnitId) (step : Step) (m : Message)
-        (x : Msg) (state : UnitState) (us : ℕ → History) (was told : ℕ → ℕ) → IsNet s.net → s.window ≡ table.window → SendsShort s
+        (x : Msg) (state : UnitState) (us : ℕ → History) (was told : ℕ → ℕ) → IsNet s.net → s.window ≡ table.window → table.window ≤ table.ring → SendsShort s
         → length es < 2 ^ 40 → actor_of s.net u ≡ OfUnit i → next_step s lost (world s lost es) (u, c) ≡ Some step → step.taken ≡ Some m
         → IsMessage s.net table.ring us a was m x → IsUnitOf s.net table u i (history (world s lost es) u) state
         → UnitSimulates s.net table u i (λ b. history (turn s lost (world s lost es) (u, c)) b) told step.puts (unit_rules.take state c x) }
@@ -49,7 +50,11 @@ pub fn units_take_messages()
         → next_step s lost (world s lost es) (u, c) ≡ Some step → IsSome (slice_get (links_into s.net u) c) }
     ensures acts { (state : UnitState) (action : ℕ) → unit_rules.act state action ≡ None }
 {
-    nets_are_wired()
+    nets_are_wired();
+    worlds_take_turns();
+    stamps_are_in_window();
+    packets_are_short();
+    counts_fit()
 }
 
 /// In the turn of another actor the state of a unit stands for its history as before.
@@ -57,7 +62,9 @@ pub fn units_stay()
     ensures { (s : Setup) (table : Snapshot) (lost : Losses) (es : List Entry) (u : ℕ) (i : UnitId) (e : Entry) (state : UnitState)
         → (u ≡ e.0 → ⊥) → IsUnitOf s.net table u i (history (world s lost es) u) state
         → IsUnitOf s.net table u i (history (turn s lost (world s lost es) e) u) state }
-{}
+{
+    worlds_take_turns()
+}
 
 /// What a unit shows that it counted is what its history says.
 pub fn unit_counts_are_told()

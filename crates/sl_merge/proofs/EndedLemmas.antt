@@ -16,10 +16,10 @@ use Rattle.sl_actor.specs.Histories.{Step, IsHistory, last_state, put_on, taken_
 use Rattle.sl_actor.specs.Losses.{kept, loss_after, lost_after}
 use Rattle.sl_actor.specs.Outs.{OutView, IsGiven}
 use Rattle.sl_actor.specs.Follows.{ActorView, Follows}
-use Rattle.sl_world.proofs.TurnLemmas.{some_at}
 use Rattle.sl_merge.specs.Merging.{entries_by, joined, IsMerge, AreLogs}
 use Rattle.sl_merge.specs.Outcome.{Outcome, AreFollowed, IsRun, all_entries}
 use Rattle.sl_merge.specs.Ended.{Ended, HaveMet, IsRunOf, take_at, out_at, log_entries}
+use Rattle.sl_merge.proofs.GetLemmas.{some_at}
 use Rattle.sl_merge.proofs.MergeLemmas.{logs_rise, merge_is_run}
 use Rattle.sl_merge.proofs.CountLemmas.{AreStrict}
 use Rattle.sl_merge.proofs.LogLemmas.{joined_logs, in_order}

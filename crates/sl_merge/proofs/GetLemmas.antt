@@ -1,8 +1,15 @@
 -- Elements of lists by their place.
-use Rattle.std.proofs.Common.{◌≡◌, ℕ, zero, suc, ◌<◌, List, [], ◌∷◌, length, set, slice_get, Some, refl, ap₂, arith}
-use Rattle.std.proofs.lemmas.Option.{same_Some}
+use Rattle.std.proofs.Common.{◌≡◌, ℕ, zero, suc, ◌<◌, List, [], ◌∷◌, length, set, slice_get, Some, refl, ap₂, arith, inl, inr}
+use Rattle.std.proofs.lemmas.Option.{same_Some, slice_get_cases}
 
 module _ {X : Type 0} where
+  pub some_at : (xs : List X) (k : ℕ) → k < length xs → (x : X) × (slice_get xs k ≡ Some x)
+  some_at xs k low =
+      elim (slice_get_cases xs k).1 [
+        | inl t ↦ (t.0, t.2)
+        | inr t ↦ absurd (omega (arith, low, t.0))
+      ]
+
   pub slice_get-set_same : (xs : List X) (k : ℕ) (y : X) → k < length xs → slice_get (set xs k y) k ≡ Some y
   slice_get-set_same [] k y h = absurd (omega arith)
   slice_get-set_same (x ∷ xs) zero y h = refl

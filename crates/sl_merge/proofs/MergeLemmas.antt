@@ -5,9 +5,9 @@ use Rattle.sl_machine.specs.Machine.{Rules}
 use Rattle.sl_machine.specs.declared.wiring.Entry.{Entry}
 use Rattle.sl_link.specs.declared.ends.Stamped.{Stamped}
 use Rattle.sl_actor.specs.Histories.{Step, IsHistory, numbered, number, entries_of}
-use Rattle.sl_world.proofs.TurnLemmas.{some_at}
 use Rattle.sl_merge.specs.Merging.{IsMerge}
 use Rattle.sl_merge.specs.Outcome.{Outcome, AreFollowed, IsRun, all_entries}
+use Rattle.sl_merge.proofs.GetLemmas.{some_at}
 use Rattle.sl_merge.proofs.BoundLemmas.{each_so}
 use Rattle.sl_merge.proofs.NumberLemmas.{step_later}
 use Rattle.sl_merge.proofs.BookLemmas.{book_is_run}

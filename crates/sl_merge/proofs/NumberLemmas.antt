@@ -9,8 +9,8 @@ use Rattle.sl_loss.specs.Loss.{Loss}
 use Rattle.sl_link.specs.declared.ends.Stamped.{Stamped}
 use Rattle.sl_actor.specs.Histories.{step_of, stamp_all, numbered_after, numbered}
 use Rattle.sl_world.specs.Scene.{Line, new_line}
-use Rattle.sl_world.proofs.TurnLemmas.{some_at}
 use Rattle.sl_merge.specs.Lamport.{unnumbered}
+use Rattle.sl_merge.proofs.GetLemmas.{some_at}
 use Rattle.sl_merge.proofs.WeavingLemmas.{IsTimed, PutsFrom}
 use Rattle.sl_merge.proofs.ForgettingLemmas.{IsSeen, seen_after, seen_line}
 use Rattle.sl_merge.proofs.BoundLemmas.{each_so, AfterUpTo, IsSlow, LinesUpTo}

@@ -7,8 +7,7 @@ use Rattle.sl_machine.specs.Machine.{Rules}
 use Rattle.sl_machine.specs.Plan.{Plan, IsSound, link_in, link_out, link_at}
 use Rattle.sl_actor.specs.Histories.{Step, IsHistory, last_state, on, put_on, took, taken_by, IsChosen, AreChosen}
 use Rattle.sl_world.proofs.LinkLemmas.{link_in_is, link_out_is, no_link_in}
-use Rattle.sl_world.proofs.TurnLemmas.{some_at}
-use Rattle.sl_merge.proofs.GetLemmas.{slice_get-set_same, slice_get-set_other}
+use Rattle.sl_merge.proofs.GetLemmas.{slice_get-set_same, slice_get-set_other, some_at}
 use Rattle.sl_merge.proofs.LineLemmas.{puts_at}
 use Rattle.sl_merge.proofs.WeavingLemmas.{IsLinked, AllLinked, IsWoven, states_after, all_taken, all_put}
 

@@ -1,19 +1,14 @@
 -- A world that goes on from actors that have ended is the one to which the merge of their logs leads.
-use Rattle.std.proofs.Common.{◌≡◌, ℕ, zero, suc, ◌<◌, List, [], ◌∷◌, ◌++◌, length, map, get_or, Option, Some, None, sym, refl, ap, ap₂, ◌∙◌, subst, arith}
+use Rattle.std.proofs.Common.{◌≡◌, ℕ, zero, suc, ◌<◌, List, [], ◌∷◌, length, get_or, Option, Some, None, sym, refl, ◌∙◌, subst, arith}
 use Rattle.std.proofs.lemmas.List.{same_lists, get_or_default}
 use Rattle.sl_machine.specs.Machine.{Rules}
-use Rattle.sl_machine.specs.Plan.{Plan, link_at}
 use Rattle.sl_machine.specs.declared.wiring.Entry.{Entry}
 use Rattle.sl_loss.specs.Loss.{Loss}
-use Rattle.sl_link.specs.declared.ends.Stamped.{Stamped}
 use Rattle.sl_actor.specs.Outs.{OutView}
 use Rattle.sl_actor.specs.Follows.{ActorView}
-use Rattle.sl_world.specs.Scene.{Scene, Line, empty_line, line_at, lines_with, first_scene, after_all, schedule_of}
+use Rattle.sl_world.specs.Scene.{Scene, empty_line, line_at, lines_with, first_scene, after_all, run_of, schedule_of}
 use Rattle.sl_world.specs.Keeping.{SameShape}
-use Rattle.sl_world.proofs.BookLaws.{after_all-run_of}
-use Rattle.sl_world.proofs.ShapeLaws.{same_shape}
 use Rattle.sl_world.proofs.ResumeLemmas.{length-lines_with}
-use Rattle.sl_world.proofs.TurnLemmas.{some_at}
 use Rattle.sl_merge.specs.Ended.{Ended, HaveMet, IsMergeOf, IsRunOf, Rests, AreRests, StandsAsRun, resumed}
 use Rattle.sl_merge.proofs.EndedLemmas.{ended_is_run, out_end}
 
@@ -30,7 +25,14 @@ line_with (x ∷ losses) (n ∷ lost) [] l low e f = absurd (omega arith)
 line_with (x ∷ losses) (n ∷ lost) (q ∷ rests) zero low e f = refl
 line_with (x ∷ losses) (n ∷ lost) (q ∷ rests) (suc l) low e f = line_with losses lost rests l (omega arith) (omega arith) (omega arith)
 
-module _ {S M : Type 0} (rules : Rules S M) (e : Ended S M) (h : HaveMet rules e) (rests : Rests M) (are : AreRests e rests) (book : List Entry) (m : IsMergeOf e book) where
+-- the laws of schedules of a world
+abbrev pub KeepShape : {S M : Type 0} → Rules S M → Type 0
+KeepShape {S} {M} rules = (w : Scene S M) (es : List (ℕ × ℕ)) → SameShape w (after_all rules w es)
+
+abbrev pub LeadWhereLegal : {S M : Type 0} → Rules S M → Type 0
+LeadWhereLegal {S} {M} rules = (w v : Scene S M) (es : List (ℕ × ℕ)) → run_of rules w es ≡ Some v → after_all rules w es ≡ v
+
+module _ {S M : Type 0} (rules : Rules S M) (shape : KeepShape rules) (only : LeadWhereLegal rules) (e : Ended S M) (h : HaveMet rules e) (rests : Rests M) (are : AreRests e rests) (book : List Entry) (m : IsMergeOf e book) where
   r : IsRunOf rules e book
   r = ended_is_run rules e h book m
 
@@ -40,8 +42,8 @@ module _ {S M : Type 0} (rules : Rules S M) (e : Ended S M) (h : HaveMet rules e
   plan_is : r.world.plan ≡ e.plan
   unfolding first
   plan_is =
-      let after : after_all rules first (schedule_of book) ≡ r.world = after_all-run_of rules first r.world (schedule_of book) r.run in
-      subst (λ (w : Scene S M). w.plan ≡ e.plan) after (same_shape rules first (schedule_of book)).plan
+      let after : after_all rules first (schedule_of book) ≡ r.world = only first r.world (schedule_of book) r.run in
+      subst (λ (w : Scene S M). w.plan ≡ e.plan) after (shape first (schedule_of book)).plan
 
   -- any end of a link
   line_is : (l : ℕ) (b : ActorView S M) (o : OutView M) → l < length e.plan.links → line_at r.world.lines l ≡ line_at (lines_with rests.losses rests.lost rests.messages) l

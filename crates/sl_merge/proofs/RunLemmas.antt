@@ -15,10 +15,9 @@ use Rattle.sl_link.specs.declared.ends.Stamped.{Stamped}
 use Rattle.sl_actor.specs.Histories.{Step, IsHistory, last_state, put_on, taken_by, AreChosen, numbered, number}
 use Rattle.sl_actor.specs.Losses.{kept, loss_after, lost_after}
 use Rattle.sl_world.specs.Scene.{Scene, Line, empty_line, line_at, new_line, first_scene, run_of, schedule_of}
-use Rattle.sl_world.proofs.TurnLemmas.{some_at}
 use Rattle.sl_merge.specs.Lamport.{unnumbered, times_of}
 use Rattle.sl_merge.specs.Outcome.{Outcome, AreFollowed, IsRun, loss_at, put_at, taken_at}
-use Rattle.sl_merge.proofs.GetLemmas.{same_gets}
+use Rattle.sl_merge.proofs.GetLemmas.{same_gets, some_at}
 use Rattle.sl_merge.proofs.LineLemmas.{tally, tally_after, tally_is}
 use Rattle.sl_merge.proofs.WeavingLemmas.{schedule_by, StepsFrom, Ascends, all_taken, all_put, LeadsTo, leads}
 use Rattle.sl_merge.proofs.PartLemmas.{part_of, AreBelow, Histories, woven, last_states, length-states_after, all_linked, taken_there, put_there}

@@ -7,6 +7,7 @@ ghost use Rattle.sl_merge.specs.Ended.{Ended, HaveMet, IsMergeOf, IsRunOf, Rests
 ghost use Rattle.sl_merge.specs.Outcome.{Outcome, AreFollowed, IsRun, all_entries};
 
 use sl_machine::Machine;
+use sl_world::every_schedule;
 
 /// Whatever actors did at once, the merge of their logs by number is what they could have done one
 /// after another: a legal schedule of the world, which leads to the same machines and leaves the
@@ -29,4 +30,6 @@ pub fn actors_are_runs<A: Machine>()
 /// to which that book's schedule leads, but for the numbers of the book.
 pub fn merges_are_resumed<A: Machine>()
     ensures { (e : Ended A.State A.Msg) (r : Rests A.Msg) (book : List Entry) → HaveMet A.rules e → AreRests e r → IsMergeOf e book → StandsAsRun A.rules e (resumed e r book) }
-{}
+{
+    every_schedule::<A>()
+}

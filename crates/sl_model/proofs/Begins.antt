@@ -20,11 +20,10 @@ use Rattle.sl_model.specs.Knowledge.{observer, issued, can_issue, can_resend}
 use Rattle.sl_model.specs.Made.{Took, Acted, IsMade, Ran}
 use Rattle.sl_model.specs.Fit.{fits, fits_link, is_stamped}
 use Rattle.sl_model.specs.Window.{begun}
-use Rattle.sl_net.proofs.Sorts.{is-into}
-use Rattle.sl_net.proofs.EndKinds.{data-from, init-from, begins-from}
+use Rattle.sl_model.specs.Turns.{Begins}
 use Rattle.sl_model.proofs.Turns.{taken-this, taken-falls, taken-other}
 use Rattle.sl_model.proofs.Numbers.{Says, Grows, Ordered, ordered, put-rises}
-use Rattle.sl_model.proofs.Said.{PutBy, Begins, control-said, observer-acts, begin-said, action-said}
+use Rattle.sl_model.proofs.Said.{PutBy, control-said, observer-acts, begin-said, action-said}
 use Rattle.sl_model.proofs.Stamps.{taken-fits, unit-link, says-itself, acted-by, took-by}
 
 abbrev pub TakesFit : Setup → ℕ → History → Type 0
@@ -114,7 +113,7 @@ control-stamps s a d (step ∷ h) n q m f g = let p = control-step s a d h step 
 
 -- The last Begin number of a control never falls.
 pub begun-falls : (s : Setup) (lost : Losses) (w : World) (a d : ℕ) → IsWired s.net → Ran s lost w → actor_of s.net a ≡ Control d → NeverFalls begun (history w a)
-begun-falls s lost w a d n r q = let b = begins-from s.net a d n q in (begin-link s lost w a 0 b.0 n r b.1 b.2).climbs
+begun-falls s lost w a d n r q = let b = n.begins a d q in (begin-link s lost w a 0 b.0 n r b.1 (n.begin_from b.0 (n.ways.into a 0 b.0 b.1).is_link b.2)).climbs
 
 -- On a link from a control: the stamps heard never fall, and these, then the stamps not yet taken, end at most at its last Begin number.
 pub init-link : (s : Setup) (lost : Losses) (w : World) (a c l d : ℕ) → IsWired s.net → (r : Ran s lost w) (k : slice_get (links_into s.net a) c ≡ Some l) → actor_of s.net (link_of s.net l).from ≡ Control d
@@ -128,7 +127,7 @@ pub last-never-falls : (s : Setup) (lost : Losses) (w : World) (a c l : ℕ) →
 last-never-falls s lost w a c l n r k i = by_sort (link_of s.net l).sort refl i
   where
     p : l < length s.net.links
-    p = (is-into s.net a c l k).is_link
+    p = (n.ways.into a c l k).is_link
 
     of_unit : ((i : UnitId) × (actor_of s.net (link_of s.net l).from ≡ OfUnit i)) → NeverFalls (last c) (history w a)
     of_unit u = (unit-link s lost w a c l u.0 r k u.1).climbs
@@ -137,7 +136,7 @@ last-never-falls s lost w a c l n r k i = by_sort (link_of s.net l).sort refl i
     of_control d = (init-link s lost w a c l d.0 n r k d.1).climbs
 
     by_sort : (t : Sort) → (link_of s.net l).sort ≡ t → IsTrue (is_stamped t) → NeverFalls (last c) (history w a)
-    by_sort Cable q i = of_unit (data-from s.net l n p (inl q))
-    by_sort Crossbar q i = of_unit (data-from s.net l n p (inr q))
-    by_sort Init q i = of_control (init-from s.net l n p q)
+    by_sort Cable q i = of_unit (n.data_from l p (inl q))
+    by_sort Crossbar q i = of_unit (n.data_from l p (inr q))
+    by_sort Init q i = of_control (n.init_from l p q)
     by_sort _ q i = absurd cc

@@ -114,7 +114,7 @@ pub within-bound : (s : Setup) → IsNet s.net → (es : List Entry)
 within-bound s n es = omega (
   arith,
   start-by-kinds s (guided s.net n (wiring s.net n).wired),
-  below-sums (observers s.net) (round_price s.net) (all_channels s.net) (all_frames s) (sweep_gain s.net) D U (I + (X + Y)) s.count s.retries (frame_count s) (observers-few s.net (wiring s.net n).wired) c.round (channels s.net) (frames-few s n) c.gain,
+  below-sums (observers s.net) (round_price s.net) (all_channels s.net) (all_frames s) (sweep_gain s.net) D U (I + (X + Y)) s.count s.retries (frame_count s) (observers-few s.net (wiring s.net n).wired) c.round (channels s.net) (frames-few s n (wiring s.net n).wired) c.gain,
   sweeps-cost s.net c.served es,
   sums-are D U I X Y s.count s.retries (frame_count s) (sweeps_in s.net es),
 )

@@ -13,20 +13,20 @@ use Rattle.sl_net.specs.Wired.{IsWired}
 use Rattle.sl_parts.specs.Lists.{Each}
 use Rattle.sl_parts.proofs.Lists.{each-append, each-imp, each-front}
 use Rattle.sl_model.specs.Words.{listed}
-use Rattle.sl_model.specs.History.{History, World, Losses, history, stamp_of, stamp_taken, begin_of, dump_of, id, heard, taken, takes, put, on_link}
+use Rattle.sl_model.specs.History.{History, World, Losses, history, stamp_of, stamp_taken, begin_of, dump_of, id, taken, takes, put, on_link}
 use Rattle.sl_model.specs.Setup.{Setup}
 use Rattle.sl_model.specs.Knowledge.{observer, issued}
 use Rattle.sl_model.specs.Puts.{puts_of}
 use Rattle.sl_model.specs.World.{Entry, carried, turn, run, start}
 use Rattle.sl_model.specs.Made.{Took, Acted, IsMade, Ran}
-use Rattle.sl_model.specs.Window.{IsBelow, begun}
-use Rattle.sl_net.proofs.EndKinds.{begins-from}
+use Rattle.sl_model.specs.Window.{IsBelow}
+use Rattle.sl_model.specs.Turns.{Takes, Acts}
 use Rattle.sl_model.proofs.Turns.{Steps, turn-cases, kept_by_run, start-empty}
-use Rattle.sl_model.proofs.Ran.{Takes, Acts, next-view, ran, ran-turn, made-of}
-use Rattle.sl_model.proofs.Numbers.{Says, grown-le, rises-le}
+use Rattle.sl_model.proofs.Ran.{next-view, ran, ran-turn, made-of}
+use Rattle.sl_model.proofs.Numbers.{Says, grown-le}
 use Rattle.sl_model.proofs.Said.{PutBy, control-said, action-said}
 use Rattle.sl_model.proofs.Stamps.{unit-step, each-on-link, each-lost, each-taken, says-itself, acted-by, took-by}
-use Rattle.sl_model.proofs.Begins.{each-last, observer-step, begin-link}
+use Rattle.sl_model.proofs.Begins.{each-last, observer-step}
 use Rattle.sl_model.proofs.Floors.{taken-never-falls}
 
 abbrev pub AllBelow : Net → World → Type 0

@@ -16,15 +16,13 @@ use Rattle.sl_parts.proofs.Lists.{each-imp, each-map}
 use Rattle.sl_model.specs.Words.{Rises, numbers}
 use Rattle.sl_model.specs.History.{History, World, Losses, history, dump_of, done_of, id, last, first}
 use Rattle.sl_model.specs.Setup.{Setup}
-use Rattle.sl_model.specs.Knowledge.{observer, dumped, known, issued, upto_of, floor, unit_floor}
+use Rattle.sl_model.specs.Knowledge.{observer, dumped, known, collected, issued, upto_of, floor, unit_floor}
 use Rattle.sl_model.specs.World.{Entry, start, next_step, after, world}
 use Rattle.sl_model.specs.Made.{Ran}
 use Rattle.sl_model.specs.Window.{on_way, IsInWindow}
-use Rattle.sl_net.proofs.Sorts.{IsOut, each-out}
-use Rattle.sl_net.proofs.EndKinds.{poll-to}
-use Rattle.sl_net.proofs.ReportWays.{choice-from-is}
-use Rattle.sl_model.proofs.Turns.{kept_by_run, GrowsAt, grows-after, next-within}
-use Rattle.sl_model.proofs.Ran.{Takes, Acts, ran, ran-turn}
+use Rattle.sl_net.specs.Ways.{IsOut}
+use Rattle.sl_model.proofs.Turns.{kept_by_run, grows-after, next-within}
+use Rattle.sl_model.proofs.Ran.{ran, ran-turn}
 use Rattle.sl_model.proofs.Numbers.{rises-le, never-falls, falls-first}
 use Rattle.sl_model.proofs.Stamps.{id-falls}
 use Rattle.sl_model.proofs.Reported.{Knows, knows, dumps-into}
@@ -32,6 +30,9 @@ use Rattle.sl_model.proofs.Floors.{upto-falls, known-le}
 use Rattle.sl_model.proofs.Near.{in-window, on-way-is, least-start, least-each, floor-unit}
 use Rattle.sl_model.proofs.Collected.{Reached, lag-of}
 use Rattle.sl_model.specs.Brought.{IsBrought}
+use Rattle.sl_model.specs.Rows.{row}
+use Rattle.sl_model.specs.Turns.{GrowsAt, Takes, Acts}
+use Rattle.sl_model.proofs.Prefixes.{first-all}
 use Rattle.sl_model.proofs.Settled.{row-later}
 use Rattle.sl_model.proofs.Windows.{next-way}
 
@@ -42,10 +43,17 @@ reached-upto net u k h p = record {
   lasts = each-imp (λ c. upto_of net u h ≤ last c h) (λ c. k ≤ last c h) (data_channels net u) (λ c b. omega (arith, p, b)) (least-each (λ c. last c h) (data_channels net u) (id h));
 }
 
+-- what was collected is the row of the unit's whole history
+pub row-collected : (s : Setup) (lost : Losses) (w : World) (cs : List ℕ) (u k : ℕ) (i : UnitId) → IsWired s.net → Ran s lost w → actor_of s.net u ≡ OfUnit i → k ≤ upto_of s.net u (collected s.net w u)
+    → row cs k (collected s.net w u) ≡ row cs k (history w u)
+row-collected s lost w cs u k i n r q p = let m = known (unit_place s.net u) (observer w) in let a = (knows s lost w u i n r (n.reports u i q) q).at_most in
+    sym (row-later s lost w cs u k m (length (history w u)) n r a (lag-of s.net k u (first m (history w u)) (reached-upto s.net u k (first m (history w u)) p)))
+    ∙ ap (row cs k) (first-all (length (history w u)) (history w u) (omega arith))
+
 -- F is at most what the observer has collected of a unit, and so at most what is known after more steps.
 floor-upto : (s : Setup) (lost : Losses) (w : World) (u m : ℕ) (i : UnitId) → IsWired s.net → Ran s lost w → actor_of s.net u ≡ OfUnit i → known (unit_place s.net u) (observer w) ≤ m → floor s.net w ≤ upto_of s.net u (first m (history w u))
 floor-upto s lost w u m i n r q p = let k = known (unit_place s.net u) (observer w) in
-    let a : floor s.net w ≤ unit_floor s.net w u = floor-unit s.net w u i q in
+    let a : floor s.net w ≤ unit_floor s.net w u = floor-unit s.net n.ways w u i q in
     let b : unit_floor s.net w u ≤ upto_of s.net u (first k (history w u)) = least-start (map (λ c. last c (first k (history w u))) (choices_of s.net u Init)) (upto_of s.net u (first k (history w u))) in
     let c : upto_of s.net u (first k (history w u)) ≤ upto_of s.net u (first m (history w u)) = never-falls (upto_of s.net u) k m (history w u) (upto-falls s lost w u n r) p in
     omega (arith, a, b, c)
@@ -88,7 +96,7 @@ unit-dump s lost w a u n i step z r x q p e t m c = of_knows (knows s lost w u i
     link = same-link (links_into s.net a) step.choice (choice_of s.net p.dump) c t.took.into (subst (λ b. slice_get (links_into s.net b) (choice_of s.net p.dump) ≡ Some p.dump) (sym e) (dumps-into s.net u p))
 
     of_knows : Knows s lost w u r p → IsBrought s.net s.window u (history w u) (dumped (choice_of s.net p.dump) (history w a)) n
-    of_knows k = let way = next-way s lost w a step t in
+    of_knows k = let way = next-way s z.ways lost w a step t in
         let rest : (r.fifo p.control (choice_of s.net p.dump) p.dump (dumps-into s.net u p)).rest ≡ DumpMsg n ∷ way.0 =
         sym (on-way-is s.net lost w p.control (choice_of s.net p.dump) p.dump (dumps-into s.net u p) (r.fifo p.control (choice_of s.net p.dump) p.dump (dumps-into s.net u p))) ∙ ap (on_way s.net lost w) (sym link) ∙ way.1 ∙ ap (λ y. y ∷ way.0) m in
         let up = subst (λ ms. Rises (dumped (choice_of s.net p.dump) (history w p.control)) (numbers dump_of ms) (length (history w u))) rest k.dumps.rises in
@@ -103,7 +111,7 @@ served-dump : (s : Setup) (lost : Losses) (w : World) (a n : ℕ) (step : Step) 
 served-dump s lost w a n step z r x t m = each-map (λ v. step.choice ≡ v.dump → IsBrought s.net s.window v.unit (history w v.unit) (dumped v.dump (history w a)) n) (serving s.net a) (links_out s.net a Poll)
     (each-imp (IsOut s.net a Poll) (λ l. step.choice ≡ choice_from s.net a (link_of s.net l).to Dump
     → IsBrought s.net s.window (link_of s.net l).to (history w (link_of s.net l).to) (dumped (choice_from s.net a (link_of s.net l).to Dump) (history w a)) n) (links_out s.net a Poll)
-    (λ l o c. of_unit l o (poll-to s.net l z o.is_link o.sort) c) (each-out s.net a Poll))
+    (λ l o c. of_unit l o (z.poll_to l o.is_link o.sort) c) (z.ways.outs a Poll))
   where
     of_unit : (l : ℕ) → IsOut s.net a Poll l → ((i : UnitId) × (actor_of s.net (link_of s.net l).to ≡ OfUnit i)) → step.choice ≡ choice_from s.net a (link_of s.net l).to Dump
         → IsBrought s.net s.window (link_of s.net l).to (history w (link_of s.net l).to) (dumped (choice_from s.net a (link_of s.net l).to Dump) (history w a)) n
@@ -112,7 +120,7 @@ served-dump s lost w a n step z r x t m = each-map (λ v. step.choice ≡ v.dump
         of_reports : Reports s.net (link_of s.net l).to → IsBrought s.net s.window (link_of s.net l).to (history w (link_of s.net l).to) (dumped (choice_from s.net a (link_of s.net l).to Dump) (history w a)) n
         of_reports p = let u = (link_of s.net l).to in
             let e : a ≡ p.control = sym o.from ∙ ap (λ l. (link_of s.net l).from) (p.polled l refl o.sort) ∙ p.poll_from in
-            let d : choice_from s.net a u Dump ≡ choice_of s.net p.dump = ap (λ b. choice_from s.net b u Dump) e ∙ choice-from-is s.net p.control u Dump p.dump p.dumps p.dump_to in
+            let d : choice_from s.net a u Dump ≡ choice_of s.net p.dump = ap (λ b. choice_from s.net b u Dump) e ∙ p.dump_choice in
             subst (λ d. IsBrought s.net s.window u (history w u) (dumped d (history w a)) n) (sym d) (unit-dump s lost w a u n i.0 step z r x i.1 p e t m (c ∙ d))
 
 pub next-dump : (s : Setup) (lost : Losses) (w : World) (a n : ℕ) (step : Step) → IsWired s.net → Ran s lost w → IsInWindow s lost w → Takes s lost w a step ⊎ Acts s w a step → step.taken ≡ Some (DumpMsg n)

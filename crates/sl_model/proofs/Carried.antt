@@ -29,8 +29,9 @@ use Rattle.sl_model.specs.Setup.{Setup, frames_of}
 use Rattle.sl_model.specs.Knowledge.{is_outstanding, is_again, is_swept, issued, can_issue, can_resend}
 use Rattle.sl_model.specs.Puts.{send, send_all, crossbar_to, onward, route, route_frame, ingress_puts, is_own_port, egress_puts, side_puts, notice_puts, dump_puts, id_after, poll_puts, dump_answer, control_puts, puts_of, begin_all, guarded, action}
 use Rattle.sl_model.specs.World.{Entry, start, turn, world, carried}
+use Rattle.sl_model.specs.Turns.{Takes, Acts}
 use Rattle.sl_model.proofs.Turns.{kept_by_run, Steps, turn-cases, start-empty}
-use Rattle.sl_model.proofs.Ran.{Takes, Acts, next-view}
+use Rattle.sl_model.proofs.Ran.{next-view}
 use Rattle.sl_model.proofs.Stamps.{each-on-link, each-lost}
 use Rattle.sl_model.proofs.Windows.{each-get}
 

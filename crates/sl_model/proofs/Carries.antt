@@ -3,7 +3,7 @@ use Rattle.std.proofs.Common.{◌++◌, ◌-◌, ◌==◌, List, None, Option, S
 use Rattle.std.specs.Prelude.{Bool, false, nat_eq, true, ◌⊎◌, if◌then◌else◌}
 use Rattle.std.proofs.lemmas.Bool.Decides.{eqb_tells}
 use Rattle.sl_layout.specs.Net.{Net, actor_of, egress, link_of, links_out, same_actor}
-use Rattle.sl_net.specs.Wired.{IsWired, receives, unit_receives}
+use Rattle.sl_net.specs.Wired.{home, IsWired, receives, unit_receives}
 use Rattle.sl_layout.specs.declared.actor.ActorId.{ActorId}
 use Rattle.sl_layout.specs.declared.actor.ActorId.TheVariants.{Control, Observer, Host as OfHost, Unit as OfUnit}
 use Rattle.sl_layout.specs.declared.actor.Side.{Side}
@@ -19,11 +19,10 @@ use Rattle.sl_parts.proofs.Lists.{each-passes, each-imp}
 use Rattle.sl_model.specs.Words.{weigh}
 use Rattle.sl_model.specs.declared.message.Message.{Message}
 use Rattle.sl_model.specs.declared.message.Message.TheVariants.{Begin as BeginMsg, Data, Done as DoneMsg, Dump as DumpMsg, Host as HostMsg, Init as InitMsg, Notice as NoticeMsg, Poll as PollMsg, Probe as ProbeMsg}
-use Rattle.sl_model.specs.Fare.{device_of, enter_fare, frame_to, frame_fare, frame_in, frame_side, leave_fare, onward_fare, packet_to, packet_fare, packet_side}
+use Rattle.sl_model.specs.Fare.{enter_fare, frame_to, frame_fare, frame_in, frame_side, leave_fare, onward_fare, packet_to, packet_fare, packet_side}
 use Rattle.sl_model.specs.Flight.{puts_weight}
 use Rattle.sl_model.specs.Potential.{price}
-use Rattle.sl_layout.proofs.Actors.{same_actor_true}
-use Rattle.sl_net.proofs.Sorts.{IsOut, each-out, is-link}
+use Rattle.sl_net.specs.Ways.{IsOut, HasWays}
 use Rattle.sl_model.proofs.Potential.{sends-weigh}
 use Rattle.sl_model.proofs.Sums.{weigh-append, weigh-below}
 
@@ -61,9 +60,9 @@ frame-pays net l b = at (actor_of net (link_of net l).to)
     at (OfUnit i) = of_side i.side
     at (OfHost x) = omega arith
 
-onward-fares : (net : Net) (u d k : ℕ) (p : Packet) (h : ℕ) (o : Option ℕ) → p.hops ≡ h → puts_weight (price net) (onward net u d k p o) ≤ onward_fare net u d (λ m. enter_fare net p.dst h m) o
-onward-fares net u d k p h None q = omega arith
-onward-fares net u d k p h (Some x) q = let ls = crossbar_to net u d x in
+onward-fares : (net : Net) → HasWays net → (u d k : ℕ) (p : Packet) (h : ℕ) (o : Option ℕ) → p.hops ≡ h → puts_weight (price net) (onward net u d k p o) ≤ onward_fare net u d (λ m. enter_fare net p.dst h m) o
+onward-fares net ways u d k p h None q = omega arith
+onward-fares net ways u d k p h (Some x) q = let ls = crossbar_to net u d x in
     let a = sends-weigh (price net) (Data k p) ls in
     let b : weigh (λ l. price net l (Data k p)) ls ≤ weigh (λ l. leave_fare net (λ m. enter_fare net p.dst h m) (link_of net l).to) ls
     = weigh-below (λ l. price net l (Data k p)) (λ l. leave_fare net (λ m. enter_fare net p.dst h m) (link_of net l).to) ls
@@ -73,10 +72,10 @@ onward-fares net u d k p h (Some x) q = let ls = crossbar_to net u d x in
   where
     at_link : (l : ℕ) → same_actor (actor_of net (link_of net l).to) (egress d x) ≡ true → packet_to net p.dst p.hops l (actor_of net (link_of net l).to) ≤ leave_fare net (λ m. enter_fare net p.dst h m) (link_of net l).to
     at_link l e = let y : packet_to net p.dst p.hops l (actor_of net (link_of net l).to) ≡ leave_fare net (λ m. enter_fare net p.dst h m) (link_of net l).to
-        = ap (packet_to net p.dst p.hops l) (same_actor_true (actor_of net (link_of net l).to) (egress d x) e) ∙ ap (λ h. leave_fare net (λ m. enter_fare net p.dst h m) (link_of net l).to) q in omega (arith, y)
+        = ap (packet_to net p.dst p.hops l) (ways.is_actor (link_of net l).to (egress d x) e) ∙ ap (λ h. leave_fare net (λ m. enter_fare net p.dst h m) (link_of net l).to) q in omega (arith, y)
 
-route-fares : (net : Net) (u d k l : ℕ) (p : Packet) → (link_of net l).to ≡ u → device_of (actor_of net u) ≡ d → suc (puts_weight (price net) (route net u d k p)) ≤ enter_fare net p.dst p.hops l
-route-fares net u d k l p t e = by_hops p.hops refl
+route-fares : (net : Net) → HasWays net → (u d k l : ℕ) (p : Packet) → (link_of net l).to ≡ u → home (actor_of net u) ≡ d → suc (puts_weight (price net) (route net u d k p)) ≤ enter_fare net p.dst p.hops l
+route-fares net ways u d k l p t e = by_hops p.hops refl
   where
     none : {A : Type 0} (n : ℕ) (xs ys : List A) → n ≡ 0 → (if n == 0 then xs else ys) ≡ xs
     none n xs ys q = ap (λ n. if n == 0 then xs else ys) q
@@ -95,9 +94,9 @@ route-fares net u d k l p t e = by_hops p.hops refl
         let x : route net u d k p ≡ onward net u d k p' (next_port net.parts d p.dst) = some p.hops h [] _ q in
         let m : p.hops - 1 ≡ h = omega (arith, q) in
         let y : enter_fare net p.dst p.hops l ≡ suc (onward_fare net u d (λ m. enter_fare net p.dst h m) (next_port net.parts d p.dst)) = ap (λ h. enter_fare net p.dst h l) q
-        ∙ ap (λ u. suc (onward_fare net u (device_of (actor_of net u)) (λ m. enter_fare net p.dst h m) (next_port net.parts (device_of (actor_of net u)) p.dst))) t
+        ∙ ap (λ u. suc (onward_fare net u (home (actor_of net u)) (λ m. enter_fare net p.dst h m) (next_port net.parts (home (actor_of net u)) p.dst))) t
         ∙ ap (λ d. suc (onward_fare net u d (λ m. enter_fare net p.dst h m) (next_port net.parts d p.dst))) e in
-        let z = onward-fares net u d k p' h (next_port net.parts d p.dst) m in
+        let z = onward-fares net ways u d k p' h (next_port net.parts d p.dst) m in
         omega (arith, ap (puts_weight (price net)) x, y, z)
 
 weigh-ones : (f : ℕ → ℕ) (xs : List ℕ) → Each (λ x. f x ≤ 1) xs → weigh f xs ≤ length xs
@@ -117,7 +116,7 @@ cable-receiver (Control d) h = absurd cc
 cable-receiver (OfHost x) h = absurd cc
 
 pub cable-to : (net : Net) (l : ℕ) → IsWired net → (link_of net l).sort ≡ Cable → (i : UnitId) × ((actor_of net (link_of net l).to ≡ OfUnit i) × (i.side ≡ Ingress))
-cable-to net l w q = let p = is-link net l (λ z. let y : Cable ≡ ToHost = sym q ∙ z in cc) in
+cable-to net l w q = let p = w.ways.is_link l (λ z. let y : Cable ≡ ToHost = sym q ∙ z in cc) in
     cable-receiver (actor_of net (link_of net l).to) (subst (λ t. receives (actor_of net (link_of net l).to) t ≡ true) q (w.receiver l p))
 
 pub host-receiver : (x : ActorId) → receives x ToHost ≡ true → (h : ℕ) × (x ≡ OfHost h)
@@ -136,10 +135,10 @@ leave-fares net r u k p = let cs = links_out net u Cable in let hs = links_out n
     let a = weigh-append (λ x. w x.link x.message) (send_all (Data k p) cs) (send_all (HostMsg (plain_frame p)) hs) in
     let b = sends-weigh w (Data k p) cs in let c = sends-weigh w (HostMsg (plain_frame p)) hs in
     let d : weigh (λ l. w l (Data k p)) cs ≤ weigh (λ m. enter_fare net p.dst p.hops m) cs = weigh-below (λ l. w l (Data k p)) (λ m. enter_fare net p.dst p.hops m) cs
-    (each-imp (IsOut net u Cable) (λ l. price net l (Data k p) ≤ enter_fare net p.dst p.hops l) cs (λ l o. by_cable l (cable-to net l r o.sort)) (each-out net u Cable)) in
+    (each-imp (IsOut net u Cable) (λ l. price net l (Data k p) ≤ enter_fare net p.dst p.hops l) cs (λ l o. by_cable l (cable-to net l r o.sort)) (r.ways.outs u Cable)) in
     let e : weigh (λ l. w l (HostMsg (plain_frame p))) hs ≤ length hs = weigh-ones (λ l. w l (HostMsg (plain_frame p))) hs
     (each-imp (IsOut net u ToHost) (λ l. price net l (HostMsg (plain_frame p)) ≤ 1) hs
-    (λ l o. by_host l (host-receiver (actor_of net (link_of net l).to) (subst (λ t. receives (actor_of net (link_of net l).to) t ≡ true) o.sort (r.receiver l o.is_link)))) (each-out net u ToHost)) in
+    (λ l o. by_host l (host-receiver (actor_of net (link_of net l).to) (subst (λ t. receives (actor_of net (link_of net l).to) t ≡ true) o.sort (r.receiver l o.is_link)))) (r.ways.outs u ToHost)) in
     omega (arith, a, b, c, d, e)
   where
     by_cable : (l : ℕ) → ((i : UnitId) × ((actor_of net (link_of net l).to ≡ OfUnit i) × (i.side ≡ Ingress))) → packet_to net p.dst p.hops l (actor_of net (link_of net l).to) ≤ enter_fare net p.dst p.hops l
@@ -160,15 +159,15 @@ carries net r u k l i m q t h = by_message m h
     at : actor_of net (link_of net l).to ≡ OfUnit i
     at = ap (actor_of net) t ∙ q
 
-    dev : device_of (actor_of net u) ≡ i.device
-    dev = ap device_of q
+    dev : home (actor_of net u) ≡ i.device
+    dev = ap home q
 
     of_packet : (o : Option Packet) → suc (puts_weight (price net) (route_frame net u i.device k o)) ≤ frame_in net l o
     of_packet None = omega arith
-    of_packet (Some p) = route-fares net u i.device k l p t dev
+    of_packet (Some p) = route-fares net r.ways u i.device k l p t dev
 
     data_side : (p : Packet) (s : ℕ) (side : Side) → suc (puts_weight (price net) (side_puts net u i side k l (Data s p))) ≤ packet_side net p.dst p.hops l side
-    data_side p s Ingress = route-fares net u i.device k l p t dev
+    data_side p s Ingress = route-fares net r.ways u i.device k l p t dev
     data_side p s Egress = subst (λ v. suc (puts_weight (price net) (side_puts net u i Egress k l (Data s p))) ≤ leave_fare net (λ m. enter_fare net p.dst p.hops m) v) (sym t) (leave-fares net r u k p)
 
     host_side : (b : List ℕ) (side : Side) → suc (puts_weight (price net) (side_puts net u i side k l (HostMsg b))) ≤ frame_side net l b side

@@ -13,7 +13,7 @@ use Rattle.sl_net.specs.declared.input.Packet.{Packet}
 use Rattle.sl_layout.specs.Net.{Net, link_of, link_at, links_into, choices_of, data_channels}
 use Rattle.sl_net.specs.Wired.{IsWired}
 use Rattle.sl_parts.specs.Lists.{Each}
-use Rattle.sl_parts.proofs.Lists.{each-append, each-imp, each-of, each-front, each-back, each-both-of}
+use Rattle.sl_parts.proofs.Lists.{each-append, each-at, each-imp, each-of, each-front, each-back, each-both-of}
 use Rattle.sl_model.specs.Words.{listed, first_from, first_told, or_later}
 use Rattle.sl_route.specs.Least.{least}
 use Rattle.sl_model.specs.History.{History, World, Losses, history, id, last, first, takes, stamp_of, NeverFalls}
@@ -27,7 +27,8 @@ use Rattle.sl_model.specs.Counting.{packets, bytes}
 use Rattle.sl_model.specs.Fit.{fits, fits_link, is_stamped, stamp}
 use Rattle.sl_model.specs.Late.{is_old, late}
 use Rattle.sl_model.specs.Collected.{IsKept}
-use Rattle.sl_net.proofs.Sorts.{IsChoice, each-choice, of-choice}
+use Rattle.sl_net.specs.Ways.{IsChoice}
+use Rattle.sl_net.proofs.Sorts.{each-choice, chosen}
 use Rattle.sl_model.proofs.Turns.{kept_by_run}
 use Rattle.sl_model.proofs.Ran.{ran-turn}
 use Rattle.sl_model.proofs.Stamps.{is-stamped}
@@ -91,8 +92,8 @@ lag-of net k u h r = ap (λ b. if b then Some (Id (id h)) else lag_at (first_tol
 
 -- what holds of each data channel holds of a choice that takes from one
 pub channel-at : (net : Net) (a c l : ℕ) (P : ℕ → Type 0) → Each P (data_channels net a) → slice_get (links_into net a) c ≡ Some l → ((link_of net l).sort ≡ Cable) ⊎ ((link_of net l).sort ≡ Crossbar) → P c
-channel-at net a c l P e k (inl q) = of-choice net a Cable P c l (each-front P (choices_of net a Cable) (choices_of net a Crossbar) e) k q
-channel-at net a c l P e k (inr q) = of-choice net a Crossbar P c l (each-back P (choices_of net a Cable) (choices_of net a Crossbar) e) k q
+channel-at net a c l P e k (inl q) = each-at P c (choices_of net a Cable) (each-front P (choices_of net a Cable) (choices_of net a Crossbar) e) (chosen net a Cable c l k q)
+channel-at net a c l P e k (inr q) = each-at P c (choices_of net a Crossbar) (each-back P (choices_of net a Cable) (choices_of net a Crossbar) e) (chosen net a Crossbar c l k q)
 
 -- a data channel takes from a link that carries data
 pub record IsChannel (net : Net) (a c : ℕ) : Type 0 where

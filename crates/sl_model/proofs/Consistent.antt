@@ -17,8 +17,6 @@ use Rattle.sl_model.specs.Matching.{is_data, IsDataChannel, IsConsistentCut}
 use Rattle.sl_model.specs.Fit.{is_stamped, stamp}
 use Rattle.sl_model.specs.Late.{is_old, IsLateData}
 use Rattle.sl_parts.proofs.Lists.{each-front}
-use Rattle.sl_net.proofs.Sorts.{choice-takes}
-use Rattle.sl_net.proofs.EndKinds.{data-from}
 use Rattle.sl_model.proofs.Ran.{ran}
 use Rattle.sl_model.proofs.Prefixes.{AllOld, AllNew, SplitsAt, before-first, count-first, takes-before, takes-split, puts-split, lost-split}
 
@@ -62,7 +60,7 @@ data-stamped _ d = absurd cc
 -- on a data channel what the sender's first cut(k) steps sent has stamps below k, and the rest has none
 pub sent-split : (s : Setup) (lost : Losses) (w : World) (k l : ℕ) → IsWired s.net → Ran s lost w → IsDataChannel s.net l
     → SplitsAt k (carried_by lost l (before k (sender s.net w l))) (carried s.net lost w l)
-sent-split s lost w k l n r d = let f = data-from s.net l n d.link (data-sort (link_of s.net l).sort d.data_sort) in
+sent-split s lost w k l n r d = let f = n.data_from l d.link (data-sort (link_of s.net l).sort d.data_sort) in
     lost-split k (lost l) (put l (before k (sender s.net w l))) (put l (sender s.net w l))
     (puts-split s (link_of s.net l).from l k f.0 (sender s.net w l) f.1 (data-stamped (link_of s.net l).sort d.data_sort) (r.made (link_of s.net l).from))
 
@@ -73,7 +71,7 @@ count-before c k h q = subst (λ g. length (takes c g) ≡ taken c g) (before-fi
 -- Of each link the receiver's first cut(k) steps took at most what the sender's first cut(k) steps sent.
 pub cut-link : (s : Setup) (lost : Losses) (w : World) (k l : ℕ) → IsWired s.net → Ran s lost w → IsDataChannel s.net l
     → taken_by s.net l (before k (receiver s.net w l)) ≤ length (carried_by lost l (before k (sender s.net w l)))
-cut-link s lost w k l n r d = of_parts (r.fifo (link_of s.net l).to (choice_of s.net l) l (choice-takes s.net l d.link)) (sent-split s lost w k l n r d)
+cut-link s lost w k l n r d = of_parts (r.fifo (link_of s.net l).to (choice_of s.net l) l (n.ways.taken l d.link)) (sent-split s lost w k l n r d)
   where
     of_parts : Fifo (choice_of s.net l) (receiver s.net w l) (carried s.net lost w l) → SplitsAt k (carried_by lost l (before k (sender s.net w l))) (carried s.net lost w l)
         → taken_by s.net l (before k (receiver s.net w l)) ≤ length (carried_by lost l (before k (sender s.net w l)))
@@ -98,7 +96,7 @@ always-consistent s lost es k n = cut-consistent s lost (world s lost es) k n (r
 -- The messages that cross the cut are the old ones that the receiver took outside its cut.
 pub crossing-is : (s : Setup) (lost : Losses) (w : World) (k l : ℕ) → IsWired s.net → Ran s lost w → IsDataChannel s.net l
     → crossing s.net lost w k l ≡ filter (is_old k) (takes (choice_of s.net l) (outside k (receiver s.net w l)))
-crossing-is s lost w k l n r d = of_parts (r.fifo (link_of s.net l).to (choice_of s.net l) l (choice-takes s.net l d.link)) (sent-split s lost w k l n r d)
+crossing-is s lost w k l n r d = of_parts (r.fifo (link_of s.net l).to (choice_of s.net l) l (n.ways.taken l d.link)) (sent-split s lost w k l n r d)
   where
     of_parts : Fifo (choice_of s.net l) (receiver s.net w l) (carried s.net lost w l) → SplitsAt k (carried_by lost l (before k (sender s.net w l))) (carried s.net lost w l)
         → crossing s.net lost w k l ≡ filter (is_old k) (takes (choice_of s.net l) (outside k (receiver s.net w l)))

@@ -21,7 +21,7 @@ use Rattle.sl_model.specs.declared.message.Put.{Put}
 use Rattle.sl_model.specs.declared.message.Step.{Step}
 use Rattle.sl_model.specs.Flight.{puts_weight}
 use Rattle.sl_model.specs.Potential.{again_credit, allowance, credit, goes_on, init_price, is_cable, price}
-use Rattle.sl_net.proofs.Sorts.{is-into}
+use Rattle.sl_net.specs.Ways.{HasWays}
 use Rattle.sl_model.proofs.Floors.{within}
 use Rattle.sl_model.proofs.Carries.{frame-pays, packet-pays}
 use Rattle.sl_model.proofs.Idle.{guard-holds, none-past}
@@ -213,8 +213,8 @@ sweep-pays net a c h = let ps = flat_map (λ v. poll_puts v h) (served net a) in
     threes [] = refl
     threes (v ∷ vs) = omega (arith, threes vs)
 
-pub control-pays : (s : Setup) (lost : Losses) → IsPriced s.net → (w : World) (a d : ℕ) → actor_of s.net a ≡ Control d → (c : ℕ) (step : Step) → StepOf s lost w a c step → Pays s lost w a c step (allowance s.net a (Control d) c)
-control-pays s lost p w a d q c step n = by_case (step-cases s lost w a c step n)
+pub control-pays : (s : Setup) → HasWays s.net → (lost : Losses) → IsPriced s.net → (w : World) (a d : ℕ) → actor_of s.net a ≡ Control d → (c : ℕ) (step : Step) → StepOf s lost w a c step → Pays s lost w a c step (allowance s.net a (Control d) c)
+control-pays s ways lost p w a d q c step n = by_case (step-cases s lost w a c step n)
   where
     h : History
     h = history w a
@@ -234,7 +234,7 @@ control-pays s lost p w a d q c step n = by_case (step-cases s lost w a c step n
     by_action (suc i) ps k = absurd cc
 
     by_case : TakesBy s lost w a c step ⊎ ActsBy s w a c step → Pays s lost w a c step (allowance s.net a (Control d) c)
-    by_case (inl t) = let l = t.link in let m = t.message in let x = is-into s.net a c l t.at in
+    by_case (inl t) = let l = t.link in let m = t.message in let x = ways.into a c l t.at in
         let e : step ≡ taking c m (control_puts s.net a h c m) = t.is ∙ ap (λ b. taking c m (puts_of s a b h c l m)) q in
         let lt : c < action_choice s.net a = slice_get_within (links_into s.net a) c l t.at in
         let k = control-take s.net p a c l m h x.to in

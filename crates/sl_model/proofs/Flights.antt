@@ -12,7 +12,8 @@ use Rattle.sl_model.specs.declared.message.Message.{Message}
 use Rattle.sl_model.specs.declared.message.Put.{Put}
 use Rattle.sl_model.specs.declared.message.Step.{Step}
 use Rattle.sl_model.specs.Flight.{Weight, flight, puts_weight}
-use Rattle.sl_model.proofs.Turns.{GrowsAt, taken-other}
+use Rattle.sl_model.specs.Turns.{GrowsAt}
+use Rattle.sl_model.proofs.Turns.{taken-other}
 use Rattle.sl_model.proofs.Sums.{weigh-at-most, weigh-once, weigh-plus}
 
 weigh-lost : (f : Message → ℕ) (lost : ℕ → Bool) (n : ℕ) (xs : List Message) → weigh f (without_lost lost n xs) ≤ weigh f xs

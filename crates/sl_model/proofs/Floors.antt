@@ -23,11 +23,12 @@ use Rattle.sl_model.specs.Knowledge.{observer, known, issued, upto_of, floor_of,
 use Rattle.sl_model.specs.World.{Entry, start, turn, run, floor_for}
 use Rattle.sl_model.specs.Made.{Ran}
 use Rattle.sl_model.specs.Fit.{is_stamped}
-use Rattle.sl_net.proofs.Sorts.{IsChoice, each-choice}
-use Rattle.sl_model.proofs.Turns.{kept_by_run, GrowsAt, Steps, turn-cases, taken-step, taken-falls, taken-other, start-empty}
-use Rattle.sl_model.proofs.Ran.{Takes, Acts, next-view, ran, ran-turn}
+use Rattle.sl_net.specs.Ways.{IsChoice}
+use Rattle.sl_model.specs.Turns.{GrowsAt, Extends, Takes, Acts, Begins}
+use Rattle.sl_model.proofs.Turns.{kept_by_run, Steps, turn-cases, taken-step, taken-falls, taken-other, start-empty}
+use Rattle.sl_model.proofs.Ran.{next-view, ran, ran-turn}
 use Rattle.sl_model.proofs.Numbers.{never-falls, first-grown, grown-le}
-use Rattle.sl_model.proofs.Said.{Begins, observer-acts}
+use Rattle.sl_model.proofs.Said.{observer-acts}
 use Rattle.sl_model.proofs.Stamps.{id-falls, acted-by}
 use Rattle.sl_model.proofs.Begins.{last-never-falls}
 use Rattle.sl_model.proofs.Reported.{knows}
@@ -49,7 +50,7 @@ falls-least g cs (s ∷ h) n e = (
 
 choice-falls : (s : Setup) (lost : Losses) (w : World) (a : ℕ) (t : Sort) → IsWired s.net → Ran s lost w → IsTrue (is_stamped t) → Each (λ c. NeverFalls (last c) (history w a)) (choices_of s.net a t)
 choice-falls s lost w a t n r i = each-imp (IsChoice s.net a t) (λ c. NeverFalls (last c) (history w a)) (choices_of s.net a t)
-    (λ c p. last-never-falls s lost w a c (link_at s.net a c) n r p.into (subst (λ x. IsTrue (is_stamped x)) (sym p.sort) i)) (each-choice s.net a t)
+    (λ c p. last-never-falls s lost w a c (link_at s.net a c) n r p.into (subst (λ x. IsTrue (is_stamped x)) (sym p.sort) i)) (n.ways.choices a t)
 
 pub upto-falls : (s : Setup) (lost : Losses) (w : World) (a : ℕ) → IsWired s.net → Ran s lost w → NeverFalls (upto_of s.net a) (history w a)
 upto-falls s lost w a n r = falls-least id (data_channels s.net a) (history w a) (id-falls (history w a))
@@ -59,10 +60,6 @@ pub floor-of-falls : (s : Setup) (lost : Losses) (w : World) (a : ℕ) → IsWir
 floor-of-falls s lost w a n r = falls-least (upto_of s.net a) (choices_of s.net a Init) (history w a) (upto-falls s lost w a n r) (choice-falls s lost w a Init n r refl)
 
 -- F never falls.
-
--- no history of v is shorter
-pub record Extends (w v : World) (u : ℕ) : Type 0 where
-  pub steps : (n : ℕ) → n ≤ length (history w u) → first n (history v u) ≡ first n (history w u)
 
 pub extends-grown : (w v : World) (a : ℕ) (step : Step) (u : ℕ) → GrowsAt w v a step → Extends w v u
 extends-grown w v a step u g = by_actor (eqb_tells u a)

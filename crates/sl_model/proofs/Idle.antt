@@ -20,7 +20,6 @@ use Rattle.sl_model.specs.World.{Entry, acting, carried, floor_for, front, kept_
 use Rattle.sl_model.specs.declared.message.Message.TheVariants.{Host as HostMsg}
 use Rattle.sl_model.specs.declared.message.Put.{Put}
 use Rattle.sl_model.specs.declared.message.Step.{Step}
-use Rattle.sl_net.proofs.Sorts.{choice-takes}
 use Rattle.sl_model.proofs.NetWiring.{Wiring}
 use Rattle.sl_model.proofs.Reach.{ActsBy, Reached, StepOf, TakesBy, counted-below, ran-reached, step-cases}
 
@@ -145,7 +144,7 @@ settled-by-pass s lost g w r k = record { taken_all = all_taken; sent_all = all_
 
     all_taken : AllTaken s.net lost w
     all_taken l h = let a = (link_of s.net l).to in let c = choice_of s.net l in
-        let f : slice_get (links_into s.net a) c ≡ Some l = choice-takes s.net l h in
+        let f : slice_get (links_into s.net a) c ≡ Some l = g.wired.ways.taken l h in
         let i : IsIdle s lost w (a, c) = idle (a, c) (link-in-pass s.net a c (g.to_actor l h) (slice_get_within (links_into s.net a) c l f)) in
         let n = next-of s lost w a c (actor_of s.net a) (there s.net a (g.to_actor l h)) ∙ ap (λ o. step_by s lost w a c o (actor_of s.net a)) f in
         let e : front s.net lost w a c l ≡ None = none-of-idle (λ m. taking c m (puts_of s a (actor_of s.net a) (history w a) c l m)) (front s.net lost w a c l) (subst (λ o. is_some o ≡ false) n i) in

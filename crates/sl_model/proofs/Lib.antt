@@ -1,3 +1,6 @@
+-- Crates above use, where no law says so much: of lists and sums Entries (map-each, calls), Late and Settled (places), Weighed and
+-- Sizes (sl_image, sl_proto, sl_cut, sl_replay); of schedules in parts Turns, Trails, Steps and Finished (sl_proto, sl_replay); of a
+-- unit's data channels Collected, Settled and Totals, and of the puts to one unit Polls (sl_image); the worked nets, Nets (sl_report).
 -- Worlds, schedules and histories.
 pub mod Steps
 pub mod Turns
@@ -38,6 +41,8 @@ pub mod Polls
 pub mod Accounts
 -- Finishing, and the bound on turns.
 pub mod Reach
+pub mod TakesTurns
+pub mod Passing
 pub mod NetWiring
 pub mod Idle
 pub mod Told

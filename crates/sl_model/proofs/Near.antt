@@ -21,9 +21,8 @@ use Rattle.sl_model.specs.Made.{Fifo, Ran}
 use Rattle.sl_model.specs.Matching.{IsDataChannel}
 use Rattle.sl_model.specs.Fit.{is_stamped, stamp}
 use Rattle.sl_model.specs.Window.{on_way, begun, known_counts, after_steps, IsFollowed, KnowsInOrder, StampsRise, IsBelow, IsInWindow, IsNear}
-use Rattle.sl_net.proofs.Sorts.{IsOut, each-out, of-choice, choice-takes, choice-is, into-to}
-use Rattle.sl_net.proofs.EndKinds.{data-from, init-from, begin-from, poll-to}
-use Rattle.sl_net.proofs.ReportWays.{unit-listed, choice-from-is}
+use Rattle.sl_net.specs.Ways.{IsOut, HasWays}
+use Rattle.sl_net.proofs.Sorts.{chosen, choice-is, is-into}
 use Rattle.sl_model.proofs.Numbers.{rises-le, rises-append, falls-first, never-falls}
 use Rattle.sl_model.proofs.Stamps.{each-lost, id-falls, unit-link}
 use Rattle.sl_model.proofs.Begins.{begin-link, init-link, last-never-falls}
@@ -44,13 +43,13 @@ rest-is c h ms f = ap (λ n. drop n ms) (sym f.count) ∙ ap (drop (length (take
 
 pub on-way-is : (net : Net) (lost : Losses) (w : World) (a c l : ℕ) → slice_get (links_into net a) c ≡ Some l → (f : Fifo c (history w a) (carried net lost w l)) → on_way net lost w l ≡ f.rest
 on-way-is net lost w a c l k f = ap (λ n. drop (taken n (history w (link_of net l).to)) (carried net lost w l)) (choice-is net a c l k)
-    ∙ ap (λ b. drop (taken c (history w b)) (carried net lost w l)) (into-to net a c l k) ∙ rest-is c (history w a) (carried net lost w l) f
+    ∙ ap (λ b. drop (taken c (history w b)) (carried net lost w l)) (is-into net a c l k).to ∙ rest-is c (history w a) (carried net lost w l) f
 
 -- Units.
 
 -- what holds of each unit holds of this one
-pub of-unit : (net : Net) (u : ℕ) (i : UnitId) (P : ℕ → Type 0) → Each P (units net) → actor_of net u ≡ OfUnit i → P u
-of-unit net u i P e q = each-at P u (units net) e (unit-listed net u i q)
+pub of-unit : (net : Net) → HasWays net → (u : ℕ) (i : UnitId) (P : ℕ → Type 0) → Each P (units net) → actor_of net u ≡ OfUnit i → P u
+of-unit net ways u i P e q = each-at P u (units net) e (ways.unit u i q)
 
 -- The least is at most each.
 
@@ -85,19 +84,19 @@ floor-last net u c l h k i = by_sort (link_of net l).sort refl i
     channels = least-each (λ c. last c h) (data_channels net u) (id h)
 
     by_sort : (t : Sort) → (link_of net l).sort ≡ t → IsTrue (is_stamped t) → floor_of net u h ≤ last c h
-    by_sort Cable q i = of_upto c (of-choice net u Cable (λ c. upto_of net u h ≤ last c h) c l (each-front (λ c. upto_of net u h ≤ last c h) (choices_of net u Cable) (choices_of net u Crossbar) channels) k q)
-    by_sort Crossbar q i = of_upto c (of-choice net u Crossbar (λ c. upto_of net u h ≤ last c h) c l (each-back (λ c. upto_of net u h ≤ last c h) (choices_of net u Cable) (choices_of net u Crossbar) channels) k q)
-    by_sort Init q i = of-choice net u Init (λ c. floor_of net u h ≤ last c h) c l (least-each (λ c. last c h) (choices_of net u Init) (upto_of net u h)) k q
+    by_sort Cable q i = of_upto c (each-at (λ c. upto_of net u h ≤ last c h) c (choices_of net u Cable) (each-front (λ c. upto_of net u h ≤ last c h) (choices_of net u Cable) (choices_of net u Crossbar) channels) (chosen net u Cable c l k q))
+    by_sort Crossbar q i = of_upto c (each-at (λ c. upto_of net u h ≤ last c h) c (choices_of net u Crossbar) (each-back (λ c. upto_of net u h ≤ last c h) (choices_of net u Cable) (choices_of net u Crossbar) channels) (chosen net u Crossbar c l k q))
+    by_sort Init q i = each-at (λ c. floor_of net u h ≤ last c h) c (choices_of net u Init) (least-each (λ c. last c h) (choices_of net u Init) (upto_of net u h)) (chosen net u Init c l k q)
     by_sort _ q i = absurd cc
 
 pub floor-id : (net : Net) (u : ℕ) (h : History) → floor_of net u h ≤ id h
 floor-id net u h = omega (arith, least-start (map (λ c. last c h) (choices_of net u Init)) (upto_of net u h), least-start (map (λ c. last c h) (data_channels net u)) (id h))
 
-pub floor-unit : (net : Net) (w : World) (u : ℕ) (i : UnitId) → actor_of net u ≡ OfUnit i → floor net w ≤ unit_floor net w u
-floor-unit net w u i q = of-unit net u i (λ u. floor net w ≤ unit_floor net w u) (each-least (unit_floor net w) (units net) (issued net (observer w)) None) q
+pub floor-unit : (net : Net) → HasWays net → (w : World) (u : ℕ) (i : UnitId) → actor_of net u ≡ OfUnit i → floor net w ≤ unit_floor net w u
+floor-unit net ways w u i q = of-unit net ways u i (λ u. floor net w ≤ unit_floor net w u) (each-least (unit_floor net w) (units net) (issued net (observer w)) None) q
 
 pub floor-now : (s : Setup) (lost : Losses) (w : World) (u : ℕ) (i : UnitId) → IsWired s.net → Ran s lost w → actor_of s.net u ≡ OfUnit i → floor s.net w ≤ floor_of s.net u (history w u)
-floor-now s lost w u i n r q = let x : floor s.net w ≤ unit_floor s.net w u = floor-unit s.net w u i q in
+floor-now s lost w u i n r q = let x : floor s.net w ≤ unit_floor s.net w u = floor-unit s.net n.ways w u i q in
     let y : unit_floor s.net w u ≤ floor_of s.net u (history w u) = falls-first (floor_of s.net u) (known (unit_place s.net u) (observer w)) (history w u) (floor-of-falls s lost w u n r) in omega (arith, x, y)
 
 -- What is known of a number of a unit that never falls, by the counts of steps that are known.
@@ -134,11 +133,11 @@ followed s lost w u p g c f low = (
 
 known-in-order : (s : Setup) (lost : Losses) (w : World) (u : ℕ) (i : UnitId) → IsWired s.net → Ran s lost w → actor_of s.net u ≡ OfUnit i → (p : Reports s.net u) → KnowsInOrder s.net lost w u p
 known-in-order s lost w u i n r q p = let c = counts-rise s lost w u i n r q p in
-    let low : floor s.net w ≤ unit_floor s.net w u = floor-unit s.net w u i q in
+    let low : floor s.net w ≤ unit_floor s.net w u = floor-unit s.net n.ways w u i q in
     record {
       counts = c;
       ids = followed s lost w u p id c (id-falls (history w u)) (omega (arith, low, floor-id s.net u (first (known (unit_place s.net u) (observer w)) (history w u))));
-      lasts = λ l b t to. let k : slice_get (links_into s.net u) (choice_of s.net l) ≡ Some l = subst (λ a. slice_get (links_into s.net a) (choice_of s.net l) ≡ Some l) to (choice-takes s.net l b) in
+      lasts = λ l b t to. let k : slice_get (links_into s.net u) (choice_of s.net l) ≡ Some l = subst (λ a. slice_get (links_into s.net a) (choice_of s.net l) ≡ Some l) to (n.ways.taken l b) in
           followed s lost w u p (last (choice_of s.net l)) c (last-never-falls s lost w u (choice_of s.net l) l n r k t)
           (omega (arith, low, floor-last s.net u (choice_of s.net l) l (first (known (unit_place s.net u) (observer w)) (history w u)) k t));
     }
@@ -146,21 +145,21 @@ known-in-order s lost w u i n r q p = let c = counts-rise s lost w u i n r q p i
 -- Links.
 
 data-stamps : (s : Setup) (lost : Losses) (w : World) (l : ℕ) → IsWired s.net → Ran s lost w → IsDataChannel s.net l → StampsRise s.net lost w l (id (sender s.net w l))
-data-stamps s lost w l n r d = let k = choice-takes s.net l d.link in let x = data-from s.net l n d.link (data-sort (link_of s.net l).sort d.data_sort) in
+data-stamps s lost w l n r d = let k = n.ways.taken l d.link in let x = n.data_from l d.link (data-sort (link_of s.net l).sort d.data_sort) in
     subst (λ ms. Rises (last (choice_of s.net l) (receiver s.net w l)) (numbers stamp_of ms) (id (sender s.net w l))) (sym (on-way-is s.net lost w (link_of s.net l).to (choice_of s.net l) l k (r.fifo (link_of s.net l).to (choice_of s.net l) l k)))
     (unit-link s lost w (link_of s.net l).to (choice_of s.net l) l x.0 r k x.1).rises
 
 init-stamps : (s : Setup) (lost : Losses) (w : World) (l : ℕ) → IsWired s.net → Ran s lost w → l < length s.net.links → (link_of s.net l).sort ≡ Init → StampsRise s.net lost w l (begun (sender s.net w l))
-init-stamps s lost w l n r p q = let k = choice-takes s.net l p in let x = init-from s.net l n p q in
+init-stamps s lost w l n r p q = let k = n.ways.taken l p in let x = n.init_from l p q in
     subst (λ ms. Rises (last (choice_of s.net l) (receiver s.net w l)) (numbers stamp_of ms) (begun (sender s.net w l))) (sym (on-way-is s.net lost w (link_of s.net l).to (choice_of s.net l) l k (r.fifo (link_of s.net l).to (choice_of s.net l) l k)))
     (init-link s lost w (link_of s.net l).to (choice_of s.net l) l x.0 n r k x.1).rises
 
 begins-rise : (s : Setup) (lost : Losses) (w : World) (l : ℕ) → IsWired s.net → Ran s lost w → l < length s.net.links → (link_of s.net l).sort ≡ Begin
     → Rises (begun (receiver s.net w l)) (numbers begin_of (on_way s.net lost w l)) (issued s.net (observer w))
-begins-rise s lost w l n r p q = let k = choice-takes s.net l p in
+begins-rise s lost w l n r p q = let k = n.ways.taken l p in
     subst (λ ms. Rises (begun (receiver s.net w l)) (numbers begin_of ms) (issued s.net (observer w))) (sym (on-way-is s.net lost w (link_of s.net l).to (choice_of s.net l) l k (r.fifo (link_of s.net l).to (choice_of s.net l) l k)))
     (subst (λ c. Rises (heard begin_of c (receiver s.net w l)) (numbers begin_of (r.fifo (link_of s.net l).to (choice_of s.net l) l k).rest) (issued s.net (observer w))) (n.begin_first (link_of s.net l).to (choice_of s.net l) l k q)
-    (begin-link s lost w (link_of s.net l).to (choice_of s.net l) l n r k (begin-from s.net l n p q)).rises)
+    (begin-link s lost w (link_of s.net l).to (choice_of s.net l) l n r k (n.begin_from l p q)).rises)
 
 -- The window law.
 
@@ -188,7 +187,7 @@ near s lost w u l i n r x q p to t = record {
 }
   where
     k : slice_get (links_into s.net u) (choice_of s.net l) ≡ Some l
-    k = subst (λ a. slice_get (links_into s.net a) (choice_of s.net l) ≡ Some l) to (choice-takes s.net l p)
+    k = subst (λ a. slice_get (links_into s.net a) (choice_of s.net l) ≡ Some l) to (n.ways.taken l p)
 
     low : issued s.net (observer w) ≤ last (choice_of s.net l) (history w u) + s.window
     low = omega (arith, x.within, floor-now s lost w u i n r q, floor-last s.net u (choice_of s.net l) l (history w u) k t)
@@ -200,7 +199,7 @@ floor-told : (s : Setup) (lost : Losses) (w : World) (u : ℕ) (i : UnitId) → 
 floor-told s lost w u i n r q p = of_knows (knows s lost w u i n r p q)
   where
     of_knows : Knows s lost w u r p → floor s.net w ≤ upto_of s.net u (first (dumped (choice_of s.net p.dump) (history w p.control)) (history w u))
-    of_knows k = let a : floor s.net w ≤ unit_floor s.net w u = floor-unit s.net w u i q in
+    of_knows k = let a : floor s.net w ≤ unit_floor s.net w u = floor-unit s.net n.ways w u i q in
         let b : unit_floor s.net w u ≤ upto_of s.net u (first (known (unit_place s.net u) (observer w)) (history w u)) =
         least-start (map (λ c. last c (first (known (unit_place s.net u) (observer w)) (history w u))) (choices_of s.net u Init)) (upto_of s.net u (first (known (unit_place s.net u) (observer w)) (history w u))) in
         let c : known (unit_place s.net u) (observer w) ≤ dumped (choice_of s.net p.dump) (history w p.control) =
@@ -213,7 +212,7 @@ pub uncollected-near : (s : Setup) (lost : Losses) (w : World) (a : ℕ) → IsW
     → Each (λ v. (k : ℕ) → upto_of s.net v.unit (told_of (history w) v (history w a)) < k → id (history w v.unit) < k + s.window) (served s.net a)
 uncollected-near s lost w a n r x = each-map (λ v. (k : ℕ) → upto_of s.net v.unit (told_of (history w) v (history w a)) < k → id (history w v.unit) < k + s.window) (serving s.net a) (links_out s.net a Poll)
     (each-imp (IsOut s.net a Poll) (λ l. (k : ℕ) → upto_of s.net (link_of s.net l).to (told_of (history w) (serving s.net a l) (history w a)) < k → id (history w (link_of s.net l).to) < k + s.window) (links_out s.net a Poll)
-    (λ l o. of_unit l o (poll-to s.net l n o.is_link o.sort)) (each-out s.net a Poll))
+    (λ l o. of_unit l o (n.poll_to l o.is_link o.sort)) (n.ways.outs a Poll))
   where
     of_unit : (l : ℕ) → IsOut s.net a Poll l → ((i : UnitId) × (actor_of s.net (link_of s.net l).to ≡ OfUnit i)) → (k : ℕ) → upto_of s.net (link_of s.net l).to (told_of (history w) (serving s.net a l) (history w a)) < k
         → id (history w (link_of s.net l).to) < k + s.window
@@ -223,7 +222,7 @@ uncollected-near s lost w a n r x = each-map (λ v. (k : ℕ) → upto_of s.net 
         of_reports p = let u = (link_of s.net l).to in
             let c : a ≡ p.control = sym o.from ∙ ap (λ l. (link_of s.net l).from) (p.polled l refl o.sort) ∙ p.poll_from in
             let d : dumped (choice_from s.net a u Dump) (history w a) ≡ dumped (choice_of s.net p.dump) (history w p.control) =
-            ap (λ b. dumped (choice_from s.net b u Dump) (history w b)) c ∙ ap (λ e. dumped e (history w p.control)) (choice-from-is s.net p.control u Dump p.dump p.dumps p.dump_to) in
+            ap (λ b. dumped (choice_from s.net b u Dump) (history w b)) c ∙ ap (λ e. dumped e (history w p.control)) (p.dump_choice) in
             let f : floor s.net w ≤ upto_of s.net u (first (dumped (choice_from s.net a u Dump) (history w a)) (history w u)) =
             subst (λ m. floor s.net w ≤ upto_of s.net u (first m (history w u))) (sym d) (floor-told s lost w u i.0 n r i.1 p) in
             omega (arith, f, q, x.ids u, x.within)

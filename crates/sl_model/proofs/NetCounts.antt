@@ -1,9 +1,8 @@
 -- How many there are: channels, frames, links and units of a net of parts without a fault.
 use Rattle.std.proofs.Common.{◌+◌, ◌<◌, ◌==◌, List, ap, eq-eqb, get_or, length, length-append, refl, subst, suc, sym, ℕ, ◌∙◌, ◌∷◌, ◌≡◌, ◌≤◌, arith, []}
 use Rattle.std.specs.Prelude.{Bool, cond, false, filter, map, true, if◌then◌else◌}
-use Rattle.sl_layout.specs.Net.{Net, actor_of, actors_of, choices_of, data_channels, hosts, is_host, link_numbers, link_of, links_into, net_of, nobody, place_of, same_sort}
+use Rattle.sl_layout.specs.Net.{Net, actor_of, actors_of, choices_of, data_channels, hosts, is_host, link_numbers, link_of, links_into, net_of, place_of, same_sort}
 use Rattle.sl_parts.specs.Parts.{Parts, below}
-use Rattle.sl_layout.specs.Roster.{IsActor}
 use Rattle.sl_net.specs.Wired.{IsNet, IsWired}
 use Rattle.sl_layout.specs.declared.actor.ActorId.{ActorId}
 use Rattle.sl_layout.specs.declared.actor.ActorId.TheVariants.{Control, Observer, Host as OfHost, Unit as OfUnit}
@@ -15,9 +14,8 @@ use Rattle.sl_flow.specs.Flow.{flow_packets, packet_in, packets_of}
 use Rattle.sl_model.specs.Frame.{plain_frame}
 use Rattle.sl_model.specs.Setup.{Setup, frames_of}
 use Rattle.sl_model.specs.Words.{weigh}
-use Rattle.sl_layout.proofs.Actors.{each-actor, place-at}
 use Rattle.sl_parts.specs.Lists.{Member}
-use Rattle.sl_parts.proofs.Lists.{filter-map, numbers-suc, length_numbers, each-passes, distinct-filter, distinct-from, each-at, each-below, each-index, kept-member}
+use Rattle.sl_parts.proofs.Lists.{filter-map, numbers-suc, length_numbers, each-passes, distinct-filter, distinct-from, each-at, each-below, kept-member}
 use Rattle.std.proofs.lemmas.List.{length-map}
 use Rattle.sl_model.proofs.Distance.{all_channels, all_frames, channels_of, frames_at, observer_of, observers}
 use Rattle.sl_model.proofs.Priced.{once}
@@ -25,13 +23,9 @@ use Rattle.sl_model.proofs.Sums.{tally-is, weigh-at-most, weigh-filtered, weigh-
 
 -- Actors.
 
--- an actor of the net is one of the parts
-pub is-actor : (parts : Parts) (a : ℕ) → a < length (actors_of parts) → IsActor parts (actor_of (net_of parts) a)
-is-actor parts a h = each-index (IsActor parts) (actors_of parts) a nobody (each-actor parts) h
-
 -- two numbers of one actor are one
-pub one-number : (parts : Parts) (a b : ℕ) → a < length (actors_of parts) → b < length (actors_of parts) → actor_of (net_of parts) a ≡ actor_of (net_of parts) b → a ≡ b
-one-number parts a b h k q = sym (place-at parts a h) ∙ ap (λ x. place_of x (actors_of parts)) q ∙ place-at parts b k
+pub one-number : (parts : Parts) → IsWired (net_of parts) → (a b : ℕ) → a < length (actors_of parts) → b < length (actors_of parts) → actor_of (net_of parts) a ≡ actor_of (net_of parts) b → a ≡ b
+one-number parts w a b h k q = sym (w.place a h) ∙ ap (λ x. place_of x (actors_of parts)) q ∙ w.place b k
 
 pub in-below : (a n : ℕ) → Member a (below n) → a < n
 in-below a n m = each-at (λ x. x < n) a (below n) (each-below (λ x. x < n) n (λ x h. h)) m
@@ -142,13 +136,13 @@ host-is Observer q = absurd cc
 host-is (Control d) q = absurd cc
 host-is (OfUnit i) q = absurd cc
 
-one-host-number : (parts : Parts) (a b : ℕ) → Member a (hosts (net_of parts)) → Member b (hosts (net_of parts)) → host_of (actor_of (net_of parts) a) ≡ host_of (actor_of (net_of parts) b) → a ≡ b
-one-host-number parts a b p q e = let x = in-filter (λ a. is_host (actor_of (net_of parts) a)) a (below (length (actors_of parts))) p in let y = in-filter (λ a. is_host (actor_of (net_of parts) a)) b (below (length (actors_of parts))) q in
-    one-number parts a b (in-below a (length (actors_of parts)) x.0) (in-below b (length (actors_of parts)) y.0)
+one-host-number : (parts : Parts) → IsWired (net_of parts) → (a b : ℕ) → Member a (hosts (net_of parts)) → Member b (hosts (net_of parts)) → host_of (actor_of (net_of parts) a) ≡ host_of (actor_of (net_of parts) b) → a ≡ b
+one-host-number parts w a b p q e = let x = in-filter (λ a. is_host (actor_of (net_of parts) a)) a (below (length (actors_of parts))) p in let y = in-filter (λ a. is_host (actor_of (net_of parts) a)) b (below (length (actors_of parts))) q in
+    one-number parts w a b (in-below a (length (actors_of parts)) x.0) (in-below b (length (actors_of parts)) y.0)
     (host-is (actor_of (net_of parts) a) x.1 ∙ ap OfHost e ∙ sym (host-is (actor_of (net_of parts) b) y.1))
 
-pub frames-few : (s : Setup) → IsNet s.net → all_frames s ≤ frame_count s
-frames-few s n = omega (
+pub frames-few : (s : Setup) → IsNet s.net → IsWired s.net → all_frames s ≤ frame_count s
+frames-few s n w = omega (
   arith,
   at_hosts (below (length s.net.actors)),
   weigh-same-each (λ a. length (frames_of s (host_of (actor_of s.net a)))) (λ a. weigh (λ f. if f.from == host_of (actor_of s.net a) then f.count else 0) s.flows + weigh (λ r. if r.from == host_of (actor_of s.net a) then 1 else 0) s.raws) (hosts s.net)
@@ -160,7 +154,7 @@ frames-few s n = omega (
 )
   where
     one : (a b : ℕ) → Member a (hosts s.net) → Member b (hosts s.net) → host_of (actor_of s.net a) ≡ host_of (actor_of s.net b) → a ≡ b
-    one = subst (λ g. (a b : ℕ) → Member a (hosts g) → Member b (hosts g) → host_of (actor_of g a) ≡ host_of (actor_of g b) → a ≡ b) (sym n.made) (one-host-number s.net.parts)
+    one = subst (λ g. IsWired g → (a b : ℕ) → Member a (hosts g) → Member b (hosts g) → host_of (actor_of g a) ≡ host_of (actor_of g b) → a ≡ b) (sym n.made) (one-host-number s.net.parts) w
 
     at_hosts : (ks : List ℕ) → weigh (λ a. frames_at s (actor_of s.net a)) ks ≤ weigh (λ a. length (frames_of s (host_of (actor_of s.net a)))) (filter (λ a. is_host (actor_of s.net a)) ks)
     at_hosts [] = omega arith

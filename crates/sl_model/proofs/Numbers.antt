@@ -10,10 +10,10 @@ use Rattle.sl_model.specs.declared.message.Message.{Message}
 use Rattle.sl_model.specs.declared.message.Put.{Put}
 use Rattle.std.proofs.lemmas.Bool.Decides.{eqb_tells}
 use Rattle.sl_parts.specs.Lists.{Each}
-use Rattle.sl_model.specs.Words.{Rises, listed, numbers}
+use Rattle.sl_model.specs.Words.{Rises, listed, numbers, last_of}
 use Rattle.sl_model.specs.History.{History, World, history, heard, NeverFalls, takes, put, on_link, without_lost, first}
 use Rattle.sl_model.specs.Made.{Fifo}
-use Rattle.sl_model.proofs.Turns.{GrowsAt}
+use Rattle.sl_model.specs.Turns.{GrowsAt}
 
 -- the number, if there is one, is k
 abbrev pub Says : ℕ → Option ℕ → Type 0
@@ -37,10 +37,6 @@ rises-from m n (x ∷ xs) b l h = (omega arith, h.1)
 pub rises-append : (a : ℕ) (xs : List ℕ) (b : ℕ) (ys : List ℕ) (c : ℕ) → Rises a xs b → Rises b ys c → Rises a (xs ++ ys) c
 rises-append a [] b ys c h k = rises-from a b ys c h k
 rises-append a (x ∷ xs) b ys c h k = (h.0, rises-append x xs b ys c h.1 k)
-
-abbrev pub last_of : ℕ → List ℕ → ℕ
-last_of n [] = n
-last_of n (x ∷ xs) = last_of x xs
 
 last-append : (n : ℕ) (xs ys : List ℕ) → last_of n (xs ++ ys) ≡ last_of (last_of n xs) ys
 last-append n [] ys = refl

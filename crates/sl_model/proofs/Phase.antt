@@ -30,7 +30,7 @@ use Rattle.sl_model.specs.declared.message.Message.TheVariants.{Begin as BeginMs
 use Rattle.sl_model.specs.declared.message.Put.{Put}
 use Rattle.sl_model.specs.declared.message.Step.{Step}
 use Rattle.sl_model.specs.Flight.{Weight, flight, puts_weight}
-use Rattle.sl_net.proofs.Sorts.{choice-is, is-into}
+use Rattle.sl_net.specs.Ways.{HasWays}
 use Rattle.sl_model.proofs.Stamps.{each-lost, put-fits}
 use Rattle.sl_model.proofs.Turns.{Steps, taken-other, taken-this, turn-cases}
 use Rattle.sl_model.proofs.Flights.{flight-step}
@@ -138,10 +138,10 @@ front-zero f (x ∷ xs) (suc n) m h g = front-zero f xs n m h g
 pub in-links : (net : Net) (l : ℕ) → l < length net.links → Member l (link_numbers net)
 in-links net l h = member-from l 0 (length net.links) (omega arith) (omega (arith, h))
 
-taken-quiet : (s : Setup) (lost : Losses) (w : World) (a c : ℕ) (step : Step) → flight loud s.net lost w ≡ 0 → (t : TakesBy s lost w a c step) → loudness t.message ≡ 0
-taken-quiet s lost w a c step h t = let i = is-into s.net a c t.link t.at in
+taken-quiet : (s : Setup) → HasWays s.net → (lost : Losses) (w : World) (a c : ℕ) (step : Step) → flight loud s.net lost w ≡ 0 → (t : TakesBy s lost w a c step) → loudness t.message ≡ 0
+taken-quiet s ways lost w a c step h t = let i = ways.into a c t.link t.at in
     let z : weigh loudness (on_way s.net lost w t.link) ≡ 0 = weigh-zero (λ l. weigh (loud l) (on_way s.net lost w l)) (link_numbers s.net) t.link h (in-links s.net t.link i.is_link) in
-    let z' : weigh loudness (drop (taken c (history w a)) (carried s.net lost w t.link)) ≡ 0 = subst (λ d. weigh loudness (drop (taken d (history w a)) (carried s.net lost w t.link)) ≡ 0) (choice-is s.net a c t.link t.at)
+    let z' : weigh loudness (drop (taken c (history w a)) (carried s.net lost w t.link)) ≡ 0 = subst (λ d. weigh loudness (drop (taken d (history w a)) (carried s.net lost w t.link)) ≡ 0) (ways.choice a c t.link t.at)
     (subst (λ b. weigh loudness (drop (taken (choice_of s.net t.link) (history w b)) (carried s.net lost w t.link)) ≡ 0) i.to z) in
     front-zero loudness (carried s.net lost w t.link) (taken c (history w a)) t.message z' t.in_front
 
@@ -210,9 +210,9 @@ polled-step s lost g w1 w v e r t z u i q k = history-keeps s lost u (λ h. (h �
       where
         by_case : TakesBy s lost w u c step ⊎ ActsBy s w u c step → ((step ∷ history w u) ≡ history w1 u) ⊎ (polled_now (step ∷ history w u) ≡ true)
         by_case (inr x) = absurd (no-action s w u i c step q x)
-        by_case (inl x) = let l = is-into s.net u c x.link x.at in
+        by_case (inl x) = let l = g.wired.ways.into u c x.link x.at in
             let rc : unit_receives i.side (link_of s.net x.link).sort ≡ true = subst (λ a. receives a (link_of s.net x.link).sort ≡ true) (ap (actor_of s.net) l.to ∙ q) (g.wired.receiver x.link l.is_link) in
-            let o = quiet-poll i.side (link_of s.net x.link).sort x.message (taken-quiet s lost w u c step z x) (takes-fit s lost w u c step (ran-reached s lost w r) x) rc in
+            let o = quiet-poll i.side (link_of s.net x.link).sort x.message (taken-quiet s g.wired.ways lost w u c step z x) (takes-fit s lost w u c step (ran-reached s lost w r) x) rc in
             inr (ap (λ y. is_poll y.taken) x.is ∙ o)
 
 -- a step of a pass or a sweep puts quiet messages, or issues a number
@@ -242,7 +242,7 @@ step-quiet s lost g w v e t small z sent same = by_case (step-cases s lost w e.0
         subst (Each IsQuiet) y.1 (each-served (λ v. poll_puts v (history w a)) (served s.net a) (polls-quiet (history w a)))
 
     by_case : TakesBy s lost w a c t.step ⊎ ActsBy s w a c t.step → Each IsQuiet t.step.puts
-    by_case (inl x) = subst (λ y. Each IsQuiet y.puts) (sym x.is) (puts-quiet s a (actor_of s.net a) (history w a) c x.link x.message (taken-quiet s lost w a c t.step z x))
+    by_case (inl x) = subst (λ y. Each IsQuiet y.puts) (sym x.is) (puts-quiet s a (actor_of s.net a) (history w a) c x.link x.message (taken-quiet s g.wired.ways lost w a c t.step z x))
     by_case (inr x) = subst (λ y. Each IsQuiet y.puts) (sym x.is) (by_actor x.puts (none-past (links_into s.net a) c x.no_link) (actor_of s.net a) refl x x.guard)
 
 phase-step : (s : Setup) (lost : Losses) → Wiring s.net → (w1 w v : World) (e : Entry) → Reached s lost w → Steps s lost w e v → IsSmall s.net e → issued s.net (observer v) ≡ issued s.net (observer w) → IsPhase s lost w1 w → IsPhase s lost w1 v

@@ -30,20 +30,19 @@ use Rattle.sl_model.specs.Puts.{send, send_all, crossbar_to, onward, route, rout
 use Rattle.sl_model.specs.World.{IsLossTable, carried}
 use Rattle.sl_model.specs.Made.{Took, Acted, IsMade, Ran}
 use Rattle.sl_model.specs.Fit.{fits, fits_link}
-use Rattle.sl_net.proofs.Sorts.{IsOut, each-out, out-member, into-to, choice-is, choice-takes}
-use Rattle.sl_net.proofs.EndKinds.{poll-to}
-use Rattle.sl_net.proofs.ReportWays.{one-unit, only-is-out, choice-from-is}
+use Rattle.sl_net.specs.Ways.{IsOut}
+use Rattle.sl_net.proofs.Sorts.{each-out}
 use Rattle.sl_model.proofs.Numbers.{numbers-append}
 use Rattle.sl_model.proofs.Turns.{taken-falls, taken-this}
 use Rattle.sl_model.proofs.Said.{PutBy, unit-said}
 use Rattle.sl_model.proofs.Stamps.{took-by, acted-by}
 use Rattle.sl_model.proofs.Begins.{TakesFit, fit-taken, fit-before, fit-last}
-use Rattle.sl_model.proofs.Ran.{Takes, Acts}
 use Rattle.sl_model.proofs.Reported.{dumps-into, dones-into}
 use Rattle.sl_model.proofs.Near.{on-way-is}
 use Rattle.sl_layout.specs.Wiring.{kind_of}
 use Rattle.sl_model.specs.Window.{on_way}
-use Rattle.sl_model.specs.Polls.{IsAsked}
+use Rattle.sl_model.specs.Polls.{IsAsked, IsServed}
+use Rattle.sl_model.specs.Turns.{Takes, Acts}
 
 -- What is put on one link.
 
@@ -276,7 +275,7 @@ last-part net l xs ys zs t f a b = on-append l xs (ys ++ zs) ∙ ap (λ ms. ms +
 -- what a unit puts on its link of dumps is the answer to a poll
 unit-answer : (s : Setup) (u : ℕ) (i : UnitId) (r : Reports s.net u) (h : History) (c l : ℕ) (m : Message) → on_link r.dump (unit_puts s.net u i h c l m) ≡ on_link r.dump (dump_puts s.net u (suc (length h)) m)
 unit-answer s u i r h c l m = last-part s.net r.dump (side_puts s.net u i i.side (id_after m h) l m) (notice_puts s.net u (last c h) (stamp_of m)) (dump_puts s.net u (suc (length h)) m)
-    (only-is-out s.net u Dump r.dump r.dumps).sort
+    r.dump_out.sort
     (each-imp (PutBy s.net (id_after m h) (suc (length h))) (FitPut s.net) (unit_puts s.net u i h c l m) (λ p b. b.fits) (unit-said s.net u i h c l m))
     (side-none s.net u i i.side (id_after m h) l m) (notice-none s.net u (last c h) (stamp_of m))
 
@@ -292,9 +291,8 @@ unit-step s u i r step h q f (inl x) = of_message x.message refl (ap (on_link r.
 
     of_message : (m : Message) → x.message ≡ m → on_link r.dump step.puts ≡ on_link r.dump (dump_puts s.net u (suc (length h)) m) → (on_link r.dump step.puts ≡ []) ⊎ ((step.choice ≡ choice_of s.net r.poll) × (length (on_link r.dump step.puts) ≤ 1))
     of_message PollMsg e p = let t : (link_of s.net x.link).sort ≡ Poll = poll-link (link_of s.net x.link).sort (ap (fits_link s.net x.link) (sym e) ∙ fit-last s u step h f x) in
-        let l : x.link ≡ r.poll = r.polled x.link (into-to s.net u step.choice x.link x.into) t in
         let n = ap length (p ∙ ap (λ ls. on_link r.dump (send_all (DumpMsg (suc (length h))) ls)) r.dumps ∙ on-one r.dump (DumpMsg (suc (length h)))) in
-        inr (sym (choice-is s.net u step.choice x.link x.into) ∙ ap (choice_of s.net) l, omega (arith, n))
+        inr (r.poll_choice step.choice x.link x.into t, omega (arith, n))
     of_message _ e p = inl p
 
 unit-dumps : (s : Setup) (u : ℕ) (i : UnitId) (r : Reports s.net u) (h : History) → actor_of s.net u ≡ OfUnit i → IsMade s u h → TakesFit s u h → length (put r.dump h) ≤ taken (choice_of s.net r.poll) h
@@ -327,33 +325,23 @@ taken-le s lost w a c l r k = let f = r.fifo a c l k in let e = ap length f.spli
 
 dumps-le : (s : Setup) (lost : Losses) (w : World) (u : ℕ) (i : UnitId) (r : Reports s.net u) → Ran s lost w → actor_of s.net u ≡ OfUnit i → length (put r.dump (history w u)) ≤ length (put r.poll (history w r.control))
 dumps-le s lost w u i r x q = let a = unit-dumps s u i r (history w u) q (x.made u) (fit-taken s lost w u x) in
-    let k : slice_get (links_into s.net u) (choice_of s.net r.poll) ≡ Some r.poll = subst (λ a. slice_get (links_into s.net a) (choice_of s.net r.poll) ≡ Some r.poll) r.poll_to (choice-takes s.net r.poll r.poll_link) in
-    let b = taken-le s lost w u (choice_of s.net r.poll) r.poll x k in let e = ap (λ a. length (put r.poll (history w a))) r.poll_from in omega (arith, a, b, e)
+    let b = taken-le s lost w u (choice_of s.net r.poll) r.poll x r.poll_taken in let e = ap (λ a. length (put r.poll (history w a))) r.poll_from in omega (arith, a, b, e)
 
 control-le : (s : Setup) (lost : Losses) (w : World) (u : ℕ) (i : UnitId) (r : Reports s.net u) → Ran s lost w → actor_of s.net u ≡ OfUnit i → taken (choice_of s.net r.dump) (history w r.control) ≤ length (put r.poll (history w r.control))
 control-le s lost w u i r x q = let a = taken-le s lost w r.control (choice_of s.net r.dump) r.dump x (dumps-into s.net u r) in
-    let e = ap (λ a. length (put r.dump (history w a))) (only-is-out s.net u Dump r.dump r.dumps).from in omega (arith, a, e, dumps-le s lost w u i r x q)
+    let e = ap (λ a. length (put r.dump (history w a))) r.dump_out.from in omega (arith, a, e, dumps-le s lost w u i r x q)
 
 -- a dump on its way was asked for
 control-lt : (s : Setup) (lost : Losses) (w : World) (u : ℕ) (i : UnitId) (r : Reports s.net u) (m : Message) → Ran s lost w → actor_of s.net u ≡ OfUnit i
     → slice_get (carried s.net lost w r.dump) (taken (choice_of s.net r.dump) (history w r.control)) ≡ Some m → taken (choice_of s.net r.dump) (history w r.control) < length (put r.poll (history w r.control))
 control-lt s lost w u i r m x q g = let a = slice_get_within (carried s.net lost w r.dump) (taken (choice_of s.net r.dump) (history w r.control)) m g in
     let b = lost-le (lost r.dump) 0 (put r.dump (history w (link_of s.net r.dump).from)) in
-    let e = ap (λ a. length (put r.dump (history w a))) (only-is-out s.net u Dump r.dump r.dumps).from in omega (arith, a, b, e, dumps-le s lost w u i r x q)
+    let e = ap (λ a. length (put r.dump (history w a))) r.dump_out.from in omega (arith, a, b, e, dumps-le s lost w u i r x q)
 
 -- Of each unit that a control plane serves.
 
--- the way of the reports of the unit that a poll link leads to
-pub record IsServed (net : Net) (a l : ℕ) : Type 0 where
-  pub unit : UnitId
-  pub is_unit : actor_of net (link_of net l).to ≡ OfUnit unit
-  pub reports : Reports net (link_of net l).to
-  pub control : a ≡ reports.control
-  pub poll : l ≡ reports.poll
-  pub dump : (serving net a l).dump ≡ choice_of net reports.dump
-
 pub is-served : (net : Net) (a l : ℕ) → IsWired net → IsOut net a Poll l → IsServed net a l
-is-served net a l n o = of_unit (poll-to net l n o.is_link o.sort)
+is-served net a l n o = of_unit (n.poll_to l o.is_link o.sort)
   where
     of_reports : (i : UnitId) → actor_of net (link_of net l).to ≡ OfUnit i → Reports net (link_of net l).to → IsServed net a l
     of_reports i q r = let p : l ≡ r.poll = r.polled l refl o.sort in let e : a ≡ r.control = sym o.from ∙ ap (λ l. (link_of net l).from) p ∙ r.poll_from in record {
@@ -362,7 +350,7 @@ is-served net a l n o = of_unit (poll-to net l n o.is_link o.sort)
       reports = r;
       control = e;
       poll = p;
-      dump = ap (λ b. choice_from net b (link_of net l).to Dump) e ∙ choice-from-is net r.control (link_of net l).to Dump r.dump r.dumps r.dump_to;
+      dump = ap (λ b. choice_from net b (link_of net l).to Dump) e ∙ r.dump_choice;
     }
 
     of_unit : ((i : UnitId) × (actor_of net (link_of net l).to ≡ OfUnit i)) → IsServed net a l
@@ -377,12 +365,12 @@ asked-now s lost w a d l n x q o = of_served (is-served s.net a l n o)
           subst (λ b. taken (serving s.net a l).dump (history w b) ≤ length (put l (history w b))) (sym v.control)
           (subst (λ c. taken c (history w v.reports.control) ≤ length (put l (history w v.reports.control))) (sym v.dump)
           (subst (λ k. taken (choice_of s.net v.reports.dump) (history w v.reports.control) ≤ length (put k (history w v.reports.control))) (sym v.poll) b));
-      one = one-poll s a d l (history w a) q (out-member s.net a Poll l o) (x.made a);
+      one = one-poll s a d l (history w a) q (n.ways.listed a Poll l o) (x.made a);
     }
 
 pub all-asked : (s : Setup) (lost : Losses) (w : World) (a d : ℕ) → IsWired s.net → Ran s lost w → actor_of s.net a ≡ Control d → Each (λ v. IsAsked v (history w a)) (served s.net a)
 all-asked s lost w a d n x q = each-map (λ v. IsAsked v (history w a)) (serving s.net a) (links_out s.net a Poll)
-    (each-imp (IsOut s.net a Poll) (λ l. IsAsked (serving s.net a l) (history w a)) (links_out s.net a Poll) (λ l o. asked-now s lost w a d l n x q o) (each-out s.net a Poll))
+    (each-imp (IsOut s.net a Poll) (λ l. IsAsked (serving s.net a l) (history w a)) (links_out s.net a Poll) (λ l o. asked-now s lost w a d l n x q o) (n.ways.outs a Poll))
 
 -- What a control plane takes next by a choice of dumps was asked for.
 
@@ -411,7 +399,7 @@ asked-next s lost w a l step x v t c = lt-ltb (taken (serving s.net a l).dump (h
 pub next-asked : (s : Setup) (lost : Losses) (w : World) (a : ℕ) (step : Step) → IsWired s.net → Ran s lost w → Takes s lost w a step ⊎ Acts s w a step → Each (λ v. step.choice ≡ v.dump → is_outstanding v (history w a) ≡ true) (served s.net a)
 next-asked s lost w a step n x t = each-map (λ v. step.choice ≡ v.dump → is_outstanding v (history w a) ≡ true) (serving s.net a) (links_out s.net a Poll)
     (each-imp (IsOut s.net a Poll) (λ l. step.choice ≡ (serving s.net a l).dump → is_outstanding (serving s.net a l) (history w a) ≡ true) (links_out s.net a Poll)
-    (λ l o. asked-next s lost w a l step x (is-served s.net a l n o) t) (each-out s.net a Poll))
+    (λ l o. asked-next s lost w a l step x (is-served s.net a l n o) t) (n.ways.outs a Poll))
 
 -- For each dump one Done.
 
@@ -463,22 +451,19 @@ control-dones : (net : Net) (u : ℕ) (i : UnitId) (r : Reports net u) (h : Hist
     → dones (unit_place net u) r.done (flat_map (λ v. if c == v.dump then dump_answer net r.control h n v else []) (served net r.control)) ≡ (if c == choice_of net r.dump then n ∷ [] else [])
 control-dones net u i r h c n q = ap (dones (unit_place net u) r.done) (flat-map-one (λ v. if c == v.dump then dump_answer net r.control h n v else []) (serving net r.control) (links_out net r.control Poll))
     ∙ own (dones (unit_place net u) r.done) refl (dones-append (unit_place net u) r.done) (λ x. if c == (serving net r.control x).dump then dump_answer net r.control h n (serving net r.control x) else [])
-    r.poll (links_out net r.control Poll) (distinct-out net r.control Poll) (out-member net r.control Poll r.poll here) others
+    r.poll (links_out net r.control Poll) (distinct-out net r.control Poll) r.poll_listed others
     ∙ ap (λ d. dones (unit_place net u) r.done (if c == d then dump_answer net r.control h n (serving net r.control r.poll) else [])) dump_is ∙ by_bool (c == choice_of net r.dump)
   where
-    here : IsOut net r.control Poll r.poll
-    here = record { is_link = r.poll_link; from = r.poll_from; sort = r.poll_sort }
-
     dump_is : (serving net r.control r.poll).dump ≡ choice_of net r.dump
-    dump_is = ap (λ x. choice_from net r.control x Dump) r.poll_to ∙ choice-from-is net r.control u Dump r.dump r.dumps r.dump_to
+    dump_is = ap (λ x. choice_from net r.control x Dump) r.poll_to ∙ r.dump_choice
 
     other : (x : ℕ) → IsOut net r.control Poll x → (x ≡ r.poll → ⊥) → done_of (unit_place net u) (DoneMsg (unit_place net (link_of net x).to) n) ≡ None
-    other x o ne = ap (λ b. if b then Some n else None) (ne_eqb (unit_place net u) (unit_place net (link_of net x).to) (λ e. ne (r.polled x (one-unit net u (link_of net x).to i q (sym e)) o.sort)))
+    other x o ne = ap (λ b. if b then Some n else None) (ne_eqb (unit_place net u) (unit_place net (link_of net x).to) (λ e. ne (r.polled x (r.one_unit (link_of net x).to (sym e)) o.sort)))
 
     others : (x : ℕ) → Member x (links_out net r.control Poll) → (x ≡ r.poll → ⊥) → dones (unit_place net u) r.done (if c == (serving net r.control x).dump then dump_answer net r.control h n (serving net r.control x) else []) ≡ []
     others x m ne = when-none (unit_place net u) r.done (c == (serving net r.control x).dump) (dump_answer net r.control h n (serving net r.control x))
         (answer-dones net r.control n (unit_place net u) r.done h (serving net r.control x) ∙ no-done (unit_place net u) r.done (DoneMsg (unit_place net (link_of net x).to) n) (links_out net r.control Done)
-        (other x (each-at (IsOut net r.control Poll) x (links_out net r.control Poll) (each-out net r.control Poll) m) ne))
+        (other x (each-at (IsOut net r.control Poll) x (links_out net r.control Poll) r.polls m) ne))
 
     by_bool : (b : Bool) → dones (unit_place net u) r.done (if b then dump_answer net r.control h n (serving net r.control r.poll) else []) ≡ (if b then n ∷ [] else [])
     by_bool true = answer-dones net r.control n (unit_place net u) r.done h (serving net r.control r.poll)
@@ -538,7 +523,7 @@ lost-none lost n (m ∷ ms) h = ap (λ b. if b then without_lost lost (suc n) ms
 
 pub dones-taken : (s : Setup) (lost : Losses) (w : World) (u : ℕ) (i : UnitId) (r : Reports s.net u) → Ran s lost w → IsLossTable s.net lost → actor_of s.net u ≡ OfUnit i
     → numbers (done_of (unit_place s.net u)) (takes (choice_of s.net r.done) (observer w) ++ on_way s.net lost w r.done) ≡ numbers dump_of (takes (choice_of s.net r.dump) (history w r.control))
-dones-taken s lost w u i r x t q = let o = only-is-out s.net r.control Done r.done r.dones in
+dones-taken s lost w u i r x t q = let o = r.done_out in
     ap (λ ms. numbers (done_of (unit_place s.net u)) (takes (choice_of s.net r.done) (observer w) ++ ms)) (on-way-is s.net lost w 0 (choice_of s.net r.done) r.done (dones-into s.net u r) (x.fifo 0 (choice_of s.net r.done) r.done (dones-into s.net u r)))
     ∙ ap (numbers (done_of (unit_place s.net u))) (sym (x.fifo 0 (choice_of s.net r.done) r.done (dones-into s.net u r)).split
     ∙ lost-none (lost r.done) 0 (put r.done (history w (link_of s.net r.done).from)) (λ k. t r.done k (ap kind_of o.sort)) ∙ ap (λ a. put r.done (history w a)) o.from)

@@ -2,7 +2,7 @@
 --     Joins cables p q       a cable joins the two ports
 use Rattle.std.proofs.Common.{◌+◌, ◌++◌, ◌<◌, ◌==◌, List, None, Option, Some, ap, eq-eqb, inl, inr, length, refl, suc, sym, zero, ℕ, ◌∙◌, ◌∷◌, ◌≡◌, arith, []}
 use Rattle.std.specs.Prelude.{Bool, false, map, option_map, slice_get, true, ◌⊎◌, if◌then◌else◌, ◌||◌}
-use Rattle.std.proofs.lemmas.Bool.{and_from, and_parts, or_left, or_parts, or_right}
+use Rattle.std.proofs.lemmas.Bool.{and_from, and_parts, eqb-true, or_left, or_parts, or_right}
 use Rattle.sl_parts.specs.Fault.{fault_of, first_clash, has_end, has_guest, reuses_port, takes_used_port}
 use Rattle.sl_parts.specs.Parts.{Parts, has_cable, host_from, other_end, same_port}
 use Rattle.sl_parts.specs.declared.fault.NetFault.TheVariants.{N1, N5, N7}
@@ -10,7 +10,6 @@ use Rattle.sl_parts.specs.declared.parts.CablePart.{CablePart}
 use Rattle.sl_parts.specs.declared.parts.HostPart.{HostPart}
 use Rattle.sl_parts.specs.declared.parts.PortRef.{PortRef}
 use Rattle.sl_net.proofs.NetWired.{no-reason}
-use Rattle.sl_net.proofs.Sorts.{told}
 
 abbrev pub Joins : List CablePart → PortRef → PortRef → Type 0
 Joins [] p q = ⊥
@@ -24,7 +23,7 @@ joins-back (c ∷ cs) p q (inr (inr j)) = inr (inr (joins-back cs p q j))
 
 pub same-port-is : (p q : PortRef) → same_port p q ≡ true → p ≡ q
 same-port-is p q h = let b = and_parts (p.device == q.device) (p.port == q.port) h in
-    ap (λ d. record { device = d; port = p.port }) (told p.device q.device b.0) ∙ ap (λ n. record { device = q.device; port = n }) (told p.port q.port b.1)
+    ap (λ d. record { device = d; port = p.port }) (eqb-true p.device q.device b.0) ∙ ap (λ n. record { device = q.device; port = n }) (eqb-true p.port q.port b.1)
 
 pub same-port-refl : (p : PortRef) → same_port p p ≡ true
 same-port-refl p = and_from (p.device == p.device) (p.port == p.port) (eq-eqb p.device p.device refl) (eq-eqb p.port p.port refl)

@@ -3,7 +3,7 @@ use Rattle.std.proofs.Common.{◌+◌, ◌==◌, List, Some, ap, inl, inr, lengt
 use Rattle.std.specs.Prelude.{false, map, nat_eq, slice_get, true, ◌⊎◌, if◌then◌else◌}
 use Rattle.std.proofs.lemmas.Bool.Decides.{eqb_tells}
 use Rattle.sl_layout.specs.Net.{Net, actor_of, choice_of, link_numbers, link_of, links_from, links_into, links_out, same_sort}
-use Rattle.sl_layout.specs.Serving.{Served, served, serving}
+use Rattle.sl_layout.specs.Serving.{Served, choice_from, served, serving}
 use Rattle.sl_net.specs.Wired.{IsWired, Reports}
 use Rattle.sl_layout.specs.declared.actor.ActorId.TheVariants.{Unit as OfUnit}
 use Rattle.sl_layout.specs.declared.actor.Sort.{Sort}
@@ -14,11 +14,9 @@ use Rattle.sl_model.specs.Words.{weigh}
 use Rattle.sl_model.specs.declared.message.Message.{Message}
 use Rattle.sl_model.specs.Flight.{puts_weight}
 use Rattle.sl_model.specs.Potential.{goes_on, own_at, own_side, price}
-use Rattle.sl_net.proofs.EndKinds.{poll-to}
 use Rattle.sl_parts.specs.Lists.{Distinct, Member}
 use Rattle.sl_parts.proofs.Lists.{member-of-map, distinct-filter, distinct-from, each-at}
-use Rattle.sl_net.proofs.ReportWays.{choice-from-is, only-is-out, taken-at}
-use Rattle.sl_net.proofs.Sorts.{IsOut, each-out}
+use Rattle.sl_net.specs.Ways.{IsOut, HasWays}
 use Rattle.sl_model.proofs.Carries.{cable-to, carries, is_load}
 
 pub record IsPriced (net : Net) : Type 0 where
@@ -63,29 +61,34 @@ pub record Serves (net : Net) (a l : ℕ) : Type 0 where
   pub control : reports.control ≡ a
 
 pub serves : (net : Net) (a l : ℕ) → IsWired net → IsOut net a Poll l → Serves net a l
-serves net a l w o = let t = poll-to net l w o.is_link o.sort in let r = w.reports (link_of net l).to t.0 t.1 in
+serves net a l w o = let t = w.poll_to l o.is_link o.sort in let r = w.reports (link_of net l).to t.0 t.1 in
     let p : l ≡ r.poll = r.polled l refl o.sort in
     record { unit = t.0; is_unit = t.1; reports = r; poll = p; control = sym r.poll_from ∙ ap (λ k. (link_of net k).from) (sym p) ∙ o.from }
 
 pub links-out-distinct : (net : Net) (a : ℕ) (t : Sort) → Distinct (links_out net a t)
 links-out-distinct net a t = distinct-filter (λ l. same_sort (link_of net l).sort t) (links_from net a) (distinct-filter (λ l. (link_of net l).from == a) (link_numbers net) (distinct-from 0 (length net.links)))
 
-pub out-of : (net : Net) (a : ℕ) (t : Sort) (l : ℕ) → Member l (links_out net a t) → IsOut net a t l
-out-of net a t l m = each-at (IsOut net a t) l (links_out net a t) (each-out net a t) m
+pub out-of : (net : Net) → HasWays net → (a : ℕ) (t : Sort) (l : ℕ) → Member l (links_out net a t) → IsOut net a t l
+out-of net ways a t l m = each-at (IsOut net a t) l (links_out net a t) (ways.outs a t) m
 
 -- two links from units to one control plane that it takes by one choice are one, so the units are one
-same-poll : (net : Net) (a l k x y : ℕ) (t : Sort) → IsWired net → (m : Serves net a l) → (n : Serves net a k) → IsOut net a Poll k
-    → links_out net (link_of net l).to t ≡ x ∷ [] → (link_of net x).to ≡ a → links_out net (link_of net k).to t ≡ y ∷ [] → (link_of net y).to ≡ a → choice_of net x ≡ choice_of net y → l ≡ k
-same-poll net a l k x y t w m n o p q r z e = let i = taken-at net (link_of net l).to a t x p q in let j = taken-at net (link_of net k).to a t y r z in
-    let s : Some x ≡ Some y = sym i ∙ ap (slice_get (links_into net a)) e ∙ j in let same : x ≡ y = cc in
-    let u : (link_of net k).to ≡ (link_of net l).to = sym (only-is-out net (link_of net k).to t y r).from ∙ ap (λ v. (link_of net v).from) (sym same) ∙ (only-is-out net (link_of net l).to t x p).from in
+same-poll : (net : Net) (a l k x y : ℕ) (t : Sort) → (m : Serves net a l) → (n : Serves net a k) → IsOut net a Poll k → IsOut net (link_of net l).to t x → IsOut net (link_of net k).to t y
+    → slice_get (links_into net a) (choice_of net x) ≡ Some x → slice_get (links_into net a) (choice_of net y) ≡ Some y → choice_of net x ≡ choice_of net y → l ≡ k
+same-poll net a l k x y t m n o p r i j e = let s : Some x ≡ Some y = sym i ∙ ap (slice_get (links_into net a)) e ∙ j in let same : x ≡ y = cc in
+    let u : (link_of net k).to ≡ (link_of net l).to = sym r.from ∙ ap (λ v. (link_of net v).from) (sym same) ∙ p.from in
     m.poll ∙ sym (m.reports.polled k u o.sort)
 
 notice-of : (net : Net) (a l : ℕ) (m : Serves net a l) → (serving net a l).notice ≡ choice_of net m.reports.notice
-notice-of net a l m = choice-from-is net a (link_of net l).to Notice m.reports.notice m.reports.notices (m.reports.notice_to ∙ m.control)
+notice-of net a l m = subst (λ b. choice_from net b (link_of net l).to Notice ≡ choice_of net m.reports.notice) m.control m.reports.notice_choice
 
 dump-of : (net : Net) (a l : ℕ) (m : Serves net a l) → (serving net a l).dump ≡ choice_of net m.reports.dump
-dump-of net a l m = choice-from-is net a (link_of net l).to Dump m.reports.dump m.reports.dumps (m.reports.dump_to ∙ m.control)
+dump-of net a l m = subst (λ b. choice_from net b (link_of net l).to Dump ≡ choice_of net m.reports.dump) m.control m.reports.dump_choice
+
+notice-into : (net : Net) (a l : ℕ) (m : Serves net a l) → slice_get (links_into net a) (choice_of net m.reports.notice) ≡ Some m.reports.notice
+notice-into net a l m = subst (λ b. slice_get (links_into net b) (choice_of net m.reports.notice) ≡ Some m.reports.notice) m.control m.reports.notice_taken
+
+dump-into : (net : Net) (a l : ℕ) (m : Serves net a l) → slice_get (links_into net a) (choice_of net m.reports.dump) ≡ Some m.reports.dump
+dump-into net a l m = subst (λ b. slice_get (links_into net b) (choice_of net m.reports.dump) ≡ Some m.reports.dump) m.control m.reports.dump_taken
 
 -- The net of valid parts.
 pub priced : (net : Net) → IsWired net → IsPriced net
@@ -95,19 +98,19 @@ priced net w = record {
   one_dump = λ u i q. let r = w.reports u i q in omega (arith, ap length r.dumps);
   one_done = λ a v m. of_served a v (member-of-map (serving net a) v (links_out net a Poll) m);
   notice_once = λ a c. subst (λ n. n ≤ 3) (sym (weigh-map (λ v. if c == v.notice then 3 else 0) (serving net a) (links_out net a Poll)))
-      (once (λ l. (serving net a l).notice) 3 c (links_out net a Poll) (links-out-distinct net a Poll) (λ l k p q x y. by_notice a l k (out-of net a Poll l p) (out-of net a Poll k q) (sym x ∙ y)));
+      (once (λ l. (serving net a l).notice) 3 c (links_out net a Poll) (links-out-distinct net a Poll) (λ l k p q x y. by_notice a l k (out-of net w.ways a Poll l p) (out-of net w.ways a Poll k q) (sym x ∙ y)));
   dump_once = λ a c. subst (λ n. n ≤ 1) (sym (weigh-map (λ v. if c == v.dump then 1 else 0) (serving net a) (links_out net a Poll)))
-      (once (λ l. (serving net a l).dump) 1 c (links_out net a Poll) (links-out-distinct net a Poll) (λ l k p q x y. by_dump a l k (out-of net a Poll l p) (out-of net a Poll k q) (sym x ∙ y)));
+      (once (λ l. (serving net a l).dump) 1 c (links_out net a Poll) (links-out-distinct net a Poll) (λ l k p q x y. by_dump a l k (out-of net w.ways a Poll l p) (out-of net w.ways a Poll k q) (sym x ∙ y)));
   carries = carries net w;
 }
   where
     of_served : (a : ℕ) (v : Served) → ((l : ℕ) × Member l (links_out net a Poll) × (v ≡ serving net a l)) → length (links_out net a Done) ≤ 1
-    of_served a v x = let m = serves net a x.0 w (out-of net a Poll x.0 x.1) in omega (arith, ap length (sym (ap (λ b. links_out net b Done) m.control) ∙ m.reports.dones))
+    of_served a v x = let m = serves net a x.0 w (out-of net w.ways a Poll x.0 x.1) in omega (arith, ap length (sym (ap (λ b. links_out net b Done) m.control) ∙ m.reports.dones))
 
     by_notice : (a l k : ℕ) → IsOut net a Poll l → IsOut net a Poll k → (serving net a l).notice ≡ (serving net a k).notice → l ≡ k
     by_notice a l k o p e = let m = serves net a l w o in let n = serves net a k w p in
-        same-poll net a l k m.reports.notice n.reports.notice Notice w m n p m.reports.notices (m.reports.notice_to ∙ m.control) n.reports.notices (n.reports.notice_to ∙ n.control) (sym (notice-of net a l m) ∙ e ∙ notice-of net a k n)
+        same-poll net a l k m.reports.notice n.reports.notice Notice m n p m.reports.notice_out n.reports.notice_out (notice-into net a l m) (notice-into net a k n) (sym (notice-of net a l m) ∙ e ∙ notice-of net a k n)
 
     by_dump : (a l k : ℕ) → IsOut net a Poll l → IsOut net a Poll k → (serving net a l).dump ≡ (serving net a k).dump → l ≡ k
     by_dump a l k o p e = let m = serves net a l w o in let n = serves net a k w p in
-        same-poll net a l k m.reports.dump n.reports.dump Dump w m n p m.reports.dumps (m.reports.dump_to ∙ m.control) n.reports.dumps (n.reports.dump_to ∙ n.control) (sym (dump-of net a l m) ∙ e ∙ dump-of net a k n)
+        same-poll net a l k m.reports.dump n.reports.dump Dump m n p m.reports.dump_out n.reports.dump_out (dump-into net a l m) (dump-into net a k n) (sym (dump-of net a l m) ∙ e ∙ dump-of net a k n)

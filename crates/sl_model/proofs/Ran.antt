@@ -1,5 +1,4 @@
 -- A world is a run: each step is made from the history before it, and links are first in, first out.
---     Takes, Acts      a step with the message that its link has next, or at the floor of the world
 --     ran              each world that a schedule reaches is a run
 use Rattle.std.proofs.Common.{◌≡◌, ℕ, suc, ◌-◌, List, [], ◌∷◌, ◌++◌, length, refl, sym, ap, subst, ◌∙◌, Option, Some, None, arith, length-append, append-nil, append_assoc, inl, inr, eq-eqb}
 use Rattle.std.specs.Prelude.{◌⊎◌, true, false, Bool, slice_get, option_map, if◌then◌else◌, nat_eq}
@@ -15,17 +14,8 @@ use Rattle.sl_model.specs.Setup.{Setup}
 use Rattle.sl_model.specs.Puts.{puts_of, action}
 use Rattle.sl_model.specs.World.{Entry, run, start, next_step, step_by, turn, carried, front, taking, acting, floor_for}
 use Rattle.sl_model.specs.Made.{Took, Acted, IsMade, AllMade, Fifo, AllFifo, Ran}
-use Rattle.sl_model.proofs.Turns.{kept_by_run, GrowsAt, Steps, stepped, turn-cases, taken-other, start-empty}
-
--- a step that takes what the link has next
-pub record Takes (s : Setup) (lost : Losses) (w : World) (a : ℕ) (step : Step) : Type 0 where
-  pub took : Took s a (history w a) step
-  pub found : front s.net lost w a step.choice took.link ≡ Some took.message
-
--- a step that acts at the floor of this world
-pub record Acts (s : Setup) (w : World) (a : ℕ) (step : Step) : Type 0 where
-  pub acted : Acted s a (history w a) step
-  pub now : acted.floor ≡ floor_for s.net w (actor_of s.net a)
+use Rattle.sl_model.specs.Turns.{GrowsAt, Takes, Acts}
+use Rattle.sl_model.proofs.Turns.{kept_by_run, Steps, stepped, turn-cases, taken-other, start-empty}
 
 pub next-view : (s : Setup) (lost : Losses) (w : World) (e : Entry) (step : Step) → next_step s lost w e ≡ Some step → Takes s lost w e.0 step ⊎ Acts s w e.0 step
 next-view s lost w e step n = let t = stepped s lost w e step n in

@@ -2,7 +2,7 @@
 --     rank parts dst d       the length of a least walk from the device d to the host dst, 0 where there is none
 use Rattle.std.proofs.Common.{◌+◌, ◌++◌, ◌<◌, ◌==◌, List, None, Option, Some, ap, inl, inr, length, refl, subst, suc, sym, zero, ℕ, ◌∙◌, ◌∷◌, ◌≡◌, ◌≤◌, arith, []}
 use Rattle.std.specs.Prelude.{map, min, option_and_then, true, unwrap_or, ◌⊎◌}
-use Rattle.std.proofs.lemmas.Bool.{cases_lt}
+use Rattle.std.proofs.lemmas.Bool.{cases_lt, eqb-true}
 use Rattle.sl_parts.specs.Parts.{Parts, numbers_from}
 use Rattle.sl_parts.specs.declared.parts.CablePart.{CablePart}
 use Rattle.sl_parts.specs.declared.parts.PortRef.{PortRef}
@@ -10,7 +10,6 @@ use Rattle.sl_route.specs.Route.{Walk, cables_from, end_of, first_nonempty, firs
 use Rattle.sl_parts.specs.Lists.{Each, Member}
 use Rattle.sl_parts.proofs.Lists.{each-filter, each-passes, member-of-flat, member-of-map, each-at, each-flat, each-imp, each-map, each-of, kept-member, member-filter, member-parts}
 use Rattle.sl_route.specs.Least.{least, least_in}
-use Rattle.sl_net.proofs.Sorts.{told}
 use Rattle.sl_model.proofs.Nets.{host}
 use Rattle.sl_model.proofs.PortUse.{Joins, joins-back, port_at}
 
@@ -94,7 +93,7 @@ goes-on parts d e n c w m = of_flat (member-of-flat (λ c. map (λ walk. c ∷ w
 -- a cable from a device joins its two ends
 pub cable-joins : (parts : Parts) (d : ℕ) (c : CablePart) → Member c (cables_from parts d) → (c.a.device ≡ d) × Joins parts.cables c.a c.b
 cable-joins parts d c m = (
-  told c.a.device d (each-at (λ c. (c.a.device == d) ≡ true) c (cables_from parts d) (each-passes (λ c. c.a.device == d) (parts.cables ++ map turned parts.cables)) m),
+  eqb-true c.a.device d (each-at (λ c. (c.a.device == d) ≡ true) c (cables_from parts d) (each-passes (λ c. c.a.device == d) (parts.cables ++ map turned parts.cables)) m),
   by_parts (member-parts c parts.cables (map turned parts.cables) (kept-member (λ c. c.a.device == d) c (parts.cables ++ map turned parts.cables) m)),
 )
   where
@@ -201,4 +200,4 @@ walk-ends parts d e m = of_walks (least_walks parts d e) refl m
     of_walks : (ws : List Walk) → least_walks parts d e ≡ ws → Member [] ws → d ≡ e
     of_walks [] q k = absurd k
     of_walks (v ∷ ws) q k = let r = first-is (walks_between parts d e) 0 (length parts.devices) v ws q in
-        told d e (each-at (λ walk. (end_of d walk == e) ≡ true) [] (walks_between parts d e r.place) (each-passes (λ walk. end_of d walk == e) (walks parts r.place d)) (subst (Member []) (sym r.is) k))
+        eqb-true d e (each-at (λ walk. (end_of d walk == e) ≡ true) [] (walks_between parts d e r.place) (each-passes (λ walk. end_of d walk == e) (walks parts r.place d)) (subst (Member []) (sym r.is) k))

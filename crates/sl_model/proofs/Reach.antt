@@ -18,8 +18,9 @@ use Rattle.sl_model.specs.World.{Entry, acting, after, carried, floor_for, front
 use Rattle.sl_model.specs.declared.message.Message.{Message}
 use Rattle.sl_model.specs.declared.message.Put.{Put}
 use Rattle.sl_model.specs.declared.message.Step.{Step}
+use Rattle.sl_model.specs.Turns.{GrowsAt}
 use Rattle.sl_model.proofs.Ran.{ran}
-use Rattle.sl_model.proofs.Turns.{GrowsAt, Steps, grows-after, kept_by_run, next-within, run-append, start-empty, stepped, taken-falls, taken-other, taken-step, turn-cases}
+use Rattle.sl_model.proofs.Turns.{Steps, grows-after, kept_by_run, next-within, run-append, start-empty, stepped, taken-falls, taken-other, taken-step, turn-cases}
 
 -- a schedule leads to the world
 abbrev pub Reached : Setup → Losses → World → Type 0

@@ -8,7 +8,7 @@ use Rattle.sl_model.specs.declared.message.Message.{Message}
 use Rattle.sl_model.specs.declared.message.Message.TheVariants.{Init as InitMsg, Poll as PollMsg, Notice as NoticeMsg, Dump as DumpMsg, Begin as BeginMsg, Done as DoneMsg}
 use Rattle.sl_model.specs.declared.message.Put.{Put}
 use Rattle.sl_layout.specs.declared.actor.Sort.{Sort}
-use Rattle.sl_layout.specs.declared.actor.Sort.TheVariants.{Init, Dump, Done}
+use Rattle.sl_layout.specs.declared.actor.Sort.TheVariants.{Init, Done}
 use Rattle.sl_layout.specs.declared.actor.ActorId.TheVariants.{Control, Unit as OfUnit}
 use Rattle.sl_layout.specs.declared.actor.UnitId.{UnitId}
 use Rattle.sl_layout.specs.Net.{Net, link_of, links_into, links_out, actor_of, choice_of, action_choice, unit_place}
@@ -23,9 +23,6 @@ use Rattle.sl_model.specs.Knowledge.{observer, dumped, known, is_outstanding, is
 use Rattle.sl_model.specs.Puts.{control_puts, send, send_all, poll_puts, dump_answer}
 use Rattle.sl_model.specs.Made.{Took, Acted, IsMade, Ran}
 use Rattle.sl_model.specs.Fit.{fits, fits_link}
-use Rattle.sl_net.proofs.Sorts.{is-into, choice-is}
-use Rattle.sl_net.proofs.EndKinds.{done-from}
-use Rattle.sl_net.proofs.ReportWays.{one-unit, only-is-out, only-out, taken-at, served-here, served-elsewhere}
 use Rattle.sl_model.proofs.Numbers.{Says, Grows, Ordered, ordered, put-rises, rises-le}
 use Rattle.sl_model.proofs.Said.{PutBy, action-said}
 use Rattle.sl_model.proofs.Stamps.{each-on-link, each-taken, put-fits, unit-dumps, acted-by, took-by}
@@ -102,7 +99,7 @@ control-dones s u i (step ∷ h) e r m g = (g.0, control-step s r.control r.devi
   where
     told : (t : Took s r.control h step) (n : ℕ) → t.message ≡ DumpMsg n → Each (λ v. step.choice ≡ v.dump → unit_place s.net v.unit ≡ unit_place s.net u → n ≡ dumped (choice_of s.net r.dump) (step ∷ h)) (served s.net r.control)
     told t n z = each-imp (λ v. v.unit ≡ u → v.dump ≡ choice_of s.net r.dump) (λ v. step.choice ≡ v.dump → unit_place s.net v.unit ≡ unit_place s.net u → n ≡ dumped (choice_of s.net r.dump) (step ∷ h)) (served s.net r.control)
-        (λ v g d q. sym (heard-this dump_of (choice_of s.net r.dump) n step h t.message (d ∙ g (one-unit s.net u v.unit i e q)) t.taken (ap dump_of z))) (served-here s.net u r)
+        (λ v g d q. sym (heard-this dump_of (choice_of s.net r.dump) n step h t.message (d ∙ g (r.one_unit v.unit q)) t.taken (ap dump_of z))) r.served_here
 
 -- Other control planes say nothing of it.
 
@@ -111,14 +108,14 @@ none-by o (inl p) q = p
 none-by o (inr p) (inl q) = q
 none-by o (inr p) (inr q) = let x : unwrap_or o 0 ≡ 0 = ap (λ o. unwrap_or o 0) p in let y : unwrap_or o 0 ≡ 1 = ap (λ o. unwrap_or o 0) q in absurd (omega (arith, x, y))
 
-put-none : (s : Setup) (u b d l : ℕ) (i : UnitId) (h : History) → actor_of s.net u ≡ OfUnit i → actor_of s.net b ≡ Control d → Each (λ v. v.unit ≡ u → ⊥) (served s.net b) → IsMade s b h → Each (λ m. done_of (unit_place s.net u) m ≡ None) (put l h)
-put-none s u b d l i [] z q e m = tt
-put-none s u b d l i (step ∷ h) z q e m = each-append (λ m. done_of (unit_place s.net u) m ≡ None) (put l h) (on_link l step.puts) (put-none s u b d l i h z q e m.1)
+put-none : (s : Setup) (u b d l : ℕ) (h : History) → ((x : ℕ) → unit_place s.net x ≡ unit_place s.net u → x ≡ u) → actor_of s.net b ≡ Control d → Each (λ v. v.unit ≡ u → ⊥) (served s.net b) → IsMade s b h → Each (λ m. done_of (unit_place s.net u) m ≡ None) (put l h)
+put-none s u b d l [] one q e m = tt
+put-none s u b d l (step ∷ h) one q e m = each-append (λ m. done_of (unit_place s.net u) m ≡ None) (put l h) (on_link l step.puts) (put-none s u b d l h one q e m.1)
     (each-on-link (λ l m. done_of (unit_place s.net u) m ≡ None) l step.puts (both step.puts (of_number 0) (of_number 1)))
   where
     of_number : (j : ℕ) → Each (SaysOf (unit_place s.net u) j) step.puts
     of_number j = control-step s b d h step (unit_place s.net u) j q (λ t n k. each-imp (λ v. v.unit ≡ u → ⊥) (λ v. step.choice ≡ v.dump → unit_place s.net v.unit ≡ unit_place s.net u → n ≡ j) (served s.net b)
-        (λ v ne x y. absurd (ne (one-unit s.net u v.unit i z y))) e) m.0
+        (λ v ne x y. absurd (ne (one v.unit y))) e) m.0
 
     both : (ps : List Put) → Each (SaysOf (unit_place s.net u) 0) ps → Each (SaysOf (unit_place s.net u) 1) ps → Each (λ p. done_of (unit_place s.net u) p.message ≡ None) ps
     both [] x y = tt
@@ -135,15 +132,15 @@ none-else : (s : Setup) (lost : Losses) (w : World) (u c l : ℕ) (i : UnitId) �
 none-else s lost w u c l i n r z p k ne = each-taken (λ m. done_of (unit_place s.net u) m ≡ None) (lost l) c (history w 0) (put l (history w (link_of s.net l).from)) (by_sort (link_of s.net l).sort refl) (r.fifo 0 c l k)
   where
     other : (link_of s.net l).sort ≡ Done → ((link_of s.net l).from ≡ p.control) → ⊥
-    other t q = ne (only-out s.net p.control Done p.done l p.dones (record { is_link = (is-into s.net 0 c l k).is_link; from = q; sort = t }))
+    other t q = ne (p.one_done l (record { is_link = (n.ways.into 0 c l k).is_link; from = q; sort = t }))
 
     of_fits : ((link_of s.net l).sort ≡ Done → ⊥) → Each (λ m. done_of (unit_place s.net u) m ≡ None) (put l (history w (link_of s.net l).from))
     of_fits d = each-imp (λ m. fits_link s.net l m ≡ true) (λ m. done_of (unit_place s.net u) m ≡ None) (put l (history w (link_of s.net l).from)) (λ m f. done-fits (link_of s.net l).sort (unit_place s.net u) m f d)
         (put-fits s (link_of s.net l).from l (history w (link_of s.net l).from) (r.made (link_of s.net l).from))
 
     by_sort : (t : Sort) → (link_of s.net l).sort ≡ t → Each (λ m. done_of (unit_place s.net u) m ≡ None) (put l (history w (link_of s.net l).from))
-    by_sort Done q = let d = done-from s.net l n (is-into s.net 0 c l k).is_link q in
-        put-none s u (link_of s.net l).from d.0 l i (history w (link_of s.net l).from) z d.1 (served-elsewhere s.net u (link_of s.net l).from p (other q)) (r.made (link_of s.net l).from)
+    by_sort Done q = let d = n.done_from l (n.ways.into 0 c l k).is_link q in
+        put-none s u (link_of s.net l).from d.0 l (history w (link_of s.net l).from) p.one_unit d.1 (p.served_elsewhere (link_of s.net l).from (other q)) (r.made (link_of s.net l).from)
     by_sort _ q = of_fits (λ d. let x = sym q ∙ d in cc)
 
 known-is : (s : Setup) (u : ℕ) (h : History) (p : Reports s.net u) → IsMade s 0 h
@@ -165,10 +162,10 @@ known-is s u (step ∷ h) p m e = by_tells (known-is s u h p m.1 (λ c l k ne. e
 -- What is known of a unit: at the observer, in Dones on their way, at the control plane, in dumps on their way, and its own steps.
 
 pub dumps-into : (net : Net) (u : ℕ) (p : Reports net u) → slice_get (links_into net p.control) (choice_of net p.dump) ≡ Some p.dump
-dumps-into net u p = taken-at net u p.control Dump p.dump p.dumps p.dump_to
+dumps-into net u p = p.dump_taken
 
 pub dones-into : (net : Net) (u : ℕ) (p : Reports net u) → slice_get (links_into net 0) (choice_of net p.done) ≡ Some p.done
-dones-into net u p = taken-at net p.control 0 Done p.done p.dones p.done_to
+dones-into net u p = p.done_taken
 
 pub record Knows (s : Setup) (lost : Losses) (w : World) (u : ℕ) (r : Ran s lost w) (p : Reports s.net u) : Type 0 where
   pub told : known (unit_place s.net u) (observer w) ≡ heard (done_of (unit_place s.net u)) (choice_of s.net p.done) (observer w)
@@ -185,13 +182,13 @@ knows s lost w u i n r p q = record {
 }
   where
     c : Ordered dump_of (choice_of s.net p.dump) (history w p.control) (r.fifo p.control (choice_of s.net p.dump) p.dump (dumps-into s.net u p)).rest (length (history w u))
-    c = dump-link s lost w p.control (choice_of s.net p.dump) p.dump u i r (dumps-into s.net u p) (only-is-out s.net u Dump p.dump p.dumps).from q
+    c = dump-link s lost w p.control (choice_of s.net p.dump) p.dump u i r (dumps-into s.net u p) p.dump_out.from q
 
     d : Ordered (done_of (unit_place s.net u)) (choice_of s.net p.done) (observer w) (r.fifo 0 (choice_of s.net p.done) p.done (dones-into s.net u p)).rest (dumped (choice_of s.net p.dump) (history w p.control))
     d = ordered (done_of (unit_place s.net u)) (lost p.done) (choice_of s.net p.done) (observer w) (put p.done (history w (link_of s.net p.done).from)) (dumped (choice_of s.net p.dump) (history w p.control))
-        (subst (λ b. Rises 0 (numbers (done_of (unit_place s.net u)) (put p.done (history w b))) (dumped (choice_of s.net p.dump) (history w p.control))) (sym (only-is-out s.net p.control Done p.done p.dones).from)
+        (subst (λ b. Rises 0 (numbers (done_of (unit_place s.net u)) (put p.done (history w b))) (dumped (choice_of s.net p.dump) (history w p.control))) (sym p.done_out.from)
         (put-rises (done_of (unit_place s.net u)) (dumped (choice_of s.net p.dump)) p.done (history w p.control) (control-dones s u i (history w p.control) q p (r.made p.control) c.climbs)))
         (r.fifo 0 (choice_of s.net p.done) p.done (dones-into s.net u p))
 
     k : known (unit_place s.net u) (observer w) ≡ heard (done_of (unit_place s.net u)) (choice_of s.net p.done) (observer w)
-    k = known-is s u (observer w) p (r.made 0) (λ c l k ne. none-else s lost w u c l i n r q p k (λ e. ne (sym (choice-is s.net 0 c l k) ∙ ap (choice_of s.net) e)))
+    k = known-is s u (observer w) p (r.made 0) (λ c l k ne. none-else s lost w u c l i n r q p k (λ e. ne (sym (n.ways.choice 0 c l k) ∙ ap (choice_of s.net) e)))

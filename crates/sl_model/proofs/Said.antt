@@ -1,9 +1,8 @@
 -- What each actor's step puts: messages that fit their links, with the numbers of the step.
 --     Said k n m         each stamp and Begin number of the message is k, each count of steps is n
 --     PutBy net k n p    so of a put, whose message fits its link
---     Begins             what the observer begins
 use Rattle.std.proofs.Common.{◌≡◌, ℕ, zero, suc, ◌-◌, List, [], ◌∷◌, ◌++◌, length, refl, sym, ap, subst, ◌∙◌, Option, Some, None, inl, inr}
-use Rattle.std.specs.Prelude.{◌⊎◌, true, false, Bool, if◌then◌else◌, ◌==◌, flat_map, option_map, slice_get, not}
+use Rattle.std.specs.Prelude.{true, false, Bool, if◌then◌else◌, ◌==◌, flat_map, option_map, slice_get, not}
 use Rattle.sl_net.specs.declared.input.Packet.{Packet}
 use Rattle.sl_model.specs.declared.message.Message.{Message}
 use Rattle.sl_model.specs.declared.message.Message.TheVariants.{Host as HostMsg, Data, Probe as ProbeMsg, Init as InitMsg, Poll as PollMsg, Notice as NoticeMsg, Dump as DumpMsg, Begin as BeginMsg, Done as DoneMsg}
@@ -26,8 +25,10 @@ use Rattle.sl_model.specs.Setup.{Setup, frames_of}
 use Rattle.sl_model.specs.Knowledge.{is_outstanding, is_again, is_swept, issued, can_issue, can_resend}
 use Rattle.sl_model.specs.Puts.{send, send_all, crossbar_to, onward, route, route_frame, ingress_puts, egress_puts, is_own_port, side_puts, notice_puts, dump_puts, id_after, unit_puts, poll_puts, dump_answer, control_puts, guarded, begin_all, action}
 use Rattle.sl_model.specs.Fit.{fits, fits_link}
+use Rattle.sl_model.specs.Turns.{Begins}
 use Rattle.sl_model.proofs.Numbers.{Says}
-use Rattle.sl_net.proofs.Sorts.{IsOut, each-out}
+use Rattle.sl_net.specs.Ways.{IsOut}
+use Rattle.sl_net.proofs.Sorts.{each-out}
 
 pub record Said (k n : ℕ) (m : Message) : Type 0 where
   pub stamp : Says k (stamp_of m)
@@ -191,11 +192,6 @@ guarded-is true ps qs h = (refl, cc)
 guarded-is false ps qs h = absurd cc
 
 -- what the observer with the history h begins by its n-th action at the floor f: a new number, or the last again
-pub record Begins (s : Setup) (f : ℕ) (h : History) (n : ℕ) (ps : List Put) : Type 0 where
-  pub number : ℕ
-  pub puts : ps ≡ begin_all s.net number
-  pub kind : ((n ≡ 0) × (number ≡ suc (issued s.net h)) × (can_issue s f h ≡ true)) ⊎ ((n ≡ 1) × (number ≡ issued s.net h) × (can_resend s f h ≡ true))
-
 pub observer-acts : (s : Setup) (f a n : ℕ) (h : History) (ps : List Put) → action s f a Observer h n ≡ Some ps → Begins s f h n ps
 observer-acts s f a zero h ps q = let g = guarded-is (can_issue s f h) (begin_all s.net (suc (issued s.net h))) ps q in record { number = suc (issued s.net h); puts = sym g.1; kind = inl (refl, refl, g.0) }
 observer-acts s f a (suc zero) h ps q = let g = guarded-is (can_resend s f h) (begin_all s.net (issued s.net h)) ps q in record { number = issued s.net h; puts = sym g.1; kind = inr (refl, refl, g.0) }

@@ -1,7 +1,6 @@
 -- How many steps a world has.
-use Rattle.std.proofs.Common.{◌≡◌, ℕ, zero, suc, ◌+◌, ◌≤◌, List, [], ◌∷◌, length, refl, sym, ap, subst, ◌∙◌, Option, Some, None, arith}
-use Rattle.std.specs.Prelude.{reverse, slice_set, filter, map, Bool, true, false, cond}
-use Rattle.std.proofs.lemmas.List.{length-reverse}
+use Rattle.std.proofs.Common.{◌≡◌, ℕ, zero, suc, ◌+◌, ◌≤◌, List, [], ◌∷◌, length, refl, sym, subst, Option, Some, None, arith}
+use Rattle.std.specs.Prelude.{slice_set, filter, map, Bool, true, false, cond}
 use Rattle.sl_parts.specs.Parts.{numbers_from, below}
 use Rattle.sl_layout.specs.Net.{Net, units, is_unit, actor_of}
 use Rattle.sl_layout.specs.declared.actor.ActorId.{ActorId}

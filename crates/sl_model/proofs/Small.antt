@@ -1,13 +1,11 @@
 -- The bound is small, where the limits of an input are kept.
-use Rattle.std.proofs.Common.{List, [], ◌∷◌, ◌∙◌, ap, refl, ◌*◌, ◌+◌, ◌<◌, None, ◌^◌, length, subst, sym, ℕ, ◌≡◌, ◌≤◌, arith}
+use Rattle.std.proofs.Common.{List, [], ◌∷◌, ◌∙◌, ap, refl, ◌*◌, ◌+◌, ◌<◌, ◌^◌, length, subst, sym, ℕ, ◌≡◌, ◌≤◌, arith}
 use Rattle.std.specs.Prelude.{Bool, map}
 use Rattle.std.specs.List.{sum}
 use Rattle.std.proofs.lemmas.List.Sums.{sum_by-cons}
-use Rattle.sl_parts.specs.Fault.{fault_of}
 use Rattle.sl_net.specs.Input.{Input}
 use Rattle.sl_layout.specs.Net.{Net, actor_of, actors_of, is_unit, net_of, units}
 use Rattle.sl_parts.specs.Parts.{Parts, below}
-use Rattle.sl_parts.specs.Valid.{IsValid}
 use Rattle.sl_net.specs.Wired.{IsNet, IsWired}
 use Rattle.sl_layout.specs.declared.actor.Sort.TheVariants.{Cable, Crossbar, Init}
 use Rattle.sl_net.specs.declared.input.Flow.{Flow}
@@ -16,7 +14,6 @@ use Rattle.sl_model.specs.Setup.{Setup, setup_of}
 use Rattle.sl_model.specs.Words.{tally, weigh}
 use Rattle.sl_parts.proofs.Lists.{length_numbers, length_filter_le}
 use Rattle.sl_model.proofs.NetWiring.{wiring}
-use Rattle.sl_layout.proofs.Sizes.{few_actors}
 use Rattle.sl_model.proofs.Rounds.{mul-le}
 use Rattle.sl_model.proofs.SortCounts.{few-cables, few-crossings, few-inits}
 use Rattle.sl_model.proofs.Sums.{tally-is}
@@ -34,18 +31,15 @@ record IsSmallNet (net : Net) : Type 0 where
 
 small-net : (parts : Parts) → IsWired (net_of parts) → IsSmallNet (net_of parts)
 small-net parts t = record {
-  devices = v.devices;
+  devices = t.valid.devices;
   units_in = omega (arith, length_filter_le (λ a. is_unit (actor_of (net_of parts) a)) (below (length (actors_of parts))), length_numbers 0 (length (actors_of parts)), few);
-  inits = few-inits parts v;
-  crossings = few-crossings parts v;
-  cables = few-cables parts v;
+  inits = few-inits parts t;
+  crossings = few-crossings parts t;
+  cables = few-cables parts t;
 }
   where
-    v : IsValid parts
-    v = t.valid
-
     few : length (actors_of parts) ≤ 1217
-    few = few_actors parts t.valid t.few_hosts
+    few = t.few_actors
 
 pub small-bound : (s : Setup) (sweeps : ℕ) → IsNet s.net → s.count ≤ 1000 → s.retries ≤ 100 → frame_count s ≤ 200000 → sweeps ≤ 2 ^ 20 → bound_of s sweeps < 2 ^ 27
 small-bound s sweeps n c t p k = of_numbers (length s.net.parts.devices) (length (units s.net)) (links_of_sort s.net Init) (links_of_sort s.net Crossbar) (links_of_sort s.net Cable) s.count s.retries (frame_count s) sweeps

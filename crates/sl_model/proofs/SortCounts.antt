@@ -1,9 +1,9 @@
 -- How many links of initiations, cables and crossbars a net has at most: only units take from these, and each port has few of them.
 use Rattle.std.proofs.Common.{◌*◌, ◌+◌, ◌≤◌, List, None, Option, Some, ap, length, refl, sym, ℕ, ◌∙◌, ◌∷◌, ◌≡◌, arith, []}
 use Rattle.std.specs.Prelude.{Bool, false, filter, flat_map, if◌then◌else◌, map, slice_get}
-use Rattle.sl_layout.specs.Net.{Incoming, Net, actors_of, egress, from_host_or_cable, from_outside, incoming, ingress, link_numbers, link_of, links_to, net_of, no_link, place_of, same_sort, to_host, units_of}
+use Rattle.sl_layout.specs.Net.{Incoming, Net, actors_of, egress, from_host_or_cable, from_outside, incoming, ingress, link_numbers, link_of, links_to, net_of, place_of, same_sort, to_host, units_of}
 use Rattle.sl_parts.specs.Parts.{Parts, below, host_at, other_end, used_ports}
-use Rattle.sl_parts.specs.Valid.{IsValid}
+use Rattle.sl_net.specs.Wired.{IsWired}
 use Rattle.sl_layout.specs.declared.actor.ActorId.{ActorId}
 use Rattle.sl_layout.specs.declared.actor.ActorId.TheVariants.{Control, Host as OfHost, Observer}
 use Rattle.sl_layout.specs.declared.actor.LinkPart.{LinkPart}
@@ -14,9 +14,7 @@ use Rattle.sl_parts.specs.declared.parts.PortRef.{PortRef}
 use Rattle.sl_model.specs.Bound.{links_of_sort}
 use Rattle.sl_model.specs.Words.{tally, weigh}
 use Rattle.sl_parts.proofs.Lists.{length_numbers}
-use Rattle.sl_net.proofs.NetWired.{at-numbers}
 use Rattle.std.proofs.lemmas.List.{length-map}
-use Rattle.sl_layout.proofs.Sizes.{few_used}
 use Rattle.sl_model.proofs.Priced.{weigh-map}
 use Rattle.sl_model.proofs.Sums.{tally-is, weigh-append, weigh-each, weigh-flat, weigh-nothing, weigh-same-each}
 use Rattle.sl_model.proofs.BoundedTurns.{mul-right}
@@ -30,11 +28,11 @@ taken parts t a = tally (is_of t) (incoming parts a)
 
 -- The links of a sort, counted at the actors that take from them.
 
-links-counted : (parts : Parts) (t : Sort) → links_of_sort (net_of parts) t ≡ weigh (taken parts t) (actors_of parts)
-links-counted parts t =
+links-counted : (parts : Parts) → IsWired (net_of parts) → (t : Sort) → links_of_sort (net_of parts) t ≡ weigh (taken parts t) (actors_of parts)
+links-counted parts v t =
     tally-is (λ l. test (link_of net l)) (link_numbers net)
     ∙ sym (length-map kept (link_of net))
-    ∙ ap length (at-numbers test no_link net.links)
+    ∙ ap length (v.ways.numbers test)
     ∙ sym (tally-is test net.links)
     ∙ weigh-flat (λ k. if test k then 1 else 0) (links_to parts (actors_of parts)) (actors_of parts)
     ∙ weigh-same-each (λ a. tally test (links_to parts (actors_of parts) a)) (taken parts t) (actors_of parts) into
@@ -59,16 +57,16 @@ record IsOfUnits (parts : Parts) (t : Sort) (most : ℕ) : Type 0 where
   host : (h : ℕ) → taken parts t (OfHost h) ≤ 0
   port : (d p : ℕ) → taken parts t (ingress d p) + taken parts t (egress d p) ≤ most
 
-few-taken : (parts : Parts) (t : Sort) (most : ℕ) → IsValid parts → IsOfUnits parts t most → links_of_sort (net_of parts) t ≤ (most * 8) * 64
+few-taken : (parts : Parts) (t : Sort) (most : ℕ) → IsWired (net_of parts) → IsOfUnits parts t most → links_of_sort (net_of parts) t ≤ (most * 8) * 64
 few-taken parts t most v u = omega (
   arith,
-  links-counted parts t,
+  links-counted parts v t,
   u.observer,
   weigh-append f devices hosts,
   weigh-flat f (λ d. Control d ∷ units_of parts d) (below (length parts.devices)),
   weigh-each (λ d. weigh f (Control d ∷ units_of parts d)) (most * 8) (below (length parts.devices)) at_device,
   length_numbers 0 (length parts.devices),
-  mul-right (length (below (length parts.devices))) 64 (most * 8) (omega (arith, length_numbers 0 (length parts.devices), v.devices)),
+  mul-right (length (below (length parts.devices))) 64 (most * 8) (omega (arith, length_numbers 0 (length parts.devices), v.valid.devices)),
   weigh-map f OfHost (below (length parts.hosts)),
   weigh-nothing (λ h. f (OfHost h)) (below (length parts.hosts)) u.host,
 )
@@ -88,7 +86,7 @@ few-taken parts t most v u = omega (
       u.control d,
       weigh-flat f (λ p. ingress d p ∷ egress d p ∷ []) (used_ports parts d),
       weigh-each (λ p. weigh f (ingress d p ∷ egress d p ∷ [])) most (used_ports parts d) (λ p. omega (arith, u.port d p)),
-      mul-right (length (used_ports parts d)) 8 most (few_used parts d v),
+      mul-right (length (used_ports parts d)) 8 most (v.few_used d),
     )
 
 -- Where the sort isn't that of a link to the observer, a control plane or a host.
@@ -131,7 +129,7 @@ no-host parts t k h = by_port (slice_get (map (λ (part : HostPart). part.at) pa
 
 -- A port: at its ingress what comes from outside and a link of initiations, at its egress the crossbar links.
 
-port-takes : (parts : Parts) (t : Sort) (d p : ℕ) (outside : ℕ) → IsData t → IsValid parts
+port-takes : (parts : Parts) (t : Sort) (d p : ℕ) (outside : ℕ) → IsData t → IsWired (net_of parts)
     → ((x : Option ℕ) (y : Option PortRef) → tally (is_of t) (from_host_or_cable x y) ≤ outside)
     → taken parts t (ingress d p) + taken parts t (egress d p) ≤ outside + one (same_sort Init t) + one (same_sort Crossbar t) * 8
 port-takes parts t d p outside k v h = omega (
@@ -142,7 +140,7 @@ port-takes parts t d p outside k v h = omega (
   weigh-append f crossing ((Control d, Poll) ∷ []),
   weigh-map {B = Incoming} f (λ q. (ingress d q, Crossbar)) (used_ports parts d),
   weigh-each (λ (q : ℕ). one (same_sort Crossbar t)) (one (same_sort Crossbar t)) (used_ports parts d) (λ q. omega arith),
-  mul-right (length (used_ports parts d)) 8 (one (same_sort Crossbar t)) (few_used parts d v),
+  mul-right (length (used_ports parts d)) 8 (one (same_sort Crossbar t)) (v.few_used d),
 )
   where
     at : PortRef
@@ -154,7 +152,7 @@ port-takes parts t d p outside k v h = omega (
     crossing : List Incoming
     crossing = map (λ q. (ingress d q, Crossbar)) (used_ports parts d)
 
-few-of-sort : (parts : Parts) (t : Sort) (outside : ℕ) → IsValid parts → IsData t
+few-of-sort : (parts : Parts) (t : Sort) (outside : ℕ) → IsWired (net_of parts) → IsData t
     → ((x : Option ℕ) (y : Option PortRef) → tally (is_of t) (from_host_or_cable x y) ≤ outside)
     → links_of_sort (net_of parts) t ≤ ((outside + one (same_sort Init t) + one (same_sort Crossbar t) * 8) * 8) * 64
 few-of-sort parts t outside v k h = few-taken parts t (outside + one (same_sort Init t) + one (same_sort Crossbar t) * 8) v (record {
@@ -164,7 +162,7 @@ few-of-sort parts t outside v k h = few-taken parts t (outside + one (same_sort 
   port = λ d p. port-takes parts t d p outside k v h;
 })
 
-pub few-inits : (parts : Parts) → IsValid parts → links_of_sort (net_of parts) Init ≤ 512
+pub few-inits : (parts : Parts) → IsWired (net_of parts) → links_of_sort (net_of parts) Init ≤ 512
 few-inits parts v = few-of-sort parts Init 0 v (record { begin = refl; notice = refl; dump = refl; done = refl; to_host = refl; poll = refl }) outside
   where
     outside : (x : Option ℕ) (y : Option PortRef) → tally (is_of Init) (from_host_or_cable x y) ≤ 0
@@ -172,7 +170,7 @@ few-inits parts v = few-of-sort parts Init 0 v (record { begin = refl; notice = 
     outside None (Some q) = omega arith
     outside None None = omega arith
 
-pub few-crossings : (parts : Parts) → IsValid parts → links_of_sort (net_of parts) Crossbar ≤ 4096
+pub few-crossings : (parts : Parts) → IsWired (net_of parts) → links_of_sort (net_of parts) Crossbar ≤ 4096
 few-crossings parts v = few-of-sort parts Crossbar 0 v (record { begin = refl; notice = refl; dump = refl; done = refl; to_host = refl; poll = refl }) outside
   where
     outside : (x : Option ℕ) (y : Option PortRef) → tally (is_of Crossbar) (from_host_or_cable x y) ≤ 0
@@ -180,7 +178,7 @@ few-crossings parts v = few-of-sort parts Crossbar 0 v (record { begin = refl; n
     outside None (Some q) = omega arith
     outside None None = omega arith
 
-pub few-cables : (parts : Parts) → IsValid parts → links_of_sort (net_of parts) Cable ≤ 512
+pub few-cables : (parts : Parts) → IsWired (net_of parts) → links_of_sort (net_of parts) Cable ≤ 512
 few-cables parts v = few-of-sort parts Cable 1 v (record { begin = refl; notice = refl; dump = refl; done = refl; to_host = refl; poll = refl }) outside
   where
     outside : (x : Option ℕ) (y : Option PortRef) → tally (is_of Cable) (from_host_or_cable x y) ≤ 1

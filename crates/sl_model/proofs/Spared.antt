@@ -1,5 +1,5 @@
 -- An input loses nothing on a reliable link.
-use Rattle.std.proofs.Common.{◌≡◌, ap, Some, None}
+use Rattle.std.proofs.Common.{ap, Some, None}
 use Rattle.std.specs.Prelude.{if◌then◌else◌}
 use Rattle.sl_layout.specs.declared.actor.LinkKind.{LinkKind}
 use Rattle.sl_layout.specs.Wiring.{is_lossy}

@@ -19,8 +19,9 @@ use Rattle.sl_model.specs.Setup.{Setup}
 use Rattle.sl_model.specs.Puts.{action, puts_of, id_after, unit_puts}
 use Rattle.sl_model.specs.Made.{Took, Acted, IsMade, Fifo, Ran}
 use Rattle.sl_model.specs.Fit.{fits, fits_link, is_stamped}
+use Rattle.sl_model.specs.Turns.{Begins}
 use Rattle.sl_model.proofs.Numbers.{Says, Grows, Ordered, ordered, put-rises}
-use Rattle.sl_model.proofs.Said.{PutBy, Begins, unit-said, control-said, observer-acts, begin-said, action-said}
+use Rattle.sl_model.proofs.Said.{PutBy, unit-said, control-said, observer-acts, begin-said, action-said}
 
 -- Steps.
 

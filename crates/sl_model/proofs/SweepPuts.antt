@@ -10,7 +10,7 @@ use Rattle.sl_net.specs.Wired.{Reports}
 use Rattle.sl_layout.specs.Wiring.{kind_of}
 use Rattle.sl_layout.specs.declared.actor.ActorId.{ActorId}
 use Rattle.sl_layout.specs.declared.actor.ActorId.TheVariants.{Control, Observer, Host as OfHost, Unit as OfUnit}
-use Rattle.sl_layout.specs.declared.actor.Sort.TheVariants.{Dump, Poll}
+use Rattle.sl_layout.specs.declared.actor.Sort.TheVariants.{Poll}
 use Rattle.sl_layout.specs.declared.actor.UnitId.{UnitId}
 use Rattle.sl_model.specs.End.{AllTaken}
 use Rattle.sl_model.specs.Fit.{fits, fits_link}
@@ -26,8 +26,6 @@ use Rattle.sl_model.specs.Words.{listed}
 use Rattle.sl_model.specs.World.{Entry, IsLossTable, acting, next_step, run, turn}
 use Rattle.sl_model.specs.declared.message.Message.{Message}
 use Rattle.sl_model.specs.declared.message.Message.TheVariants.{Begin as BeginMsg, Data, Done as DoneMsg, Dump as DumpMsg, Host as HostMsg, Init as InitMsg, Notice as NoticeMsg, Poll as PollMsg, Probe as ProbeMsg}
-use Rattle.sl_net.proofs.ReportWays.{only-is-out}
-use Rattle.sl_net.proofs.Sorts.{choice-takes}
 use Rattle.sl_model.proofs.Begins.{each-last}
 use Rattle.sl_model.proofs.Stamps.{taken-fits}
 use Rattle.sl_model.proofs.Turns.{Steps, taken-other, taken-this, turn-cases}
@@ -51,7 +49,7 @@ poll-of (DoneMsg v n) h = absurd cc
 
 -- the link of a unit's polls
 pub poll-at : (net : Net) (u : ℕ) (r : Reports net u) → slice_get (links_into net u) (choice_of net r.poll) ≡ Some r.poll
-poll-at net u r = subst (λ a. slice_get (links_into net a) (choice_of net r.poll) ≡ Some r.poll) r.poll_to (choice-takes net r.poll r.poll_link)
+poll-at net u r = r.poll_taken
 
 pub polls-only : (s : Setup) (lost : Losses) (w : World) (u : ℕ) (r : Reports s.net u) → Ran s lost w → Each (λ m. m ≡ PollMsg) (takes (choice_of s.net r.poll) (history w u))
 polls-only s lost w u r x = each-imp (λ m. fits_link s.net r.poll m ≡ true) (λ m. m ≡ PollMsg) (takes (choice_of s.net r.poll) (history w u)) (λ m f. poll-of m (ap (λ t. fits t m) (sym r.poll_sort) ∙ f))
@@ -80,7 +78,7 @@ pub polls-taken : (s : Setup) (lost : Losses) (w : World) (u : ℕ) (r : Reports
 polls-taken s lost w u r t h = ap (λ a. taken (choice_of s.net r.poll) (history w a)) (sym r.poll_to) ∙ all-counted s lost w r.poll h t r.poll_link (ap kind_of r.poll_sort) ∙ ap (λ a. length (put r.poll (history w a))) r.poll_from
 
 dumps-taken : (s : Setup) (lost : Losses) (w : World) (u : ℕ) (r : Reports s.net u) → IsLossTable s.net lost → AllTaken s.net lost w → taken (choice_of s.net r.dump) (history w r.control) ≡ length (put r.dump (history w u))
-dumps-taken s lost w u r t h = let d = only-is-out s.net u Dump r.dump r.dumps in
+dumps-taken s lost w u r t h = let d = r.dump_out in
     ap (λ a. taken (choice_of s.net r.dump) (history w a)) (sym r.dump_to) ∙ all-counted s lost w r.dump h t d.is_link (ap kind_of d.sort) ∙ ap (λ a. length (put r.dump (history w a))) d.from
 
 pub none-outstanding : (s : Setup) (lost : Losses) (w : World) (u : ℕ) (i : UnitId) (r : Reports s.net u) → IsLossTable s.net lost → Ran s lost w → AllTaken s.net lost w → actor_of s.net u ≡ OfUnit i

@@ -26,8 +26,7 @@ use Rattle.sl_model.specs.declared.message.Put.{Put}
 use Rattle.sl_model.specs.declared.message.Step.{Step}
 use Rattle.sl_parts.specs.Lists.{Member}
 use Rattle.sl_parts.proofs.Lists.{member-flat, member-left, member-map, member-parts, member-right}
-use Rattle.sl_net.proofs.ReportWays.{choice-from-is, only-is-out}
-use Rattle.sl_net.proofs.Sorts.{IsOut, choice-is, is-into, out-member}
+use Rattle.sl_net.specs.Ways.{IsOut, HasWays}
 use Rattle.sl_model.proofs.Begins.{heard-this}
 use Rattle.sl_model.proofs.Reported.{Knows, dones-into, dumps-into, knows}
 use Rattle.sl_model.proofs.Stamps.{took-by}
@@ -72,10 +71,10 @@ empty-rest : {A : Type 0} (xs rest : List A) → length (xs ++ rest) ≡ length 
 empty-rest xs [] h = refl
 empty-rest xs (y ∷ ys) h = absurd (let k = length-append xs (y ∷ ys) in omega (arith, h, k))
 
-pub took-all : (s : Setup) (lost : Losses) (w : World) (a c l : ℕ) → Ran s lost w → AllTaken s.net lost w → IsLossTable s.net lost → slice_get (links_into s.net a) c ≡ Some l → kind_of (link_of s.net l).sort ≡ Reliable
+pub took-all : (s : Setup) → HasWays s.net → (lost : Losses) (w : World) (a c l : ℕ) → Ran s lost w → AllTaken s.net lost w → IsLossTable s.net lost → slice_get (links_into s.net a) c ≡ Some l → kind_of (link_of s.net l).sort ≡ Reliable
     → takes c (history w a) ≡ put l (sender s.net w l)
-took-all s lost w a c l r h t k n = let i = is-into s.net a c l k in let f = r.fifo a c l k in
-    let m : taken c (history w a) ≡ length (carried s.net lost w l) = ap (λ d. taken d (history w a)) (sym (choice-is s.net a c l k)) ∙ ap (λ b. taken (choice_of s.net l) (history w b)) (sym i.to) ∙ h l i.is_link in
+took-all s ways lost w a c l r h t k n = let i = ways.into a c l k in let f = r.fifo a c l k in
+    let m : taken c (history w a) ≡ length (carried s.net lost w l) = ap (λ d. taken d (history w a)) (sym (ways.choice a c l k)) ∙ ap (λ b. taken (choice_of s.net l) (history w b)) (sym i.to) ∙ h l i.is_link in
     let e : f.rest ≡ [] = empty-rest (takes c (history w a)) f.rest (ap length (sym f.split) ∙ sym m ∙ sym f.count) in
     sym (append-nil (takes c (history w a))) ∙ ap (λ r. takes c (history w a) ++ r) (sym e) ∙ sym f.split ∙ carried-all s.net lost w l t n
 
@@ -149,10 +148,10 @@ abbrev pub served_as : (net : Net) (u : ℕ) → Reports net u → Served
 served_as net u r = serving net r.control r.poll
 
 pub served-member : (net : Net) (u : ℕ) (r : Reports net u) → Member (served_as net u r) (served net r.control)
-served-member net u r = member-map (serving net r.control) r.poll (links_out net r.control Poll) (out-member net r.control Poll r.poll (record { is_link = r.poll_link; from = r.poll_from; sort = r.poll_sort }))
+served-member net u r = member-map (serving net r.control) r.poll (links_out net r.control Poll) r.poll_listed
 
 pub served-dump : (net : Net) (u : ℕ) (r : Reports net u) → choice_of net r.dump ≡ (served_as net u r).dump
-served-dump net u r = sym (ap (λ x. choice_from net r.control x Dump) r.poll_to ∙ choice-from-is net r.control u Dump r.dump r.dumps r.dump_to)
+served-dump net u r = sym (ap (λ x. choice_from net r.control x Dump) r.poll_to ∙ r.dump_choice)
 
 done-answer : (net : Net) (u n c : ℕ) (h : History) (r : Reports net u) → c ≡ choice_of net r.dump → Member (DoneMsg (unit_place net u) n) (on_link r.done (control_puts net r.control h c (DumpMsg n)))
 done-answer net u n c h r q = put-member p r.done (control_puts net r.control h c (DumpMsg n))
@@ -205,17 +204,17 @@ knows-polled s lost w u i g t r h q p = omega (arith, k.at_most, known_at_least)
     k = knows s lost w u i g r p' q
 
     dump : IsOut s.net u Dump p'.dump
-    dump = only-is-out s.net u Dump p'.dump p'.dumps
+    dump = p'.dump_out
 
     done : IsOut s.net p'.control Done p'.done
-    done = only-is-out s.net p'.control Done p'.done p'.dones
+    done = p'.done_out
 
     dumped_at : Member (DumpMsg (length (history w u))) (takes (choice_of s.net p'.dump) (history w p'.control))
-    dumped_at = subst (Member (DumpMsg (length (history w u)))) (sym (took-all s lost w p'.control (choice_of s.net p'.dump) p'.dump r h t (dumps-into s.net u p') (reliable (link_of s.net p'.dump).sort Dump dump.sort refl)))
+    dumped_at = subst (Member (DumpMsg (length (history w u)))) (sym (took-all s g.ways lost w p'.control (choice_of s.net p'.dump) p'.dump r h t (dumps-into s.net u p') (reliable (link_of s.net p'.dump).sort Dump dump.sort refl)))
         (subst (λ a. Member (DumpMsg (length (history w u))) (put p'.dump (history w a))) (sym dump.from) (newest-dump s u i p' (history w u) q (r.made u) p))
 
     done_at : Member (DoneMsg (unit_place s.net u) (length (history w u))) (takes (choice_of s.net p'.done) (observer w))
-    done_at = subst (Member (DoneMsg (unit_place s.net u) (length (history w u)))) (sym (took-all s lost w 0 (choice_of s.net p'.done) p'.done r h t (dones-into s.net u p') (reliable (link_of s.net p'.done).sort Done done.sort refl)))
+    done_at = subst (Member (DoneMsg (unit_place s.net u) (length (history w u)))) (sym (took-all s g.ways lost w 0 (choice_of s.net p'.done) p'.done r h t (dones-into s.net u p') (reliable (link_of s.net p'.done).sort Done done.sort refl)))
         (subst (λ a. Member (DoneMsg (unit_place s.net u) (length (history w u))) (put p'.done (history w a))) (sym done.from) (dumps-answered s u (length (history w u)) p' (history w p'.control) (r.made p'.control) dumped_at))
 
     known_at_least : length (history w u) ≤ known (unit_place s.net u) (observer w)

@@ -21,7 +21,8 @@ use Rattle.sl_model.specs.Cut.{channel_value}
 use Rattle.sl_model.specs.Verdict.{miscredits}
 use Rattle.sl_model.specs.Late.{IsLateData}
 use Rattle.sl_model.specs.Findings.{no_total, eight_totals, channel_links}
-use Rattle.sl_net.proofs.Sorts.{IsChoice, each-choice, is-into, into-to, choice-is}
+use Rattle.sl_net.specs.Ways.{IsChoice}
+use Rattle.sl_net.proofs.Sorts.{each-choice}
 use Rattle.sl_model.proofs.Begins.{fit-taken}
 use Rattle.sl_model.proofs.Consistent.{value-is-late}
 use Rattle.sl_model.proofs.Collected.{IsChannel, each-channel}
@@ -76,8 +77,8 @@ data-is t (inr q) = subst (λ t. IsTrue (is_data t)) (sym q) refl
 
 value-late : (s : Setup) (lost : Losses) (w : World) (k u c : ℕ) → IsWired s.net → Ran s lost w → IsChannel s.net u c → channel_value s.net lost w k (link_at s.net u c) ≡ late_total k c (history w u)
 value-late s lost w k u c n r i = let at : link_at s.net u c ≡ i.link = get_or_from_slice_get (links_into s.net u) c i.link 0 i.into in
-    ap (channel_value s.net lost w k) at ∙ of_late (value-is-late s lost w k i.link n r (record { link = (is-into s.net u c i.link i.into).is_link; data_sort = data-is (link_of s.net i.link).sort i.data_sort }))
-    ∙ (λ j. late_total k (choice-is s.net u c i.link i.into j) (history w (into-to s.net u c i.link i.into j)))
+    ap (channel_value s.net lost w k) at ∙ of_late (value-is-late s lost w k i.link n r (record { link = (n.ways.into u c i.link i.into).is_link; data_sort = data-is (link_of s.net i.link).sort i.data_sort }))
+    ∙ (λ j. late_total k (n.ways.choice u c i.link i.into j) (history w ((n.ways.into u c i.link i.into).to j)))
   where
     of_late : IsLateData s.net lost w k i.link → channel_value s.net lost w k i.link ≡ late_total k (choice_of s.net i.link) (receiver s.net w i.link)
     of_late x = let p = x.packets in let b = x.bytes in λ j. record { packets = p j; bytes = b j }

@@ -192,7 +192,7 @@ step-pays s lost g w r a c step n = by_actor (actor_of s.net a) refl
 
     by_actor : (i : ActorId) → actor_of s.net a ≡ i → Pays s lost w a c step (allowance s.net a i c)
     by_actor Observer q = let z : 0 ≡ a = sym (g.wired.one_observer a q) in subst (λ b. Pays s lost w b c step 0) z (observer-pays s lost g w c step (subst (λ b. StepOf s lost w b c step) (sym z) n))
-    by_actor (Control d) q = control-pays s lost p w a d q c step n
+    by_actor (Control d) q = control-pays s g.wired.ways lost p w a d q c step n
     by_actor (OfUnit i) q = unit-pays s lost g p w r a i q c step n (λ t k m. (stamp-above s lost g w r a i q c step n t k m, stamp-within s lost g w r a c step t k m))
     by_actor (OfHost x) q = host-pays s lost w a x c step q n
 
@@ -200,7 +200,7 @@ step-pays s lost g w r a c step n = by_actor (actor_of s.net a) refl
 pub potential-turn : (s : Setup) (lost : Losses) → Wiring s.net → (w : World) → Reached s lost w → (e : Entry) (step : Step) → next_step s lost w e ≡ Some step → suc (potential s lost (turn s lost w e)) ≤ potential s lost w + allowed s.net e
 potential-turn s lost g w r e step n =
     let t : Steps s lost w e (turn s lost w e) = record { step = step; next = n; grows = step-grows s lost w e.0 e.1 step r n } in
-    potential-step s lost w (turn s lost w e) e (allowed s.net e) t (step-pays s lost g w r e.0 e.1 step n)
+    potential-step s g.wired.ways lost w (turn s lost w e) e (allowed s.net e) t (step-pays s lost g w r e.0 e.1 step n)
 
 -- A legal schedule is no longer than the potential where it begins, and what its sweeps add.
 pub potential-run : (s : Setup) (lost : Losses) → Wiring s.net → (w : World) → Reached s lost w → (es : List Entry) → IsLegalFrom s lost w es → length es + potential s lost (run s lost w es) ≤ potential s lost w + weigh (allowed s.net) es

@@ -1,5 +1,4 @@
 -- What a turn does to a world: nothing, or a step of its actor.
---     GrowsAt w v a step       the world v is the world w with this step of the actor a
 --     Steps s lost w e v       the entry e makes a step, which leads from w to v
 use Rattle.std.proofs.Common.{◌≡◌, ℕ, zero, suc, ◌<◌, ◌≤◌, List, [], ◌∷◌, ◌++◌, length, refl, ap, Option, Some, None, arith, inl, inr, eq-eqb}
 use Rattle.std.specs.Prelude.{◌⊎◌, true, false, Bool, map, slice_get, slice_set, option_and_then, if◌then◌else◌, ◌==◌, nat_eq}
@@ -13,6 +12,7 @@ use Rattle.sl_model.specs.declared.message.Step.{Step}
 use Rattle.sl_model.specs.History.{History, World, Losses, history, taken}
 use Rattle.sl_model.specs.Setup.{Setup}
 use Rattle.sl_model.specs.World.{Entry, run, start, next_step, step_by, turn, after}
+use Rattle.sl_model.specs.Turns.{GrowsAt}
 
 -- what every turn keeps every run keeps
 pub kept_by_run : (s : Setup) (lost : Losses) (P : World → Type 0) → ((w : World) (e : Entry) → P w → P (turn s lost w e)) → (w : World) (es : List Entry) → P w → P (run s lost w es)
@@ -22,10 +22,6 @@ kept_by_run s lost P keeps w (e ∷ es) h = kept_by_run s lost P keeps (turn s l
 pub run-append : (s : Setup) (lost : Losses) (w : World) (xs ys : List Entry) → run s lost w (xs ++ ys) ≡ run s lost (run s lost w xs) ys
 run-append s lost w [] ys = refl
 run-append s lost w (x ∷ xs) ys = run-append s lost (turn s lost w x) xs ys
-
-pub record GrowsAt (w v : World) (a : ℕ) (step : Step) : Type 0 where
-  pub same : history v a ≡ step ∷ history w a
-  pub other : (b : ℕ) → (b ≡ a → ⊥) → history v b ≡ history w b
 
 pub grows-after : (w : World) (a : ℕ) (step : Step) → a < length w → GrowsAt w (after w a (Some step)) a step
 grows-after w a step h = record { same = get_or-set_same w a (step ∷ history w a) [] h; other = λ b ne. get_or-set_other w a b (step ∷ history w a) [] ne }

@@ -27,7 +27,7 @@ use Rattle.sl_model.specs.declared.message.Put.{Put}
 use Rattle.sl_model.specs.declared.message.Step.{Step}
 use Rattle.sl_model.specs.Flight.{puts_weight}
 use Rattle.sl_model.specs.Potential.{channels, credit, goes_on, init_price, is_cable, own_at, own_side, price, probe_price}
-use Rattle.sl_net.proofs.Sorts.{IsOut, each-out, is-into}
+use Rattle.sl_net.specs.Ways.{IsOut, HasWays}
 use Rattle.sl_model.proofs.NetWiring.{Wiring}
 use Rattle.sl_model.proofs.Phase.{loudness, no-action, side-quiet, takes-fit}
 use Rattle.sl_model.proofs.Potential.{Pays, sends-weigh}
@@ -42,13 +42,13 @@ cable-weigh net u k [] h = refl
 cable-weigh net u k (l ∷ ls) h = let p : probe_price net l ≡ 1 = ap (λ s. if is_cable s then 1 else suc (if goes_on net l then length (links_out net (link_of net l).to Cable) else 0)) h.0.sort in
     omega (arith, p, cable-weigh net u k ls h.1)
 
-probe-pays : (net : Net) → IsPriced net → (u k l s : ℕ) (i : UnitId) (side : Side) → i.side ≡ side → actor_of net u ≡ OfUnit i → (link_of net l).to ≡ u → suc (puts_weight (price net) (side_puts net u i side k l (ProbeMsg s))) ≤ probe_price net l
-probe-pays net g u k l s i Ingress q a t = by_sort (is_cable (link_of net l).sort)
+probe-pays : (net : Net) → HasWays net → IsPriced net → (u k l s : ℕ) (i : UnitId) (side : Side) → i.side ≡ side → actor_of net u ≡ OfUnit i → (link_of net l).to ≡ u → suc (puts_weight (price net) (side_puts net u i side k l (ProbeMsg s))) ≤ probe_price net l
+probe-pays net ways g u k l s i Ingress q a t = by_sort (is_cable (link_of net l).sort)
   where
     by_sort : (b : Bool) → 1 ≤ (if b then 1 else suc (if goes_on net l then length (links_out net (link_of net l).to Cable) else 0))
     by_sort true = omega arith
     by_sort false = omega arith
-probe-pays net g u k l s i Egress q a t = by_own (is_own_port net i.device i.port l) refl
+probe-pays net ways g u k l s i Egress q a t = by_own (is_own_port net i.device i.port l) refl
   where
     on : goes_on net l ≡ is_own_port net i.device i.port l
     on = ap (λ b. own_at net l (actor_of net b)) t ∙ ap (own_at net l) a ∙ ap (own_side net l i) q
@@ -67,16 +67,16 @@ probe-pays net g u k l s i Egress q a t = by_own (is_own_port net i.device i.por
 
     by_own : (b : Bool) → is_own_port net i.device i.port l ≡ b → suc (puts_weight (price net) (if b then send_all (ProbeMsg k) (links_out net u Cable) else [])) ≤ probe_price net l
     by_own false o = at_least (is_cable (link_of net l).sort)
-    by_own true o = omega (arith, sends-weigh (price net) (ProbeMsg k) (links_out net u Cable), cable-weigh net u k (links_out net u Cable) (each-out net u Cable), by_cable o (is_cable (link_of net l).sort) refl)
+    by_own true o = omega (arith, sends-weigh (price net) (ProbeMsg k) (links_out net u Cable), cable-weigh net u k (links_out net u Cable) (ways.outs u Cable), by_cable o (is_cable (link_of net l).sort) refl)
 
 init-pays : (net : Net) (u k l s : ℕ) (i : UnitId) (side : Side) → (link_of net l).to ≡ u → suc (puts_weight (price net) (side_puts net u i side k l (InitMsg s))) ≤ init_price net l
 init-pays net u k l s i Egress t = omega arith
 init-pays net u k l s i Ingress t = omega (arith, sends-weigh (price net) (ProbeMsg k) (links_out net u Crossbar), ap (λ b. weigh (probe_price net) (links_out net b Crossbar)) t)
 
 -- its way on and its dump
-pub way-pays : (net : Net) → IsPriced net → (u k l n : ℕ) (i : UnitId) (m : Message) → actor_of net u ≡ OfUnit i → (link_of net l).to ≡ u → fits_link net l m ≡ true → ((k : ℕ) → m ≡ BeginMsg k → ⊥)
+pub way-pays : (net : Net) → HasWays net → IsPriced net → (u k l n : ℕ) (i : UnitId) (m : Message) → actor_of net u ≡ OfUnit i → (link_of net l).to ≡ u → fits_link net l m ≡ true → ((k : ℕ) → m ≡ BeginMsg k → ⊥)
     → suc (puts_weight (price net) (side_puts net u i i.side k l m) + puts_weight (price net) (dump_puts net u n m)) ≤ price net l m
-way-pays net g u k l n i m a t fit no_begin = by_message m fit no_begin
+way-pays net ways g u k l n i m a t fit no_begin = by_message m fit no_begin
   where
     way : Message → ℕ
     way m = puts_weight (price net) (side_puts net u i i.side k l m)
@@ -94,7 +94,7 @@ way-pays net g u k l n i m a t fit no_begin = by_message m fit no_begin
     by_message : (m : Message) → fits_link net l m ≡ true → ((k : ℕ) → m ≡ BeginMsg k → ⊥) → suc (puts_weight (price net) (side_puts net u i i.side k l m) + puts_weight (price net) (dump_puts net u n m)) ≤ price net l m
     by_message (HostMsg b) h e = omega (arith, g.carries u k l i (HostMsg b) a t refl)
     by_message (Data c p) h e = omega (arith, g.carries u k l i (Data c p) a t refl)
-    by_message (ProbeMsg c) h e = omega (arith, probe-pays net g u k l c i i.side refl a t)
+    by_message (ProbeMsg c) h e = omega (arith, probe-pays net ways g u k l c i i.side refl a t)
     by_message (InitMsg c) h e = omega (arith, init-pays net u k l c i i.side t)
     by_message PollMsg h e = omega (arith, silent PollMsg i.side refl, poll_weigh)
     by_message NoticeMsg h e = omega (arith, silent NoticeMsg i.side refl)
@@ -189,10 +189,10 @@ unit-pays s lost g p w r u i a c step n rises = by_case (step-cases s lost w u c
 
     by_case : TakesBy s lost w u c step ⊎ ActsBy s w u c step → Pays s lost w u c step 0
     by_case (inr t) = absurd (no-action s w u i c step a t)
-    by_case (inl t) = let l = t.link in let m = t.message in let x = is-into s.net u c l t.at in let fit = takes-fit s lost w u c step (ran-reached s lost w r) t in
+    by_case (inl t) = let l = t.link in let m = t.message in let x = g.wired.ways.into u c l t.at in let fit = takes-fit s lost w u c step (ran-reached s lost w r) t in
         let k = id_after m h in
         let rc : unit_receives i.side (link_of s.net l).sort ≡ true = subst (λ y. receives y (link_of s.net l).sort ≡ true) (ap (actor_of s.net) x.to ∙ a) (g.wired.receiver l x.is_link) in
-        let way = way-pays s.net p u k l (suc (length h)) i m a x.to fit (λ j e. no-begins i.side (link_of s.net l).sort j (ap (fits (link_of s.net l).sort) (sym e) ∙ fit) rc) in
+        let way = way-pays s.net g.wired.ways p u k l (suc (length h)) i m a x.to fit (λ j e. no-begins i.side (link_of s.net l).sort j (ap (fits (link_of s.net l).sort) (sym e) ∙ fit) rc) in
         let ps = unit_puts s.net u i h c l m in
         let note = notices-pay s.net p s.count u c l i m ps h a t.at fit (rises t) in
         let e : step ≡ taking c m ps = t.is ∙ ap (λ b. taking c m (puts_of s u b h c l m)) a in

@@ -24,13 +24,14 @@ use Rattle.sl_model.specs.World.{Entry, start, next_step, turn, world, carried, 
 use Rattle.sl_model.specs.Made.{Ran}
 use Rattle.sl_model.specs.Fit.{fits, fits_link, is_stamped, stamp}
 use Rattle.sl_model.specs.Window.{on_way, IsInWindow, IsNear, begun}
-use Rattle.sl_net.proofs.Sorts.{IsInto, is-into, choice-is}
+use Rattle.sl_net.specs.Ways.{IsInto, HasWays}
 use Rattle.sl_model.proofs.Turns.{kept_by_run, Steps, turn-cases, run-append, start-empty}
-use Rattle.sl_model.proofs.Ran.{Takes, Acts, next-view, ran}
+use Rattle.sl_model.proofs.Ran.{next-view, ran}
 use Rattle.sl_model.proofs.Stamps.{each-lost, put-fits}
 use Rattle.sl_model.proofs.Near.{in-window, near}
 use Rattle.sl_model.specs.Calls.{credit, credits_in, step_calls, calls}
 use Rattle.sl_model.specs.UnitWindow.{IsWithin, IsTakeable}
+use Rattle.sl_model.specs.Turns.{Takes, Acts}
 use Rattle.sl_model.proofs.Entries.{stamp_in}
 use Rattle.sl_model.proofs.Settled.{IsData, data-fits, is-channel, place-lt}
 use Rattle.sl_model.proofs.Totals.{data-is}
@@ -71,9 +72,9 @@ each-get P (x ∷ xs) zero m h e = let q : x ≡ m = cc in subst P q h.0
 each-get P (x ∷ xs) (suc n) m h e = each-get P xs n m h.1 e
 
 -- what an actor takes is the first message on its way there
-pub next-way : (s : Setup) (lost : Losses) (w : World) (u : ℕ) (step : Step) → (t : Takes s lost w u step) → (rest : List Message) × (on_way s.net lost w t.took.link ≡ t.took.message ∷ rest)
-next-way s lost w u step t = let front = way-head (carried s.net lost w t.took.link) (taken step.choice (history w u)) t.took.message t.found in let into = is-into s.net u step.choice t.took.link t.took.into in
-    (front.0, (λ i. drop (taken (choice-is s.net u step.choice t.took.link t.took.into i) (history w (into.to i))) (carried s.net lost w t.took.link)) ∙ front.1)
+pub next-way : (s : Setup) → HasWays s.net → (lost : Losses) (w : World) (u : ℕ) (step : Step) → (t : Takes s lost w u step) → (rest : List Message) × (on_way s.net lost w t.took.link ≡ t.took.message ∷ rest)
+next-way s ways lost w u step t = let front = way-head (carried s.net lost w t.took.link) (taken step.choice (history w u)) t.took.message t.found in let into = ways.into u step.choice t.took.link t.took.into in
+    (front.0, (λ i. drop (taken (ways.choice u step.choice t.took.link t.took.into i) (history w (into.to i))) (carried s.net lost w t.took.link)) ∙ front.1)
 
 -- what holds of the message that a step takes, by the link that it comes from
 record IsNext (s : Setup) (u : ℕ) (step : Step) (h : History) (m : Message) : Type 0 where
@@ -100,16 +101,16 @@ next-is s lost w u i step n r x q t = record {
     h = history w u
 
     into : IsInto s.net u t.took.link
-    into = is-into s.net u step.choice t.took.link t.took.into
+    into = n.ways.into u step.choice t.took.link t.took.into
 
     same : last (choice_of s.net t.took.link) (history w u) ≡ last step.choice (history w u)
-    same = ap (λ c. last c (history w u)) (choice-is s.net u step.choice t.took.link t.took.into)
+    same = ap (λ c. last c (history w u)) (n.ways.choice u step.choice t.took.link t.took.into)
 
     there : last (choice_of s.net t.took.link) (receiver s.net w t.took.link) ≡ last step.choice (history w u)
     there = ap (λ a. last (choice_of s.net t.took.link) (history w a)) into.to ∙ same
 
     way : (rest : List Message) × (on_way s.net lost w t.took.link ≡ t.took.message ∷ rest)
-    way = next-way s lost w u step t
+    way = next-way s n.ways lost w u step t
 
     fit : fits_link s.net t.took.link t.took.message ≡ true
     fit = let from = (link_of s.net t.took.link).from in each-get (λ m. fits_link s.net t.took.link m ≡ true) (carried s.net lost w t.took.link) (taken step.choice (history w u)) t.took.message

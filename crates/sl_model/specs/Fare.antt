@@ -5,25 +5,20 @@
 use Rattle.std.specs.Prelude.{◌+◌, List, None, Option, Some, suc, zero, ℕ, length}
 use Rattle.sl_layout.specs.Net.{Net, actor_of, link_of, links_out}
 use Rattle.sl_layout.specs.declared.actor.ActorId.{ActorId}
-use Rattle.sl_layout.specs.declared.actor.ActorId.TheVariants.{Control, Unit as OfUnit}
+use Rattle.sl_layout.specs.declared.actor.ActorId.TheVariants.{Unit as OfUnit}
 use Rattle.sl_layout.specs.declared.actor.Side.{Side}
 use Rattle.sl_layout.specs.declared.actor.Side.TheVariants.{Egress, Ingress}
 use Rattle.sl_layout.specs.declared.actor.Sort.TheVariants.{Cable, ToHost}
 use Rattle.sl_net.specs.declared.input.Packet.{Packet}
+use Rattle.sl_net.specs.Wired.{home}
 use Rattle.sl_model.specs.Frame.{packet_of}
 use Rattle.sl_model.specs.Puts.{crossbar_to}
 use Rattle.sl_route.specs.Route.{next_port}
 use Rattle.sl_model.specs.Words.{weigh}
 
--- the device of a control plane or a unit
-abbrev pub device_of : ActorId → ℕ
-device_of (Control d) = d
-device_of (OfUnit i) = i.device
-device_of _ = 0
-
 -- the device to which a link leads
 abbrev pub device_at : Net → ℕ → ℕ
-device_at net l = device_of (actor_of net (link_of net l).to)
+device_at net l = home (actor_of net (link_of net l).to)
 
 abbrev pub leave_fare : Net → (ℕ → ℕ) → ℕ → ℕ
 leave_fare net into u = suc (weigh into (links_out net u Cable) + length (links_out net u ToHost))

@@ -22,8 +22,10 @@ pub mod Finished
 -- What the laws of worlds speak of.
 pub mod Made
 pub mod Fit
+pub mod Turns
 pub mod Late
 pub mod Window
+pub mod Passing
 pub mod Collected
 -- What a unit's history saves, and how it is told.
 pub mod Calls
@@ -34,6 +36,7 @@ pub mod Short
 pub mod Fields
 pub mod Brought
 pub mod Polls
+pub mod Reported
 pub mod Accounts
 -- What the laws of finishing speak of.
 pub mod Flight

@@ -1,7 +1,7 @@
 -- The losses of an input.
 --     loss_on i l      what decides which puts on the link l are lost, None where it is reliable
 --     losses i l n     the n-th put on the link l is lost
-use Rattle.std.specs.Prelude.{ℕ, ◌==◌, Bool, true, false, if◌then◌else◌, List, map, filter, Option, Some, None}
+use Rattle.std.specs.Prelude.{ℕ, ◌==◌, Bool, false, if◌then◌else◌, List, map, filter, Option, Some, None}
 use Rattle.sl_loss.specs.Loss.{Loss, is_lost}
 use Rattle.sl_layout.specs.declared.actor.LinkKind.{LinkKind}
 use Rattle.sl_layout.specs.Net.{Net, link_of}

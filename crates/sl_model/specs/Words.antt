@@ -2,7 +2,6 @@
 --     Rises n xs b     n, then the numbers xs, then b, never fall
 --     weigh f xs       a number of each element, added up
 use Rattle.std.specs.Prelude.{ℕ, suc, ◌+◌, ◌≤◌, min, Bool, List, [], ◌∷◌, ◌++◌, if◌then◌else◌, Option, Some, None}
-use Rattle.sl_route.specs.Least.{least_in, least}
 
 abbrev pub Rises : ℕ → List ℕ → ℕ → Type 0
 Rises n [] b = n ≤ b
@@ -24,6 +23,11 @@ listed (Some x) = x ∷ []
 abbrev pub numbers : {A : Type 0} → (A → Option ℕ) → List A → List ℕ
 numbers f [] = []
 numbers f (x ∷ xs) = listed (f x) ++ numbers f xs
+
+-- the last of some numbers, or n where there is none
+abbrev pub last_of : ℕ → List ℕ → ℕ
+last_of n [] = n
+last_of n (x ∷ xs) = last_of x xs
 
 -- the least of a number and others
 abbrev pub least_of : ℕ → List ℕ → ℕ

@@ -8,6 +8,7 @@ ghost use Rattle.sl_net.specs.Wired.{IsNet};
 ghost use Rattle.sl_model.specs.declared.message.Step.{Step};
 ghost use Rattle.sl_model.specs.History.{Losses};
 ghost use Rattle.sl_model.specs.Setup.{Setup, setup_of};
+ghost use Rattle.sl_model.specs.Knowledge.{observer, issued};
 ghost use Rattle.sl_model.specs.World.{Entry, IsLossTable, next_step, turn, run, world, kept, kept_from};
 ghost use Rattle.sl_model.specs.Schedule.{settling_pass, expand};
 ghost use Rattle.sl_model.specs.End.{finish, Settled, IsFin, IsFinished};
@@ -22,6 +23,11 @@ ghost use Rattle.sl_model.specs.Ended.{IsEnded};
 pub fn idle_passes_settle()
     ensures { (s : Setup) (lost : Losses) (es : List Entry) → IsNet s.net
         → kept_from s lost (world s lost es) (settling_pass s.net) ≡ [] → Settled s lost (world s lost es) }
+{}
+
+/// No more snapshots are issued than the setup has.
+pub fn issues_are_counted()
+    ensures { (s : Setup) (lost : Losses) (es : List Entry) → IsNet s.net → issued s.net (observer (world s lost es)) ≤ s.count }
 {}
 
 /// What finishing takes from the world of any schedule leads to a finished world.

@@ -10,6 +10,7 @@ mod message;
 mod report_laws;
 mod row_laws;
 mod saved_laws;
+mod turn_laws;
 mod verdict;
 
 pub use cut_laws::{
@@ -24,12 +25,13 @@ pub use findings::{Counts, Drops, Finding, FindingList, Findings, Lost, Row, Row
 pub use finish_laws::{
     bound_is_enough_fuel, bounds_are_small, finishing_ends, finishing_finishes,
     finishing_is_one_schedule, first_net_is_bounded, idle_passes_settle,
-    input_bound_is_enough_fuel, input_bounds_are_small, inputs_are_bounded,
+    input_bound_is_enough_fuel, input_bounds_are_small, inputs_are_bounded, issues_are_counted,
     more_fuel_changes_nothing, runs_are_bounded, runs_end, turns_lower_the_potential,
 };
 pub use message::{Message, Put, Puts, Step};
 pub use report_laws::{
-    brought_rows_are_read, dones_bring_rows, dones_tell_dumps, dumps_answer_polls, dumps_bring_rows,
+    brought_rows_are_read, dones_bring_rows, dones_tell_dumps, dumps_answer_polls,
+    dumps_bring_rows, known_steps_are_made,
 };
 pub use row_laws::{
     accounts_give_findings, calls_are_in_window, packets_are_short, packets_have_fields,
@@ -39,4 +41,5 @@ pub use saved_laws::{
     calls_follow_steps, calls_lead_to_id, counts_fit, entries_are_values, late_is_credited,
     read_is_row, row_stays, saved_is_row,
 };
+pub use turn_laws::{links_pass_messages, worlds_take_turns};
 pub use verdict::{Cause, Lag, Verdict};

@@ -21,6 +21,7 @@ ghost use Rattle.sl_model.specs.Calls.{calls};
 ghost use Rattle.sl_model.specs.Rows.{row};
 ghost use Rattle.sl_model.specs.Brought.{IsBrought};
 ghost use Rattle.sl_model.specs.Polls.{IsAsked};
+ghost use Rattle.sl_model.specs.Reported.{AreReported};
 
 use sl_net::nets_are_wired;
 use sl_saves::{shown_is_live, shown_is_read};
@@ -49,6 +50,13 @@ pub fn dones_tell_dumps()
         → numbers (done_of (unit_place s.net u)) (takes (choice_of s.net r.done) (observer (world s lost es)) ++ on_way s.net lost (world s lost es) r.done)
         ≡ numbers dump_of (takes (choice_of s.net r.dump) (history (world s lost es) r.control)) }
 {}
+
+/// What the observer and a control plane know of a unit is how many steps it made at some time.
+pub fn known_steps_are_made()
+    ensures { (s : Setup) → IsNet s.net → AreReported s }
+{
+    nets_are_wired()
+}
 
 /// What the next dump that a control plane takes from a unit brings it, over what it knows.
 pub fn dumps_bring_rows()

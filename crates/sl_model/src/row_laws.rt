@@ -14,7 +14,7 @@ ghost use Rattle.sl_model.specs.Words.{listed};
 ghost use Rattle.sl_model.specs.History.{History, Losses, history, put, stamp_taken, first};
 ghost use Rattle.sl_model.specs.Counting.{counted};
 ghost use Rattle.sl_model.specs.Setup.{Setup};
-ghost use Rattle.sl_model.specs.Knowledge.{observer, issued, floor};
+ghost use Rattle.sl_model.specs.Knowledge.{observer, issued, floor, collected, upto_of};
 ghost use Rattle.sl_model.specs.World.{Entry, next_step, world};
 ghost use Rattle.sl_model.specs.Verdict.{cause, lag};
 ghost use Rattle.sl_model.specs.End.{IsFinished};
@@ -53,11 +53,9 @@ pub fn stamps_are_in_window()
 }
 
 /// Where the flows of a setup have packets shorter than 2 ^ 16 bytes and its raw frames are bytes,
-/// each data packet that a unit counts is that short, and the steps of a schedule are at most its
-/// entries.
+/// each data packet that a unit counts is that short.
 pub fn packets_are_short()
-    ensures short { (s : Setup) (lost : Losses) (es : List Entry) (u : ℕ) → SendsShort s → TakesShort (history (world s lost es) u) }
-    ensures steps { (s : Setup) (lost : Losses) (es : List Entry) (u : ℕ) → length (history (world s lost es) u) ≤ length es }
+    ensures { (s : Setup) (lost : Losses) (es : List Entry) (u : ℕ) → SendsShort s → TakesShort (history (world s lost es) u) }
 {}
 
 /// In a schedule of fewer than 2 ^ 40 entries the totals of each row fit their type, so that a slot
@@ -68,7 +66,8 @@ pub fn rows_are_held()
 {}
 
 /// Once the id and the data last-seen numbers of a unit have reached k, the row of k stays what it
-/// is after more of its steps, and in every longer schedule.
+/// is after more of its steps, and in every longer schedule. So does the row of each number that
+/// the observer has collected.
 pub fn rows_are_final()
     ensures later { (s : Setup) (lost : Losses) (es : List Entry) (cs : List ℕ) (u k n m : ℕ) → IsNet s.net → n ≤ m
         → lag s.net k u (first n (history (world s lost es) u)) ≡ None
@@ -76,6 +75,9 @@ pub fn rows_are_final()
     ensures ahead { (s : Setup) (lost : Losses) (es fs : List Entry) (cs : List ℕ) (u k n : ℕ) → IsNet s.net
         → n ≤ length (history (world s lost es) u) → lag s.net k u (first n (history (world s lost es) u)) ≡ None
         → row cs k (history (world s lost (es ++ fs)) u) ≡ row cs k (first n (history (world s lost es) u)) }
+    ensures collected { (s : Setup) (lost : Losses) (es : List Entry) (cs : List ℕ) (u k : ℕ) (i : UnitId) → IsNet s.net → actor_of s.net u ≡ OfUnit i
+        → k ≤ upto_of s.net u (collected s.net (world s lost es) u)
+        → row cs k (collected s.net (world s lost es) u) ≡ row cs k (history (world s lost es) u) }
 {
     nets_are_wired()
 }

@@ -14,7 +14,7 @@ use Rattle.sl_parts.specs.declared.parts.PortRef.{PortRef}
 use Rattle.sl_parts.specs.declared.parts.HostPart.{HostPart}
 use Rattle.sl_parts.specs.Fault.{first_clash, takes_used_port, has_guest, used_host_port}
 use Rattle.sl_parts.specs.Parts.{Parts, same_port, other_end, host_from, host_at, has_cable, is_used}
-use Rattle.sl_layout.specs.Net.{Net, Incoming, net_of, actors_of, actor_of, link_of, link_numbers, no_link, same_sort, ingress, incoming, from_host_or_cable, from_outside, to_host, place_of, links_into, links_from, place_in, nobody}
+use Rattle.sl_layout.specs.Net.{Incoming, net_of, actors_of, actor_of, link_of, link_numbers, no_link, same_sort, ingress, incoming, from_host_or_cable, from_outside, to_host, place_of, links_into, links_from, place_in, nobody}
 use Rattle.sl_layout.specs.Roster.{IsActor}
 use Rattle.sl_parts.specs.Valid.{IsPort, IsValid}
 use Rattle.sl_net.specs.Wired.{HostLinks, sends, receives}

@@ -2,7 +2,7 @@
 --     Joined x i            what the incoming link i of the actor x is
 --     Linked parts b a s    the net's link of the sort s from the actor b to the actor a
 use Rattle.std.proofs.Common.{◌≡◌, ℕ, ◌<◌, ◌≤◌, List, [], ◌∷◌, ◌++◌, length, refl, sym, ap, subst, ◌∙◌, Option, Some, None, inl, inr}
-use Rattle.std.specs.Prelude.{◌⊎◌, true, false, Bool, map, flat_map, slice_get}
+use Rattle.std.specs.Prelude.{◌⊎◌, true, map, flat_map, slice_get}
 use Rattle.std.proofs.lemmas.Bool.{cases_lt}
 use Rattle.std.proofs.lemmas.List.{get_or_past}
 use Rattle.sl_layout.specs.declared.actor.ActorId.{ActorId}
@@ -17,12 +17,11 @@ use Rattle.sl_parts.specs.Parts.{Parts, below, other_end, host_at, used_ports, p
 use Rattle.sl_layout.specs.Net.{net_of, link_of, actor_of, nobody, no_link, ingress, egress, units_of, actors_of, Incoming, incoming, unit_incoming, from_outside, from_host_or_cable, to_host, place_of, links_to}
 use Rattle.sl_parts.specs.Valid.{IsValid}
 use Rattle.sl_layout.specs.Roster.{IsActor}
-use Rattle.sl_net.specs.Wired.{sends, receives}
+use Rattle.sl_net.specs.Wired.{home, is_inner, sends, receives}
 use Rattle.sl_parts.specs.Lists.{Each, Member, Distinct}
 use Rattle.sl_parts.proofs.Lists.{each-append, each-map, each-imp, each-flat, each-of, each-at, each-index, member-flat, member-map, distinct-append, distinct-filter, distinct-from, member-of-map, place-of-member, distinct-map, distinct-joined, one-place}
 use Rattle.sl_layout.proofs.Actors.{actor-member, each-actor, actor-at, actors-distinct, place-at, units-distinct, each-unit-of}
 use Rattle.sl_layout.proofs.Senders.{IsSender, IsLink, each-sender, each-link}
-use Rattle.sl_net.proofs.EndKinds.{home}
 
 -- Actors by their places.
 
@@ -46,15 +45,6 @@ is-at parts a x q ne = by_cases (cases_lt a (length (actors_of parts)))
 abbrev port_of : ActorId → ℕ
 port_of (OfUnit u) = u.port
 port_of _ = 0
-
--- the sorts of the links inside a device
-abbrev pub is_inner : Sort → Bool
-is_inner Crossbar = true
-is_inner Init = true
-is_inner Poll = true
-is_inner Notice = true
-is_inner Dump = true
-is_inner _ = false
 
 pub record Joined (x : ActorId) (i : Incoming) : Type 0 where
   pub sent : sends i.0 i.1 ≡ true
@@ -190,6 +180,7 @@ pub record Ends (parts : Parts) (l : ℕ) : Type 0 where
   pub from : actor_of (net_of parts) (link_of (net_of parts) l).from ≡ sender
   pub to : actor_of (net_of parts) (link_of (net_of parts) l).to ≡ receiver
   pub joined : Joined receiver (sender, (link_of (net_of parts) l).sort)
+  pub listed : Member (sender, (link_of (net_of parts) l).sort) (incoming parts receiver)
 
 pub ends : (parts : Parts) (l : ℕ) → IsValid parts → l < length (net_of parts).links → Ends parts l
 ends parts l v p = of_link (each-index (IsLink parts) (net_of parts).links l no_link (each-link parts v) p)
@@ -203,5 +194,6 @@ ends parts l v p = of_link (each-index (IsLink parts) (net_of parts).links l no_
       is = ap (λ n. record { from = n; to = x.to; sort = x.sort }) k.from ∙ ap (λ n. record { from = place_of k.sender (actors_of parts); to = n; sort = x.sort }) k.to;
       from = ap (actor_of (net_of parts)) k.from ∙ actor-at parts k.sender k.is_sender;
       to = ap (actor_of (net_of parts)) k.to ∙ actor-at parts k.receiver k.is_receiver;
+      listed = k.listed;
       joined = each-at (Joined k.receiver) (k.sender, x.sort) (incoming parts k.receiver) (each-joined parts k.receiver) k.listed;
     }

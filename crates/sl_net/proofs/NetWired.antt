@@ -1,6 +1,6 @@
 -- The net of valid parts is wired.
 --     into-links      the links into an actor are its incoming ones, in order
-use Rattle.std.proofs.Common.{◌≡◌, ℕ, zero, suc, ◌<◌, List, [], ◌∷◌, ◌++◌, length, refl, sym, ap, subst, ◌∙◌, Option, Some, None, arith, inl, inr, eq-eqb, get_or, append-nil}
+use Rattle.std.proofs.Common.{◌≡◌, ℕ, ◌<◌, List, [], ◌∷◌, ◌++◌, length, refl, sym, ap, subst, ◌∙◌, Option, Some, None, arith, inl, inr, eq-eqb, append-nil}
 use Rattle.std.specs.Prelude.{◌⊎◌, cond, true, false, Bool, ◌==◌, nat_eq, map, filter, flat_map, slice_get}
 use Rattle.std.proofs.lemmas.Bool.Decides.{eqb_tells}
 use Rattle.sl_layout.specs.declared.actor.ActorId.{ActorId}
@@ -11,43 +11,25 @@ use Rattle.sl_layout.specs.declared.actor.Side.TheVariants.{Ingress, Egress}
 use Rattle.sl_layout.specs.declared.actor.Sort.{Sort}
 use Rattle.sl_layout.specs.declared.actor.Sort.TheVariants.{ToHost, Crossbar, Init, Poll, Notice, Dump, Begin, Done}
 use Rattle.sl_layout.specs.declared.actor.LinkPart.{LinkPart}
-use Rattle.sl_parts.specs.Parts.{Parts, below, numbers_from, used_ports, ports_of, is_used}
-use Rattle.sl_layout.specs.Net.{Net, net_of, link_of, link_numbers, links_into, links_from, links_out, actor_of, no_link, same_sort, ingress, egress, units_of, actors_of, incoming, unit_incoming, from_outside, place_of, links_to}
+use Rattle.sl_parts.specs.Parts.{Parts, below, used_ports, ports_of, is_used}
+use Rattle.sl_layout.specs.Net.{net_of, link_of, link_numbers, links_into, links_from, links_out, choice_of, actor_of, no_link, same_sort, ingress, egress, units_of, actors_of, incoming, unit_incoming, from_outside, place_of, links_to}
 use Rattle.sl_parts.specs.Valid.{IsValid}
 use Rattle.sl_layout.specs.Roster.{IsActor}
 use Rattle.sl_parts.specs.declared.fault.NetFault.{NetFault}
 use Rattle.sl_parts.specs.Fault.{first_of, fault_of, no_device, too_many_devices, wrong_ports, stray_cable, stray_host, reused_port, too_many_hosts, used_host_port, device_namesake, host_namesake}
-use Rattle.sl_net.specs.Wired.{sends, receives, Reports}
+use Rattle.sl_net.specs.Wired.{home, sends, receives, Reports}
 use Rattle.sl_parts.proofs.Checked.{valid_from}
 use Rattle.sl_parts.specs.Lists.{Each, Member, Distinct}
-use Rattle.std.proofs.lemmas.Simd.{map-map}
-use Rattle.sl_parts.proofs.Lists.{numbers-suc, filter-map, each-map, each-imp, each-of, each-at, member-right, member-flat, member-from, member-map, member-filter, distinct-filter, distinct-from, only-one}
+use Rattle.sl_parts.proofs.Lists.{each-map, each-imp, each-of, each-at, member-right, member-flat, member-from, member-map, member-filter, distinct-filter, distinct-from, only-one}
 use Rattle.sl_layout.proofs.Actors.{actor-member, each-actor, actor-at, actors-distinct}
-use Rattle.sl_net.proofs.Sorts.{IsOut, each-out, out-member, is-link, is-into, one-choice}
-use Rattle.sl_net.proofs.EndKinds.{home, notice-receiver, dump-receiver, begin-receiver, done-receiver, poll-sender, begin-sender}
+use Rattle.sl_net.specs.Ways.{IsOut}
+use Rattle.std.proofs.lemmas.List.Elements.{filter-append}
+use Rattle.sl_net.proofs.Sorts.{at-numbers, each-out, out-member, is-link, is-into, one-choice, choice-takes, choice-is}
+use Rattle.sl_net.proofs.ReportWays.{one-unit, only-is-out, only-out, taken-at, choice-from-is, served-here, served-elsewhere}
+use Rattle.sl_net.proofs.EndKinds.{notice-receiver, dump-receiver, begin-receiver, done-receiver, poll-sender, begin-sender}
 use Rattle.sl_net.proofs.Linked.{same-place, IsAt, is-at, Joined, reports_of, link_from, Linked, linked, one-link, Ends, ends}
 
 -- The links into an actor.
-
--- the elements at the numbers of those that pass are those that pass
-pub at-numbers : (t : LinkPart → Bool) (d : LinkPart) (ks : List LinkPart) → map (λ l. get_or ks l d) (filter (λ l. t (get_or ks l d)) (below (length ks))) ≡ filter t ks
-at-numbers t d [] = refl
-at-numbers t d (k ∷ ks) = by_bool (t k) (ap (λ ns. map (λ l. get_or (k ∷ ks) l d) (filter (λ l. t (get_or (k ∷ ks) l d)) ns)) (numbers-suc 0 (length ks))
-    ∙ ap (map (λ l. get_or (k ∷ ks) l d)) (filter-map (λ l. t (get_or (k ∷ ks) l d)) (λ l. suc l) (below (length ks)))
-    ∙ map-map (λ l. get_or (k ∷ ks) l d) (λ l. suc l) (filter (λ l. t (get_or ks l d)) (below (length ks))) ∙ at-numbers t d ks)
-  where
-    by_bool : (b : Bool) → map (λ l. get_or (k ∷ ks) l d) (filter (λ l. t (get_or (k ∷ ks) l d)) (numbers_from 1 (length ks))) ≡ filter t ks
-        → map (λ l. get_or (k ∷ ks) l d) (cond b (0 ∷ filter (λ l. t (get_or (k ∷ ks) l d)) (numbers_from 1 (length ks))) (filter (λ l. t (get_or (k ∷ ks) l d)) (numbers_from 1 (length ks)))) ≡ cond b (k ∷ filter t ks) (filter t ks)
-    by_bool true h = ap (λ r. k ∷ r) h
-    by_bool false h = h
-
-pub filter-append : (t : LinkPart → Bool) (xs ys : List LinkPart) → filter t (xs ++ ys) ≡ filter t xs ++ filter t ys
-filter-append t [] ys = refl
-filter-append t (x ∷ xs) ys = by_bool (t x) (filter-append t xs ys)
-  where
-    by_bool : (b : Bool) → filter t (xs ++ ys) ≡ filter t xs ++ filter t ys → cond b (x ∷ filter t (xs ++ ys)) (filter t (xs ++ ys)) ≡ cond b (x ∷ filter t xs) (filter t xs) ++ filter t ys
-    by_bool true h = ap (λ r. x ∷ r) h
-    by_bool false h = h
 
 filter-all : (t : LinkPart → Bool) (ks : List LinkPart) → Each (λ k. t k ≡ true) ks → filter t ks ≡ ks
 filter-all t [] e = refl
@@ -143,25 +125,50 @@ reports parts u i v q = of_at (is-at parts u (OfUnit i) q (λ e. cc))
         let dump = linked parts (OfUnit i) (Control i.device) Dump c (report-member parts i Dump h (inr (inl refl))) in
         let poll = linked parts (Control i.device) (OfUnit i) Poll h (poll-member parts i) in
         let done = linked parts (Control i.device) Observer Done tt (done-member parts i.device c) in
+        let notices : links_out (net_of parts) u Notice ≡ notice.link ∷ [] = one-out parts u (OfUnit i) (Control i.device) Notice notice v h t.place (λ y j. notice-receiver y j.received ∙ ap Control (sym (j.inner refl))) in
+        let dumps : links_out (net_of parts) u Dump ≡ dump.link ∷ [] = one-out parts u (OfUnit i) (Control i.device) Dump dump v h t.place (λ y j. dump-receiver y j.received ∙ ap Control (sym (j.inner refl))) in
+        let dones : links_out (net_of parts) a Done ≡ done.link ∷ [] = one-out parts a (Control i.device) Observer Done done v c refl (λ y j. done-receiver y j.received) in
+        let notice_to : (link_of (net_of parts) notice.link).to ≡ a = ap (λ k. k.to) notice.is in
+        let dump_to : (link_of (net_of parts) dump.link).to ≡ a = ap (λ k. k.to) dump.is in
+        let done_to : (link_of (net_of parts) done.link).to ≡ 0 = ap (λ k. k.to) done.is in
+        let poll_from : (link_of (net_of parts) poll.link).from ≡ a = ap (λ k. k.from) poll.is in
+        let poll_to : (link_of (net_of parts) poll.link).to ≡ u = ap (λ k. k.to) poll.is ∙ t.place in
+        let polled : (l : ℕ) → (link_of (net_of parts) l).to ≡ u → (link_of (net_of parts) l).sort ≡ Poll → l ≡ poll.link = λ l to s. of_poll poll l to s t (is-link (net_of parts) l (λ z. let w : Poll ≡ ToHost = sym s ∙ z in cc)) in
         record {
           control = a;
           device = i.device;
           is_control = actor-at parts (Control i.device) c;
           notice = notice.link;
-          notices = one-out parts u (OfUnit i) (Control i.device) Notice notice v h t.place (λ y j. notice-receiver y j.received ∙ ap Control (sym (j.inner refl)));
-          notice_to = ap (λ k. k.to) notice.is;
+          notices = notices;
+          notice_to = notice_to;
           dump = dump.link;
-          dumps = one-out parts u (OfUnit i) (Control i.device) Dump dump v h t.place (λ y j. dump-receiver y j.received ∙ ap Control (sym (j.inner refl)));
-          dump_to = ap (λ k. k.to) dump.is;
+          dumps = dumps;
+          dump_to = dump_to;
           poll = poll.link;
-          polled = λ l to s. of_poll poll l to s t (is-link (net_of parts) l (λ z. let w : Poll ≡ ToHost = sym s ∙ z in cc));
+          polled = polled;
           poll_link = poll.is_link;
           poll_sort = ap (λ k. k.sort) poll.is;
-          poll_from = ap (λ k. k.from) poll.is;
-          poll_to = ap (λ k. k.to) poll.is ∙ t.place;
+          poll_from = poll_from;
+          poll_to = poll_to;
           done = done.link;
-          dones = one-out parts a (Control i.device) Observer Done done v c refl (λ y j. done-receiver y j.received);
-          done_to = ap (λ k. k.to) done.is;
+          dones = dones;
+          done_to = done_to;
+          notice_out = only-is-out (net_of parts) u Notice notice.link notices;
+          dump_out = only-is-out (net_of parts) u Dump dump.link dumps;
+          done_out = only-is-out (net_of parts) a Done done.link dones;
+          polls = each-out (net_of parts) a Poll;
+          poll_listed = out-member (net_of parts) a Poll poll.link (record { is_link = poll.is_link; from = poll_from; sort = ap (λ k. k.sort) poll.is });
+          one_done = λ l o. only-out (net_of parts) a Done done.link l dones o;
+          notice_taken = taken-at (net_of parts) u a Notice notice.link notices notice_to;
+          dump_taken = taken-at (net_of parts) u a Dump dump.link dumps dump_to;
+          poll_taken = subst (λ b. slice_get (links_into (net_of parts) b) (choice_of (net_of parts) poll.link) ≡ Some poll.link) poll_to (choice-takes (net_of parts) poll.link poll.is_link);
+          done_taken = taken-at (net_of parts) a 0 Done done.link dones done_to;
+          poll_choice = λ c l k s. let x = is-into (net_of parts) u c l k in sym (choice-is (net_of parts) u c l k) ∙ ap (choice_of (net_of parts)) (polled l x.to s);
+          one_unit = λ x e. one-unit (net_of parts) u x i q e;
+          notice_choice = choice-from-is (net_of parts) a u Notice notice.link notices notice_to;
+          dump_choice = choice-from-is (net_of parts) a u Dump dump.link dumps dump_to;
+          served_here = served-here (net_of parts) u a dump.link dumps dump_to;
+          served_elsewhere = λ b ne. served-elsewhere (net_of parts) u a poll.link b polled poll_from ne;
         }
       where
         of_poll : (k : Linked parts (Control i.device) (OfUnit i) Poll) (l : ℕ) → (link_of (net_of parts) l).to ≡ u → (link_of (net_of parts) l).sort ≡ Poll → IsAt parts u (OfUnit i) → l < length (net_of parts).links → l ≡ k.link

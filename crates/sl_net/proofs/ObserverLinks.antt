@@ -9,13 +9,11 @@ use Rattle.sl_layout.specs.declared.actor.UnitId.{UnitId}
 use Rattle.sl_parts.specs.Parts.{Parts, below}
 use Rattle.sl_layout.specs.Net.{Net, net_of, actors_of, actor_of, link_of, links_into, place_of, choice_of, no_link}
 use Rattle.sl_parts.specs.Valid.{IsValid}
-use Rattle.sl_net.specs.Wired.{Reports}
+use Rattle.sl_net.specs.Wired.{home, Reports}
 use Rattle.sl_layout.proofs.Actors.{actor-at}
 use Rattle.sl_parts.proofs.Lists.{at_below, length_below}
-use Rattle.sl_net.proofs.EndKinds.{home}
 use Rattle.sl_net.proofs.Linked.{Joined, ends, link_from}
 use Rattle.sl_net.proofs.NetWired.{into-links}
-use Rattle.sl_net.proofs.ReportWays.{only-is-out, taken-at}
 use Rattle.std.proofs.lemmas.List.{length-map}
 use Rattle.std.proofs.lemmas.List.{get_or-map}
 use Rattle.std.proofs.lemmas.Simd.{map-map}
@@ -36,7 +34,7 @@ reports-device parts u i v q r = let e = ends parts r.poll v r.poll_link in
     ap home (sym x) ∙ j.inner refl ∙ ap home y
 
 pub choice-is-device : (parts : Parts) (u : ℕ) (i : UnitId) → IsValid parts → actor_of (net_of parts) u ≡ OfUnit i → (r : Reports (net_of parts) u) → choice_of (net_of parts) r.done ≡ i.device
-choice-is-device parts u i v q r = of_control (sym (actor-at parts (Control c) low) ∙ ap (actor_of N) (sym from ∙ (only-is-out N r.control Done r.done r.dones).from) ∙ r.is_control) ∙ reports-device parts u i v q r
+choice-is-device parts u i v q r = of_control (sym (actor-at parts (Control c) low) ∙ ap (actor_of N) (sym from ∙ r.done_out.from) ∙ r.is_control) ∙ reports-device parts u i v q r
   where
     N : Net
     N = net_of parts
@@ -45,15 +43,15 @@ choice-is-device parts u i v q r = of_control (sym (actor-at parts (Control c) l
     c = choice_of (net_of parts) r.done
 
     into : slice_get (links_into (net_of parts) 0) (choice_of (net_of parts) r.done) ≡ Some r.done
-    into = (taken-at (net_of parts) r.control 0 Done r.done r.dones r.done_to)
+    into = r.done_taken
 
     low : choice_of (net_of parts) r.done < length parts.devices
-    low = let p = slice_get_within (links_into (net_of parts) 0) (choice_of (net_of parts) r.done) r.done ((taken-at (net_of parts) r.control 0 Done r.done r.dones r.done_to)) in
+    low = let p = slice_get_within (links_into (net_of parts) 0) (choice_of (net_of parts) r.done) r.done r.done_taken in
         let a = length-map (links_into (net_of parts) 0) (link_of (net_of parts)) in let b = ap length (observer-links parts) in let d = length_below (done_link parts) (length parts.devices) in omega (arith, p, a, b, d)
 
     from : (link_of (net_of parts) r.done).from ≡ place_of (Control (choice_of (net_of parts) r.done)) (actors_of parts)
-    from = ap (λ l. (link_of (net_of parts) l).from) (sym (get_or_from_slice_get (links_into (net_of parts) 0) (choice_of (net_of parts) r.done) r.done 0 ((taken-at (net_of parts) r.control 0 Done r.done r.dones r.done_to))))
-        ∙ ap (λ k. k.from) (sym (get_or-map (link_of (net_of parts)) (links_into (net_of parts) 0) (choice_of (net_of parts) r.done) 0 no_link (slice_get_within (links_into (net_of parts) 0) (choice_of (net_of parts) r.done) r.done ((taken-at (net_of parts) r.control 0 Done r.done r.dones r.done_to))))
+    from = ap (λ l. (link_of (net_of parts) l).from) (sym (get_or_from_slice_get (links_into (net_of parts) 0) (choice_of (net_of parts) r.done) r.done 0 r.done_taken))
+        ∙ ap (λ k. k.from) (sym (get_or-map (link_of (net_of parts)) (links_into (net_of parts) 0) (choice_of (net_of parts) r.done) 0 no_link (slice_get_within (links_into (net_of parts) 0) (choice_of (net_of parts) r.done) r.done r.done_taken))
         ∙ ap (λ ks. get_or ks (choice_of (net_of parts) r.done) no_link) (observer-links parts)
         ∙ at_below (done_link parts) (length parts.devices) (choice_of (net_of parts) r.done) no_link low)
 

@@ -1,25 +1,20 @@
 -- The links and choices of an actor, by their sorts.
---     IsOut net a s l         the link l comes from the actor a and is of the sort s
---     IsChoice net a s c      the choice c of the actor a takes from a link of the sort s
-use Rattle.std.proofs.Common.{◌≡◌, ℕ, zero, suc, ◌<◌, ◌≤◌, List, [], ◌∷◌, length, refl, sym, ap, subst, ◌∙◌, ◌+◌, Some, arith, inl, inr, eq-eqb}
-use Rattle.std.specs.Prelude.{◌⊎◌, cond, true, false, Bool, ◌==◌, if◌then◌else◌, nat_eq, filter, slice_get, slice_index_or}
+use Rattle.std.proofs.Common.{◌≡◌, ℕ, zero, suc, get_or, ◌<◌, ◌≤◌, List, [], ◌∷◌, length, refl, sym, ap, subst, ◌∙◌, ◌+◌, Some, arith, inl, inr, eq-eqb}
+use Rattle.std.specs.Prelude.{◌⊎◌, cond, true, false, Bool, ◌==◌, if◌then◌else◌, nat_eq, filter, map, slice_get, slice_index_or}
 use Rattle.std.proofs.lemmas.Bool.Decides.{eqb_tells}
-use Rattle.std.proofs.lemmas.Bool.{cases_lt}
+use Rattle.std.proofs.lemmas.Bool.{cases_lt, eqb-true}
 use Rattle.std.proofs.lemmas.List.{get_or_past}
 use Rattle.std.proofs.lemmas.Option.{slice_get_within, slice_get-get_or, get_or_from_slice_get}
 use Rattle.sl_layout.specs.declared.actor.Sort.{Sort}
 use Rattle.sl_layout.specs.declared.actor.Sort.TheVariants.{FromHost, ToHost, Cable, Crossbar, Init, Poll, Notice, Dump, Begin, Done}
 use Rattle.sl_parts.specs.Parts.{below, numbers_from}
+use Rattle.sl_layout.specs.declared.actor.LinkPart.{LinkPart}
+use Rattle.std.proofs.lemmas.Simd.{map-map}
+use Rattle.sl_layout.specs.Wires.{out_of}
 use Rattle.sl_layout.specs.Net.{Net, link_of, link_at, link_numbers, links_into, links_from, links_out, no_link, choices_of, sort_number, same_sort, place_in, choice_of}
 use Rattle.sl_parts.specs.Lists.{Each, Member}
-use Rattle.sl_parts.proofs.Lists.{each-imp, each-both, each-below, member-filter, member-from, distinct-filter, distinct-from, each-member, one-place}
-
-pub told : (x y : ℕ) → nat_eq x y ≡ true → x ≡ y
-told x y h = by_tells (eqb_tells x y)
-  where
-    by_tells : ((nat_eq x y ≡ true) × (x ≡ y)) ⊎ ((nat_eq x y ≡ false) × (x ≡ y → ⊥)) → x ≡ y
-    by_tells (inl q) = q.1
-    by_tells (inr q) = absurd cc
+use Rattle.sl_net.specs.Ways.{IsOut, IsInto, IsChoice}
+use Rattle.sl_parts.proofs.Lists.{numbers-suc, filter-map, each-imp, each-both, each-below, member-filter, member-from, distinct-filter, distinct-from, one-place}
 
 -- Sorts.
 
@@ -40,18 +35,13 @@ at-number Begin = refl
 at-number Done = refl
 
 pub same-sort-is : (s t : Sort) → same_sort s t ≡ true → s ≡ t
-same-sort-is s t h = sym (at-number s) ∙ ap sort_at (told (sort_number s) (sort_number t) h) ∙ at-number t
+same-sort-is s t h = sym (at-number s) ∙ ap sort_at (eqb-true (sort_number s) (sort_number t) h) ∙ at-number t
 
 -- Links out.
 
-pub record IsOut (net : Net) (a : ℕ) (s : Sort) (l : ℕ) : Type 0 where
-  pub is_link : l < length net.links
-  pub from : (link_of net l).from ≡ a
-  pub sort : (link_of net l).sort ≡ s
-
 pub each-out : (net : Net) (a : ℕ) (s : Sort) → Each (IsOut net a s) (links_out net a s)
 each-out net a s = each-imp (λ l. ((l < length net.links) × (((link_of net l).from == a) ≡ true)) × (same_sort (link_of net l).sort s ≡ true)) (IsOut net a s) (links_out net a s)
-    (λ l h. record { is_link = h.0.0; from = told (link_of net l).from a h.0.1; sort = same-sort-is (link_of net l).sort s h.1 })
+    (λ l h. record { is_link = h.0.0; from = eqb-true (link_of net l).from a h.0.1; sort = same-sort-is (link_of net l).sort s h.1 })
     (each-both (λ l. (l < length net.links) × (((link_of net l).from == a) ≡ true)) (λ l. same_sort (link_of net l).sort s) (links_from net a)
     (each-both (λ l. l < length net.links) (λ l. (link_of net l).from == a) (link_numbers net) (each-below (λ l. l < length net.links) (length net.links) (λ l p. p))))
 
@@ -68,15 +58,24 @@ is-link net l ne = by_cases (cases_lt l (length net.links))
     by_cases (inl h) = h
     by_cases (inr h) = absurd (ne (ap (λ k. k.sort) (get_or_past net.links l no_link h)))
 
+-- Lists by numbers.
+
+-- the elements at the numbers of those that pass are those that pass
+pub at-numbers : (t : LinkPart → Bool) (d : LinkPart) (ks : List LinkPart) → map (λ l. get_or ks l d) (filter (λ l. t (get_or ks l d)) (below (length ks))) ≡ filter t ks
+at-numbers t d [] = refl
+at-numbers t d (k ∷ ks) = by_bool (t k) (ap (λ ns. map (λ l. get_or (k ∷ ks) l d) (filter (λ l. t (get_or (k ∷ ks) l d)) ns)) (numbers-suc 0 (length ks))
+    ∙ ap (map (λ l. get_or (k ∷ ks) l d)) (filter-map (λ l. t (get_or (k ∷ ks) l d)) (λ l. suc l) (below (length ks)))
+    ∙ map-map (λ l. get_or (k ∷ ks) l d) (λ l. suc l) (filter (λ l. t (get_or ks l d)) (below (length ks))) ∙ at-numbers t d ks)
+  where
+    by_bool : (b : Bool) → map (λ l. get_or (k ∷ ks) l d) (filter (λ l. t (get_or (k ∷ ks) l d)) (numbers_from 1 (length ks))) ≡ filter t ks
+        → map (λ l. get_or (k ∷ ks) l d) (cond b (0 ∷ filter (λ l. t (get_or (k ∷ ks) l d)) (numbers_from 1 (length ks))) (filter (λ l. t (get_or (k ∷ ks) l d)) (numbers_from 1 (length ks)))) ≡ cond b (k ∷ filter t ks) (filter t ks)
+    by_bool true h = ap (λ r. k ∷ r) h
+    by_bool false h = h
+
 -- Choices.
 
--- a link that an actor takes from is one that leads to it
-pub record IsInto (net : Net) (a : ℕ) (l : ℕ) : Type 0 where
-  pub is_link : l < length net.links
-  pub to : (link_of net l).to ≡ a
-
 each-into : (net : Net) (a : ℕ) → Each (IsInto net a) (links_into net a)
-each-into net a = each-imp (λ l. (l < length net.links) × (((link_of net l).to == a) ≡ true)) (IsInto net a) (links_into net a) (λ l h. record { is_link = h.0; to = told (link_of net l).to a h.1 })
+each-into net a = each-imp (λ l. (l < length net.links) × (((link_of net l).to == a) ≡ true)) (IsInto net a) (links_into net a) (λ l h. record { is_link = h.0; to = eqb-true (link_of net l).to a h.1 })
     (each-both (λ l. l < length net.links) (λ l. (link_of net l).to == a) (link_numbers net) (each-below (λ l. l < length net.links) (length net.links) (λ l p. p)))
 
 each-got : (P : ℕ → Type 0) (xs : List ℕ) (c l : ℕ) → Each P xs → slice_get xs c ≡ Some l → P l
@@ -87,17 +86,10 @@ each-got P (x ∷ xs) (suc c) l e q = each-got P xs c l e.1 q
 pub is-into : (net : Net) (a c l : ℕ) → slice_get (links_into net a) c ≡ Some l → IsInto net a l
 is-into net a c l k = each-got (IsInto net a) (links_into net a) c l (each-into net a) k
 
-pub into-to : (net : Net) (a c l : ℕ) → slice_get (links_into net a) c ≡ Some l → (link_of net l).to ≡ a
-into-to net a c l k = (is-into net a c l k).to
-
 -- a link is taken by one choice
 pub one-choice : (net : Net) (a c d l : ℕ) → slice_get (links_into net a) c ≡ Some l → slice_get (links_into net a) d ≡ Some l → c ≡ d
 one-choice net a c d l p q = one-place (links_into net a) c d 0 (distinct-filter (λ l. (link_of net l).to == a) (link_numbers net) (distinct-from 0 (length net.links)))
     (slice_get_within (links_into net a) c l p) (slice_get_within (links_into net a) d l q) (get_or_from_slice_get (links_into net a) c l 0 p ∙ sym (get_or_from_slice_get (links_into net a) d l 0 q))
-
-pub record IsChoice (net : Net) (a : ℕ) (s : Sort) (c : ℕ) : Type 0 where
-  pub into : slice_get (links_into net a) c ≡ Some (link_at net a c)
-  pub sort : (link_of net (link_at net a c)).sort ≡ s
 
 pub each-choice : (net : Net) (a : ℕ) (s : Sort) → Each (IsChoice net a s) (choices_of net a s)
 each-choice net a s = each-imp (λ c. (c < length (links_into net a)) × (same_sort (link_of net (link_at net a c)).sort s ≡ true)) (IsChoice net a s) (choices_of net a s)
@@ -105,9 +97,10 @@ each-choice net a s = each-imp (λ c. (c < length (links_into net a)) × (same_s
     (each-both (λ c. c < length (links_into net a)) (λ c. same_sort (link_of net (link_at net a c)).sort s) (below (length (links_into net a)))
     (each-below (λ c. c < length (links_into net a)) (length (links_into net a)) (λ i p. p)))
 
--- what holds of each choice of a sort holds of one that takes from a link of this sort
-pub of-choice : (net : Net) (a : ℕ) (s : Sort) (P : ℕ → Type 0) (c l : ℕ) → Each P (choices_of net a s) → slice_get (links_into net a) c ≡ Some l → (link_of net l).sort ≡ s → P c
-of-choice net a s P c l e k q = each-member P (λ c. same_sort (link_of net (link_at net a c)).sort s) 0 (length (links_into net a)) c e (omega arith) (let x : c < length (links_into net a) = slice_get_within (links_into net a) c l k in omega arith)
+-- a choice that takes from a link of a sort is one of them
+pub chosen : (net : Net) (a : ℕ) (s : Sort) (c l : ℕ) → slice_get (links_into net a) c ≡ Some l → (link_of net l).sort ≡ s → Member c (choices_of net a s)
+chosen net a s c l k q = member-filter (λ c. same_sort (link_of net (link_at net a c)).sort s) c (below (length (links_into net a)))
+    (member-from c 0 (length (links_into net a)) (omega arith) (let x : c < length (links_into net a) = slice_get_within (links_into net a) c l k in omega arith))
     (eq-eqb (sort_number (link_of net (link_at net a c)).sort) (sort_number s) (ap (λ l. sort_number (link_of net l).sort) (get_or_from_slice_get (links_into net a) c l 0 k) ∙ ap sort_number q))
 
 -- The choice of a link takes from it, and no other does.
@@ -133,6 +126,13 @@ found-in t l start (suc count) n p q h = by_tells (λ n r. found-in t l (suc sta
 pub choice-takes : (net : Net) (l : ℕ) → l < length net.links → slice_get (links_into net (link_of net l).to) (choice_of net l) ≡ Some l
 choice-takes net l p = let f : Found 0 l (links_into net (link_of net l).to) = found-in (λ k. (link_of net k).to == (link_of net l).to) l 0 (length net.links) 0 (omega arith) (omega (arith, p)) (eq-eqb (link_of net l).to (link_of net l).to refl) in
     let e : choice_of net l ≡ f.place = f.is_there ∙ (omega arith) in ap (slice_get (links_into net (link_of net l).to)) e ∙ f.gets
+
+-- and a link has a place among those of its sender
+pub out-low : (net : Net) (a : ℕ) (s : Sort) (l : ℕ) → IsOut net a s l → out_of net l < length (links_from net a)
+out-low net a s l o = subst (λ b. out_of net l < length (links_from net b)) o.from
+    (let f : Found 0 l (links_from net (link_of net l).from) = found-in (λ k. (link_of net k).from == (link_of net l).from) l 0 (length net.links) 0 (omega arith) (let p : l < length net.links = o.is_link in omega arith)
+    (eq-eqb (link_of net l).from (link_of net l).from refl) in
+    let e : out_of net l ≡ 0 + f.place = f.is_there in omega (arith, e, slice_get_within (links_from net (link_of net l).from) f.place l f.gets))
 
 pub choice-is : (net : Net) (a c l : ℕ) → slice_get (links_into net a) c ≡ Some l → choice_of net l ≡ c
 choice-is net a c l k = let i = is-into net a c l k in one-choice net a (choice_of net l) c l (subst (λ b. slice_get (links_into net b) (choice_of net l) ≡ Some l) i.to (choice-takes net l i.is_link)) k

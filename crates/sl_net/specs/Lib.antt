@@ -1,4 +1,6 @@
 pub mod Input
 pub mod Tables
+pub mod Ways
 pub mod Wired
 pub mod Spelling
+pub mod Spelled

@@ -13,16 +13,14 @@ use Rattle.sl_layout.specs.declared.actor.UnitId.{UnitId}
 use Rattle.sl_layout.specs.declared.actor.Side.{Side}
 use Rattle.sl_layout.specs.declared.actor.Side.TheVariants.{Ingress, Egress}
 use Rattle.sl_net.specs.Input.{Input}
-use Rattle.sl_parts.specs.Parts.{Parts, below}
-use Rattle.sl_parts.specs.Fault.{fault_of}
+use Rattle.sl_parts.specs.Parts.{below}
 use Rattle.sl_layout.specs.Net.{Net, net_of, actor_of, nobody, actors_of, place_of, links_into, links_from, link_numbers, place_in, units, unit_place}
-use Rattle.sl_layout.specs.Roster.{IsActor}
 use Rattle.sl_net.specs.Wired.{IsWired}
 use Rattle.sl_layout.specs.Wiring.{plan_of, actions_of, wired_link, wired_links}
 use Rattle.sl_parts.specs.Lists.{Member}
-use Rattle.sl_parts.proofs.Lists.{numbers-suc, length_numbers, map_below_more}
-use Rattle.sl_net.proofs.ReportWays.{unit-listed}
+use Rattle.sl_net.specs.Ways.{HasWays}
 use Rattle.sl_layout.proofs.Actors.{place-at}
+use Rattle.sl_parts.proofs.Lists.{numbers-suc, length_numbers, map_below_more}
 use Rattle.std.proofs.lemmas.Simd.{map-map}
 use Rattle.sl_unit.specs.Step.{UnitState, counts_of}
 use Rattle.sl_layout.specs.Devices.{device_of}
@@ -101,8 +99,8 @@ pub record StandsAt (net : Net) (a place : ℕ) : Type 0 where
   pub within : place < length (units net)
   pub is : slice_index (units net) place ≡ a
 
-pub unit_stands : (net : Net) (a : ℕ) (u : UnitId) → actor_of net a ≡ OfUnit u → StandsAt net a (unit_place net a)
-unit_stands net a u q = let r = place_finds 0 a (units net) (unit-listed net a u q) in
+pub unit_stands : (net : Net) (a : ℕ) (u : UnitId) → ((net : Net) → HasWays net) → actor_of net a ≡ OfUnit u → StandsAt net a (unit_place net a)
+unit_stands net a u ways q = let r = place_finds 0 a (units net) ((ways net).unit a u q) in
     let z : unit_place net a - 0 ≡ unit_place net a = omega arith in
     record { within = omega (arith, r.0); is = ap (λ j. get_or (units net) j 0) (sym z) ∙ r.2 }
 

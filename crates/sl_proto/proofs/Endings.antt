@@ -18,8 +18,6 @@ use Rattle.sl_model.specs.Schedule.{settling_pass, sweeps, resend_entry}
 use Rattle.sl_model.specs.End.{settle, finish, sweep_round, is_collected, rose, Settled, IsFin, IsFinished}
 use Rattle.sl_model.specs.Books.{schedule_of}
 use Rattle.sl_model.proofs.Finished.{settle-settled}
-use Rattle.sl_model.proofs.Idle.{issued-within}
-use Rattle.sl_model.proofs.NetWiring.{wiring}
 use Rattle.sl_world.specs.Scene.{Scene}
 use Rattle.sl_proto.specs.declared.finishing.Round.{Round}
 use Rattle.sl_proto.specs.declared.finishing.Round.TheVariants.{Ended, Again, Short}
@@ -100,11 +98,11 @@ floor-decides k count f window pos most h = by_cases (eqb_tells f k)
     by_cases (inl q) = ap (λ b. b && (k == count)) q.0 ∙ eq-eqb k count (all-issued k count f window pos most q.1 h) ∙ sym q.0
     by_cases (inr q) = ap (λ b. b && (k == count)) q.0 ∙ sym q.0
 
-pub collected-is : (x : Case) (es : List Entry) (told : Reached) → IsNet x.setup.net → 0 < x.setup.window → Settled x.setup x.lost (world x.setup x.lost es)
+pub collected-is : (x : Case) (es : List Entry) (told : Reached) → issued x.setup.net (observer (world x.setup x.lost es)) ≤ x.setup.count → 0 < x.setup.window → Settled x.setup x.lost (world x.setup x.lost es)
     → HasReached x (world x.setup x.lost es) told → (told.floor == told.issued) ≡ is_collected x.setup (world x.setup x.lost es)
-collected-is x es told n pos settled tells = let s = x.setup in let w = world s x.lost es in
+collected-is x es told most pos settled tells = let s = x.setup in let w = world s x.lost es in
     ap (λ f. f == told.issued) tells.floor ∙ ap (λ k. floor s.net w == k) tells.issued
-    ∙ sym (floor-decides (issued s.net (observer w)) s.count (floor s.net w) s.window pos (issued-within s x.lost (wiring s.net n) w (es, refl)) settled.none_to_issue)
+    ∙ sym (floor-decides (issued s.net (observer w)) s.count (floor s.net w) s.window pos most settled.none_to_issue)
 
 -- Rounds.
 

@@ -1,9 +1,8 @@
 -- A turn of a scene that stands for a world leads to one that stands for the world after it.
-use Rattle.std.proofs.Common.{◌≡◌, ℕ, zero, suc, ◌+◌, ◌^◌, ◌<◌, ◌≤◌, List, [], ◌∷◌, ◌++◌, length, refl, sym, ap, subst, ◌∙◌, Option, Some, None, arith, inl, inr, length-append, append-nil, length-set, drop}
+use Rattle.std.proofs.Common.{◌≡◌, ℕ, zero, suc, ◌+◌, ◌^◌, ◌<◌, ◌≤◌, List, [], ◌∷◌, ◌++◌, length, refl, sym, ap, subst, ◌∙◌, Some, None, arith, inl, inr, length-append, append-nil, length-set, drop}
 use Rattle.std.specs.Prelude.{◌⊎◌, true, false, Bool, cond, nat_eq, if◌then◌else◌, slice_get, slice_set, option_and_then, unwrap_or}
-use Rattle.std.proofs.lemmas.Bool.{cases_lt}
+use Rattle.std.proofs.lemmas.Bool.{cases_lt, ne_eqb}
 use Rattle.std.proofs.lemmas.Bool.Decides.{eqb_tells}
-use Rattle.std.proofs.lemmas.List.{length-map}
 use Rattle.sl_machine.specs.Machine.{After}
 use Rattle.sl_machine.specs.Plan.{IsSound, link_in, link_out, link_at}
 use Rattle.sl_layout.specs.declared.actor.Sort.{Sort}
@@ -21,14 +20,14 @@ use Rattle.sl_parts.specs.Lists.{Each}
 use Rattle.sl_parts.proofs.Lists.{each-imp, each-both-of, at_below, length_below}
 use Rattle.sl_model.specs.History.{History, World, Losses, history, done_of, taken, takes, put, on_link, without_lost}
 use Rattle.sl_model.specs.Setup.{Setup}
-use Rattle.sl_model.specs.World.{Entry, IsLossTable, start, next_step, after, world, carried}
+use Rattle.sl_model.specs.World.{IsLossTable, carried}
 use Rattle.sl_model.specs.Made.{Took, Acted, IsMade, Fifo, Ran}
-use Rattle.sl_model.specs.Fit.{fits}
+use Rattle.sl_model.specs.Fit.{fits, fits_link}
 use Rattle.sl_model.specs.Window.{on_way}
-use Rattle.sl_net.proofs.Sorts.{choice-takes, choice-is, is-into}
-use Rattle.sl_model.proofs.Turns.{kept_by_run, GrowsAt, taken-other}
-use Rattle.sl_model.proofs.Said.{PutBy}
-use Rattle.sl_model.proofs.Stamps.{StepSaid, step-said}
+use Rattle.sl_model.specs.Turns.{GrowsAt, TakesTurns}
+use Rattle.sl_model.specs.Passing.{PassesMessages}
+use Rattle.sl_model.specs.Reported.{AreReported}
+use Rattle.sl_net.specs.Ways.{HasWays}
 use Rattle.sl_world.specs.Scene.{Line, Scene, line_at, done, put_each}
 use Rattle.sl_world.proofs.ShapeLaws.{length-put_each}
 use Rattle.sl_world.proofs.LinkLemmas.{link_in_is}
@@ -121,7 +120,7 @@ told-still net w v a step k g ne = by_tells (link_of net k).to (eqb_tells (link_
     by_tells : (b : ℕ) → ((nat_eq b a ≡ true) × (b ≡ a)) ⊎ ((nat_eq b a ≡ false) × (b ≡ a → ⊥)) → (b ≡ a → choice_of net k ≡ step.choice → ⊥)
         → (told_by (choice_of net k) (history v b) ≡ told_by (choice_of net k) (history w b)) × (taken (choice_of net k) (history v b) ≡ taken (choice_of net k) (history w b))
     by_tells b (inl q) n = let grown : history v b ≡ step ∷ history w b = ap (history v) q.1 ∙ g.same ∙ ap (λ x. step ∷ history w x) (sym q.1) in let c = choice_of net k in
-        (ap (told_by c) grown ∙ heard-other c step (history w b) (λ e. n q.1 (sym e)), ap (taken c) grown ∙ taken-other c step (history w b) (λ e. n q.1 (sym e)))
+        (ap (told_by c) grown ∙ heard-other c step (history w b) (λ e. n q.1 (sym e)), ap (taken c) grown ∙ ap (λ t. if t then suc (taken c (history w b)) else taken c (history w b)) (ne_eqb step.choice c (λ e. n q.1 (sym e))))
     by_tells b (inr q) n = (ap (told_by (choice_of net k)) (g.other b q.1), ap (taken (choice_of net k)) (g.other b q.1))
 
 -- Links and their puts.
@@ -150,13 +149,6 @@ pub put-small : (s : Setup) (a l : ℕ) (h : History) → IsWired s.net → IsMa
 put-small s a l [] z m = omega arith
 put-small s a l (step ∷ h) z m = let ih = put-small s a l h z m.1 in let k = one-each l step.puts (step-spread s a h step z m.0).apart in omega (arith, ih, k, length-append (put l h) (on_link l step.puts))
 
-after-length : (w : World) (a : ℕ) (o : Option Step) → length (after w a o) ≡ length w
-after-length w a None = refl
-after-length w a (Some step) = length-set w a (step ∷ history w a)
-
-pub world-length : (s : Setup) (lost : Losses) (es : List Entry) → length (world s lost es) ≡ length s.net.actors
-world-length s lost es = kept_by_run s lost (λ w. length w ≡ length s.net.actors) (λ w e q. after-length w e.0 (next_step s lost w e) ∙ q) (start s.net) es (length-map s.net.actors (λ a. []))
-
 -- Wiring.
 
 pub wire-at : (net : Net) (l : ℕ) → l < length net.links → link_at (plan_of net).links l ≡ wired_link net l
@@ -168,19 +160,19 @@ wires-each net = length_below (wired_link net) (length net.links)
 pub actors-each : (net : Net) → length (plan_of net).ins ≡ length net.actors
 actors-each net = length_below (λ a. length (links_into net a)) (length net.actors)
 
-pub link-in-is : (net : Net) (a c l : ℕ) → IsSound (plan_of net) → slice_get (links_into net a) c ≡ Some l → link_in (plan_of net).links a c ≡ l
-link-in-is net a c l sound k = let i = is-into net a c l k in let w = wire-at net l i.is_link in
+pub link-in-is : (net : Net) → HasWays net → (a c l : ℕ) → IsSound (plan_of net) → slice_get (links_into net a) c ≡ Some l → link_in (plan_of net).links a c ≡ l
+link-in-is net ways a c l sound k = let i = ways.into a c l k in let w = wire-at net l i.is_link in
     let once = sound.once_in l (let n = wires-each net in omega (arith, n, i.is_link)) in
-    (λ t. link_in (plan_of net).links (sym i.to t) (sym (choice-is net a c l k) t)) ∙ (λ t. link_in (plan_of net).links (sym w t).to (sym w t).choice) ∙ once
+    (λ t. link_in (plan_of net).links (sym i.to t) (sym (ways.choice a c l k) t)) ∙ (λ t. link_in (plan_of net).links (sym w t).to (sym w t).choice) ∙ once
 
-pub link-in-none : (net : Net) (a c : ℕ) → slice_get (links_into net a) c ≡ None → length (plan_of net).links ≤ link_in (plan_of net).links a c
-link-in-none net a c none = by_order (cases_lt (link_in (plan_of net).links a c) (length (plan_of net).links))
+pub link-in-none : (net : Net) → HasWays net → (a c : ℕ) → slice_get (links_into net a) c ≡ None → length (plan_of net).links ≤ link_in (plan_of net).links a c
+link-in-none net ways a c none = by_order (cases_lt (link_in (plan_of net).links a c) (length (plan_of net).links))
   where
     found : link_in (plan_of net).links a c < length (plan_of net).links → ⊥
     found low = let l = link_in (plan_of net).links a c in let p : l < length net.links = let n = wires-each net in omega (arith, n, low) in
         let is = link_in_is (plan_of net).links a c low in let w = wire-at net l p in
         let to : (link_of net l).to ≡ a = sym (ap (λ k. k.to) w) ∙ is.0 in let choice : choice_of net l ≡ c = sym (ap (λ k. k.choice) w) ∙ is.1 in
-        let some : slice_get (links_into net a) c ≡ Some l = (λ t. slice_get (links_into net (sym to t)) (sym choice t)) ∙ choice-takes net l p in
+        let some : slice_get (links_into net a) c ≡ Some l = (λ t. slice_get (links_into net (sym to t)) (sym choice t)) ∙ ways.taken l p in
         let no : None ≡ Some l = sym none ∙ some in absurd (cc)
 
     by_order : (link_in (plan_of net).links a c < length (plan_of net).links) ⊎ (length (plan_of net).links ≤ link_in (plan_of net).links a c) → length (plan_of net).links ≤ link_in (plan_of net).links a c
@@ -194,16 +186,16 @@ link-out-is net a l sound p from = let w = wire-at net l p in let once = sound.o
 -- The scene.
 
 -- the links of a scene that stands for the world w, seen by internal words
-pub lines-of : {S : Type 0} (s : Setup) (lost : Losses) (ring : ℕ) (Stands : World → ℕ → S → Type 0) (w : World) (v : Scene S Msg) → Ran s lost w → IsImage s lost ring Stands w v
+pub lines-of : {S : Type 0} (s : Setup) → HasWays s.net → (lost : Losses) (ring : ℕ) (Stands : World → ℕ → S → Type 0) (w : World) (v : Scene S Msg) → Ran s lost w → IsImage s lost ring Stands w v
     → LinesAre s.net ring (history w) lost (told_at s.net w) (taken_at s.net w) (put_at s.net w) v.lines
-lines-of s lost ring Stands w v x image l p = let i = image.lines l p in let k = choice-takes s.net l p in
+lines-of s ways lost ring Stands w v x image l p = let i = image.lines l p in let k = ways.taken l p in
     record { within = taken-within s.net lost w l (x.fifo (link_of s.net l).to (choice_of s.net l) l k); queue = i.queue; loss = i.loss; count = i.count }
 
-pub lines-grown : (s : Setup) (lost : Losses) (ring : ℕ) (w v : World) (a : ℕ) (step : Step) (lines : List (Line Msg)) → IsWired s.net → Ran s lost w → GrowsAt w v a step
+pub lines-grown : PassesMessages → (s : Setup) (lost : Losses) (ring : ℕ) (w v : World) (a : ℕ) (step : Step) (lines : List (Line Msg)) → AreReported s → IsWired s.net → Ran s lost w → GrowsAt w v a step
     → LinesAre s.net ring (history w) lost (told_at s.net w) (taken_at s.net w) (put_at s.net w) lines → LinesAre s.net ring (history v) lost (told_at s.net w) (taken_at s.net w) (put_at s.net w) lines
-lines-grown s lost ring w v a step lines z x g all l p = let i = all l p in record {
+lines-grown passing s lost ring w v a step lines reported z x g all l p = let i = all l p in record {
   within = i.within;
-  queue = queue-grown s.net ring w v a step (link_of s.net l).from (told_at s.net w l) (on_way s.net lost w l) (line_at lines l).queue g (told-there s lost w l z x p) (way-there s lost w l z x p) i.queue;
+  queue = queue-grown s.net ring w v a step (link_of s.net l).from (told_at s.net w l) (on_way s.net lost w l) (line_at lines l).queue g (told-there passing s lost w l reported z x p) (way-there passing s lost w l reported z x p) i.queue;
   loss = i.loss;
   count = i.count;
 }
@@ -229,6 +221,7 @@ module _ {S : Type 0} (s : Setup) (lost : Losses) (ring : ℕ) (Stands : World �
     pub wired : IsWired s.net
     pub sound : IsSound (plan_of s.net)
     pub table : IsLossTable s.net lost
+    pub turns : TakesTurns
     pub ran : Ran s lost w
     pub few : (b : ℕ) → length (history w b) < 2 ^ 40
     pub within : a < length s.net.actors
@@ -238,16 +231,15 @@ module _ {S : Type 0} (s : Setup) (lost : Losses) (ring : ℕ) (Stands : World �
   -- what a Done is told by
   done-told : (w v : World) (a : ℕ) (step : Step) → Turning w v a step → ((k : ℕ) → k < length s.net.links → told_last lost (told_at s.net v) (taken_at s.net v) (put_at s.net w) k ≡ told_last lost (told_at s.net w) (taken_at s.net w) (put_at s.net w) k)
       → Each (λ p. (place k : ℕ) → p.message ≡ DoneMsg place k → told_on p.link (history w a) place ≡ told_last lost (told_at s.net v) (taken_at s.net v) (λ l. put l (history w a)) p.link place) step.puts
-  done-told w v a step t same = let said : StepSaid s step = step-said s a (history w a) step t.made in
-      each-both-of (PutBy s.net said.number said.count) (λ p. (p.link < length s.net.links) × ((link_of s.net p.link).from ≡ a))
+  done-told w v a step t same = each-both-of (λ p. fits_link s.net p.link p.message ≡ true) (λ p. (p.link < length s.net.links) × ((link_of s.net p.link).from ≡ a))
       (λ p. (place k : ℕ) → p.message ≡ DoneMsg place k → told_on p.link (history w a) place ≡ told_last lost (told_at s.net v) (taken_at s.net v) (λ l. put l (history w a)) p.link place) step.puts
-      (λ p b f place k e. of_put p b f place k e) said.said (put-from s.net a step.puts (step-spread s a (history w a) step t.wired t.made).each)
+      (λ p b f place k e. of_put p b f place k e) (t.turns.puts s a (history w a) step t.made) (put-from s.net a step.puts (step-spread s a (history w a) step t.wired t.made).each)
     where
-      of_put : (p : Put) → PutBy s.net (step-said s a (history w a) step t.made).number (step-said s a (history w a) step t.made).count p → (p.link < length s.net.links) × ((link_of s.net p.link).from ≡ a) → (place k : ℕ) → p.message ≡ DoneMsg place k
+      of_put : (p : Put) → fits_link s.net p.link p.message ≡ true → (p.link < length s.net.links) × ((link_of s.net p.link).from ≡ a) → (place k : ℕ) → p.message ≡ DoneMsg place k
           → told_on p.link (history w a) place ≡ told_last lost (told_at s.net v) (taken_at s.net v) (λ l. put l (history w a)) p.link place
-      of_put p b f place k e = let l = p.link in let sort : (link_of s.net l).sort ≡ Done = done-sort (link_of s.net l).sort place k (ap (fits (link_of s.net l).sort) (sym e) ∙ b.fits) in
+      of_put p b f place k e = let l = p.link in let sort : (link_of s.net l).sort ≡ Done = done-sort (link_of s.net l).sort place k (ap (fits (link_of s.net l).sort) (sym e) ∙ b) in
           let none : (j : ℕ) → lost l j ≡ false = λ j. t.table l j (ap kind_of sort) in
-          let end = told-end s.net lost w l (t.ran.fifo (link_of s.net l).to (choice_of s.net l) l (choice-takes s.net l f.0)) none in
+          let end = told-end s.net lost w l (t.ran.fifo (link_of s.net l).to (choice_of s.net l) l (t.wired.ways.taken l f.0)) none in
           let here : put_at s.net w l ≡ put l (history w a) = ap (λ b. put l (history w b)) f.1 in
           (λ i. tell_all untold (sym here i) place) ∙ (λ i. end i place) ∙ (λ i. sym (same l f.0) i place) ∙ (λ i. tell_all (told_at s.net v l) (drop (taken_at s.net v l) (without_lost (lost l) 0 (here i))) place)
 

@@ -17,23 +17,18 @@ use Rattle.sl_model.specs.declared.message.Message.TheVariants.{Init as InitMsg,
 use Rattle.sl_model.specs.declared.message.Put.{Put}
 use Rattle.sl_model.specs.declared.message.Step.{Step}
 use Rattle.sl_parts.specs.Lists.{Each, Member}
-use Rattle.sl_parts.proofs.Lists.{each-append, each-imp, each-map, each-flat, each-of, each-at, each-back}
-use Rattle.sl_model.specs.Words.{Rises, listed, numbers}
+use Rattle.sl_parts.proofs.Lists.{each-append, each-imp, each-map, each-flat, each-of, each-at}
+use Rattle.sl_model.specs.Words.{listed, numbers}
 use Rattle.sl_model.specs.History.{History, World, Losses, history, dump_of, done_of, takes, put, on_link}
 use Rattle.sl_model.specs.Setup.{Setup}
 use Rattle.sl_model.specs.Knowledge.{is_outstanding, is_again, is_swept}
-use Rattle.sl_model.specs.Puts.{send, send_all, poll_puts, dump_answer, control_puts, guarded, action}
+use Rattle.sl_model.specs.Puts.{send, send_all, poll_puts, dump_answer, control_puts, puts_of, guarded, action}
 use Rattle.sl_model.specs.Made.{Took, Acted, IsMade, Ran}
 use Rattle.sl_model.specs.Fit.{fits, fits_link}
 use Rattle.sl_model.specs.Window.{on_way}
-use Rattle.sl_net.proofs.Sorts.{IsOut, each-out, choice-takes}
-use Rattle.sl_net.proofs.EndKinds.{poll-to, done-from}
-use Rattle.sl_net.proofs.ReportWays.{unit-listed, only-is-out, only-out}
-use Rattle.sl_model.proofs.Numbers.{rises-le, put-rises}
-use Rattle.sl_model.proofs.Stamps.{acted-by, took-by, each-on-link, each-lost, each-taken, put-fits, unit-dumps}
-use Rattle.sl_model.proofs.Reported.{dumps-into}
-use Rattle.sl_model.proofs.Near.{on-way-is}
-use Rattle.sl_model.proofs.Polls.{dones-are}
+use Rattle.sl_model.specs.Passing.{PassesMessages}
+use Rattle.sl_model.specs.Reported.{AreReported}
+use Rattle.sl_net.specs.Ways.{IsOut, HasWays}
 use Rattle.sl_proto.specs.Image.{told_by}
 use Rattle.sl_proto.proofs.Queues.{Told, IsThere, heard-told, told-all, untold}
 
@@ -71,7 +66,7 @@ done-place : (unit n place k : ℕ) → DoneMsg unit n ≡ DoneMsg place k → p
 done-place unit n place k e = cc
 
 serves-unit : (net : Net) (a l n : ℕ) → IsWired net → IsOut net a Poll l → SaidOf net a (DoneMsg (unit_place net (serving net a l).unit) n)
-serves-unit net a l n z o place k e = let i = poll-to net l z o.is_link o.sort in record {
+serves-unit net a l n z o place k e = let i = z.poll_to l o.is_link o.sort in record {
   unit = (link_of net l).to;
   id = i.0;
   is = i.1;
@@ -83,7 +78,7 @@ answers-of : (net : Net) (a c n : ℕ) (h : History) → IsWired net → Each (P
 answers-of net a c n h z = each-flat (PutOf net a) (λ v. if c == v.dump then dump_answer net a h n v else []) (served net a)
     (each-map (λ v. Each (PutOf net a) (if c == v.dump then dump_answer net a h n v else [])) (serving net a) (links_out net a Poll)
     (each-imp (IsOut net a Poll) (λ l. Each (PutOf net a) (if c == (serving net a l).dump then dump_answer net a h n (serving net a l) else [])) (links_out net a Poll)
-    (λ l o. by_bool l o (c == (serving net a l).dump)) (each-out net a Poll)))
+    (λ l o. by_bool l o (c == (serving net a l).dump)) (z.ways.outs a Poll)))
   where
     by_bool : (l : ℕ) → IsOut net a Poll l → (b : Bool) → Each (PutOf net a) (if b then dump_answer net a h n (serving net a l) else [])
     by_bool l o true = each-append (PutOf net a) (send_all (DoneMsg (unit_place net (serving net a l).unit) n) (links_out net a Done)) (if is_again (action_choice net a) (serving net a l) h then send PollMsg (serving net a l).poll ∷ [] else [])
@@ -102,8 +97,8 @@ control-of net a h c (DumpMsg n) z = answers-of net a c n h z
 control-of net a h c _ z = tt
 
 pub step-of : (s : Setup) (a d : ℕ) (h : History) (step : Step) → IsWired s.net → actor_of s.net a ≡ Control d → Took s a h step ⊎ Acted s a h step → Each (PutOf s.net a) step.puts
-step-of s a d h step z q (inl x) = subst (Each (PutOf s.net a)) (sym (took-by s a h step (Control d) q x)) (control-of s.net a h step.choice x.message z)
-step-of s a d h step z q (inr x) = of_choice (step.choice - action_choice s.net a) (acted-by s a h step (Control d) q x)
+step-of s a d h step z q (inl x) = subst (Each (PutOf s.net a)) (sym (x.puts ∙ ap (λ i. puts_of s a i h step.choice x.link x.message) q)) (control-of s.net a h step.choice x.message z)
+step-of s a d h step z q (inr x) = of_choice (step.choice - action_choice s.net a) (subst (λ i. action s x.floor a i h (step.choice - action_choice s.net a) ≡ Some step.puts) q x.puts)
   where
     of_guard : (b : Bool) → guarded b (flat_map (λ v. poll_puts v h) (served s.net a)) ≡ Some step.puts → Each (PutOf s.net a) step.puts
     of_guard true e = let p : flat_map (λ v. poll_puts v h) (served s.net a) ≡ step.puts = cc in subst (Each (PutOf s.net a)) p (polls-silent s.net a h)
@@ -113,15 +108,13 @@ step-of s a d h step z q (inr x) = of_choice (step.choice - action_choice s.net 
     of_choice zero e = of_guard (not (is_swept s.net a h)) e
     of_choice (suc n) e = absurd cc
 
-pub put-of : (s : Setup) (a d l : ℕ) (h : History) → IsWired s.net → actor_of s.net a ≡ Control d → IsMade s a h → Each (SaidOf s.net a) (put l h)
-put-of s a d l [] z q m = tt
-put-of s a d l (step ∷ h) z q m = each-append (SaidOf s.net a) (put l h) (on_link l step.puts) (put-of s a d l h z q m.1) (each-on-link (λ l k. SaidOf s.net a k) l step.puts (step-of s a d h step z q m.0))
+pub put-of : PassesMessages → (s : Setup) (a d l : ℕ) (h : History) → IsWired s.net → actor_of s.net a ≡ Control d → IsMade s a h → Each (SaidOf s.net a) (put l h)
+put-of passing s a d l [] z q m = tt
+put-of passing s a d l (step ∷ h) z q m = each-append (SaidOf s.net a) (put l h) (on_link l step.puts) (put-of passing s a d l h z q m.1)
+    (each-imp (λ k. Member (record { link = l; message = k }) step.puts) (SaidOf s.net a) (on_link l step.puts)
+    (λ k there. each-at (PutOf s.net a) (record { link = l; message = k }) step.puts (step-of s a d h step z q m.0) there) (passing.by_link l step.puts))
 
 -- Numbers of messages.
-
-rises-each : (a : ℕ) (xs : List ℕ) (b : ℕ) → Rises a xs b → Each (λ n. n ≤ b) xs
-rises-each a [] b r = tt
-rises-each a (x ∷ xs) b r = (rises-le x xs b r.1, rises-each x xs b r.1)
 
 listed-each : (f : Message → Option ℕ) (b : ℕ) (ms : List Message) → Each (λ n. n ≤ b) (numbers f ms) → Each (λ m. (n : ℕ) → f m ≡ Some n → n ≤ b) ms
 listed-each f b [] e = tt
@@ -155,10 +148,6 @@ pub done-fits : (t : Sort) (place n : ℕ) → fits t (DoneMsg place n) ≡ true
 done-fits Done place n h = refl
 done-fits _ place n h = absurd (cc)
 
-dumps-there : (s : Setup) (lost : Losses) (w : World) (u l : ℕ) (i : UnitId) → Ran s lost w → actor_of s.net u ≡ OfUnit i → Each (λ m. (n : ℕ) → dump_of m ≡ Some n → n ≤ length (history w u)) (put l (history w u))
-dumps-there s lost w u l i r q = listed-each dump_of (length (history w u)) (put l (history w u))
-    (rises-each 0 (numbers dump_of (put l (history w u))) (length (history w u)) (put-rises dump_of (λ h. length h) l (history w u) (unit-dumps s u i (history w u) q (r.made u))))
-
 -- Dones.
 
 done-is : (place n : ℕ) (m : Message) → done_of place m ≡ Some n → m ≡ DoneMsg place n
@@ -180,63 +169,67 @@ found-at n x (y ∷ xs) m = by_tells (λ k. found-at (suc n) x xs k) (eqb_tells 
     by_tells ih (inr q) (inr k) = let f = ih k in (suc f.0, ap (λ b. if b then n else place_in (suc n) x xs) q.0 ∙ f.1 ∙ omega arith, f.2)
 
 -- the unit at its place
-pub unit-at : (net : Net) (u : ℕ) (i : UnitId) → actor_of net u ≡ OfUnit i → slice_index (units net) (unit_place net u) ≡ u
-unit-at net u i q = let f = found-at 0 u (units net) (unit-listed net u i q) in let e : unit_place net u ≡ f.0 = f.1 ∙ omega arith in ap (slice_index (units net)) e ∙ f.2
+pub unit-at : (net : Net) (u : ℕ) → Member u (units net) → slice_index (units net) (unit_place net u) ≡ u
+unit-at net u m = let f = found-at 0 u (units net) m in let e : unit_place net u ≡ f.0 = f.1 ∙ omega arith in ap (slice_index (units net)) e ∙ f.2
 
 -- the link of a Done is the one by which its sender tells of the unit
 pub done-link : (s : Setup) (l a place : ℕ) (t : TellsOf s.net a place) (r : Reports s.net t.unit) → l < length s.net.links → (link_of s.net l).from ≡ a → (link_of s.net l).sort ≡ Done → l ≡ r.done
-done-link s l a place t r p f k = only-out s.net r.control Done r.done l r.dones (record { is_link = p; from = f ∙ sym (t.by r); sort = k })
+done-link s l a place t r p f k = r.one_done l (record { is_link = p; from = f ∙ sym (t.by r); sort = k })
 
-dones-there : (s : Setup) (lost : Losses) (w : World) (a place : ℕ) → IsWired s.net → Ran s lost w → (t : TellsOf s.net a place) (r : Reports s.net t.unit)
+dones-there : PassesMessages → (s : Setup) → HasWays s.net → (lost : Losses) (w : World) (a place : ℕ) → AreReported s → Ran s lost w → (t : TellsOf s.net a place) (r : Reports s.net t.unit)
     → Each (λ m. (n : ℕ) → done_of place m ≡ Some n → n ≤ length (history w (slice_index (units s.net) place))) (put r.done (history w a))
-dones-there s lost w a place z x t r = let u = t.unit in let c = choice_of s.net r.dump in
-    let from : (link_of s.net r.dump).from ≡ u = (only-is-out s.net u Dump r.dump r.dumps).from in
-    let sent : Each (λ m. (n : ℕ) → dump_of m ≡ Some n → n ≤ length (history w u)) (put r.dump (history w (link_of s.net r.dump).from)) =
-    subst (λ b. Each (λ m. (n : ℕ) → dump_of m ≡ Some n → n ≤ length (history w u)) (put r.dump (history w b))) (sym from) (dumps-there s lost w u r.dump t.id x t.is) in
+dones-there passing s ways lost w a place reported x t r = let u = t.unit in let c = choice_of s.net r.dump in let from = (link_of s.net r.dump).from in
+    let sent : Each (λ m. (n : ℕ) → dump_of m ≡ Some n → n ≤ length (history w u)) (put r.dump (history w from)) =
+    subst (λ b. Each (λ m. (n : ℕ) → dump_of m ≡ Some n → n ≤ length (history w u)) (put r.dump (history w b))) (sym r.dump_out.from)
+    (passing.dumps s u r.dump t.id (history w u) t.is (x.made u)) in
     let took : Each (λ m. (n : ℕ) → dump_of m ≡ Some n → n ≤ length (history w u)) (takes c (history w r.control)) =
-    each-taken (λ m. (n : ℕ) → dump_of m ≡ Some n → n ≤ length (history w u)) (lost r.dump) c (history w r.control) (put r.dump (history w (link_of s.net r.dump).from)) sent (x.fifo r.control c r.dump (dumps-into s.net u r)) in
+    each-imp (λ m. Member m (put r.dump (history w from))) (λ m. (n : ℕ) → dump_of m ≡ Some n → n ≤ length (history w u)) (takes c (history w r.control))
+    (λ m k. each-at (λ m. (n : ℕ) → dump_of m ≡ Some n → n ≤ length (history w u)) m (put r.dump (history w from)) sent k)
+    (passing.taken s lost w r.control c r.dump x r.dump_taken) in
     let told : Each (λ m. (n : ℕ) → done_of (unit_place s.net u) m ≡ Some n → n ≤ length (history w u)) (put r.done (history w r.control)) =
     listed-each (done_of (unit_place s.net u)) (length (history w u)) (put r.done (history w r.control))
-    (subst (Each (λ n. n ≤ length (history w u))) (sym (dones-are s u t.id r (history w r.control) t.is (x.made r.control))) (each-listed dump_of (length (history w u)) (takes c (history w r.control)) took)) in
-    let at : slice_index (units s.net) place ≡ u = ap (slice_index (units s.net)) t.at ∙ unit-at s.net u t.id t.is in
+    (subst (Each (λ n. n ≤ length (history w u))) (sym (reported lost w u t.id r x t.is).dones) (each-listed dump_of (length (history w u)) (takes c (history w r.control)) took)) in
+    let at : slice_index (units s.net) place ≡ u = ap (slice_index (units s.net)) t.at ∙ unit-at s.net u (ways.unit u t.id t.is) in
     subst (λ b. Each (λ m. (n : ℕ) → done_of place m ≡ Some n → n ≤ length (history w (slice_index (units s.net) place))) (put r.done (history w b))) (t.by r)
     (subst (λ v. Each (λ m. (n : ℕ) → done_of place m ≡ Some n → n ≤ length (history w v)) (put r.done (history w r.control))) (sym at)
     (subst (λ p. Each (λ m. (n : ℕ) → done_of p m ≡ Some n → n ≤ length (history w u)) (put r.done (history w r.control))) (sym t.at) told))
 
 -- All messages.
 
-pub puts-there : (s : Setup) (lost : Losses) (w : World) (l : ℕ) → IsWired s.net → Ran s lost w → l < length s.net.links → Each (IsThere s.net (history w) (link_of s.net l).from) (put l (history w (link_of s.net l).from))
-puts-there s lost w l z x p = each-of (IsThere s.net (history w) (link_of s.net l).from) (put l (history w (link_of s.net l).from)) there
+pub puts-there : PassesMessages → (s : Setup) (lost : Losses) (w : World) (l : ℕ) → AreReported s → IsWired s.net → Ran s lost w → l < length s.net.links → Each (IsThere s.net (history w) (link_of s.net l).from) (put l (history w (link_of s.net l).from))
+puts-there passing s lost w l reported z x p = each-of (IsThere s.net (history w) (link_of s.net l).from) (put l (history w (link_of s.net l).from)) there
   where
     fit : (m : Message) → Member m (put l (history w (link_of s.net l).from)) → fits (link_of s.net l).sort m ≡ true
-    fit m k = each-at (λ m. fits_link s.net l m ≡ true) m (put l (history w (link_of s.net l).from)) (put-fits s (link_of s.net l).from l (history w (link_of s.net l).from) (x.made (link_of s.net l).from)) k
+    fit m k = each-at (λ m. fits_link s.net l m ≡ true) m (put l (history w (link_of s.net l).from)) (passing.fits s lost w l x) k
 
     dump : (m : Message) → Member m (put l (history w (link_of s.net l).from)) → (n : ℕ) → m ≡ DumpMsg n → n ≤ length (history w (link_of s.net l).from)
     dump m k n e = let sort : (link_of s.net l).sort ≡ Dump = dump-fits (link_of s.net l).sort n (ap (fits (link_of s.net l).sort) (sym e) ∙ fit m k) in
         let i = dump-sender (actor_of s.net (link_of s.net l).from) (ap (sends (actor_of s.net (link_of s.net l).from)) (sym sort) ∙ z.sender l p) in
-        each-at (λ m. (n : ℕ) → dump_of m ≡ Some n → n ≤ length (history w (link_of s.net l).from)) m (put l (history w (link_of s.net l).from)) (dumps-there s lost w (link_of s.net l).from l i.0 x i.1) k n (ap dump_of e)
+        each-at (λ m. (n : ℕ) → dump_of m ≡ Some n → n ≤ length (history w (link_of s.net l).from)) m (put l (history w (link_of s.net l).from)) (passing.dumps s (link_of s.net l).from l i.0 (history w (link_of s.net l).from) i.1 (x.made (link_of s.net l).from)) k n (ap dump_of e)
 
     done : (m : Message) → Member m (put l (history w (link_of s.net l).from)) → (place n : ℕ) → done_of place m ≡ Some n → n ≤ length (history w (slice_index (units s.net) place))
     done m k place n e = let is : m ≡ DoneMsg place n = done-is place n m e in
         let sort : (link_of s.net l).sort ≡ Done = done-fits (link_of s.net l).sort place n (ap (fits (link_of s.net l).sort) (sym is) ∙ fit m k) in
-        let d = done-from s.net l z p sort in
-        let t : TellsOf s.net (link_of s.net l).from place = each-at (SaidOf s.net (link_of s.net l).from) m (put l (history w (link_of s.net l).from)) (put-of s (link_of s.net l).from d.0 l (history w (link_of s.net l).from) z d.1 (x.made (link_of s.net l).from)) k place n is in
+        let d = z.done_from l p sort in
+        let t : TellsOf s.net (link_of s.net l).from place = each-at (SaidOf s.net (link_of s.net l).from) m (put l (history w (link_of s.net l).from)) (put-of passing s (link_of s.net l).from d.0 l (history w (link_of s.net l).from) z d.1 (x.made (link_of s.net l).from)) k place n is in
         let r = z.reports t.unit t.id t.is in
         let all = subst (λ j. Each (λ m. (n : ℕ) → done_of place m ≡ Some n → n ≤ length (history w (slice_index (units s.net) place))) (put j (history w (link_of s.net l).from))) (sym (done-link s l (link_of s.net l).from place t r p refl sort))
-        (dones-there s lost w (link_of s.net l).from place z x t r) in
+        (dones-there passing s z.ways lost w (link_of s.net l).from place reported x t r) in
         each-at (λ m. (n : ℕ) → done_of place m ≡ Some n → n ≤ length (history w (slice_index (units s.net) place))) m (put l (history w (link_of s.net l).from)) all k n e
 
     there : (m : Message) → Member m (put l (history w (link_of s.net l).from)) → IsThere s.net (history w) (link_of s.net l).from m
     there m k = record { dump = dump m k; done = done m k }
 
-pub way-there : (s : Setup) (lost : Losses) (w : World) (l : ℕ) → IsWired s.net → Ran s lost w → l < length s.net.links → Each (IsThere s.net (history w) (link_of s.net l).from) (on_way s.net lost w l)
-way-there s lost w l z x p = let a = (link_of s.net l).from in let b = (link_of s.net l).to in let c = choice_of s.net l in let k = choice-takes s.net l p in let f = x.fifo b c l k in
-    subst (Each (IsThere s.net (history w) a)) (sym (on-way-is s.net lost w b c l k f))
-    (each-back (IsThere s.net (history w) a) (takes c (history w b)) f.rest
-    (subst (Each (IsThere s.net (history w) a)) f.split (each-lost (IsThere s.net (history w) a) (lost l) 0 (put l (history w a)) (puts-there s lost w l z x p))))
+pub way-there : PassesMessages → (s : Setup) (lost : Losses) (w : World) (l : ℕ) → AreReported s → IsWired s.net → Ran s lost w → l < length s.net.links → Each (IsThere s.net (history w) (link_of s.net l).from) (on_way s.net lost w l)
+way-there passing s lost w l reported z x p = let a = (link_of s.net l).from in
+    each-imp (λ m. Member m (put l (history w a))) (IsThere s.net (history w) a) (on_way s.net lost w l)
+    (λ m k. each-at (IsThere s.net (history w) a) m (put l (history w a)) (puts-there passing s lost w l reported z x p) k)
+    (passing.coming s lost w (link_of s.net l).to (choice_of s.net l) l x (z.ways.taken l p))
 
-pub told-there : (s : Setup) (lost : Losses) (w : World) (l : ℕ) → IsWired s.net → Ran s lost w → l < length s.net.links → Told s.net (history w) (told_by (choice_of s.net l) (history w (link_of s.net l).to))
-told-there s lost w l z x p = let a = (link_of s.net l).from in let b = (link_of s.net l).to in let c = choice_of s.net l in let k = choice-takes s.net l p in
+pub told-there : PassesMessages → (s : Setup) (lost : Losses) (w : World) (l : ℕ) → AreReported s → IsWired s.net → Ran s lost w → l < length s.net.links → Told s.net (history w) (told_by (choice_of s.net l) (history w (link_of s.net l).to))
+told-there passing s lost w l reported z x p = let a = (link_of s.net l).from in let b = (link_of s.net l).to in let c = choice_of s.net l in
     subst (Told s.net (history w)) (sym (heard-told c (history w b)))
     (told-all s.net (history w) a untold (takes c (history w b)) (λ place. omega arith)
-    (each-taken (IsThere s.net (history w) a) (lost l) c (history w b) (put l (history w a)) (puts-there s lost w l z x p) (x.fifo b c l k)))
+    (each-imp (λ m. Member m (put l (history w a))) (IsThere s.net (history w) a) (takes c (history w b))
+    (λ m k. each-at (IsThere s.net (history w) a) m (put l (history w a)) (puts-there passing s lost w l reported z x p) k)
+    (passing.taken s lost w b c l x (z.ways.taken l p))))

@@ -3,6 +3,7 @@
 --     IsThere net us a m         so is what the message m of the actor a tells
 use Rattle.std.proofs.Common.{◌≡◌, ℕ, ◌≤◌, List, [], ◌∷◌, ◌++◌, length, refl, sym, ap, subst, ◌∙◌, Option, Some, None, inl, inr, eq-eqb}
 use Rattle.std.specs.Prelude.{◌⊎◌, true, false, Bool, ◌==◌, if◌then◌else◌, nat_eq, slice_index, unwrap_or, option_and_then}
+use Rattle.std.proofs.lemmas.Bool.{le-ltb}
 use Rattle.std.proofs.lemmas.Bool.Decides.{eqb_tells}
 use Rattle.sl_layout.specs.Net.{Net, units}
 use Rattle.sl_wire.specs.declared.message.Msg.{Msg}
@@ -12,8 +13,7 @@ use Rattle.sl_model.specs.declared.message.Step.{Step}
 use Rattle.sl_parts.specs.Lists.{Each}
 use Rattle.sl_model.specs.Words.{listed}
 use Rattle.sl_model.specs.History.{History, World, history, first, done_of, takes}
-use Rattle.sl_model.proofs.Turns.{GrowsAt}
-use Rattle.sl_model.proofs.Numbers.{first-grown}
+use Rattle.sl_model.specs.Turns.{GrowsAt}
 use Rattle.sl_image.specs.Messages.{IsMessage, SaysDump, SaysDone}
 use Rattle.sl_proto.specs.Image.{tell, tell_all, told_by, AreQueued}
 
@@ -66,7 +66,8 @@ first-same : (w v : World) (b : ℕ) (step : Step) (u n : ℕ) → GrowsAt w v b
 first-same w v b step u n g p = by_tells (eqb_tells u b)
   where
     by_tells : ((nat_eq u b ≡ true) × (u ≡ b)) ⊎ ((nat_eq u b ≡ false) × (u ≡ b → ⊥)) → first n (history w u) ≡ first n (history v u)
-    by_tells (inl q) = let here : first n (history w b) ≡ first n (history v b) = sym (ap (first n) g.same ∙ first-grown n step (history w b) (subst (λ k. n ≤ length (history w k)) q.1 p)) in
+    by_tells (inl q) = let here : first n (history w b) ≡ first n (history v b) = sym (ap (first n) g.same
+        ∙ ap (λ t. if t then step ∷ history w b else first n (history w b)) (le-ltb (length (history w b)) n (subst (λ k. n ≤ length (history w k)) q.1 p))) in
         subst (λ k. first n (history w k) ≡ first n (history v k)) (sym q.1) here
     by_tells (inr q) = ap (first n) (sym (g.other u q.1))
 

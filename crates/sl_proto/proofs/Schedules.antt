@@ -16,7 +16,7 @@ use Rattle.sl_parts.specs.Parts.{numbers_from}
 use Rattle.sl_model.specs.Setup.{Setup}
 use Rattle.sl_model.specs.World.{Entry, start, next_step, turn, after, run, world, IsLegalFrom, kept_from}
 use Rattle.sl_model.specs.Window.{on_way}
-use Rattle.sl_model.proofs.Turns.{run-append, start-empty}
+use Rattle.sl_model.specs.Turns.{TakesTurns}
 use Rattle.sl_world.specs.Scene.{Scene, empty_line, new_line, first_scene, turn_of, after_turn, after_all, run_of, kept, last_number}
 use Rattle.sl_world.specs.Legal.{numbered_from}
 use Rattle.sl_world.proofs.BookLaws.{book-after_all}
@@ -42,7 +42,7 @@ module _ {S : Type 0} (s : Setup) (lost : Losses) (ring : ℕ) (Stands : World �
   same-did w (Some step) (Some u) z = refl
 
   pub turn-image : (es : List Entry) (e : Entry) (v : Scene S Msg) → Given s lost ring Stands rules → length es < 2 ^ 40 → IsImage s lost ring Stands (world s lost es) v → IsImage s lost ring Stands (world s lost (es ++ e ∷ [])) (after_turn rules v e)
-  turn-image es e v given few image = subst (λ w. IsImage s lost ring Stands w (after_turn rules v e)) (sym (run-append s lost (start s.net) es (e ∷ [])))
+  turn-image es e v given few image = subst (λ w. IsImage s lost ring Stands w (after_turn rules v e)) (sym (given.turns.parts s lost (start s.net) es (e ∷ [])))
       (after-turned (world s lost es) e.0 v (next_step s lost (world s lost es) e) (turn_of rules v e.0 e.1) image (turned s lost ring Stands rules es e.0 e.1 v given few image))
 
   -- Schedules.
@@ -56,7 +56,7 @@ module _ {S : Type 0} (s : Setup) (lost : Losses) (ring : ℕ) (Stands : World �
 
     pub all-image : (es fs : List Entry) (v : Scene S Msg) → length es + length fs < 2 ^ 40 → IsImage s lost ring Stands (world s lost es) v → IsImage s lost ring Stands (run s lost (world s lost es) fs) (after_all rules v fs)
     all-image es [] v few image = image
-    all-image es (e ∷ fs) v few image = subst (λ w. IsImage s lost ring Stands (run s lost w fs) (after_all rules (after_turn rules v e) fs)) (run-append s lost (start s.net) es (e ∷ []))
+    all-image es (e ∷ fs) v few image = subst (λ w. IsImage s lost ring Stands (run s lost w fs) (after_all rules (after_turn rules v e) fs)) (given.turns.parts s lost (start s.net) es (e ∷ []))
         (all-image (es ++ e ∷ []) fs (after_turn rules v e) (longer es e fs few) (turn-image es e v given (first-few es e fs few) image))
 
     idle-stays : (w : World) (a : ℕ) (o : Option Step) (fs : List Entry) → is_some o ≡ false → kept_from s lost (after w a o) fs ≡ kept_from s lost w fs
@@ -68,7 +68,7 @@ module _ {S : Type 0} (s : Setup) (lost : Losses) (ring : ℕ) (Stands : World �
     same-kept es (e ∷ fs) v few image = let w = world s lost es in let u = world s lost (es ++ e ∷ []) in
         let did : is_some (turn_of rules v e.0 e.1) ≡ is_some (next_step s lost w e) = same-did (turn s lost w e) (next_step s lost w e) (turn_of rules v e.0 e.1) (turned s lost ring Stands rules es e.0 e.1 v given (first-few es e fs few) image) in
         let rest : kept rules (after_turn rules v e) fs ≡ kept_from s lost (turn s lost w e) fs =
-        same-kept (es ++ e ∷ []) fs (after_turn rules v e) (longer es e fs few) (turn-image es e v given (first-few es e fs few) image) ∙ ap (λ x. kept_from s lost x fs) (run-append s lost (start s.net) es (e ∷ [])) in
+        same-kept (es ++ e ∷ []) fs (after_turn rules v e) (longer es e fs few) (turn-image es e v given (first-few es e fs few) image) ∙ ap (λ x. kept_from s lost x fs) (given.turns.parts s lost (start s.net) es (e ∷ [])) in
         (λ i. if did i then e ∷ rest i else rest i) ∙ by_bool (is_some (next_step s lost w e)) refl
       where
         by_bool : (b : Bool) → is_some (next_step s lost (world s lost es) e) ≡ b → (if b then e ∷ kept_from s lost (turn s lost (world s lost es) e) fs else kept_from s lost (turn s lost (world s lost es) e) fs)
@@ -80,7 +80,7 @@ module _ {S : Type 0} (s : Setup) (lost : Losses) (ring : ℕ) (Stands : World �
     legal-run es [] v few image legal = refl
     legal-run es (e ∷ fs) v few image legal = let w = world s lost es in
         by_turn (turn_of rules v e.0 e.1) (same-did (turn s lost w e) (next_step s lost w e) (turn_of rules v e.0 e.1) (turned s lost ring Stands rules es e.0 e.1 v given (first-few es e fs few) image) ∙ legal.0)
-        (legal-run (es ++ e ∷ []) fs (after_turn rules v e) (longer es e fs few) (turn-image es e v given (first-few es e fs few) image) (subst (λ x. IsLegalFrom s lost x fs) (sym (run-append s lost (start s.net) es (e ∷ []))) legal.1))
+        (legal-run (es ++ e ∷ []) fs (after_turn rules v e) (longer es e fs few) (turn-image es e v given (first-few es e fs few) image) (subst (λ x. IsLegalFrom s lost x fs) (sym (given.turns.parts s lost (start s.net) es (e ∷ []))) legal.1))
       where
         by_turn : (t : Option (Scene S Msg)) → is_some t ≡ true → run_of rules (unwrap_or t v) fs ≡ Some (after_all rules (unwrap_or t v) fs) → option_and_then (λ u. run_of rules u fs) t ≡ Some (after_all rules (unwrap_or t v) fs)
         by_turn None q ih = absurd (cc)
@@ -90,7 +90,7 @@ module _ {S : Type 0} (s : Setup) (lost : Losses) (ring : ℕ) (Stands : World �
     run-legal es [] v u few image run = tt
     run-legal es (e ∷ fs) v u few image run = let w = world s lost es in
         by_turn (turn_of rules v e.0 e.1) (sym (same-did (turn s lost w e) (next_step s lost w e) (turn_of rules v e.0 e.1) (turned s lost ring Stands rules es e.0 e.1 v given (first-few es e fs few) image)))
-        (λ q. subst (λ x. IsLegalFrom s lost x fs) (run-append s lost (start s.net) es (e ∷ [])) (run-legal (es ++ e ∷ []) fs (after_turn rules v e) u (longer es e fs few) (turn-image es e v given (first-few es e fs few) image) q)) run
+        (λ q. subst (λ x. IsLegalFrom s lost x fs) (given.turns.parts s lost (start s.net) es (e ∷ [])) (run-legal (es ++ e ∷ []) fs (after_turn rules v e) u (longer es e fs few) (turn-image es e v given (first-few es e fs few) image) q)) run
       where
         by_turn : (t : Option (Scene S Msg)) → is_some (next_step s lost (world s lost es) e) ≡ is_some t → (run_of rules (unwrap_or t v) fs ≡ Some u → IsLegalFrom s lost (turn s lost (world s lost es) e) fs)
             → option_and_then (λ x. run_of rules x fs) t ≡ Some u → IsLegalFrom s lost (world s lost es) (e ∷ fs)
@@ -102,17 +102,17 @@ module _ {S : Type 0} (s : Setup) (lost : Losses) (ring : ℕ) (Stands : World �
 
 -- The first scene.
 
-module _ {S : Type 0} (s : Setup) (lost : Losses) (ring : ℕ) (Stands : World → ℕ → S → Type 0) where
+module _ {S : Type 0} (turns : TakesTurns) (s : Setup) (lost : Losses) (ring : ℕ) (Stands : World → ℕ → S → Type 0) where
   drop-nil : (n : ℕ) → drop n (no-messages) ≡ []
   drop-nil zero = refl
   drop-nil (suc n) = refl
 
   nothing-on-way : (l : ℕ) → on_way s.net lost (start s.net) l ≡ []
   nothing-on-way l = let n = taken (choice_of s.net l) (history (start s.net) (link_of s.net l).to) in
-      ap (λ h. drop n (without_lost (lost l) 0 (put l h))) (start-empty s.net (link_of s.net l).from) ∙ drop-nil n
+      ap (λ h. drop n (without_lost (lost l) 0 (put l h))) (turns.starts s.net (link_of s.net l).from) ∙ drop-nil n
 
   first-line : (l : ℕ) (loss : Option Loss) → GoesOn (lost l) 0 loss → IsLineOf s lost ring (start s.net) l (new_line loss)
-  first-line l loss g = let none : put l (history (start s.net) (link_of s.net l).from) ≡ [] = ap (put l) (start-empty s.net (link_of s.net l).from) in record {
+  first-line l loss g = let none : put l (history (start s.net) (link_of s.net l).from) ≡ [] = ap (put l) (turns.starts s.net (link_of s.net l).from) in record {
     queue = subst (λ ms. AreQueued s.net ring (history (start s.net)) (link_of s.net l).from (told_by (choice_of s.net l) (history (start s.net) (link_of s.net l).to)) ms []) (sym (nothing-on-way l)) tt;
     loss = subst (λ ms. GoesOn (lost l) (length ms) loss) (sym none) g;
     count = sym (ap (λ ms. tally (λ k. lost l k) (numbers_from 1 (length ms))) none);

@@ -4,21 +4,20 @@ use Rattle.std.specs.Prelude.{unwrap_or}
 use Rattle.sl_layout.specs.declared.actor.UnitId.{UnitId}
 use Rattle.sl_layout.specs.declared.actor.ActorId.TheVariants.{Unit as OfUnit}
 use Rattle.sl_layout.specs.Net.{Net, actor_of, choice_of, unit_place}
-use Rattle.sl_net.specs.Wired.{Reports, IsWired}
+use Rattle.sl_net.specs.Wired.{Reports}
 use Rattle.sl_wire.specs.declared.message.Msg.{Msg}
 use Rattle.sl_model.specs.declared.message.Message.{Message}
 use Rattle.sl_model.specs.declared.message.Message.TheVariants.{Done as DoneMsg}
 use Rattle.sl_model.specs.declared.message.Put.{Put}
 use Rattle.sl_parts.specs.Lists.{Each}
-use Rattle.sl_model.specs.Words.{listed, numbers}
-use Rattle.sl_model.specs.History.{History, World, Losses, history, dump_of, done_of, put}
+use Rattle.sl_model.specs.Words.{listed, numbers, last_of}
+use Rattle.sl_model.specs.History.{History, World, Losses, history, dump_of, done_of, takes, put}
 use Rattle.sl_model.specs.Setup.{Setup}
 use Rattle.sl_model.specs.Knowledge.{observer, dumped, known}
 use Rattle.sl_model.specs.Made.{Ran}
-use Rattle.sl_model.proofs.Numbers.{last_of, heard-takes}
-use Rattle.sl_model.proofs.Reported.{knows}
+use Rattle.sl_model.specs.Passing.{PassesMessages}
+use Rattle.sl_model.specs.Reported.{AreReported}
 use Rattle.sl_image.specs.Messages.{AreSent}
-use Rattle.sl_model.proofs.Polls.{dones-are}
 use Rattle.sl_proto.specs.Image.{tell, tell_all, told_on, told_by, ArePut}
 use Rattle.sl_proto.proofs.Queues.{retold, untold}
 
@@ -46,11 +45,12 @@ told-last told place (m ∷ ms) = told-last (tell told m) place ms ∙ by_number
     by_number None = refl
     by_number (Some n) = refl
 
-pub told-is-dumped : (s : Setup) (lost : Losses) (w : World) (u : ℕ) (i : UnitId) (r : Reports s.net u) → Ran s lost w → actor_of s.net u ≡ OfUnit i
+pub told-is-dumped : PassesMessages → (s : Setup) (w : World) (u : ℕ) (r : Reports s.net u)
+    → numbers (done_of (unit_place s.net u)) (put r.done (history w r.control)) ≡ numbers dump_of (takes (choice_of s.net r.dump) (history w r.control))
     → told_on r.done (history w r.control) (unit_place s.net u) ≡ dumped (choice_of s.net r.dump) (history w r.control)
-told-is-dumped s lost w u i r x q = told-last untold (unit_place s.net u) (put r.done (history w r.control)) ∙ ap (last_of 0) (dones-are s u i r (history w r.control) q (x.made r.control))
-    ∙ sym (heard-takes dump_of (choice_of s.net r.dump) (history w r.control))
+told-is-dumped passing s w u r dones = told-last untold (unit_place s.net u) (put r.done (history w r.control)) ∙ ap (last_of 0) dones
+    ∙ passing.last_heard dump_of (choice_of s.net r.dump) (history w r.control)
 
-pub told-is-known : (s : Setup) (lost : Losses) (w : World) (u : ℕ) (i : UnitId) (r : Reports s.net u) → IsWired s.net → Ran s lost w → actor_of s.net u ≡ OfUnit i
+pub told-is-known : (s : Setup) (lost : Losses) (w : World) (u : ℕ) (i : UnitId) (r : Reports s.net u) → AreReported s → Ran s lost w → actor_of s.net u ≡ OfUnit i
     → told_by (choice_of s.net r.done) (observer w) (unit_place s.net u) ≡ known (unit_place s.net u) (observer w)
-told-is-known s lost w u i r z x q = sym (knows s lost w u i z x r q).told
+told-is-known s lost w u i r reported x q = sym (reported lost w u i r x q).told

@@ -29,11 +29,9 @@ use Rattle.sl_model.specs.Knowledge.{is_outstanding, is_again, is_swept, issued,
 use Rattle.sl_model.specs.Puts.{send, send_all, crossbar_to, onward, route, route_frame, ingress_puts, is_own_port, egress_puts, side_puts, notice_puts, dump_puts, id_after, unit_puts, poll_puts, dump_answer, control_puts, guarded, begin_all, puts_of, action}
 use Rattle.sl_model.specs.World.{Entry, next_step}
 use Rattle.sl_model.specs.Made.{Took, Acted}
-use Rattle.sl_net.proofs.Sorts.{IsOut, each-out}
-use Rattle.sl_net.proofs.EndKinds.{poll-to}
-use Rattle.sl_net.proofs.ReportWays.{choice-from-is, only-is-out}
-use Rattle.sl_model.proofs.Ran.{made-of, next-view}
-use Rattle.sl_model.proofs.Reported.{dumps-into}
+use Rattle.sl_model.specs.Turns.{Takes, Acts, TakesTurns}
+use Rattle.sl_net.specs.Ways.{IsOut}
+use Rattle.sl_net.proofs.Sorts.{each-out}
 use Rattle.sl_proto.specs.Spread.{ArePutFrom}
 
 -- a link from the actor, of a sort with one of these numbers
@@ -216,10 +214,10 @@ notices-spread net a c h = each-served net a (λ v. if c == v.notice then poll_p
 
 -- two units whose dumps it takes by one choice are one
 dump-is : (net : Net) (a x : ℕ) (r : Reports net (link_of net x).to) → r.control ≡ a → (serving net a x).dump ≡ choice_of net r.dump
-dump-is net a x r h = ap (λ b. choice_from net b (link_of net x).to Dump) (sym h) ∙ choice-from-is net r.control (link_of net x).to Dump r.dump r.dumps r.dump_to
+dump-is net a x r h = ap (λ b. choice_from net b (link_of net x).to Dump) (sym h) ∙ r.dump_choice
 
 one-dump : (net : Net) (a l k : ℕ) → IsWired net → IsOut net a Poll l → IsOut net a Poll k → (serving net a l).dump ≡ (serving net a k).dump → l ≡ k
-one-dump net a l k z o p e = of_units (poll-to net l z o.is_link o.sort) (poll-to net k z p.is_link p.sort)
+one-dump net a l k z o p e = of_units (z.poll_to l o.is_link o.sort) (z.poll_to k p.is_link p.sort)
   where
     of_reports : Reports net (link_of net l).to → Reports net (link_of net k).to → l ≡ k
     of_reports r t = let here : r.control ≡ a = sym r.poll_from ∙ ap (λ x. (link_of net x).from) (sym (r.polled l refl o.sort)) ∙ o.from in
@@ -227,9 +225,9 @@ one-dump net a l k z o p e = of_units (poll-to net l z o.is_link o.sort) (poll-t
         let same : choice_of net r.dump ≡ choice_of net t.dump = sym (dump-is net a l r here) ∙ e ∙ dump-is net a k t there in
         let control : r.control ≡ t.control = here ∙ sym there in
         let gets : slice_get (links_into net r.control) (choice_of net r.dump) ≡ slice_get (links_into net t.control) (choice_of net t.dump) = λ i. slice_get (links_into net (control i)) (same i) in
-        let one : Some r.dump ≡ Some t.dump = sym (dumps-into net (link_of net l).to r) ∙ gets ∙ dumps-into net (link_of net k).to t in
+        let one : Some r.dump ≡ Some t.dump = sym r.dump_taken ∙ gets ∙ t.dump_taken in
         let link : r.dump ≡ t.dump = cc in
-        let unit : (link_of net k).to ≡ (link_of net l).to = sym (only-is-out net (link_of net k).to Dump t.dump t.dumps).from ∙ ap (λ x. (link_of net x).from) (sym link) ∙ (only-is-out net (link_of net l).to Dump r.dump r.dumps).from in
+        let unit : (link_of net k).to ≡ (link_of net l).to = sym t.dump_out.from ∙ ap (λ x. (link_of net x).from) (sym link) ∙ r.dump_out.from in
         r.polled l refl o.sort ∙ sym (r.polled k unit p.sort)
 
     of_units : ((i : UnitId) × (actor_of net (link_of net l).to ≡ OfUnit i)) → ((i : UnitId) × (actor_of net (link_of net k).to ≡ OfUnit i)) → l ≡ k
@@ -318,11 +316,15 @@ one-each l (p ∷ ps) d = by_tells (one-each l ps d.1) (eqb_tells p.link l)
         let here : length (on_link l (p ∷ ps)) ≡ 1 = ap (λ b. length (cond b (p.message ∷ on_link l ps) (on_link l ps))) q.0 ∙ ap (λ ms. length (p.message ∷ ms)) rest in omega (arith, here)
     by_tells ih (inr q) = let here : length (on_link l (p ∷ ps)) ≡ length (on_link l ps) = ap (λ b. length (cond b (p.message ∷ on_link l ps) (on_link l ps))) q.0 in omega (arith, here, ih)
 
-pub next-spread : (s : Setup) (lost : Losses) (w : World) (e : Entry) (step : Step) → IsWired s.net → next_step s lost w e ≡ Some step → IsSpread s.net e.0 step.puts
-next-spread s lost w e step z n = step-spread s e.0 (history w e.0) step z (made-of s lost w e.0 step (next-view s lost w e step n))
+pub next-spread : TakesTurns → (s : Setup) (lost : Losses) (w : World) (e : Entry) (step : Step) → IsWired s.net → next_step s lost w e ≡ Some step → IsSpread s.net e.0 step.puts
+next-spread turns s lost w e step z n = by_view (turns.view s lost w e step n)
+  where
+    by_view : Takes s lost w e.0 step ⊎ Acts s w e.0 step → IsSpread s.net e.0 step.puts
+    by_view (inl t) = step-spread s e.0 (history w e.0) step z (inl t.took)
+    by_view (inr t) = step-spread s e.0 (history w e.0) step z (inr t.acted)
 
-pub spread-from : (s : Setup) (lost : Losses) (w : World) (e : Entry) (step : Step) → IsWired s.net → next_step s lost w e ≡ Some step → ArePutFrom s.net e.0 step.puts
-spread-from s lost w e step z n = put-from s.net e.0 step.puts (next-spread s lost w e step z n).each
+pub spread-from : TakesTurns → (s : Setup) (lost : Losses) (w : World) (e : Entry) (step : Step) → IsWired s.net → next_step s lost w e ≡ Some step → ArePutFrom s.net e.0 step.puts
+spread-from turns s lost w e step z n = put-from s.net e.0 step.puts (next-spread turns s lost w e step z n).each
 
-pub spread-one : (s : Setup) (lost : Losses) (w : World) (e : Entry) (step : Step) (l : ℕ) → IsWired s.net → next_step s lost w e ≡ Some step → length (on_link l step.puts) ≤ 1
-spread-one s lost w e step l z n = one-each l step.puts (next-spread s lost w e step z n).apart
+pub spread-one : TakesTurns → (s : Setup) (lost : Losses) (w : World) (e : Entry) (step : Step) (l : ℕ) → IsWired s.net → next_step s lost w e ≡ Some step → length (on_link l step.puts) ≤ 1
+spread-one turns s lost w e step l z n = one-each l step.puts (next-spread turns s lost w e step z n).apart

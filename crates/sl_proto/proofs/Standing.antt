@@ -9,9 +9,6 @@ use Rattle.sl_model.specs.History.{Losses}
 use Rattle.sl_model.specs.Setup.{Setup}
 use Rattle.sl_model.specs.World.{Entry, start, run, world, IsLegal, kept_from}
 use Rattle.sl_model.specs.Books.{schedule_of, numbers_of}
-use Rattle.sl_model.proofs.Turns.{run-append}
-use Rattle.sl_model.proofs.Trails.{run-kept}
-use Rattle.sl_model.proofs.Legal.{kept_legal, legal_append}
 use Rattle.sl_world.specs.Scene.{Scene, after_all, last_number}
 use Rattle.sl_world.specs.Legal.{numbered_from}
 use Rattle.sl_world.proofs.BookLaws.{schedule_of-numbered_from}
@@ -66,7 +63,7 @@ module _ (net : Net) (x : Case) (given : Given x.setup x.lost x.table.ring (Node
   schedule = schedule-grown v.book after.book (last_number v.book) done grown-by
 
   reached : world_of x after ≡ run x.setup x.lost (world_of x v) es
-  reached = ap (world x.setup x.lost) schedule ∙ run-append x.setup x.lost (start x.setup.net) book done ∙ run-kept x.setup x.lost (world_of x v) es
+  reached = ap (world x.setup x.lost) schedule ∙ given.turns.parts x.setup x.lost (start x.setup.net) book done ∙ given.turns.kept x.setup x.lost (world_of x v) es
 
   pub follows-after : Follows x.setup x.lost (run_at x v) es (run_at x after)
   follows-after = record { reached = reached; book = grown-by }
@@ -75,7 +72,7 @@ module _ (net : Net) (x : Case) (given : Given x.setup x.lost x.table.ring (Node
   stands-after = record {
     net_is = st.net_is;
     runnable = st.runnable;
-    legal = subst (IsLegal x.setup x.lost) (sym schedule) (legal_append x.setup x.lost (start x.setup.net) book done st.legal (kept_legal x.setup x.lost (world_of x v) es));
+    legal = subst (IsLegal x.setup x.lost) (sym schedule) (given.turns.legal_parts x.setup x.lost (start x.setup.net) book done st.legal (given.turns.legal x.setup x.lost (world_of x v) es));
     image = subst (λ w. IsImage x.setup x.lost x.table.ring (NodeStands x.setup x.table) w after) (sym reached)
         (all-image x.setup x.lost x.table.ring (NodeStands x.setup x.table) node_rules given book es v within st.image);
   }

@@ -30,10 +30,8 @@ use Rattle.sl_model.specs.Knowledge.{observer, issued, resent, floor, collected,
 use Rattle.sl_model.specs.World.{Entry, world, sender}
 use Rattle.sl_model.specs.Findings.{is_ingress, device_of, ingress_units, drops_of, lost_on, sent_by, delivered_to, findings}
 use Rattle.sl_model.proofs.Weighed.{weigh_more, weigh_take, weigh_below_more}
-use Rattle.sl_model.proofs.Ran.{ran}
-use Rattle.sl_model.proofs.Steps.{history_size}
-use Rattle.sl_model.proofs.Sizes.{world_size, ingress_size}
 use Rattle.sl_model.specs.Accounts.{finding_by}
+use Rattle.sl_model.specs.Turns.{TakesTurns}
 use Rattle.sl_image.specs.ObserverImage.{unit_of, observer_of, IsObserverOf}
 use Rattle.sl_image.specs.Messages.{lasts}
 use Rattle.sl_model.specs.Rows.{row}
@@ -47,7 +45,7 @@ use Rattle.sl_proto.specs.Meaning.{StandsAs, NodeStands}
 use Rattle.sl_proto.specs.Nodes.{NodeState, ObserverNode, ControlNode, UnitNode, HostNode}
 use Rattle.sl_proto.specs.Standing.{case_of, StandsFor, HasObserver}
 use Rattle.sl_proto.specs.Told.{HasRows, HasAllRows, accounts_of, sent_told, delivered_told, drops_told, all_drops, lost_told, all_lost, CanTell, told}
-use Rattle.sl_proto.proofs.Images.{put-small, world-length, wires-each}
+use Rattle.sl_proto.proofs.Images.{put-small, wires-each}
 
 -- Lists.
 
@@ -206,7 +204,7 @@ has-collected net table w n = let f = λ (u : ℕ). unit_of net u (collected net
 
 -- A scene that stands for the world of a schedule.
 
-module _ (s : Setup) (table : Snapshot) (lost : Losses) (es : List Entry) (v : Scene NodeState Msg) (net : IsNet s.net) (image : IsImage s lost table.ring (NodeStands s table) (world s lost es) v) where
+module _ (turns : TakesTurns) (s : Setup) (table : Snapshot) (lost : Losses) (es : List Entry) (v : Scene NodeState Msg) (net : IsNet s.net) (image : IsImage s lost table.ring (NodeStands s table) (world s lost es) v) where
   says : (i : ℕ) (x : NodeState) → slice_get v.states i ≡ Some x → SaysNode s (world s lost es) i (actor_of s.net i) x
   says i x e = node-says s table (world s lost es) i (actor_of s.net i) x (image.states i x e)
 
@@ -237,8 +235,8 @@ module _ (s : Setup) (table : Snapshot) (lost : Losses) (es : List Entry) (v : S
   few-drops : (count : ℕ → History → ℕ) → ((u : ℕ) (h : History) → count u h ≤ length h) → length es < 2 ^ 40 → weigh (λ u. count u (history (world s lost es) u)) (ingress_units s.net) < 2 ^ 64
   few-drops count h few = let w = world s lost es in
       let a = weigh-most (λ u. count u (history w u)) (λ u. length (history w u)) (ingress_units s.net) (λ u. h u (history w u)) in
-      let b = ingress_size s.net w (world-length s lost es) in
-      let c = world_size s lost w es refl in
+      let b = turns.ingress s.net w (turns.actors s lost es) in
+      let c = turns.all_few s lost es in
       omega (arith, a, b, c, few)
 
   few-lost : IsWired s.net → length s.net.links ≤ 77888 → length es < 2 ^ 40 → (sort : Sort) → all_lost s.net v sort < 2 ^ 64
@@ -250,10 +248,9 @@ module _ (s : Setup) (table : Snapshot) (lost : Losses) (es : List Entry) (v : S
           let a = (image.lines l (omega (arith, p))).count in
           let b = tally-most (λ n. lost l n) (numbers_from 1 (length (put l h))) in
           let c = length_numbers 1 (length (put l h)) in
-          let d = put-small s (link_of s.net l).from l h wired ((ran s lost es).made (link_of s.net l).from) in
-          let e = history_size w (link_of s.net l).from in
-          let f = world_size s lost w es refl in
-          omega (arith, a, b, c, d, e, f, few)
+          let d = put-small s (link_of s.net l).from l h wired ((turns.ran s lost es).made (link_of s.net l).from) in
+          let e = turns.few s lost es (link_of s.net l).from in
+          omega (arith, a, b, c, d, e, few)
 
   -- The observer.
 
@@ -292,17 +289,17 @@ module _ (s : Setup) (table : Snapshot) (lost : Losses) (es : List Entry) (v : S
 
 -- An input and a scene that stands for the world of its own book.
 
-module _ (i : Input) (lost : Losses) (v : Scene NodeState Msg) (h : StandsFor i.net (case_of i lost) v) where
+module _ (turns : TakesTurns) (i : Input) (lost : Losses) (v : Scene NodeState Msg) (h : StandsFor i.net (case_of i lost) v) where
   pub few_entries : length v.book < 2 ^ 40 → length (schedule_of v.book) < 2 ^ 40
   few_entries few = let n = length-map {B = Entry} v.book (λ (e : BookEntry). (e.actor, e.choice)) in omega (arith, n, few)
 
   pub has_observer : HasObserver v
-  has_observer = let x = first_node (setup_of i) i.snapshot lost (schedule_of v.book) v h.runnable.net h.image in
-      let o = watched (setup_of i) i.snapshot lost (schedule_of v.book) v h.runnable.net h.image x.0 x.1 in
+  has_observer = let x = first_node turns (setup_of i) i.snapshot lost (schedule_of v.book) v h.runnable.net h.image in
+      let o = watched turns (setup_of i) i.snapshot lost (schedule_of v.book) v h.runnable.net h.image x.0 x.1 in
       record { observer = o.observer; first = x.1 ∙ ap Some o.is }
 
   pub tells_it : (o : ObserverState) → slice_get v.states 0 ≡ Some (ObserverNode o) → IsWired i.net → length i.net.links ≤ 77888 → length v.book < 2 ^ 40 → CanTell i.net v o
-  tells_it o e wired links few = tells (setup_of i) i.snapshot lost (schedule_of v.book) v h.runnable.net h.image o e wired links (few_entries few)
+  tells_it o e wired links few = tells turns (setup_of i) i.snapshot lost (schedule_of v.book) v h.runnable.net h.image o e wired links (few_entries few)
 
   pub observed_as : (o : ObserverState) → slice_get v.states 0 ≡ Some (ObserverNode o) → IsObserverOf i.net i.snapshot (world (setup_of i) lost (schedule_of v.book)) o
-  observed_as o e = observed (setup_of i) i.snapshot lost (schedule_of v.book) v h.runnable.net h.image o e
+  observed_as o e = observed turns (setup_of i) i.snapshot lost (schedule_of v.book) v h.runnable.net h.image o e

@@ -1,5 +1,5 @@
 -- A turn of a scene that stands for a world is idle where the world makes no step, and else leads to one that stands for the world after it.
-use Rattle.std.proofs.Common.{◌≡◌, ℕ, zero, suc, ◌-◌, ◌^◌, ◌<◌, ◌≤◌, List, [], ◌∷◌, length, refl, sym, ap, subst, ◌∙◌, Option, Some, None, arith, inl, inr, length-set, get_or-set_same, get_or-set_other, drop}
+use Rattle.std.proofs.Common.{◌≡◌, ℕ, zero, suc, ◌^◌, ◌<◌, ◌≤◌, List, [], ◌∷◌, length, refl, sym, ap, subst, ◌∙◌, Option, Some, None, arith, inl, inr, length-set, get_or-set_same, get_or-set_other, drop}
 use Rattle.std.specs.Prelude.{◌⊎◌, true, false, nat_eq, nat_lt, if◌then◌else◌, slice_get, slice_set, option_map, option_and_then}
 use Rattle.std.proofs.lemmas.Bool.{cases_lt, lt-ltb, le-ltb}
 use Rattle.std.proofs.lemmas.Bool.Decides.{eqb_tells}
@@ -7,7 +7,7 @@ use Rattle.std.proofs.lemmas.Option.{slice_get-get_or, slice_get_past}
 use Rattle.sl_machine.specs.Machine.{Rules}
 use Rattle.sl_machine.specs.Plan.{IsSound, link_in}
 use Rattle.sl_layout.specs.declared.actor.ActorId.{ActorId}
-use Rattle.sl_layout.specs.Net.{Net, action_choice, link_of, links_into, choice_of}
+use Rattle.sl_layout.specs.Net.{Net, link_of, links_into, choice_of}
 use Rattle.sl_layout.specs.Wiring.{plan_of}
 use Rattle.sl_net.specs.Wired.{IsWired}
 use Rattle.sl_wire.specs.declared.message.Msg.{Msg}
@@ -15,15 +15,14 @@ use Rattle.sl_model.specs.declared.message.Message.{Message}
 use Rattle.sl_model.specs.declared.message.Step.{Step}
 use Rattle.sl_model.specs.History.{World, Losses, history, taken}
 use Rattle.sl_model.specs.Setup.{Setup}
-use Rattle.sl_model.specs.declared.message.Put.{Put}
-use Rattle.sl_model.specs.Puts.{puts_of, action}
-use Rattle.sl_model.specs.World.{Entry, IsLossTable, next_step, step_by, front, taking, acting, floor_for, turn, after, world, carried}
+use Rattle.sl_model.specs.Puts.{puts_of}
+use Rattle.sl_model.specs.World.{Entry, IsLossTable, next_step, step_by, front, taking, turn, world, carried}
+use Rattle.sl_model.specs.Made.{Took, Acted}
 use Rattle.sl_model.specs.Window.{on_way}
-use Rattle.sl_net.proofs.Sorts.{choice-takes, choice-is, is-into}
-use Rattle.sl_model.proofs.Turns.{GrowsAt, grows-after, next-within, stepped, taken-this}
-use Rattle.sl_model.proofs.Ran.{ran, made-of, next-view}
-use Rattle.sl_model.proofs.Steps.{history_size}
-use Rattle.sl_model.proofs.Sizes.{world_size}
+use Rattle.sl_model.specs.Turns.{GrowsAt, Takes, Acts, TakesTurns}
+use Rattle.sl_model.specs.Passing.{PassesMessages}
+use Rattle.sl_model.specs.Reported.{AreReported}
+use Rattle.sl_net.specs.Ways.{HasWays}
 use Rattle.sl_image.specs.Messages.{IsMessage}
 use Rattle.sl_world.specs.Scene.{Line, Scene, line_at, empty_line, done, without_first, take_first, take_turn, act_turn, turn_of}
 use Rattle.sl_proto.specs.Image.{tell, tell_all, told_by, AreQueued, IsImage, IsTurned}
@@ -31,32 +30,16 @@ use Rattle.sl_proto.specs.Machines.{MachineSimulates, MachineActSimulates, Follo
 use Rattle.sl_proto.proofs.Queues.{Front, front-of, queue-empty}
 use Rattle.sl_proto.proofs.Lines.{IsLine}
 use Rattle.sl_proto.proofs.Delivered.{LinesAre, told_last}
-use Rattle.sl_proto.proofs.Images.{told_at, taken_at, put_at, drop-more, drop-longer, drop-get, drop-none, heard-this, told-still, line-retold, link-in-is, link-in-none, wire-at, wires-each, actors-each, world-length, lines-of, lines-grown, Turning, image-after}
+use Rattle.sl_proto.proofs.Images.{told_at, taken_at, put_at, drop-more, drop-longer, drop-get, drop-none, heard-this, told-still, line-retold, link-in-is, link-in-none, wire-at, wires-each, actors-each, lines-of, lines-grown, Turning, image-after}
 
 -- one link comes by a choice
-another : (net : Net) (a c k l : ℕ) → k < length net.links → slice_get (links_into net a) c ≡ Some l → (link_of net k).to ≡ a → choice_of net k ≡ c → k ≡ l
-another net a c k l p into to choice = let e : Some k ≡ Some l = sym (choice-takes net k p) ∙ (λ i. slice_get (links_into net (to i)) (choice i)) ∙ into in cc
+another : (net : Net) → HasWays net → (a c k l : ℕ) → k < length net.links → slice_get (links_into net a) c ≡ Some l → (link_of net k).to ≡ a → choice_of net k ≡ c → k ≡ l
+another net ways a c k l p into to choice = let e : Some k ≡ Some l = sym (ways.taken k p) ∙ (λ i. slice_get (links_into net (to i)) (choice i)) ∙ into in cc
 
 got : {A : Type 0} (xs : List A) (i : ℕ) → i < length xs → (x : A) × (slice_get xs i ≡ Some x)
 got [] i p = absurd (omega (arith, p))
 got (x ∷ xs) zero p = (x, refl)
 got (x ∷ xs) (suc i) p = got xs i (omega (arith, p))
-
--- a step is by the choice of its entry
-pub step-choice : (s : Setup) (lost : Losses) (w : World) (a c : ℕ) (step : Step) → next_step s lost w (a, c) ≡ Some step → step.choice ≡ c
-step-choice s lost w a c step n = let t = stepped s lost w (a, c) step n in of_link t.actor (slice_get (links_into s.net a) c) t.by
-  where
-    of_message : (x : ActorId) (l : ℕ) (o : Option Message) → option_map (λ m. taking c m (puts_of s a x (history w a) c l m)) o ≡ Some step → step.choice ≡ c
-    of_message x l None h = absurd (cc)
-    of_message x l (Some m) h = let e : taking c m (puts_of s a x (history w a) c l m) ≡ step = cc in ap (λ (y : Step). y.choice) (sym e)
-
-    of_action : (o : Option (List Put)) → option_map (acting c) o ≡ Some step → step.choice ≡ c
-    of_action None h = absurd (cc)
-    of_action (Some ps) h = let e : acting c ps ≡ step = cc in ap (λ (y : Step). y.choice) (sym e)
-
-    of_link : (x : ActorId) (o : Option ℕ) → step_by s lost w a c o x ≡ Some step → step.choice ≡ c
-    of_link x (Some l) h = of_message x l (front s.net lost w a c l) h
-    of_link x None h = of_action (action s (floor_for s.net w x) a x (history w a) (c - action_choice s.net a)) h
 
 module _ {S : Type 0} (s : Setup) (lost : Losses) (ring : ℕ) (Stands : World → ℕ → S → Type 0) (rules : Rules S Msg) where
   -- what the laws are told of the setup
@@ -65,6 +48,9 @@ module _ {S : Type 0} (s : Setup) (lost : Losses) (ring : ℕ) (Stands : World �
     pub sound : IsSound (plan_of s.net)
     pub table : IsLossTable s.net lost
     pub follow : FollowSteps s lost ring Stands rules
+    pub turns : TakesTurns
+    pub passing : PassesMessages
+    pub reported : AreReported s
 
   -- The scene's turn.
 
@@ -91,10 +77,10 @@ module _ {S : Type 0} (s : Setup) (lost : Losses) (ring : ℕ) (Stands : World �
       → step.choice ≡ c → step.taken ≡ Some m → slice_get (links_into s.net a) c ≡ Some l → on_way s.net lost (world s lost es) l ≡ m ∷ rest
       → (told_at s.net (turn s lost (world s lost es) (a, c)) l ≡ tell (told_at s.net (world s lost es) l) m) × (taken_at s.net (turn s lost (world s lost es) (a, c)) l ≡ suc (taken_at s.net (world s lost es) l))
   taking-line es a c l step m rest v given image g choice took into way = let w = world s lost es in let u = turn s lost (world s lost es) (a, c) in
-      let i = is-into s.net a c l into in let k : choice_of s.net l ≡ c = choice-is s.net a c l into in
+      let i = given.wired.ways.into a c l into in let k : choice_of s.net l ≡ c = given.wired.ways.choice a c l into in
       let grown : history u (link_of s.net l).to ≡ step ∷ history w (link_of s.net l).to = ap (history u) i.to ∙ g.same ∙ ap (λ b. step ∷ history w b) (sym i.to) in (
         ap (told_by (choice_of s.net l)) grown ∙ heard-this (choice_of s.net l) step (history w (link_of s.net l).to) m (choice ∙ sym k) took,
-        ap (taken (choice_of s.net l)) grown ∙ taken-this (choice_of s.net l) step (history w (link_of s.net l).to) (choice ∙ sym k),
+        ap (taken (choice_of s.net l)) grown ∙ given.turns.counted (choice_of s.net l) step (history w (link_of s.net l).to) (choice ∙ sym k),
       )
 
   -- the links once the first message is taken from one
@@ -104,10 +90,10 @@ module _ {S : Type 0} (s : Setup) (lost : Losses) (ring : ℕ) (Stands : World �
   took-lines es a c l step m rest v queue given image g choice took into way x is k below = by_tells (eqb_tells k l)
     where
       grown : LinesAre s.net ring (history (turn s lost (world s lost es) (a, c))) lost (told_at s.net (world s lost es)) (taken_at s.net (world s lost es)) (put_at s.net (world s lost es)) v.lines
-      grown = lines-grown s lost ring (world s lost es) (turn s lost (world s lost es) (a, c)) a step v.lines given.wired (ran s lost es) g (lines-of s lost ring Stands (world s lost es) v (ran s lost es) image)
+      grown = lines-grown given.passing s lost ring (world s lost es) (turn s lost (world s lost es) (a, c)) a step v.lines given.reported given.wired (given.turns.ran s lost es) g (lines-of s given.wired.ways lost ring Stands (world s lost es) v (given.turns.ran s lost es) image)
 
       low : l < length s.net.links
-      low = (is-into s.net a c l into).is_link
+      low = (given.wired.ways.into a c l into).is_link
 
       shorter : IsLine s.net ring (history (turn s lost (world s lost es) (a, c))) (link_of s.net l).from (lost l) (tell (told_at s.net (world s lost es) l) m) (suc (taken_at s.net (world s lost es) l)) (put_at s.net (world s lost es) l) (without_first (line_at v.lines l) queue)
       shorter = let i = grown l low in let n = taken_at s.net (world s lost es) l in let u = history (turn s lost (world s lost es) (a, c)) in record {
@@ -126,7 +112,7 @@ module _ {S : Type 0} (s : Setup) (lost : Losses) (ring : ℕ) (Stands : World �
           (subst (λ y. IsLine s.net ring (history u) (link_of s.net l).from (lost l) (told_at s.net u l) (taken_at s.net u l) (put_at s.net (world s lost es) l) y)
           (sym (get_or-set_same v.lines l (without_first (line_at v.lines l) queue) empty_line (let n = image.lines_each in omega (arith, n, low))))
           (line-retold s.net ring (history u) (link_of s.net l).from (lost l) (tell (told_at s.net (world s lost es) l) m) (told_at s.net u l) (suc (taken_at s.net (world s lost es) l)) (taken_at s.net u l) (put_at s.net (world s lost es) l) (without_first (line_at v.lines l) queue) t.0 t.1 shorter))
-      by_tells (inr q) = let u = turn s lost (world s lost es) (a, c) in let t = told-still s.net (world s lost es) u a step k g (λ to ch. q.1 (another s.net a c k l below into to (ch ∙ choice))) in
+      by_tells (inr q) = let u = turn s lost (world s lost es) (a, c) in let t = told-still s.net (world s lost es) u a step k g (λ to ch. q.1 (another s.net given.wired.ways a c k l below into to (ch ∙ choice))) in
           subst (λ y. IsLine s.net ring (history u) (link_of s.net k).from (lost k) (told_at s.net u k) (taken_at s.net u k) (put_at s.net (world s lost es) k) y)
           (sym (get_or-set_other v.lines l k (without_first (line_at v.lines l) queue) empty_line q.1))
           (line-retold s.net ring (history u) (link_of s.net k).from (lost k) (told_at s.net (world s lost es) k) (told_at s.net u k) (taken_at s.net (world s lost es) k) (taken_at s.net u k) (put_at s.net (world s lost es) k) (line_at v.lines k) t.0 t.1 (grown k below))
@@ -147,7 +133,7 @@ module _ {S : Type 0} (s : Setup) (lost : Losses) (ring : ℕ) (Stands : World �
           ≡ told_last lost (told_at s.net (world s lost es)) (taken_at s.net (world s lost es)) (put_at s.net (world s lost es)) k
       by_tells (inl q) = let w = world s lost es in let u = turn s lost (world s lost es) (a, c) in
           subst (λ j. told_last lost (told_at s.net u) (taken_at s.net u) (put_at s.net w) j ≡ told_last lost (told_at s.net w) (taken_at s.net w) (put_at s.net w) j) (sym q.1) here
-      by_tells (inr q) = let t = told-still s.net (world s lost es) (turn s lost (world s lost es) (a, c)) a step k g (λ to ch. q.1 (another s.net a c k l below into to (ch ∙ choice))) in
+      by_tells (inr q) = let t = told-still s.net (world s lost es) (turn s lost (world s lost es) (a, c)) a step k g (λ to ch. q.1 (another s.net given.wired.ways a c k l below into to (ch ∙ choice))) in
           (λ i. tell_all (t.0 i) (drop (t.1 i) (carried s.net lost (world s lost es) k)))
 
   -- Turns.
@@ -155,11 +141,8 @@ module _ {S : Type 0} (s : Setup) (lost : Losses) (ring : ℕ) (Stands : World �
   turned-by : (u : World) (o n : Option Step) (t m : Option (Scene S Msg)) → n ≡ o → m ≡ t → IsTurned s lost ring Stands u o t → IsTurned s lost ring Stands u n m
   turned-by u o n t m p q i = subst (λ x. IsTurned s lost ring Stands u x m) (sym p) (subst (λ y. IsTurned s lost ring Stands u o y) (sym q) i)
 
-  few-steps : (es : List Entry) → length es < 2 ^ 40 → (b : ℕ) → length (history (world s lost es) b) < 2 ^ 40
-  few-steps es few b = let i = history_size (world s lost es) b in let j = world_size s lost (world s lost es) es refl in omega (arith, i, j, few)
-
-  grows : (es : List Entry) (a c : ℕ) (step : Step) → next_step s lost (world s lost es) (a, c) ≡ Some step → a < length s.net.actors → GrowsAt (world s lost es) (turn s lost (world s lost es) (a, c)) a step
-  grows es a c step next within = let w = world s lost es in subst (λ o. GrowsAt w (after w a o) a step) (sym next) (grows-after w a step (let n = world-length s lost es in omega (arith, n, within)))
+  few-steps : Given → (es : List Entry) → length es < 2 ^ 40 → (b : ℕ) → length (history (world s lost es) b) < 2 ^ 40
+  few-steps given es few b = let i = given.turns.few s lost es b in omega (arith, i, few)
 
   turning : (es : List Entry) (a c : ℕ) (step : Step) → Given → length es < 2 ^ 40 → next_step s lost (world s lost es) (a, c) ≡ Some step → a < length s.net.actors
       → Turning s lost ring Stands (world s lost es) (turn s lost (world s lost es) (a, c)) a step
@@ -167,12 +150,17 @@ module _ {S : Type 0} (s : Setup) (lost : Losses) (ring : ℕ) (Stands : World �
     wired = given.wired;
     sound = given.sound;
     table = given.table;
-    ran = ran s lost es;
-    few = few-steps es few;
+    turns = given.turns;
+    ran = given.turns.ran s lost es;
+    few = few-steps given es few;
     within = within;
-    grows = grows es a c step next within;
-    made = made-of s lost (world s lost es) a step (next-view s lost (world s lost es) (a, c) step next);
+    grows = given.turns.grows s lost es (a, c) step next;
+    made = made (given.turns.view s lost (world s lost es) (a, c) step next);
   }
+    where
+      made : Takes s lost (world s lost es) a step ⊎ Acts s (world s lost es) a step → Took s a (history (world s lost es) a) step ⊎ Acted s a (history (world s lost es) a) step
+      made (inl t) = inl t.took
+      made (inr t) = inr t.acted
 
   -- a turn by the choice of a link
   by-take : (es : List Entry) (a c l : ℕ) (v : Scene S Msg) → Given → length es < 2 ^ 40 → IsImage s lost ring Stands (world s lost es) v → slice_get (links_into s.net a) c ≡ Some l
@@ -180,10 +168,10 @@ module _ {S : Type 0} (s : Setup) (lost : Losses) (ring : ℕ) (Stands : World �
   by-take es a c l v given few image into = by_way (on_way s.net lost (world s lost es) l) refl
     where
       low : l < length s.net.links
-      low = (is-into s.net a c l into).is_link
+      low = (given.wired.ways.into a c l into).is_link
 
       within : a < length s.net.actors
-      within = let i = is-into s.net a c l into in let b = given.sound.to_below l (let n = wires-each s.net in omega (arith, n, low)) in let e = ap (λ k. k.to) (wire-at s.net l low) in let n = actors-each s.net in omega (arith, b, e, n, i.to)
+      within = let i = given.wired.ways.into a c l into in let b = given.sound.to_below l (let n = wires-each s.net in omega (arith, n, low)) in let e = ap (λ k. k.to) (wire-at s.net l low) in let n = actors-each s.net in omega (arith, b, e, n, i.to)
 
       actor : (x : ActorId) × (slice_get s.net.actors a ≡ Some x)
       actor = got s.net.actors a within
@@ -196,13 +184,13 @@ module _ {S : Type 0} (s : Setup) (lost : Losses) (ring : ℕ) (Stands : World �
 
       -- the world's words by the choice
       place : taken_at s.net (world s lost es) l ≡ taken c (history (world s lost es) a)
-      place = λ i. taken (choice-is s.net a c l into i) (history (world s lost es) ((is-into s.net a c l into).to i))
+      place = λ i. taken (given.wired.ways.choice a c l into i) (history (world s lost es) ((given.wired.ways.into a c l into).to i))
 
       told : told_at s.net (world s lost es) l ≡ told_by c (history (world s lost es) a)
-      told = λ i. told_by (choice-is s.net a c l into i) (history (world s lost es) ((is-into s.net a c l into).to i))
+      told = λ i. told_by (given.wired.ways.choice a c l into i) (history (world s lost es) ((given.wired.ways.into a c l into).to i))
 
       turned : turn_of rules v a c ≡ take_first rules v a c l state.0 (line_at v.lines l) (line_at v.lines l).queue
-      turned = turn-takes v a c l state.0 (line_at v.lines l) (ap (λ p. link_in p.links a c) image.plan ∙ link-in-is s.net a c l given.sound into)
+      turned = turn-takes v a c l state.0 (line_at v.lines l) (ap (λ p. link_in p.links a c) image.plan ∙ link-in-is s.net given.wired.ways a c l given.sound into)
           (let n = wires-each s.net in let e = ap (λ p. length p.links) image.plan in omega (arith, n, e, low)) state.1 line
 
       queued : AreQueued s.net ring (history (world s lost es)) (link_of s.net l).from (told_at s.net (world s lost es) l) (on_way s.net lost (world s lost es) l) (line_at v.lines l).queue
@@ -211,7 +199,7 @@ module _ {S : Type 0} (s : Setup) (lost : Losses) (ring : ℕ) (Stands : World �
       of_front : (m : Message) (rest : List Message) → on_way s.net lost (world s lost es) l ≡ m ∷ rest → Front s.net ring (history (world s lost es)) (link_of s.net l).from (told_at s.net (world s lost es) l) m rest (line_at v.lines l).queue
           → (step : Step) → next_step s lost (world s lost es) (a, c) ≡ Some step → step.taken ≡ Some m → IsTurned s lost ring Stands (turn s lost (world s lost es) (a, c)) (next_step s lost (world s lost es) (a, c)) (turn_of rules v a c)
       of_front m rest way f step next took = let w = world s lost es in let u = turn s lost (world s lost es) (a, c) in
-          let choice = step-choice s lost w a c step next in let g = grows es a c step next within in
+          let choice = given.turns.choice s lost w (a, c) step next in let g = given.turns.grows s lost es (a, c) step next in
           let lines = slice_set v.lines l (without_first (line_at v.lines l) f.rest) in
           let msg : IsMessage s.net ring (history w) (link_of s.net l).from (told_by c (history w a)) m f.message = subst (λ t. IsMessage s.net ring (history w) (link_of s.net l).from t m f.message) told f.stands in
           let left = rules.take state.0 c f.message in
@@ -241,26 +229,26 @@ module _ {S : Type 0} (s : Setup) (lost : Losses) (ring : ℕ) (Stands : World �
   by-act es a c v given few image none = by_next (next_step s lost (world s lost es) (a, c)) refl
     where
       turned : turn_of rules v a c ≡ act_turn rules v a c (slice_get v.states a)
-      turned = turn-acts v a c (let k = link-in-none s.net a c none in let e = ap (λ p. length p.links) image.plan in let f = ap (λ p. link_in p.links a c) image.plan in omega (arith, k, e, f))
+      turned = turn-acts v a c (let k = link-in-none s.net given.wired.ways a c none in let e = ap (λ p. length p.links) image.plan in let f = ap (λ p. link_in p.links a c) image.plan in omega (arith, k, e, f))
 
       state : a < length s.net.actors → (x : S) × (slice_get v.states a ≡ Some x)
       state p = got v.states a (let n = image.states_each in omega (arith, n, p))
 
       still : (step : Step) → next_step s lost (world s lost es) (a, c) ≡ Some step → (k : ℕ) → k < length s.net.links → (link_of s.net k).to ≡ a → choice_of s.net k ≡ step.choice → ⊥
-      still step next k p to ch = let choice = step-choice s lost (world s lost es) a c step next in
-          let e : None ≡ Some k = sym none ∙ sym ((λ i. slice_get (links_into s.net (to i)) ((ch ∙ choice) i))) ∙ choice-takes s.net k p in absurd (cc)
+      still step next k p to ch = let choice = given.turns.choice s lost (world s lost es) (a, c) step next in
+          let e : None ≡ Some k = sym none ∙ sym ((λ i. slice_get (links_into s.net (to i)) ((ch ∙ choice) i))) ∙ given.wired.ways.taken k p in absurd (cc)
 
       of_acts : (step : Step) → next_step s lost (world s lost es) (a, c) ≡ Some step → (p : a < length s.net.actors) (x : S) → slice_get v.states a ≡ Some x
           → MachineActSimulates s ring Stands (world s lost es) (turn s lost (world s lost es) (a, c)) a step (rules.act x c)
           → IsTurned s lost ring Stands (turn s lost (world s lost es) (a, c)) (next_step s lost (world s lost es) (a, c)) (turn_of rules v a c)
-      of_acts step next p x st acts = let w = world s lost es in let u = turn s lost (world s lost es) (a, c) in let g = grows es a c step next p in
+      of_acts step next p x st acts = let w = world s lost es in let u = turn s lost (world s lost es) (a, c) in let g = given.turns.grows s lost es (a, c) step next in
           turned-by u (Some step) (next_step s lost w (a, c)) (Some (done v a c v.lines acts.after)) (turn_of rules v a c) next (turned ∙ ap (act_turn rules v a c) st ∙ ap (option_map (done v a c v.lines)) acts.is)
           (image-after s lost ring Stands w u a c step v v.lines acts.after (turning es a c step given few next p) image
           (λ k low. let t = told-still s.net w u a step k g (still step next k low) in (λ i. tell_all (t.0 i) (drop (t.1 i) (carried s.net lost w k))))
           image.lines_each
           (λ k low. let t = told-still s.net w u a step k g (still step next k low) in
           line-retold s.net ring (history u) (link_of s.net k).from (lost k) (told_at s.net w k) (told_at s.net u k) (taken_at s.net w k) (taken_at s.net u k) (put_at s.net w k) (line_at v.lines k) t.0 t.1
-          (lines-grown s lost ring w u a step v.lines given.wired (ran s lost es) g (lines-of s lost ring Stands w v (ran s lost es) image) k low))
+          (lines-grown given.passing s lost ring w u a step v.lines given.reported given.wired (given.turns.ran s lost es) g (lines-of s given.wired.ways lost ring Stands w v (given.turns.ran s lost es) image) k low))
           acts.simulates (λ b y ne z. given.follow.stays es a b c step y few next ne z))
 
       by_order : (a < length s.net.actors) ⊎ (length s.net.actors ≤ a) → next_step s lost (world s lost es) (a, c) ≡ None → turn_of rules v a c ≡ None
@@ -269,7 +257,7 @@ module _ {S : Type 0} (s : Setup) (lost : Losses) (ring : ℕ) (Stands : World �
 
       by_next : (o : Option Step) → next_step s lost (world s lost es) (a, c) ≡ o → IsTurned s lost ring Stands (turn s lost (world s lost es) (a, c)) (next_step s lost (world s lost es) (a, c)) (turn_of rules v a c)
       by_next None next = turned-by (turn s lost (world s lost es) (a, c)) None (next_step s lost (world s lost es) (a, c)) None (turn_of rules v a c) next (by_order (cases_lt a (length s.net.actors)) next) tt
-      by_next (Some step) next = let p = next-within s lost (world s lost es) (a, c) step next in let x = state p in
+      by_next (Some step) next = let p = given.turns.within s lost (world s lost es) (a, c) step next in let x = state p in
           of_acts step next p x.0 x.1 (given.follow.act es a c step x.0 few next none (image.states a x.0 x.1))
 
   -- each turn of a scene that stands for a world

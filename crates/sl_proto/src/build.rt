@@ -18,7 +18,7 @@ use sl_control::Control;
 use sl_host::Host;
 use sl_loss::Loss;
 use sl_machine::Memory;
-use sl_net::{ActorId, Input, Side, UnitId, nets_are_wired};
+use sl_net::{ActorId, Input, Side, UnitId, nets_are_wired, nets_have_ways};
 use sl_observe::Observer;
 use sl_route::Routes;
 use sl_unit::Unit;
@@ -93,6 +93,7 @@ fn make_unit(
     ensures counts { IfOk result (λ node. node_counts node ≡ counts_at input.now.net actor) }
     ensures ready { IfOk result (λ node. node_ready node ≡ None) }
 {
+    nets_have_ways();
     let place = input.net.unit_place(actor);
     let unit = unit_at(alloc, input, routes, place, unit.side)?;
     Ok(Node::Unit(unit))

@@ -15,7 +15,7 @@ use crate::schedule::{all_sweeps, pass_of, passes_are_choices};
 use crate::taker::{Taker, drive_within};
 use sl_image::observers_tell;
 use sl_machine::Memory;
-use sl_model::{finishing_ends, finishing_finishes, idle_passes_settle};
+use sl_model::{finishing_ends, finishing_finishes, idle_passes_settle, issues_are_counted};
 use sl_net::{Net, nets_are_wired};
 use std::alloc::Global;
 
@@ -41,6 +41,7 @@ impl Reached {
     fn is_collected(self) -> bool
         ensures { TellsCollected self result }
     {
+        issues_are_counted();
         self.floor == self.issued
     }
 

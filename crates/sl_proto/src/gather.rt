@@ -17,7 +17,7 @@ use crate::taker::Taker;
 use crate::verdicts::finding_list;
 use sl_image::{observers_give_findings, observers_tell};
 use sl_machine::Memory;
-use sl_model::{Counts, Drops, Findings, Lost};
+use sl_model::{Counts, Drops, Findings, Lost, worlds_take_turns};
 use sl_net::{Input, Net, Sort, nets_are_wired};
 use sl_observe::Observer;
 use sl_world::World;
@@ -187,6 +187,7 @@ pub fn findings(alloc: Global, input: &Input, world: &World<Node>) -> Result<Fin
         → IfOk result (λ f. f ≡ findings (setup_of input.now) lost (schedule_of (scene world.now).book)) }
 {
     nets_are_wired();
+    worlds_take_turns();
     observers_tell();
     observers_give_findings();
     let _links = input.net.links();

@@ -20,6 +20,7 @@ ghost use Rattle.sl_proto.specs.Image.{told_on, told_by, ArePut};
 ghost use Rattle.sl_proto.specs.Spread.{ArePutFrom};
 ghost use Rattle.sl_proto.specs.Runs.{grown, IsBookOfTurns};
 
+use sl_model::{dones_tell_dumps, known_steps_are_made, links_pass_messages, worlds_take_turns};
 use sl_net::nets_are_wired;
 
 /// A step puts its messages on links from its actor, and at most one on each.
@@ -29,7 +30,8 @@ pub fn steps_spread_their_puts()
     ensures one { (s : Setup) (lost : Losses) (es : List Entry) (e : Entry) (step : Step) (l : ℕ) → IsNet s.net
         → next_step s lost (world s lost es) e ≡ Some step → length (on_link l step.puts) ≤ 1 }
 {
-    nets_are_wired()
+    nets_are_wired();
+    worlds_take_turns()
 }
 
 /// Puts stand for those of a step by what was told on each link before, where they do so by one
@@ -51,7 +53,11 @@ pub fn dones_told_what_is_known()
     ensures taken { (s : Setup) (lost : Losses) (es : List Entry) (u : ℕ) (i : UnitId) (r : Reports s.net u) → IsNet s.net → actor_of s.net u ≡ OfUnit i
         → told_by (choice_of s.net r.done) (observer (world s lost es)) (unit_place s.net u) ≡ known (unit_place s.net u) (observer (world s lost es)) }
 {
-    nets_are_wired()
+    nets_are_wired();
+    worlds_take_turns();
+    links_pass_messages();
+    known_steps_are_made();
+    dones_tell_dumps()
 }
 
 /// A book that grows by turns, and then by more, grows by these one after the other. What grows

@@ -27,6 +27,7 @@ use sl_image::{
     hosts_start, hosts_stay, hosts_take, new_units_stand, observers_act, observers_start,
     observers_stay, observers_take, units_stay, units_take_messages,
 };
+use sl_model::{known_steps_are_made, links_pass_messages, worlds_take_turns};
 use sl_net::nets_are_wired;
 
 /// Each turn of a node does the step of its actor, and is idle where this has none.
@@ -45,7 +46,10 @@ pub fn nodes_follow()
     hosts_have_two_links();
     hosts_take();
     hosts_act();
-    hosts_stay()
+    hosts_stay();
+    worlds_take_turns();
+    links_pass_messages();
+    known_steps_are_made()
 }
 
 /// The first states of the nodes are one for each actor, and stand for the world where nothing has
@@ -58,7 +62,8 @@ pub fn nodes_start()
     new_units_stand();
     controls_start();
     observers_start();
-    hosts_start()
+    hosts_start();
+    worlds_take_turns()
 }
 
 /// A scene of nodes that begins with nothing done stands, after any schedule, for the world of whole
@@ -77,7 +82,10 @@ pub fn nodes_stand_for_histories()
         → run_of node_rules (scene_of f) es ≡ Some v → IsLegal x.setup x.lost es }
 {
     nets_are_wired();
-    nodes_follow()
+    nodes_follow();
+    worlds_take_turns();
+    links_pass_messages();
+    known_steps_are_made()
 }
 
 /// The first scene of an input's nodes stands for the world of its book, which is empty. Its first
@@ -88,7 +96,8 @@ pub fn nodes_stand_at_first()
     ensures observer { (i : Input) (losses : List (Option Loss)) → IsNet i.net → HasObserver (first_scene (plan_of i.net) (first_states i) losses) }
 {
     nets_are_wired();
-    nodes_start()
+    nodes_start();
+    worlds_take_turns()
 }
 
 /// A scene of nodes that stands for the world of its book goes on to do so along any schedule, and
@@ -101,5 +110,8 @@ pub fn nodes_follow_their_books()
     ensures observer { (v : Scene NodeState Msg) (es : List Entry) → HasObserver v → HasObserver (after_all node_rules v es) }
 {
     nets_are_wired();
-    nodes_follow()
+    nodes_follow();
+    worlds_take_turns();
+    links_pass_messages();
+    known_steps_are_made()
 }

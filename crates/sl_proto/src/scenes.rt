@@ -14,6 +14,7 @@ ghost use Rattle.sl_proto.specs.Runs.{IsBookOfTurns};
 ghost use Rattle.sl_proto.specs.Image.{IsImage, IsTurned, IsFirst};
 ghost use Rattle.sl_proto.specs.Machines.{Shown, world_shown, kept_shown, Begun, scene_begun};
 
+use sl_model::{known_steps_are_made, links_pass_messages, worlds_take_turns};
 use sl_net::nets_are_wired;
 
 /// What the states of machines stand for.
@@ -28,7 +29,9 @@ pub trait Meaning {
 pub fn first_scenes_stand<I: Meaning>()
     ensures { (s : Setup) (lost : Losses) (ring : ℕ) (states : List I.State) (losses : List (Option Loss))
         → IsFirst s lost I.stands states losses → IsImage s lost ring I.stands (start s.net) (first_scene (plan_of s.net) states losses) }
-{}
+{
+    worlds_take_turns()
+}
 
 /// A turn of a scene that stands for a world is idle where the actor makes no step, and else leads
 /// to a scene that stands for the world after this step.
@@ -36,7 +39,10 @@ pub fn turns_follow_steps<I: Meaning>()
     ensures { (t : Shown I.stands) (a c : ℕ) → length t.turns < 2 ^ 40 → IsTurned t.setup t.lost t.ring I.stands
         (turn t.setup t.lost (world_shown t) (a, c)) (next_step t.setup t.lost (world_shown t) (a, c)) (turn_of t.rules t.scene a c) }
 {
-    nets_are_wired()
+    nets_are_wired();
+    worlds_take_turns();
+    links_pass_messages();
+    known_steps_are_made()
 }
 
 /// A schedule leads from a scene that stands for a world to one that stands for the world after
@@ -54,7 +60,10 @@ pub fn schedules_follow_histories<I: Meaning>()
     ensures only { (t : Shown I.stands) (fs : List Entry) (u : Scene I.State Msg) → length t.turns + length fs < 2 ^ 40
         → run_of t.rules t.scene fs ≡ Some u → IsLegalFrom t.setup t.lost (world_shown t) fs }
 {
-    nets_are_wired()
+    nets_are_wired();
+    worlds_take_turns();
+    links_pass_messages();
+    known_steps_are_made()
 }
 
 /// A scene that begins with nothing done stands, after any schedule, for the world of whole
@@ -72,5 +81,8 @@ pub fn machines_stand_for_histories<I: Meaning>()
     ensures only { (b : Begun I.stands) (es : List Entry) (v : Scene I.State Msg) → length es < 2 ^ 40
         → run_of b.rules (scene_begun b) es ≡ Some v → IsLegal b.setup b.lost es }
 {
-    nets_are_wired()
+    nets_are_wired();
+    worlds_take_turns();
+    links_pass_messages();
+    known_steps_are_made()
 }

@@ -7,7 +7,7 @@ use Rattle.sl_layout.specs.Net.{Net}
 use Rattle.sl_net.specs.Spelling.{choice_text, choice_count, HasChoice}
 use Rattle.sl_parts.specs.Lists.{Each, Member}
 use Rattle.sl_parts.proofs.Lists.{each-map, each-flat, each-below, each-at, member-flat, member-map, member-from}
-use Rattle.sl_spell.specs.Spelled.{HasOneSpelling}
+use Rattle.sl_net.specs.Spelled.{HasOneSpelling}
 use Rattle.sl_read.specs.Choices.{choices, first, choice_named}
 
 -- Looking for the first.

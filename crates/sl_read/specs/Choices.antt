@@ -1,12 +1,12 @@
 -- Spellings of links and of script entries, looked up in the net.
-use Rattle.std.specs.Prelude.{ℕ, ◌+◌, Bool, ◌&&◌, nat_lt, nat_le, if◌then◌else◌, List, [], ◌∷◌, map, flat_map, length, Option, Some, None, option_map, option_and_then, bytes_eq, Result, Ok, Err}
+use Rattle.std.specs.Prelude.{◌≡◌, ℕ, ◌+◌, Bool, ◌&&◌, nat_lt, nat_le, if◌then◌else◌, List, [], ◌∷◌, map, flat_map, length, Option, Some, None, option_map, option_and_then, bytes_eq, Result, Ok, Err}
 use Rattle.sl_net.specs.declared.input.Drop1.{Drop1}
 use Rattle.sl_net.specs.declared.input.Script1.{Script1}
 use Rattle.sl_net.specs.declared.input.Script1.TheVariants.{Pass, Choice}
 use Rattle.sl_parts.specs.Parts.{below}
 use Rattle.sl_layout.specs.Net.{Net, link_of, link_at, action_choice}
 use Rattle.sl_layout.specs.Wiring.{kind_of, is_lossy}
-use Rattle.sl_net.specs.Spelling.{choice_text, choice_count}
+use Rattle.sl_net.specs.Spelling.{choice_text, choice_count, HasChoice}
 use Rattle.sl_form.specs.declared.path.TableName.TheVariants as table
 use Rattle.sl_form.specs.declared.path.Key.TheVariants.{Link}
 use Rattle.sl_form.specs.declared.refusal.Refusal.{Refusal}
@@ -29,6 +29,10 @@ first passes (p ∷ ps) = if passes p then Some p else first passes ps
 -- the choice whose spelling a text is
 unfoldable pub choice_named : Net → List ℕ → Option (ℕ × ℕ)
 choice_named net text = first (λ p. bytes_eq (choice_text net p.0 p.1) text) (choices net)
+
+-- each choice of the net is the one that its spelling names
+abbrev pub NamesChoices : Net → Type 0
+NamesChoices net = (a c : ℕ) → HasChoice net a c → choice_named net (choice_text net a c) ≡ Some (a, c)
 
 -- the link that a choice takes from, where messages on it may be lost
 abbrev pub lossy_link : Net → ℕ → ℕ → Option ℕ

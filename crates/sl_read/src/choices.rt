@@ -3,7 +3,7 @@ ghost use Rattle.std.specs.Prelude.{◌≡◌, ◌<◌, ◌≤◌, ◌+◌, IfOk
 ghost use Rattle.sl_net.specs.Spelling.{HasChoice};
 ghost use Rattle.sl_form.specs.Refusals.{Answers};
 ghost use Rattle.sl_read.specs.Places.{each};
-ghost use Rattle.sl_spell.specs.Spelled.{HasOneSpelling};
+ghost use Rattle.sl_net.specs.Spelled.{HasOneSpelling};
 ghost use Rattle.sl_read.specs.Choices.{choice_named, lossy_link, link_named, drop_part, entry_of, fitting, entries_of, passes};
 
 use crate::loss::DropRow;

@@ -9,6 +9,7 @@ mod document;
 mod fault;
 mod flow;
 mod host;
+mod laws;
 mod loss;
 mod places;
 mod raw;
@@ -19,4 +20,5 @@ mod snapshot;
 mod top;
 
 pub use fault::InputFault;
+pub use laws::spellings_name_choices;
 pub use read::read_input;

@@ -12,8 +12,9 @@ use crate::fault::{InputFault, fault_of};
 use crate::loss::LossRow;
 use crate::places::{place_flows, place_parts, place_raws};
 use sl_form::{Listed, ReadError, Refusal};
-use sl_net::{Drop1, Flow, HostPart, Input, LossSpec, Net, NetFault, Parts, RawPart, Script1};
-use sl_spell::one_spelling;
+use sl_net::{
+    Drop1, Flow, HostPart, Input, LossSpec, Net, NetFault, Parts, RawPart, Script1, one_spelling,
+};
 use std::alloc::Global;
 use toml::Table;
 

@@ -14,11 +14,9 @@ use Rattle.sl_net.specs.declared.input.Script1.TheVariants.{Choice}
 use Rattle.sl_layout.specs.Net.{Net, nobody, actor_of, links_into, action_choice}
 use Rattle.sl_layout.specs.Wiring.{actions_of}
 use Rattle.sl_net.specs.Spelling.{side_text, device_name, actor_text, choice_word, choice_text, choice_count, HasChoice}
-use Rattle.sl_spell.specs.Spelled.{HasOneSpelling}
 use Rattle.sl_form.specs.Forms.{pass_of}
-use Rattle.sl_read.specs.Choices.{choice_named, pass_or, passes, as_choice, entry_of, fits, fitting, entries_of}
+use Rattle.sl_read.specs.Choices.{NamesChoices, choice_named, pass_or, passes, as_choice, entry_of, fits, fitting, entries_of}
 use Rattle.sl_form.specs.Refusals.{◌>>=◌}
-use Rattle.sl_read.proofs.OneChoice.{one_choice}
 use Rattle.sl_model.specs.History.{History, World, Losses, history}
 use Rattle.sl_model.specs.Setup.{Setup}
 use Rattle.sl_model.specs.Puts.{action}
@@ -41,23 +39,23 @@ no_pass net a c = go (actor_of net a)
     go (OfHost h) = refl
 
 -- a spelling as an entry of a script
-read_back : (net : Net) (a c : ℕ) → HasOneSpelling net → HasChoice net a c → entry_of net (choice_text net a c) ≡ Some (Choice a c)
+read_back : (net : Net) (a c : ℕ) → NamesChoices net → HasChoice net a c → entry_of net (choice_text net a c) ≡ Some (Choice a c)
 unfolding entry_of
-read_back net a c one h =
-    ap (λ o. pass_or o (choice_named net (choice_text net a c))) (no_pass net a c) ∙ ap (option_map as_choice) (sym (one_choice net (choice_text net a c) a c one h refl))
+read_back net a c named h =
+    ap (λ o. pass_or o (choice_named net (choice_text net a c))) (no_pass net a c) ∙ ap (option_map as_choice) (named a c h)
 
-read_at : (net : Net) (i : ℕ) (e : Entry) → HasOneSpelling net → IsEntryOf net e → fitting net i 0 (entry_text net e) ≡ Ok (in_script e)
+read_at : (net : Net) (i : ℕ) (e : Entry) → NamesChoices net → IsEntryOf net e → fitting net i 0 (entry_text net e) ≡ Ok (in_script e)
 unfolding fitting
-read_at net i e one h = ap (fits i 0) (read_back net e.actor e.choice one h)
+read_at net i e named h = ap (fits i 0) (read_back net e.actor e.choice named h)
 
-all_read : (net : Net) (i : ℕ) (entries : List Entry) → HasOneSpelling net → All (IsEntryOf net) entries → entries_of net i 0 (map (entry_text net) entries) ≡ Ok (map in_script entries)
-all_read net i [] one h = refl
-all_read net i (e ∷ es) one h =
-    ap (λ r. r >>= (λ x. entries_of net (i + 1) (0 + passes x) (map (entry_text net) es) >>= (λ xs. Ok (x ∷ xs)))) (read_at net i e one (All-head (IsEntryOf net) e es h))
-    ∙ ap (λ r. r >>= (λ xs. Ok (in_script e ∷ xs))) (all_read net (i + 1) es one (All-tail (IsEntryOf net) e es h))
+all_read : (net : Net) (i : ℕ) (entries : List Entry) → NamesChoices net → All (IsEntryOf net) entries → entries_of net i 0 (map (entry_text net) entries) ≡ Ok (map in_script entries)
+all_read net i [] named h = refl
+all_read net i (e ∷ es) named h =
+    ap (λ r. r >>= (λ x. entries_of net (i + 1) (0 + passes x) (map (entry_text net) es) >>= (λ xs. Ok (x ∷ xs)))) (read_at net i e named (All-head (IsEntryOf net) e es h))
+    ∙ ap (λ r. r >>= (λ xs. Ok (in_script e ∷ xs))) (all_read net (i + 1) es named (All-tail (IsEntryOf net) e es h))
 
-pub reads_back : (net : Net) → HasOneSpelling net → (entries : List Entry) → All (IsEntryOf net) entries → ReadsBack net entries
-reads_back net one entries h = all_read net 0 entries one h
+pub reads_back : (net : Net) → NamesChoices net → (entries : List Entry) → All (IsEntryOf net) entries → ReadsBack net entries
+reads_back net named entries h = all_read net 0 entries named h
 
 -- an action with a step is one of the actor's own
 own_action : (s : Setup) (f a : ℕ) (actor : ActorId) (h : History) (n : ℕ) → IsSome (action s f a actor h n) → n < actions_of actor

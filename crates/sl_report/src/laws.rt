@@ -10,13 +10,13 @@ ghost use Rattle.sl_model.specs.World.{IsLegal};
 ghost use Rattle.sl_report.specs.TraceText.{IsEntryOf, ReadsBack};
 
 use sl_net::Net;
-use sl_spell::one_spelling;
+use sl_read::spellings_name_choices;
 
 /// The lines of a trace after its first are a script, whose entries are those of the book.
 pub fn traces_are_scripts(net: &Net)
     ensures { (entries : List Entry) → All (IsEntryOf net.now) entries → ReadsBack net.now entries }
 {
-    one_spelling(net);
+    spellings_name_choices(net);
 }
 
 /// Each entry of a book in which none is idle is a choice of the net.

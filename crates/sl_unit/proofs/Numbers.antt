@@ -1,7 +1,7 @@
 -- The outgoing links of a unit by their numbers.
 use Rattle.std.proofs.Common.{◌≡◌, ℕ, suc, ◌<◌, List, [], ◌∷◌, length, refl, sym, ap, subst, ◌∙◌, map, get_or, inl, inr}
 use Rattle.std.specs.Prelude.{cond, true, false, Bool, filter, ◌⊎◌, ◌==◌, ◌&&◌}
-use Rattle.std.proofs.lemmas.Bool.{eq-eqb}
+use Rattle.std.proofs.lemmas.Bool.{eq-eqb, eqb-true}
 use Rattle.std.proofs.lemmas.Bool.Decides.{eqb_tells}
 use Rattle.sl_layout.specs.declared.actor.Sort.{Sort}
 use Rattle.sl_layout.specs.declared.actor.Sort.TheVariants.{Crossbar}
@@ -11,7 +11,6 @@ use Rattle.sl_layout.specs.Wires.{out_of}
 use Rattle.sl_parts.specs.Lists.{Distinct, Each, Member}
 use Rattle.sl_parts.proofs.Lists.{filter-map, numbers-suc, at_below, each-passes, distinct-filter, distinct-from, each-at, each-of, kept-member}
 use Rattle.std.proofs.lemmas.Simd.{map-map}
-use Rattle.sl_net.proofs.Sorts.{told}
 use Rattle.sl_unit.specs.declared.wires.Way.{Way}
 use Rattle.sl_unit.specs.declared.wires.Way.TheVariants.{All, Toward}
 use Rattle.sl_unit.specs.declared.wires.Entrance.TheVariants.{Other}
@@ -64,7 +63,7 @@ numbered net a way =
     ∙ map_each (λ l. place_in 0 l ls) (out_of net) (filter t ls) (each-of (λ l. place_in 0 l ls ≡ out_of net l) (filter t ls) (λ l m. same l (kept-member t l ls m)))
   where
     same : (l : ℕ) → Member l (links_from net a) → place_in 0 l (links_from net a) ≡ out_of net l
-    same l m = let f : (link_of net l).from ≡ a = told (link_of net l).from a (each-at (λ l. ((link_of net l).from == a) ≡ true) l (links_from net a) (each-passes (λ l. (link_of net l).from == a) (link_numbers net)) m) in
+    same l m = let f : (link_of net l).from ≡ a = eqb-true (link_of net l).from a (each-at (λ l. ((link_of net l).from == a) ≡ true) l (links_from net a) (each-passes (λ l. (link_of net l).from == a) (link_numbers net)) m) in
         ap (λ b. place_in 0 l (links_from net b)) (sym f)
 
 pub sorts_are : (net : Net) (a : ℕ) (s : Sort) → outs (All s) (exits_of net a) ≡ map (out_of net) (links_out net a s)

@@ -1,8 +1,9 @@
 -- The registers of a unit, with whole numbers as ids, and what a stamped message makes of them (Yaseen, Sonchack and Liu 2018).
-use Rattle.std.specs.Prelude.{ℕ, ◌+◌, ◌-◌, ◌<◌, Bool, ◌&&◌, List, [], min, nat_lt, nat_le, if◌then◌else◌, replicate, slice_index_or, slice_set}
+use Rattle.std.specs.Prelude.{ℕ, ◌+◌, ◌-◌, ◌<◌, Bool, ◌&&◌, List, min, nat_lt, nat_le, if◌then◌else◌, replicate, slice_index_or, slice_set}
 use Rattle.sl_net.specs.declared.input.Packet.{Packet}
-use Rattle.sl_saves.specs.Views.{last_count}
-use Rattle.sl_saves.specs.Keeping.{Listed, list_adopted, list_credited, list_view}
+use Rattle.sl_saves.specs.declared.entry.View.{View}
+use Rattle.sl_saves.specs.Views.{last_count, free_slot}
+use Rattle.sl_saves.specs.Keeping.{view_adopted, view_credited}
 use Rattle.sl_wire.specs.declared.message.PlainDump.{PlainDump}
 use Rattle.sl_unit.specs.declared.registers.Channel.{Channel}
 use Rattle.sl_unit.specs.declared.registers.Channel.TheVariants.{Cpu, Upstream}
@@ -18,7 +19,7 @@ pub record Registers : Type 0 where
   pub bad : ℕ
   pub expired : ℕ
   pub noroute : ℕ
-  pub saved : Listed
+  pub saved : View
 
 -- those of a new unit whose ring has so many slots
 abbrev pub first_registers : ℕ → Registers
@@ -31,7 +32,7 @@ first_registers ring = record {
   bad = 0;
   expired = 0;
   noroute = 0;
-  saved = record { size = ring; last = 0; entries = [] };
+  saved = record { at = 0; slots = replicate ring free_slot };
 }
 
 -- a counter stays at the last value of its type
@@ -48,13 +49,13 @@ is_near window before id stamp = nat_le before stamp && (nat_le (stamp - before)
 
 -- a newer stamp becomes the id, and the counters are saved for it; the ids between are skipped
 abbrev pub adopted : ℕ → Registers → Registers
-adopted stamp r = if nat_lt r.id stamp then record r { id = stamp; saved = list_adopted (stamp - r.id) r.packets r.bytes r.saved } else r
+adopted stamp r = if nat_lt r.id stamp then record r { id = stamp; saved = view_adopted (stamp - r.id) r.packets r.bytes r.saved } else r
 
 -- a data packet with an older stamp was in flight, and is credited at the id
 abbrev pub credited : ℕ → ℕ → ℕ → Registers → Registers
 credited channel stamp bytes r =
     if nat_lt stamp r.id
-    then record r { saved = list_credited (record { channel = channel; age = r.id - stamp; bytes = bytes }) r.saved }
+    then record r { saved = view_credited (record { channel = channel; age = r.id - stamp; bytes = bytes }) r.saved }
     else r
 
 abbrev pub seen : Channel → ℕ → Registers → Registers
@@ -72,7 +73,7 @@ abbrev pub after_data : ℕ → ℕ → Packet → Registers → Registers
 after_data channel stamp p r = counted p.len (seen (Upstream channel) stamp (credited channel stamp p.len (adopted stamp r)))
 
 abbrev pub dump_of : Registers → PlainDump
-dump_of r = record { id = r.id; cpu = r.cpu; last = r.last; view = list_view r.saved }
+dump_of r = record { id = r.id; cpu = r.cpu; last = r.last; view = r.saved }
 
 -- there is such a register
 abbrev pub IsChannel : Channel → Type 0

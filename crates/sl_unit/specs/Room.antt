@@ -2,7 +2,7 @@
 use Rattle.std.specs.Prelude.{◌≡◌, ℕ, true, List, length}
 use Rattle.std.specs.List.{All}
 use Rattle.sl_layout.specs.declared.actor.Sort.TheVariants.{ToHost, Dump as DumpSort}
-use Rattle.sl_saves.specs.Lists.{list_kept, ListHasRoom}
+use Rattle.sl_saves.specs.Rings.{ring_view}
 use Rattle.sl_wire.specs.declared.message.PlainDump.{PlainDump}
 use Rattle.sl_unit.specs.declared.wires.Way.TheVariants.{All as AllOf}
 use Rattle.sl_unit.specs.declared.registers.Registers.{Registers as Declared}
@@ -20,7 +20,7 @@ registers_of r = record {
   bad = r.bad;
   expired = r.expired;
   noroute = r.noroute;
-  saved = list_kept r.saves;
+  saved = ring_view r.saves;
 }
 
 abbrev pub state_of : Wires → Declared → UnitState
@@ -38,6 +38,5 @@ pub record HasDumps (w : Wires) (r : Registers) (dumps : List PlainDump) : Type 
 
 -- the room for a turn of the choice c
 pub record HasRoom (w : Wires) (r : Declared) (frames : List (List ℕ)) (dumps : List PlainDump) (c : ℕ) : Type 0 where
-  pub saves : ListHasRoom r.saves
   pub frames_are : is_crossbar (entrance_at w c) ≡ true → HasFrames w frames
   pub dumps_are : is_poll (entrance_at w c) ≡ true → HasDumps w (registers_of r) dumps

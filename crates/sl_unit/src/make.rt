@@ -9,7 +9,7 @@ ghost use Rattle.sl_unit.specs.Made.{side_of, is_own, entrance, entrances_of, ex
 
 use crate::wires::{Entrance, Exit, Wires};
 use sl_ids::Width;
-use sl_net::{ActorId, Net, Side, Sort, push_if};
+use sl_net::{ActorId, Net, Side, Sort, nets_are_wired, push_if};
 use sl_route::Routes;
 use std::alloc::{AllocError, Global};
 
@@ -34,8 +34,8 @@ fn list_channels(alloc: Global, net: &Net, actor: u32) -> Result<Vec<u32>, Alloc
     ensures channels { IfOk result (λ channels. channels.items ≡ data_channels net.now actor) }
     ensures few { length (data_channels net.now actor) ≤ 8 }
 {
+    nets_are_wired();
     let _parts = net.parts();
-    let _unit = net.actor(actor);
     let mut channels = Vec::new(alloc);
     add_choices(&mut channels, net, actor, Sort::Cable)?;
     add_choices(&mut channels, net, actor, Sort::Crossbar)?;

@@ -1,11 +1,11 @@
 // The registers of a unit.
-ghost use Rattle.std.specs.Prelude.{◌≡◌, ◌<◌, ◌≤◌, ◌-◌, ◌^◌, length, IfOk, OnOk};
-ghost use Rattle.sl_saves.specs.Lists.{ListHasRoom, list_window, list_size};
+ghost use Rattle.std.specs.Prelude.{◌≡◌, ◌<◌, ◌≤◌, ◌-◌, ◌^◌, length, IfOk};
+ghost use Rattle.sl_saves.specs.Rings.{ring_window};
 ghost use Rattle.sl_unit.specs.Registers.{IsChannel, first_registers, last_on, is_near, adopted, credited, seen, counted, after_stamp, after_data, more, dump_of};
 
 use sl_machine::Memory;
 use sl_net::Packet;
-use sl_saves::{ListSaves, Saves};
+use sl_saves::{RingSaves, Saves};
 use sl_wire::PlainDump;
 use std::alloc::Global;
 
@@ -23,8 +23,6 @@ pub enum Channel {
 pub struct Registers {
     /// The window within which stamps are read.
     pub window: u16,
-    /// How many slots a view of what was saved has.
-    pub ring: u16,
     /// The unit's id.
     pub id: u64,
     /// The last-seen id of its control plane, 0 of an egress unit.
@@ -36,15 +34,14 @@ pub struct Registers {
     /// The bytes of these.
     pub bytes: u64,
     /// What was saved.
-    pub saves: ListSaves,
+    pub saves: RingSaves,
     /// The frames dropped that were no plain frames.
     pub bad: u64,
     /// The packets dropped that had no hop left.
     pub expired: u64,
     /// The packets dropped that had no route.
     pub noroute: u64,
-    pub ghost window_is: { list_window saves ≡ window },
-    pub ghost ring_is: { list_size saves ≡ ring },
+    pub ghost window_is: { ring_window saves ≡ window },
     pub ghost window_fits: { window < 2 ^ 16 },
 }
 
@@ -58,10 +55,9 @@ impl Registers {
         ensures first { IfOk result (λ r. registers_of r ≡ first_registers ring) }
         ensures window { IfOk result (λ r. r.window ≡ window) }
     {
-        let saves = ListSaves::new(alloc, window, ring)?;
+        let saves = RingSaves::new(alloc, window, ring)?;
         Ok(Registers {
             window,
-            ring,
             id: 0,
             cpu: 0,
             last: [0; 8],
@@ -100,7 +96,6 @@ impl Registers {
 
     /// Adopts a newer stamp, and saves the counters for it.
     fn adopt(&mut self, stamp: u64)
-        requires room { ListHasRoom self.old.saves }
         requires near { stamp - self.old.id ≤ self.old.window }
         ensures registers { registers_of self.new ≡ adopted stamp (registers_of self.old) }
         ensures window { self.new.window ≡ self.old.window }
@@ -148,7 +143,6 @@ impl Registers {
 
     /// Takes the stamp of a probe or an initiation.
     pub fn take_stamp(&mut self, channel: Channel, stamp: u64)
-        requires room { ListHasRoom self.old.saves }
         requires channel { IsChannel channel }
         requires near { stamp - self.old.id ≤ self.old.window }
         ensures registers { registers_of self.new ≡ after_stamp channel stamp (registers_of self.old) }
@@ -160,7 +154,6 @@ impl Registers {
 
     /// Takes the stamp of a data packet, and counts the packet.
     pub fn take_data(&mut self, channel: u32, stamp: u64, packet: &Packet)
-        requires room { ListHasRoom self.old.saves }
         requires channel { channel < 8 }
         requires above { stamp - self.old.id ≤ self.old.window }
         requires below { self.old.id - stamp ≤ self.old.window }
@@ -208,14 +201,5 @@ impl Registers {
             last: self.last,
             view,
         })
-    }
-
-    /// Takes the room that the next adoption needs.
-    pub fn make_room(&mut self) -> Result<(), Memory>
-        ensures registers { registers_of self.new ≡ registers_of self.old }
-        ensures window { self.new.window ≡ self.old.window }
-        ensures room { OnOk result (ListHasRoom self.new.saves) }
-    {
-        self.saves.ready()
     }
 }

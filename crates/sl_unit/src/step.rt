@@ -1,7 +1,6 @@
 // What a unit makes of the messages that it takes.
 ghost use Rattle.std.specs.Prelude.{◌≡◌, ◌+◌, ◌≤◌, ◌<◌, ◌++◌, ◌==◌, [], if◌then◌else◌, length};
 ghost use Rattle.std.specs.List.{All};
-ghost use Rattle.sl_saves.specs.Lists.{ListHasRoom};
 ghost use Rattle.sl_wire.specs.declared.message.Msg.TheVariants.{Host, Data, Probe, Init, Poll, Notice};
 ghost use Rattle.sl_unit.specs.Wires.{outs};
 ghost use Rattle.sl_unit.specs.Step.{routed, passed, probed, initiated, plain_packet, send, take_at};
@@ -126,7 +125,6 @@ pub fn take_cable_data(
     requires empty { out.old.items ≡ [] }
     requires room { length wires.now.exits ≤ out.old.room }
     requires channel { place < 8 }
-    requires saves { ListHasRoom registers.old.saves }
     ensures state { state_of wires.now registers.new ≡ (take_at (Entrance.Cable place) (state_of wires.now registers.old) (Data stamp packet)).state }
     ensures puts { out.new.items ≡ (take_at (Entrance.Cable place) (state_of wires.now registers.old) (Data stamp packet)).puts }
     ensures room { out.new.room ≡ out.old.room }
@@ -152,7 +150,6 @@ pub fn take_cable_probe(
     requires empty { out.old.items ≡ [] }
     requires room { length wires.now.exits ≤ out.old.room }
     requires channel { place < 8 }
-    requires saves { ListHasRoom registers.old.saves }
     ensures state { state_of wires.now registers.new ≡ (take_at (Entrance.Cable place) (state_of wires.now registers.old) (Probe stamp)).state }
     ensures puts { out.new.items ≡ (take_at (Entrance.Cable place) (state_of wires.now registers.old) (Probe stamp)).puts }
     ensures room { out.new.room ≡ out.old.room }
@@ -180,7 +177,6 @@ pub fn take_crossbar_data(
     requires empty { out.old.items ≡ [] }
     requires room { length wires.now.exits ≤ out.old.room }
     requires channel { place < 8 }
-    requires saves { ListHasRoom registers.old.saves }
     requires frames { HasFrames wires.now frames.old.items }
     ensures state { state_of wires.now registers.new ≡ (take_at (Entrance.Crossbar place own) (state_of wires.now registers.old) (Data stamp packet.now)).state }
     ensures puts { out.new.items ≡ (take_at (Entrance.Crossbar place own) (state_of wires.now registers.old) (Data stamp packet.now)).puts }
@@ -227,7 +223,6 @@ pub fn take_crossbar_probe(
     requires empty { out.old.items ≡ [] }
     requires room { length wires.now.exits ≤ out.old.room }
     requires channel { place < 8 }
-    requires saves { ListHasRoom registers.old.saves }
     ensures state { state_of wires.now registers.new ≡ (take_at (Entrance.Crossbar place own) (state_of wires.now registers.old) (Probe stamp)).state }
     ensures puts { out.new.items ≡ (take_at (Entrance.Crossbar place own) (state_of wires.now registers.old) (Probe stamp)).puts }
     ensures room { out.new.room ≡ out.old.room }
@@ -261,7 +256,6 @@ fn initiate(wires: &Wires, registers: &Registers, out: &mut Outputs<Msg>)
 pub fn take_init(wires: &Wires, registers: &mut Registers, stamp: u64, out: &mut Outputs<Msg>)
     requires empty { out.old.items ≡ [] }
     requires room { length wires.now.exits ≤ out.old.room }
-    requires saves { ListHasRoom registers.old.saves }
     ensures state { state_of wires.now registers.new ≡ (take_at Entrance.Init (state_of wires.now registers.old) (Init stamp)).state }
     ensures puts { out.new.items ≡ (take_at Entrance.Init (state_of wires.now registers.old) (Init stamp)).puts }
     ensures room { out.new.room ≡ out.old.room }

@@ -150,7 +150,6 @@ impl Machine for Unit {
 
     fn ready(&mut self, choice: u32) -> Result<(), Memory> {
         self.prepared = None;
-        self.registers.make_room()?;
         match self.wires.entrance(choice) {
             Entrance::Crossbar { .. } => make_frames(&self.wires, &mut self.frames)?,
             Entrance::Poll => make_dumps(&self.wires, &self.registers, &mut self.dumps)?,

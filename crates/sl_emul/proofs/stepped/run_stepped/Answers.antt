@@ -45,5 +45,5 @@ returns c =
     subst (λ (s : List Script1). Follows (setup_of i) (losses i) (run_at x v) (expand i.net s) (run_at x u)) script
     (subst (λ (net : Net). Follows (setup_of i) (losses i) (run_at x v) (expand net c.as_slice.result.now) (run_at x u)) net (c.in_ok-drive_script.ensures.follows x first)) in
     let ends = c.in_ok-finish.ensures.finishes x c.requires.snapshot.some_window then in
-    is-run-of i (losses i) v u t c.books_grow_by_turns.ensures.append c.books_grow_by_turns.ensures.numbers c.in_ok-world.ensures.book follows ends c.inputs_are_bounded.ensures c.cuts_are_consistent.ensures c.requires.net last
+    is-run-of c.worlds_take_turns.ensures i (losses i) v u t c.books_grow_by_turns.ensures.append c.books_grow_by_turns.ensures.numbers c.in_ok-world.ensures.book follows ends c.inputs_are_bounded.ensures c.cuts_are_consistent.ensures c.requires.net last
     c.into_book-nodes.result.1.entries c.entries-front.result c.in_ok-findings.findings _ c.into_book-nodes.ensures.book c.entries-front.ensures (c.in_ok-findings.ensures (losses i) last ends.finished) c.into_book-nodes.ensures.machines

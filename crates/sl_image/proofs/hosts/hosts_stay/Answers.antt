@@ -4,4 +4,4 @@ use Rattle.sl_image.proofs.HostSteps.{host-stays}
 use Rattle.sl_image.proofs.hosts.hosts_stay.Goals as goal
 
 pub returns : goal.returns
-returns c s lost es a i e o ne h = h ∙ sym (host-stays s lost (world s lost es) a i e ne)
+returns c s lost es a i e o ne h = h ∙ sym (host-stays c.worlds_take_turns.ensures s lost (world s lost es) a i e ne)

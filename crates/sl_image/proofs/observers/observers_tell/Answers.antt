@@ -5,7 +5,6 @@ use Rattle.sl_observe.specs.Observer.{unit_at, seen_of, saved_of}
 use Rattle.sl_observe.specs.Observer.{register_floor}
 use Rattle.sl_model.specs.Knowledge.{observer, known, collected}
 use Rattle.sl_model.specs.World.{world}
-use Rattle.sl_model.proofs.Ran.{ran}
 use Rattle.sl_image.specs.ObserverImage.{unit_of}
 use Rattle.sl_image.proofs.ObserverAccounts.{unit-there, saved-there, none-past}
 use Rattle.sl_image.proofs.ObserverActs.{floor-same}
@@ -24,12 +23,12 @@ pub returns-clause-units : goal.returns-clause-units
 returns-clause-units c s lost table es o h = ap (λ o. length o.units) h ∙ length-map (units s.net) (λ u. unit_of s.net u (collected s.net (world s lost es) u))
 
 pub returns-clause-seen : goal.returns-clause-seen
-returns-clause-seen c s lost table es o u i h q = ap (λ o. seen_of (unit_at o.units (unit_place s.net u))) h ∙ ap seen_of (unit-there s.net table (world s lost es) u i q)
+returns-clause-seen c s lost table es o u i h q = ap (λ o. seen_of (unit_at o.units (unit_place s.net u))) h ∙ ap seen_of (unit-there s.net (c.nets_have_ways.ensures s.net) table (world s lost es) u i q)
 
 pub returns-clause-saved : goal.returns-clause-saved
 returns-clause-saved c s lost table es o u k i n t l h q one p = ap (λ o. saved_of (unit_at o.units (unit_place s.net u)) k) h
-    ∙ saved-there s lost table (world s lost es) u k i (c.nets_are_wired.ensures s.net n) (ran s lost es) q
+    ∙ saved-there s.net (c.nets_have_ways.ensures s.net) table (world s lost es) u k i q (c.rows_are_final.ensures.collected s lost es (data_channels s.net u) u k i n q p)
     (c.rows_are_held.ensures s lost es (data_channels s.net u) u k (known (unit_place s.net u) (observer (world s lost es))) t l) one p
 
 pub returns-clause-unsaved : goal.returns-clause-unsaved
-returns-clause-unsaved c s lost table es o u k i h q p = ap (λ o. saved_of (unit_at o.units (unit_place s.net u)) k) h ∙ none-past s.net table (world s lost es) u k i q p
+returns-clause-unsaved c s lost table es o u k i h q p = ap (λ o. saved_of (unit_at o.units (unit_place s.net u)) k) h ∙ none-past s.net (c.nets_have_ways.ensures s.net) table (world s lost es) u k i q p

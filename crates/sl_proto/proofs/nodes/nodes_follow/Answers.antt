@@ -15,8 +15,8 @@ use Rattle.sl_model.specs.declared.message.Message.{Message}
 use Rattle.sl_model.specs.declared.message.Step.{Step}
 use Rattle.sl_model.specs.History.{history}
 use Rattle.sl_model.specs.World.{Entry, next_step, turn, world}
-use Rattle.sl_model.proofs.Ran.{ran}
-use Rattle.sl_model.proofs.Turns.{next-within}
+use Rattle.sl_model.specs.Turns.{TakesTurns}
+use Rattle.sl_model.specs.Reported.{AreReported}
 use Rattle.sl_image.specs.ControlImage.{told_at}
 use Rattle.sl_image.specs.HostImage.{IsHostOf}
 use Rattle.sl_image.specs.Messages.{IsMessage}
@@ -47,6 +47,12 @@ returns c s table lost r = record {
     wired : IsWired s.net
     wired = c.nets_are_wired.ensures s.net r.net
 
+    turns : TakesTurns
+    turns = c.worlds_take_turns.ensures
+
+    reported : AreReported s
+    reported = c.known_steps_are_made.ensures s r.net
+
     is-host : (a i : ℕ) → a < length s.net.actors → actor_of s.net a ≡ OfHost i → slice_get s.net.actors a ≡ Some (OfHost i)
     is-host a i p q = slice_get-get_or s.net.actors a nobody p ∙ ap Some q
 
@@ -58,7 +64,7 @@ returns c s table lost r = record {
     observer-takes es (suc a) k l step m x next into taken msg q o st = absurd (let e : suc a ≡ 0 = wired.one_observer (suc a) q in omega (arith, e))
     observer-takes es zero k l step m x next into taken msg q o st = let w = world s lost es in let v = turn s lost w (0, k) in
         let g = λ (told : ℕ → ℕ). c.observers_take.ensures s lost table es k table.ring (link_of s.net l).from told step m x o r.net r.is_table st next taken
-        (retold s.net table.ring (history w) (link_of s.net l).from (told_by k (history w 0)) (known_at w) m x (told-known s lost w k l m step wired (ran s lost es) next into taken) msg) in
+        (retold s.net table.ring (history w) (link_of s.net l).from (told_by k (history w 0)) (known_at w) m x (told-known turns c.links_pass_messages.ensures s lost w k l m step reported wired (turns.ran s lost es) next into taken) msg) in
         leaves s table w v 0 step Observer (as_node ObserverNode (observer_take o k x)) q (g untold).stands (put-by-any s.net table.ring (history v) 0 (history w 0) step.puts (observer_take o k x).puts (λ told. (g told).sent))
 
     takes : (es : List Entry) (a k l : ℕ) (step : Step) (m : Message) (x : Msg) → length es < 2 ^ 40 → next_step s lost (world s lost es) (a, k) ≡ Some step → slice_get (links_into s.net a) k ≡ Some l → step.taken ≡ Some m
@@ -70,12 +76,12 @@ returns c s table lost r = record {
         let g = c.controls_take.ensures s lost es (a, k) d table.ring step m (told_by k (history w a)) x o r.net q (omega (arith, size, room)) next taken
         (subst (λ l. IsMessage s.net table.ring (history w) (link_of s.net l).from (told_by k (history w a)) m x) (sym at) msg) st in
         leaves s table w v a step (Control d) (as_node ControlNode (control_take o k x)) q g.stands
-        (put-by-told s.net table.ring (history v) a (told_at s.net (history w) a) (history w a) step.puts (control_take o k x).puts (step-dones s lost w a d k step wired (ran s lost es) q next) g.sent)
+        (put-by-told s.net table.ring (history v) a (told_at s.net (history w) a) (history w a) step.puts (control_take o k x).puts (step-dones turns c.links_pass_messages.ensures s lost w a d k step reported wired (turns.ran s lost es) q next) g.sent)
     takes es a k l step m x few next into taken msg (OfUnit i) q (UnitNode o) st = let w = world s lost es in let v = turn s lost w (a, k) in
-        let g = λ (told : ℕ → ℕ). c.units_take_messages.ensures.follows s table lost es a k (link_of s.net l).from i step m x o (history w) (told_by k (history w a)) told r.net (sym r.is_table.window) r.short few q next taken msg st in
+        let g = λ (told : ℕ → ℕ). c.units_take_messages.ensures.follows s table lost es a k (link_of s.net l).from i step m x o (history w) (told_by k (history w a)) told r.net (sym r.is_table.window) r.is_table.room r.short few q next taken msg st in
         leaves s table w v a step (OfUnit i) (as_node UnitNode (unit_rules.take o k x)) q (g untold).stands (put-by-any s.net table.ring (history v) a (history w a) step.puts (unit_rules.take o k x).puts (λ told. (g told).sent))
     takes es a k l step m x few next into taken msg (OfHost i) q (HostNode o) st = let w = world s lost es in let v = turn s lost w (a, k) in
-        let g = λ (told : ℕ → ℕ). c.hosts_take.ensures s lost es a k i table.ring (link_of s.net l).from told (told_by k (history w a)) step m x o r.net (is-host a i (next-within s lost w (a, k) step next) q) few st next taken msg in
+        let g = λ (told : ℕ → ℕ). c.hosts_take.ensures s lost es a k i table.ring (link_of s.net l).from told (told_by k (history w a)) step m x o r.net (is-host a i (turns.within s lost w (a, k) step next) q) few st next taken msg in
         leaves s table w v a step (OfHost i) (as_node HostNode (host_take o k x)) q (g untold).stands (put-by-any s.net table.ring (history v) a (history w a) step.puts (host_take o k x).puts (λ told. (g told).sent))
     takes es a k l step m x few next into taken msg _ q _ st = absurd st
 
@@ -85,8 +91,8 @@ returns c s table lost r = record {
         → (o : ObserverState) → IsObserverOf s.net table (world s lost es) o → MachineActSimulates s table.ring (NodeStands s table) (world s lost es) (turn s lost (world s lost es) (a, k)) a step (node_act (ObserverNode o) k)
     observer-acts es (suc a) k step next none q o st = absurd (let e : suc a ≡ 0 = wired.one_observer (suc a) q in omega (arith, e))
     observer-acts es zero k step next none q o st = let w = world s lost es in let v = turn s lost w (0, k) in
-        let g = λ (told : ℕ → ℕ). c.observers_act.ensures.did s lost table es k table.ring told step o r.net r.is_table st next (takes-none s lost w 0 k step next none) in
-        let ins : o.ins ≡ length (links_into s.net 0) = ap (λ (y : ObserverState). y.ins) st in let low = observer-within s lost w 0 k step q next none in
+        let g = λ (told : ℕ → ℕ). c.observers_act.ensures.did s lost table es k table.ring told step o r.net r.is_table st next (takes-none turns s lost w 0 k step next none) in
+        let ins : o.ins ≡ length (links_into s.net 0) = ap (λ (y : ObserverState). y.ins) st in let low = observer-within turns s lost w 0 k step q next none in
         does s table w v 0 step Observer (as_node ObserverNode (g untold).after) (node_act (ObserverNode o) k)
         (ap (λ b. if b then option_map (as_node ObserverNode) (observer_act o k) else None) (lt-ltb k (o.ins + 2) (omega (arith, ins, low))) ∙ ap (option_map (as_node ObserverNode)) (g untold).is) q (g untold).simulates.stands
         (does-put (IsObserverOf s.net table v) s.net table.ring (history v) 0 (history w 0) step.puts (observer_act o k) g)
@@ -95,13 +101,13 @@ returns c s table lost r = record {
         → (state : NodeState) → StandsAs s table (world s lost es) a y state → MachineActSimulates s table.ring (NodeStands s table) (world s lost es) (turn s lost (world s lost es) (a, k)) a step (node_act state k)
     acts es a k step next none Observer q (ObserverNode o) st = observer-acts es a k step next none q o st
     acts es a k step next none (Control d) q (ControlNode o) st = let w = world s lost es in let v = turn s lost w (a, k) in
-        let g = c.controls_act.ensures.acts s lost es (a, k) d table.ring step o r.net q next (takes-none s lost w a k step next none) st in
+        let g = c.controls_act.ensures.acts s lost es (a, k) d table.ring step o r.net q next (takes-none turns s lost w a k step next none) st in
         does s table w v a step (Control d) (as_node ControlNode g.after) (node_act (ControlNode o) k) (ap (option_map (as_node ControlNode)) g.is) q g.simulates.stands
-        (put-by-told s.net table.ring (history v) a (told_at s.net (history w) a) (history w a) step.puts g.after.puts (step-dones s lost w a d k step wired (ran s lost es) q next) g.simulates.sent)
+        (put-by-told s.net table.ring (history v) a (told_at s.net (history w) a) (history w a) step.puts g.after.puts (step-dones turns c.links_pass_messages.ensures s lost w a d k step reported wired (turns.ran s lost es) q next) g.simulates.sent)
     acts es a k step next none (OfUnit i) q (UnitNode o) st = absurd (let e = subst (λ o. IsSome o) none (c.units_take_messages.ensures.link s lost es a k i step q next) in cc)
-    acts es a k step next none (OfHost i) q (HostNode o) st = let w = world s lost es in let v = turn s lost w (a, k) in let at = is-host a i (next-within s lost w (a, k) step next) q in
-        let g = λ (told : ℕ → ℕ). c.hosts_act.ensures.did s lost es a k i table.ring told step o r.net at st next (takes-none s lost w a k step next none) in
-        let ins = c.hosts_have_two_links.ensures.ins s.net a i r.net at in let low = host-within s lost w a k i step q next none in
+    acts es a k step next none (OfHost i) q (HostNode o) st = let w = world s lost es in let v = turn s lost w (a, k) in let at = is-host a i (turns.within s lost w (a, k) step next) q in
+        let g = λ (told : ℕ → ℕ). c.hosts_act.ensures.did s lost es a k i table.ring told step o r.net at st next (takes-none turns s lost w a k step next none) in
+        let ins = c.hosts_have_two_links.ensures.ins s.net a i r.net at in let low = host-within turns s lost w a k i step q next none in
         does s table w v a step (OfHost i) (as_node HostNode (g untold).after) (node_act (HostNode o) k)
         (ap (λ b. if b then option_map (as_node HostNode) (host_act o k) else None) (lt-ltb k 2 (omega (arith, ins, low))) ∙ ap (option_map (as_node HostNode)) (g untold).is) q (g untold).simulates.stands
         (does-put (IsHostOf s a i v) s.net table.ring (history v) a (history w a) step.puts (host_act o k) g)

@@ -10,7 +10,6 @@ use Rattle.sl_layout.specs.Net.{actor_of}
 use Rattle.sl_parts.proofs.Lists.{at_below, length_below}
 use Rattle.sl_model.specs.Setup.{setup_of}
 use Rattle.sl_model.specs.World.{start}
-use Rattle.sl_model.proofs.Turns.{start-empty}
 use Rattle.sl_image.specs.UnitImage.{IsUnitOf}
 use Rattle.sl_unit.specs.Made.{ingress_state, egress_state}
 use Rattle.sl_proto.specs.Built.{first_unit, first_node, first_at, first_states}
@@ -31,8 +30,8 @@ returns-clause-stand c i a state ranged here = subst (NodeStands (setup_of i) i.
     is = sym (at_below (first_at i) (length i.net.actors) a state low) ∙ get_or_from_slice_get (first_states i) a state state here
 
     by_side : (u : UnitId) (x : Side) → u.side ≡ x → StandsAs (setup_of i) i.snapshot (start i.net) a (OfUnit u) (first_unit i a x)
-    by_side u Ingress q = subst (λ h. IsUnitOf i.net i.snapshot a u h (ingress_state i.net a i.snapshot)) (sym (start-empty i.net a)) (c.new_units_stand.ensures.ingress i.net i.snapshot a u ranged q)
-    by_side u Egress q = subst (λ h. IsUnitOf i.net i.snapshot a u h (egress_state i.net a i.snapshot)) (sym (start-empty i.net a)) (c.new_units_stand.ensures.egress i.net i.snapshot a u ranged q)
+    by_side u Ingress q = subst (λ h. IsUnitOf i.net i.snapshot a u h (ingress_state i.net a i.snapshot)) (sym (c.worlds_take_turns.ensures.starts i.net a)) (c.new_units_stand.ensures.ingress i.net i.snapshot a u ranged q)
+    by_side u Egress q = subst (λ h. IsUnitOf i.net i.snapshot a u h (egress_state i.net a i.snapshot)) (sym (c.worlds_take_turns.ensures.starts i.net a)) (c.new_units_stand.ensures.egress i.net i.snapshot a u ranged q)
 
     by_actor : (y : ActorId) → StandsAs (setup_of i) i.snapshot (start i.net) a y (first_node i a y)
     by_actor Observer = c.observers_start.ensures (setup_of i) (λ l n. false) i.snapshot

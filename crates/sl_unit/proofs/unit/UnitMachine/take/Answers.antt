@@ -1,4 +1,4 @@
-use Rattle.std.proofs.Common.{◌≡◌, length, subst, sym}
+use Rattle.std.proofs.Common.{◌≡◌, length, subst, sym, ap, ◌∙◌}
 use Rattle.std.specs.Prelude.{true}
 use Rattle.sl_machine.specs.Machine.{is_fitting}
 use Rattle.sl_layout.specs.declared.actor.Sort.TheVariants as sort
@@ -6,6 +6,7 @@ use Rattle.sl_wire.specs.declared.message.Msg.TheVariants.{Dump}
 use Rattle.sl_unit.specs.declared.wires.Way.TheVariants.{All}
 use Rattle.sl_unit.specs.declared.registers.Channel.TheVariants.{Cpu, Upstream}
 use Rattle.sl_unit.specs.Registers.{after_stamp, after_data, dump_of}
+use Rattle.sl_unit.specs.Wires.{is_crossbar, is_poll}
 use Rattle.sl_unit.specs.Step.{plain_packet}
 use Rattle.sl_unit.specs.Units.{unit_state}
 use Rattle.sl_unit.proofs.Fitting.{one_fits, framed_fits, routed_stamp_fits, absorbed_stamp_fits, passed_stamp_fits, probed_stamp_fits, initiated_stamp_fits}
@@ -38,3 +39,11 @@ returns-in-Init-Init-clause-fitting c = let s = unit_state c.args.self.now in le
 pub returns-in-Poll-Poll-clause-fitting : goal.returns-in-Poll-Poll-clause-fitting
 returns-in-Poll-Poll-clause-fitting c = let s = unit_state c.args.self.now in
     subst (λ ps. is_fitting (length s.wires.exits) ps ≡ true) (sym c.take_poll.ensures.puts) (one_fits s.wires (All sort.Dump) (Dump (dump_of s.registers)))
+
+pub take_crossbar_data-requires-clause-frames : goal.take_crossbar_data-requires-clause-frames
+take_crossbar_data-requires-clause-frames c = let r = c.args.self.now.ready c.args.link c.requires.ready in
+    r.frames_are (ap is_crossbar (sym c.entrance.ensures.entrance ∙ c.in-Crossbar-Data.is-0))
+
+pub take_poll-requires-clause-dumps : goal.take_poll-requires-clause-dumps
+take_poll-requires-clause-dumps c = let r = c.args.self.now.ready c.args.link c.requires.ready in
+    r.dumps_are (ap is_poll (sym c.entrance.ensures.entrance ∙ c.in-Poll-Poll.is-0))

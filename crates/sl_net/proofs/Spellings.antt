@@ -9,6 +9,7 @@ use Rattle.sl_layout.specs.declared.actor.Side.TheVariants.{Ingress, Egress}
 use Rattle.sl_layout.specs.declared.actor.UnitId.{UnitId}
 use Rattle.sl_layout.specs.declared.actor.Sort.{Sort}
 use Rattle.sl_layout.specs.declared.actor.Sort.TheVariants.{FromHost, ToHost, Cable, Crossbar, Init, Poll, Notice, Dump, Begin, Done}
+use Rattle.sl_net.specs.Wired.{home}
 use Rattle.sl_parts.specs.declared.parts.PortRef.{PortRef}
 use Rattle.sl_parts.specs.Parts.{Parts, below, host_at, other_end, used_ports, ports_of, is_used}
 use Rattle.sl_layout.specs.Net.{nobody, ingress, egress, units_of, Incoming, incoming, unit_incoming, from_outside, from_host_or_cable, to_host}
@@ -18,9 +19,8 @@ use Rattle.sl_net.specs.Spelling.{device_name, host_name, side_text, actor_text,
 use Rattle.sl_parts.specs.Lists.{Each}
 use Rattle.sl_parts.proofs.Lists.{each-append, each-map, each-flat, each-imp, each-below}
 use Rattle.sl_layout.proofs.Actors.{each-used}
-use Rattle.sl_net.proofs.EndKinds.{home}
-use Rattle.sl_spell.proofs.Texts.{lacks_name, part_at, same_front, differ}
-use Rattle.sl_spell.proofs.Namesakes.{HasNames}
+use Rattle.sl_net.proofs.Texts.{lacks_name, part_at, same_front, differ}
+use Rattle.sl_net.proofs.Namesakes.{HasNames}
 
 -- Numbers of ports are single digits.
 

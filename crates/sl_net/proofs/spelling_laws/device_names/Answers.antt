@@ -2,7 +2,7 @@ use Rattle.std.proofs.Common.{get_or, subst, ◌∙◌, arith, below_more}
 use Rattle.std.proofs.lemmas.List.{get_or_default}
 use Rattle.sl_parts.specs.declared.parts.DevicePart.{DevicePart}
 use Rattle.sl_parts.specs.Text.{IsName}
-use Rattle.sl_spell.proofs.device_names.Goals as goal
+use Rattle.sl_net.proofs.spelling_laws.device_names.Goals as goal
 
 pub loop-device-preserved : goal.loop-device-preserved
 loop-device-preserved c = below_more (λ k. (d : DevicePart) → IsName (get_or c.args.devices.now k d).name) c.loop-device.device-index c.loop-device.invariant

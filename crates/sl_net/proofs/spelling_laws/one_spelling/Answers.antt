@@ -4,8 +4,8 @@ use Rattle.sl_parts.specs.declared.parts.DevicePart.{DevicePart}
 use Rattle.sl_parts.specs.declared.parts.HostPart.{HostPart}
 use Rattle.sl_parts.specs.Text.{IsName}
 use Rattle.sl_parts.specs.Parts.{Parts}
-use Rattle.sl_spell.proofs.Apart.{one_spelled}
-use Rattle.sl_spell.proofs.one_spelling.Goals as goal
+use Rattle.sl_net.proofs.Apart.{one_spelled}
+use Rattle.sl_net.proofs.spelling_laws.one_spelling.Goals as goal
 
 pub returns : goal.returns
 returns c =

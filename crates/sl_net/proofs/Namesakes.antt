@@ -4,7 +4,7 @@ use Rattle.std.proofs.Common.{length-take}
 use Rattle.std.specs.Prelude.{◌⊎◌, bytes_eq, if◌then◌else◌, option_map}
 use Rattle.std.specs.List.{list_any, All}
 use Rattle.std.proofs.lemmas.Bool.{cases_lt}
-use Rattle.std.proofs.lemmas.List.{get_or-take}
+use Rattle.std.proofs.lemmas.List.{get_or-take, get_or-map}
 use Rattle.std.proofs.lemmas.List.Folds.{list_any_at}
 use Rattle.std.proofs.lemmas.Slice.Eq.{bytes_eq-Decides}
 use Rattle.sl_parts.specs.declared.parts.DevicePart.{DevicePart}
@@ -14,7 +14,6 @@ use Rattle.sl_parts.specs.Parts.{Parts}
 use Rattle.sl_parts.specs.Fault.{fault_of, first_clash}
 use Rattle.sl_net.specs.Spelling.{device_name, host_name}
 use Rattle.sl_net.proofs.NetWired.{no-reason}
-use Rattle.sl_spell.proofs.Texts.{at_map}
 
 none_mapped : {A B : Type 0} (f : A → B) (o : Option A) → option_map f o ≡ None → o ≡ None
 none_mapped f None h = refl
@@ -62,7 +61,7 @@ module _ {A : Type 0} where
 
     pub one_name : (xs : List A) (i j : ℕ) → first_clash named [] xs ≡ None → i < length xs → j < length xs → name_at xs i ≡ name_at xs j → i ≡ j
     one_name [] i j h p q e = absurd (omega arith)
-    one_name (x ∷ xs) i j h p q e = one_holder (x ∷ xs) i j x h p q (sym (at_map name (x ∷ xs) i x [] p) ∙ e ∙ at_map name (x ∷ xs) j x [] q)
+    one_name (x ∷ xs) i j h p q e = one_holder (x ∷ xs) i j x h p q (sym (get_or-map name (x ∷ xs) i x [] p) ∙ e ∙ get_or-map name (x ∷ xs) j x [] q)
 
 -- names that the devices and hosts have, with no namesakes
 pub record HasNames (parts : Parts) : Type 0 where
@@ -81,4 +80,4 @@ has_names parts right devices hosts = let e = no-reason parts right in record {
 
 pub named_each : {A : Type 0} (name : A → List ℕ) (xs : List A) → All (λ x. IsName (name x)) xs → (i : ℕ) → i < length xs → IsName (get_or (map name xs) i [])
 named_each name [] h i p = absurd (omega arith)
-named_each name (x ∷ xs) h i p = subst IsName (sym (at_map name (x ∷ xs) i x [] p)) (h i x p)
+named_each name (x ∷ xs) h i p = subst IsName (sym (get_or-map name (x ∷ xs) i x [] p)) (h i x p)

@@ -1,7 +1,7 @@
 -- Two choices of a net without namesakes have two spellings.
 use Rattle.std.proofs.Common.{◌≡◌, ℕ, zero, suc, ◌-◌, ◌<◌, ◌≤◌, List, ◌++◌, length, get_or, map, true, None, refl, sym, ap, subst, ◌∙◌, arith, inl, inr}
 use Rattle.std.specs.Prelude.{◌⊎◌, if◌then◌else◌}
-use Rattle.std.proofs.lemmas.List.{length-map}
+use Rattle.std.proofs.lemmas.List.{length-map, get_or-map}
 use Rattle.std.proofs.lemmas.Bool.{cases_lt, lt-ltb, le-ltb}
 use Rattle.sl_layout.specs.declared.actor.ActorId.{ActorId}
 use Rattle.sl_layout.specs.declared.actor.ActorId.TheVariants.{Observer, Control, Unit as OfUnit, Host as OfHost}
@@ -24,10 +24,10 @@ use Rattle.sl_layout.proofs.Actors.{actor-at, place-at, each-actor}
 use Rattle.sl_layout.proofs.Senders.{IsSender, each-sender}
 use Rattle.sl_net.proofs.Linked.{Joined, each-joined, link_from, incoming-distinct}
 use Rattle.sl_net.proofs.NetWired.{into-links}
-use Rattle.sl_spell.proofs.Texts.{at_map, differ}
-use Rattle.sl_spell.specs.Spelled.{HasOneSpelling}
-use Rattle.sl_spell.proofs.Namesakes.{HasNames, has_names, named_each}
-use Rattle.sl_spell.proofs.Spellings.{same_actor_text, Known, each_known, one_incoming}
+use Rattle.sl_net.proofs.Texts.{differ}
+use Rattle.sl_net.specs.Spelled.{HasOneSpelling}
+use Rattle.sl_net.proofs.Namesakes.{HasNames, has_names, named_each}
+use Rattle.sl_net.proofs.Spellings.{same_actor_text, Known, each_known, one_incoming}
 
 -- The word of an action is that of no link of its actor.
 
@@ -109,7 +109,7 @@ module _ (parts : Parts) (valid : IsValid parts) where
   link_is : (a c : ℕ) → a < length (actors_of parts) → c < action_choice (net_of parts) a → link_of (net_of parts) (link_at (net_of parts) a c) ≡ link_from parts (actor_of (net_of parts) a) (incoming_at a c)
   link_is a c h p = let x = actor_of (net_of parts) a in
       let few : c < length (incoming parts x) = subst (λ n. c < n) (link_count a h) p in
-      sym (at_map (link_of (net_of parts)) (links_into (net_of parts) a) c 0 no_link p) ∙ ap (λ l. get_or l c no_link) (into a h) ∙ at_map (link_from parts x) (incoming parts x) c (nobody, Poll) no_link few
+      sym (get_or-map (link_of (net_of parts)) (links_into (net_of parts) a) c 0 no_link p) ∙ ap (λ l. get_or l c no_link) (into a h) ∙ get_or-map (link_from parts x) (incoming parts x) c (nobody, Poll) no_link few
 
   -- the word of a choice that takes from a link
   link_said : (a c : ℕ) → a < length (actors_of parts) → c < action_choice (net_of parts) a → choice_word (net_of parts) a c ≡ link_text parts (incoming_at a c).0 (incoming_at a c).1

@@ -1,11 +1,10 @@
 // The law of spellings: no two choices of a net have one spelling.
-#![tactic(auto)]
-
 ghost use Rattle.std.specs.List.{All};
 ghost use Rattle.sl_parts.specs.Text.{IsName};
-ghost use Rattle.sl_spell.specs.Spelled.{HasOneSpelling};
+ghost use Rattle.sl_net.specs.Spelled.{HasOneSpelling};
 
-use sl_net::{DevicePart, HostPart, Net};
+use crate::net::Net;
+use sl_parts::{DevicePart, HostPart};
 
 fn device_names(devices: &[DevicePart])
     ensures { All (λ d. IsName d.name) devices.now }

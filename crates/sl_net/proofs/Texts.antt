@@ -1,5 +1,5 @@
 -- Texts that are parted at a byte, and names.
-use Rattle.std.proofs.Common.{◌≡◌, ℕ, ◌<◌, List, [], ◌∷◌, ◌++◌, length, get_or, map, zero, suc, true, false, refl, sym, ap, ◌∙◌, arith}
+use Rattle.std.proofs.Common.{◌≡◌, ℕ, List, [], ◌∷◌, ◌++◌, true, false, refl, sym, ap, ◌∙◌}
 use Rattle.std.specs.Prelude.{◌==◌}
 use Rattle.std.specs.List.{list_all}
 use Rattle.std.proofs.lemmas.Bool.{and_parts, eq-eqb}
@@ -33,11 +33,6 @@ part_at c (x ∷ p) (y ∷ q) r s h k e =
 pub same_front : (p r s : List ℕ) → p ++ r ≡ p ++ s → r ≡ s
 same_front [] r s e = e
 same_front (x ∷ p) r s e = let t : p ++ r ≡ p ++ s = cc in same_front p r s t
-
-pub at_map : {A B : Type 0} (f : A → B) (xs : List A) (i : ℕ) (d : A) (e : B) → i < length xs → get_or (map f xs) i e ≡ f (get_or xs i d)
-at_map f [] i d e h = absurd (omega arith)
-at_map f (x ∷ xs) zero d e h = refl
-at_map f (x ∷ xs) (suc i) d e h = at_map f xs i d e (omega arith)
 
 -- two numbers that are told apart are not one
 pub differ : (m n : ℕ) → m ≡ n → (m == n) ≡ false → ⊥

@@ -2,7 +2,7 @@ use Rattle.std.proofs.Common.{get_or, subst, ◌∙◌, arith, below_more}
 use Rattle.std.proofs.lemmas.List.{get_or_default}
 use Rattle.sl_parts.specs.declared.parts.HostPart.{HostPart}
 use Rattle.sl_parts.specs.Text.{IsName}
-use Rattle.sl_spell.proofs.host_names.Goals as goal
+use Rattle.sl_net.proofs.spelling_laws.host_names.Goals as goal
 
 pub loop-host-preserved : goal.loop-host-preserved
 loop-host-preserved c = below_more (λ k. (d : HostPart) → IsName (get_or c.args.hosts.now k d).name) c.loop-host.host-index c.loop-host.invariant

@@ -1,0 +1,121 @@
+// Calls below the top call, each by itself: the schedule of a script, settling, and a trace.
+ghost use Rattle.sl_emul.specs.Run.{CanRun};
+
+use sl_emul::first_world;
+use sl_machine::{Book, Entry};
+use sl_net::{Input, Script1, find_choice};
+use sl_proto::{Taker, expand, passes_are_choices, settle};
+use sl_read::read_input;
+use sl_report::trace_bytes;
+use std::alloc::{AllocError, Global};
+use std::test::Fail;
+
+/// A device with two hosts, one packet and one snapshot.
+const ONE_PACKET: &str =
+    "device = [{name = \"a\", ports = 2}]\nhost = [{name = \"h0\", at = \"a.0\"}, {name = \"h1\", at = \"a.1\"}]\nflow = [{from = \"h0\", to = \"h1\", count = 1, bytes = 100, hops = 8}]\nsnapshot = {bits = 2, window = 3, ring = 3, count = 1, retries = 0}\n";
+
+/// Each actor with how many choices a pass takes of it: the observer's report link; the control
+/// plane's link for Begins and two from each unit; of each unit three links, the ingress units' from
+/// a host and two from the control plane, the egress units' two crossbars and one from the control
+/// plane; of each host its link, and its injecting.
+static PASS: [(u32, u32); 8] = [
+    (0, 1),
+    (1, 9),
+    (2, 3),
+    (3, 3),
+    (4, 3),
+    (5, 3),
+    (6, 2),
+    (7, 2),
+];
+
+fn pass() -> &'static [(u32, u32)] {
+    &PASS
+}
+
+/// An issue and two passes, written out.
+fn written_out(alloc: Global) -> Result<Vec<(u32, u32)>, AllocError> {
+    let mut entries = vec![in alloc; (0, 1)]?;
+    for _time in 0..2 {
+        for (actor, count) in pass() {
+            for choice in 0..*count {
+                entries.push((*actor, choice))?;
+            }
+        }
+    }
+    Ok(entries)
+}
+
+fn expanded(alloc: Global, text: &str) -> Result<Vec<(u32, u32)>, Fail> {
+    let input = read_input(alloc, text.as_bytes()).map_err(|_| "refused")?;
+    let issue = Script1::Choice {
+        actor: 0,
+        choice: 1,
+    };
+    Ok(expand(alloc, &input.net, &[issue, Script1::Pass(2)])?)
+}
+
+/// A script of an issue and two passes is these choices, in order.
+#[test]
+fn scripts_are_expanded(rt: HostRuntime) -> Result<(), Fail> {
+    let entries = expanded(rt.alloc(), ONE_PACKET)?;
+    let expected = written_out(rt.alloc())?;
+    assert_eq!(rt; entries.as_slice(), expected.as_slice());
+    Ok(())
+}
+
+/// How many turns settling takes from the start, and then the greatest number issued and that up
+/// to which all units are collected.
+fn settled_from_start(alloc: Global, input: &Input) -> Result<(u64, u64, u64), Fail>
+    requires { CanRun input.now }
+{
+    let mut world = first_world(alloc, input)?;
+    settle(alloc, &input.net, &mut world)?;
+    let observer = world.observer();
+    Ok((world.entries(), observer.issued(), observer.floor()))
+}
+
+#[tactic(auto, using(sl_app::proofs::RunLemmas::runnable))]
+fn settled(alloc: Global, text: &str) -> Result<(u64, u64, u64), Fail> {
+    passes_are_choices();
+    match read_input(alloc, text.as_bytes()) {
+        Ok(input) => settled_from_start(alloc, &input),
+        Err(_) => Err("refused".into()),
+    }
+}
+
+/// Settling takes 36 turns: an issue, a Begin, an injecting and three that take the packet, two
+/// initiations, four probes, six notices, and six polls, dumps and reports each. A unit has one
+/// notice for each channel on which the new number comes, and the second one of an egress unit comes
+/// while a poll is outstanding, so there is another.
+#[test]
+fn a_world_settles(rt: HostRuntime) -> Result<(), Fail> {
+    assert_eq!(rt; settled(rt.alloc(), ONE_PACKET)?, (36, 1, 1));
+    Ok(())
+}
+
+fn traced(alloc: Global, text: &str, line: &str) -> Result<Vec<u8>, Fail> {
+    let input = read_input(alloc, text.as_bytes()).map_err(|_| "refused")?;
+    match find_choice(&input.net, line) {
+        Some((actor, choice)) => {
+            let entry = Entry {
+                number: 1,
+                actor,
+                choice,
+            };
+            let book = Book {
+                entries: vec![in alloc; entry]?,
+            };
+            Ok(trace_bytes(alloc, &input.net, &book)?)
+        }
+        None => Err("no choice".into()),
+    }
+}
+
+/// A trace is the number of its entries and their spellings.
+#[test]
+fn books_are_spelled(rt: HostRuntime) -> Result<(), Fail> {
+    let trace = traced(rt.alloc(), ONE_PACKET, "out a.1 x0")?;
+    assert_eq!(rt; trace.as_slice(), "trace 1\nout a.1 x0\n".as_bytes());
+    Ok(())
+}

@@ -1,0 +1,5 @@
+use Rattle.sl_model.proofs.TakesTurns.{takes-turns}
+use Rattle.sl_model.proofs.turn_laws.worlds_take_turns.Goals as goal
+
+pub returns : goal.returns
+returns c = takes-turns

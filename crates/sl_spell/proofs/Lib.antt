@@ -1,4 +1,0 @@
-pub mod Texts
-pub mod Namesakes
-pub mod Spellings
-pub mod Apart

@@ -13,3 +13,8 @@ mod AscendingLemmas
 mod EndedLemmas
 mod LogLemmas
 mod ResumedLemmas
+mod RowLemmas
+mod ApartLemmas
+mod RestLemmas
+mod MergedLemmas
+mod WiredLemmas

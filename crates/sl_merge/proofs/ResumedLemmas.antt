@@ -17,7 +17,7 @@ same_at : {X : Type 0} (d : X) (xs ys : List X) → length xs ≡ length ys → 
 same_at d xs ys len h =
     same_lists xs ys len (λ k e low. get_or_default xs k e d low ∙ (h k low ∙ get_or_default ys k d e (subst (λ (n : ℕ). k < n) len low)))
 
-line_with : {M : Type 0} (losses : List (Option Loss)) (lost : List ℕ) (rests : List (List M)) (l : ℕ) → l < length losses → length lost ≡ length losses → length rests ≡ length losses
+pub line_with : {M : Type 0} (losses : List (Option Loss)) (lost : List ℕ) (rests : List (List M)) (l : ℕ) → l < length losses → length lost ≡ length losses → length rests ≡ length losses
     → line_at (lines_with losses lost rests) l ≡ record { queue = get_or rests l []; loss = get_or losses l None; lost = get_or lost l 0 }
 line_with [] lost rests l low e f = absurd (omega arith)
 line_with (x ∷ losses) [] rests l low e f = absurd (omega arith)
@@ -63,7 +63,7 @@ module _ {S M : Type 0} (rules : Rules S M) (shape : KeepShape rules) (only : Le
       let end = out_end rules e h l low' in
       line_is l end.0 end.1 low')
 
-  pub resumed_is_run : StandsAsRun rules e (resumed e rests book)
+  pub resumed_is_run : StandsAsRun rules e.plan e.firsts e.losses (resumed e rests book)
   resumed_is_run = record {
     world = r.world;
     run = r.run;

@@ -97,7 +97,7 @@ resumed e r book =
     record { plan = e.plan; states = map (λ a. a.state) e.actors; lines = lines_with r.losses r.lost r.messages; book = book }
 
 -- a world is, but for the numbers of its book, the one to which the schedule of its book leads from where nothing has happened
-pub record StandsAsRun {S M : Type 0} (rules : Rules S M) (e : Ended S M) (v : Scene S M) : Type 0 where
+pub record StandsAsRun {S M : Type 0} (rules : Rules S M) (plan : Plan) (firsts : List S) (losses : List (Option Loss)) (v : Scene S M) : Type 0 where
   pub world : Scene S M
-  pub run : run_of rules (first_scene e.plan e.firsts e.losses) (schedule_of v.book) ≡ Some world
+  pub run : run_of rules (first_scene plan firsts losses) (schedule_of v.book) ≡ Some world
   pub same : v ≡ record world { book = v.book }

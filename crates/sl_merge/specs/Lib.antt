@@ -2,3 +2,5 @@ pub mod Lamport
 pub mod Merging
 pub mod Outcome
 pub mod Ended
+pub mod Merged
+pub mod Parted

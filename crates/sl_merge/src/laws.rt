@@ -1,9 +1,16 @@
 // The law of the merge, for any machines.
-ghost use Rattle.std.specs.Prelude.{List};
+ghost use Rattle.std.specs.Prelude.{◌≡◌, ◌≤◌, ◌*◌, ℕ, List, length, map, Option};
+ghost use Rattle.std.specs.List.{All};
 ghost use Rattle.std.specs.List.Sorted.{IsNonDecreasingBy};
+ghost use Rattle.sl_machine.specs.Plan.{Plan};
+ghost use Rattle.sl_machine.specs.Fit.{Fits};
 ghost use Rattle.sl_machine.specs.declared.wiring.Entry.{Entry};
+ghost use Rattle.sl_loss.specs.Loss.{Loss, IsFresh};
+ghost use Rattle.sl_actor.specs.Follows.{ActorView};
+ghost use Rattle.sl_actor.specs.Made.{HasEnds, AreTied};
 ghost use Rattle.sl_merge.specs.Merging.{IsMerge, AreLogs};
 ghost use Rattle.sl_merge.specs.Ended.{Ended, HaveMet, IsMergeOf, IsRunOf, Rests, AreRests, StandsAsRun, resumed, log_entries};
+ghost use Rattle.sl_merge.specs.Merged.{AreWired, AreKept, losses_before};
 ghost use Rattle.sl_merge.specs.Outcome.{Outcome, AreFollowed, IsRun, all_entries};
 
 use sl_machine::Machine;
@@ -29,7 +36,25 @@ pub fn actors_are_runs<A: Machine>()
 /// What `World::resume` makes of such actors, with the merge of their logs as its book, is the world
 /// to which that book's schedule leads, but for the numbers of the book.
 pub fn merges_are_resumed<A: Machine>()
-    ensures { (e : Ended A.State A.Msg) (r : Rests A.Msg) (book : List Entry) → HaveMet A.rules e → AreRests e r → IsMergeOf e book → StandsAsRun A.rules e (resumed e r book) }
+    ensures { (e : Ended A.State A.Msg) (r : Rests A.Msg) (book : List Entry) → HaveMet A.rules e → AreRests e r → IsMergeOf e book
+        → StandsAsRun A.rules e.plan e.firsts e.losses (resumed e r book) }
 {
     every_schedule::<A>()
 }
+
+/// Actors are wired as they are made, and the losses of their links before they answered are those
+/// with which they were made. Turns and runs keep both. So `merge` can take them, where their logs
+/// are short.
+pub fn made_actors_are_wired<A: Machine>()
+    ensures wired { (plan : Plan) (machines : List A) (losses : List (Option Loss)) (capacity : ℕ) (actors : List (ActorView A.State A.Msg))
+        → Fits A.counts plan machines losses → map (λ a. a.counts) actors ≡ map A.counts machines → All HasEnds actors
+        → AreTied plan.links losses capacity actors → AreWired plan actors }
+    ensures losses { (plan : Plan) (losses : List (Option Loss)) (capacity : ℕ) (actors : List (ActorView A.State A.Msg)) → AreWired plan actors
+        → AreTied plan.links losses capacity actors → length losses ≡ length plan.links → All IsFresh losses
+        → losses_before plan.links actors ≡ losses }
+    ensures kept { (plan : Plan) (old new : List (ActorView A.State A.Msg)) → AreKept old new → AreWired plan old → AreWired plan new }
+    ensures same_losses { (plan : Plan) (old new : List (ActorView A.State A.Msg)) → AreKept old new → AreWired plan old
+        → losses_before plan.links new ≡ losses_before plan.links old }
+    ensures few { (bound : ℕ) (actors : List (ActorView A.State A.Msg)) → All (λ a. length a.log ≤ bound) actors
+        → length (log_entries actors) ≤ length actors * bound }
+{}

@@ -1,0 +1,102 @@
+use Rattle.std.proofs.Common.{◌≡◌, ◌∙◌, List, length, map, sym, subst, ap}
+use Rattle.std.specs.List.Sorted.{IsNonDecreasingBy}
+use Rattle.std.proofs.lemmas.List.{length-map}
+use Rattle.std.proofs.lemmas.Result.{IfOk-weaker}
+use Rattle.sl_machine.specs.Plan.{Plan}
+use Rattle.sl_machine.specs.declared.wiring.Link.{Link}
+use Rattle.sl_machine.specs.declared.wiring.Entry.{Entry}
+use Rattle.sl_actor.specs.Follows.{ActorView}
+use Rattle.sl_actor.specs.Held.{held}
+use Rattle.sl_world.specs.World.{scene}
+use Rattle.sl_merge.specs.Merging.{IsMerge, AreLogs}
+use Rattle.sl_merge.specs.Parted.{AreThere, AreRestsOf}
+use Rattle.sl_merge.proofs.MergedLemmas.{there, ended, have_met, are_rests, book_by, few_sorted, counts_of, IsMerged, merged, resumed_by}
+use Rattle.sl_merge.proofs.merged.merge.Goals as goal
+
+pub meet_all-requires-clause-there : goal.meet_all-requires-clause-there
+meet_all-requires-clause-there g c =
+    let p = c.in_ok-machines.field-0 in
+    let links : c.as_slice-links.result.now ≡ c.args.wiring.now.links = c.as_slice-links.ensures.value ∙ ap (λ (p : Plan). p.links) c.wiring.view_is in
+    subst (λ (l : List Link). AreThere {M = g.row.A-Msg.Denot} l p.takes.items p.outs.items) (sym links)
+    (there c.args.wiring.now (map held c.args.actors.items) c.requires.wired p.takes.items p.outs.items c.in_ok-machines.ensures.takes c.in_ok-machines.ensures.outs)
+
+pub sort_book-requires : goal.sort_book-requires
+sort_book-requires g c =
+    let plan = c.args.wiring.now in
+    let actors = map held c.args.actors.items in
+    let wired = c.requires.wired in
+    let p = c.in_ok-machines.field-0 in
+    let e = c.in_ok-machines.ensures in
+    let links : c.as_slice-links.result.now ≡ c.args.wiring.now.links = c.as_slice-links.ensures.value ∙ ap (λ (p : Plan). p.links) c.wiring.view_is in
+    let are = subst (λ (l : List Link). AreRestsOf {M = g.row.A-Msg.Denot} l (length l) p.takes.items p.outs.items c.in_ok-rests.rests) links c.in_ok-rests.ensures in
+    let firsts = map g.A.Machine.state c.args.first.now in
+    let each = length-map c.args.first.now g.A.Machine.state ∙ c.requires.first in
+    let end = ended plan actors wired p.takes.items p.outs.items e.takes e.outs c.in_ok-rests.rests are g.A.Machine.rules firsts each c.requires.follows in
+    let met = have_met plan actors wired p.takes.items p.outs.items e.takes e.outs c.in_ok-rests.rests are g.A.Machine.rules firsts each c.requires.follows in
+    subst (IsNonDecreasingBy (λ (x : Entry). x.actor)) (sym (book_by held _ _ _ c.in_ok-book.ensures c.as_slice.ensures.value)) (c.actors_are_runs.ensures.in_order end met)
+
+pub resume-requires-clause-fit : goal.resume-requires-clause-fit
+resume-requires-clause-fit g c =
+    let p = c.in_ok-machines.field-0 in
+    let links : c.as_slice-links.result.now ≡ c.args.wiring.now.links = c.as_slice-links.ensures.value ∙ ap (λ (p : Plan). p.links) c.wiring.view_is in
+    let are = subst (λ (l : List Link). AreRestsOf {M = g.row.A-Msg.Denot} l (length l) p.takes.items p.outs.items c.in_ok-rests.rests) links c.in_ok-rests.ensures in
+    record {
+      sound = c.requires.wired.sound;
+      machines_fit = counts_of g.A.Machine.counts (λ (a : ActorView g.A.Machine.State g.row.A-Msg.Denot). a.counts) c.args.wiring.now p.machines.items (map held c.args.actors.items) c.in_ok-machines.ensures.counts c.requires.wired.counts;
+      losses_fit = ap length c.into_lists-losses.ensures.losses ∙ are.losses_each;
+    }
+
+pub resume-requires-clause-book : goal.resume-requires-clause-book
+resume-requires-clause-book g c =
+    few_sorted _ _ _ c.sort_book.ensures.same_entries (book_by held _ _ _ c.in_ok-book.ensures c.as_slice.ensures.value) c.requires.few
+
+pub resume-requires-clause-numbers : goal.resume-requires-clause-numbers
+resume-requires-clause-numbers g c =
+    let plan = c.args.wiring.now in
+    let actors = map held c.args.actors.items in
+    let wired = c.requires.wired in
+    let p = c.in_ok-machines.field-0 in
+    let e = c.in_ok-machines.ensures in
+    let links : c.as_slice-links.result.now ≡ c.args.wiring.now.links = c.as_slice-links.ensures.value ∙ ap (λ (p : Plan). p.links) c.wiring.view_is in
+    let are = subst (λ (l : List Link). AreRestsOf {M = g.row.A-Msg.Denot} l (length l) p.takes.items p.outs.items c.in_ok-rests.rests) links c.in_ok-rests.ensures in
+    let firsts = map g.A.Machine.state c.args.first.now in
+    let each = length-map c.args.first.now g.A.Machine.state ∙ c.requires.first in
+    let end = ended plan actors wired p.takes.items p.outs.items e.takes e.outs c.in_ok-rests.rests are g.A.Machine.rules firsts each c.requires.follows in
+    let met = have_met plan actors wired p.takes.items p.outs.items e.takes e.outs c.in_ok-rests.rests are g.A.Machine.rules firsts each c.requires.follows in
+    let book = c.sort_book.new.book.entries in
+    (c.actors_are_runs.ensures.run end book met (subst (λ (es : List Entry). IsMerge es book) (book_by held _ _ _ c.in_ok-book.ensures c.as_slice.ensures.value) c.in_ok-sort_book.ensures.merge)).small
+
+pub returns : goal.returns
+returns g c =
+    let plan = c.args.wiring.now in
+    let actors = map held c.args.actors.items in
+    let wired = c.requires.wired in
+    let p = c.in_ok-machines.field-0 in
+    let e = c.in_ok-machines.ensures in
+    let links : c.as_slice-links.result.now ≡ c.args.wiring.now.links = c.as_slice-links.ensures.value ∙ ap (λ (p : Plan). p.links) c.wiring.view_is in
+    let rests = c.in_ok-rests.rests in
+    let are = subst (λ (l : List Link). AreRestsOf {M = g.row.A-Msg.Denot} l (length l) p.takes.items p.outs.items c.in_ok-rests.rests) links c.in_ok-rests.ensures in
+    let firsts = map g.A.Machine.state c.args.first.now in
+    let each = length-map c.args.first.now g.A.Machine.state ∙ c.requires.first in
+    let rules = g.A.Machine.rules in
+    let end = ended plan actors wired p.takes.items p.outs.items e.takes e.outs rests are rules firsts each c.requires.follows in
+    let met = have_met plan actors wired p.takes.items p.outs.items e.takes e.outs rests are rules firsts each c.requires.follows in
+    let book = c.sort_book.new.book.entries in
+    let m = subst (λ (es : List Entry). IsMerge es book) (book_by held _ _ _ c.in_ok-book.ensures c.as_slice.ensures.value) c.in_ok-sort_book.ensures.merge in
+    let order = c.in_ok-sort_book.ensures.ascending (subst AreLogs (sym (book_by held _ _ _ c.in_ok-book.ensures c.as_slice.ensures.value)) (c.actors_are_runs.ensures.logs end met)) in
+    let l = c.into_lists-losses.ensures in
+    let run = c.merges_are_resumed.ensures end rests book met (are_rests plan actors wired p.takes.items p.outs.items e.takes e.outs rests are rules firsts each c.requires.follows) m in
+    let all = IfOk-weaker c.resume.result _ (λ w. IsMerged plan actors wired p.takes.items p.outs.items e.takes e.outs rests are rules firsts each c.requires.follows book m (scene w))
+    (λ w is. merged plan actors wired p.takes.items p.outs.items e.takes e.outs rests are rules firsts each c.requires.follows book m run (scene w)
+    (resumed_by plan actors wired p.takes.items p.outs.items e.takes e.outs rests are rules firsts each c.requires.follows book m (scene w) _ _ _ _ is e.states l.losses l.lost l.messages))
+    c.resume.ensures in
+    record {
+      run = IfOk-weaker c.resume.result _ _ (λ w h. h.run) all;
+      numbers = IfOk-weaker c.resume.result _ _ (λ w h. h.numbers) all;
+      small = IfOk-weaker c.resume.result _ _ (λ w h. h.small) all;
+      book = IfOk-weaker c.resume.result _ _ (λ w h. h.book_is) all;
+      order = IfOk-weaker c.resume.result _ _ (λ w h. h.order order) all;
+      plan = IfOk-weaker c.resume.result _ _ (λ w h. h.plan_is) all;
+      machines = IfOk-weaker c.resume.result _ _ (λ w h. h.machines) all;
+      links = IfOk-weaker c.resume.result _ _ (λ w h. h.links) all;
+    }

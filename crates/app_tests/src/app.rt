@@ -21,7 +21,7 @@ const DEAD_CABLE: &str =
     "device = [{name = \"a\", ports = 2}, {name = \"b\", ports = 2}]\ncable = [{a = \"a.1\", b = \"b.0\"}]\nhost = [{name = \"h0\", at = \"a.0\"}, {name = \"h1\", at = \"b.1\"}]\nsnapshot = {bits = 2, window = 1, ring = 1, count = 2, retries = 0}\nloss = {cable = 1000}\n";
 
 const USAGE: &str =
-    "speedlight: usage: speedlight step [--trace] | run [--trace] | routes | sample N [--input]\n";
+    "speedlight: usage: speedlight step [--trace] | run [--trace] | routes | sample N [--input] | balance\n";
 
 /// What a call left: its status, what it wrote, whether there is a book, and the bytes left.
 #[derive(Drop)]
@@ -79,7 +79,7 @@ fn is_done(alloc: Global, head: &str, input: &str, told: &str) -> Result<bool, F
             left.status == 3 && left.out.is_empty() && left.err.as_slice() == told.as_bytes(),
         );
     }
-    let book = left.has_book == is_step(words.as_slice());
+    let book = left.has_book == has_book(words.as_slice());
     Ok(book && left.status == 0 && left.err.is_empty() && left.out.as_slice() == told.as_bytes())
 }
 
@@ -104,6 +104,7 @@ fn worked_rows(rt: HostRuntime) -> Result<(), Fail> {
     assert_eq!(rt; wrong_row(alloc, rows::refusals())?, None);
     assert_eq!(rt; wrong_row(alloc, rows::routes())?, None);
     assert_eq!(rt; wrong_row(alloc, rows::traces_and_samples())?, None);
+    assert_eq!(rt; wrong_row(alloc, rows::balances())?, None);
     Ok(())
 }
 
@@ -172,9 +173,10 @@ fn refusals(rt: HostRuntime) -> Result<(), Fail> {
     Ok(())
 }
 
-fn is_step(words: &[&str]) -> bool {
+/// Whether these words ask for what has a book.
+fn has_book(words: &[&str]) -> bool {
     match words.first() {
-        Some(word) => *word == "step",
+        Some(word) => *word == "step" || *word == "balance",
         None => false,
     }
 }
@@ -189,7 +191,7 @@ fn is_answered(
     text: &str,
 ) -> Result<bool, Fail> {
     let left = call(alloc, words, THREE_PACKETS, fail)?;
-    let book = left.has_book == (fail.1 != 0 && is_step(words));
+    let book = left.has_book == (fail.1 != 0 && has_book(words));
     let silent = left.out.is_empty();
     Ok(book && silent && left.status == status && left.err.as_slice() == text.as_bytes())
 }
@@ -202,7 +204,7 @@ fn words_and_faults(rt: HostRuntime) -> Result<(), Fail> {
     let write_fault = "speedlight: write fault\n";
     // The words, the calls that fail, the status, and what is on the error sink. A source of one
     // piece is read twice. A read that fails is told, whatever the words of the input.
-    let rows: [(&[&str], (u64, u64, u64), u8, &str); 18] = [
+    let rows: [(&[&str], (u64, u64, u64), u8, &str); 22] = [
         (&[], (1, 0, 0), 2, USAGE),
         (&["walk"], (1, 0, 0), 2, USAGE),
         (&["-h"], (1, 0, 0), 2, USAGE),
@@ -210,12 +212,16 @@ fn words_and_faults(rt: HostRuntime) -> Result<(), Fail> {
         (&["run", "--trace"], (1, 0, 0), 3, not_built),
         (&["sample", "65"], (1, 0, 0), 2, USAGE),
         (&["routes", "x"], (1, 0, 0), 2, USAGE),
+        (&["balance", "--trace"], (1, 0, 0), 2, USAGE),
         (&["step", "--trace", "--trace"], (1, 0, 0), 2, USAGE),
         (&["step", "--trace"], (1, 0, 0), 4, read_fault),
         (&["step"], (1, 0, 0), 4, read_fault),
         (&["step"], (2, 0, 0), 4, read_fault),
         (&["routes"], (1, 0, 0), 4, read_fault),
         (&["routes"], (0, 1, 0), 5, write_fault),
+        (&["balance"], (2, 0, 0), 4, read_fault),
+        (&["balance", "--"], (0, 1, 0), 5, write_fault),
+        (&["balance"], (0, 1, 1), 5, ""),
         (&["step"], (0, 1, 0), 5, write_fault),
         (&["sample", "8"], (1, 1, 0), 5, write_fault),
         (&["walk"], (0, 0, 1), 5, write_fault),

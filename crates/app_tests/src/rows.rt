@@ -522,6 +522,60 @@ speedlight: I10 200001
 "#
 }
 
+/// Tables of balance.
+pub fn balances() -> &'static str {
+    r#"balance balance_two_ways
+device = [{name = "a", ports = 3}, {name = "b", ports = 3}]
+cable = [{a = "a.1", b = "b.1"}, {a = "a.2", b = "b.2"}]
+host = [{name = "h0", at = "a.0"}, {name = "h1", at = "b.0"}]
+flow = [{from = "h0", to = "h1", count = 4, bytes = 100, hops = 8}]
+snapshot = {bits = 2, window = 1, ring = 1, count = 1, retries = 0}
+script = {entries = ["pass 6"]}
+--
+balance 1
+table 1 a 2 0 4 16
+table 1 b 2 0 0 0
+paths a h0 1
+paths a h1 2
+paths b h0 2
+paths b h1 1
+end
+==
+balance balance_nothing_consistent
+device = [{name = "a", ports = 2}, {name = "b", ports = 2}]
+cable = [{a = "a.1", b = "b.0"}]
+host = [{name = "h0", at = "a.0"}, {name = "h1", at = "b.1"}]
+snapshot = {bits = 2, window = 1, ring = 1, count = 2, retries = 0}
+loss = {cable = 1000}
+--
+balance 1
+paths a h0 1
+paths a h1 1
+paths b h0 1
+paths b h1 1
+end
+==
+balance overtaken_initiation
+device = [{name = "a", ports = 2}, {name = "b", ports = 2}]
+cable = [{a = "a.1", b = "b.0"}]
+host = [{name = "h0", at = "a.0"}, {name = "h1", at = "b.1"}]
+flow = [{from = "h0", to = "h1", count = 1, bytes = 100, hops = 8}]
+snapshot = {bits = 2, window = 1, ring = 1, count = 2, retries = 0}
+script = {entries = ["observer issue", "control a begin", "in a.0 init", "host h0 inject", "in a.0 host", "out a.1 x0", "out a.1 x0", "in b.0 cable", "observer issue"]}
+--
+balance 1
+table 1 a 1 0 0 0
+table 1 b 1 0 0 0
+table 2 a 1 1 1 0
+table 2 b 1 0 0 0
+paths a h0 1
+paths a h1 1
+paths b h0 1
+paths b h1 1
+end
+"#
+}
+
 /// Routes.
 pub fn routes() -> &'static str {
     r#"routes routes.1

@@ -54,6 +54,13 @@ routes -- --trace =>
 routes --help =>
 routes '' =>
 routes 8 =>
+balance => balance
+balance -- => balance
+balance --trace =>
+balance -- -- =>
+balance -- --trace =>
+balance x =>
+balances =>
 sample 1 => sample 1
 sample 8 => sample 8
 sample 10 => sample 10
@@ -131,6 +138,7 @@ fn told(alloc: Global, command: Option<Command>) -> Result<String, AllocError> {
         Some(Command::Step(trace)) => { format!(in alloc; " step{}", option_text(trace, " trace")) }
         Some(Command::Run(trace)) => format!(in alloc; " run{}", option_text(trace, " trace")),
         Some(Command::Routes) => String::from_str(alloc, " routes"),
+        Some(Command::Balance) => String::from_str(alloc, " balance"),
         Some(Command::Sample(number, input)) => {
             format!(in alloc; " sample {number}{}", option_text(input, " input"))
         }

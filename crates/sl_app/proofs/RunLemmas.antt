@@ -1,5 +1,5 @@
 -- An accepted input can be run within the bound, and so can a sample's; what is served for a run.
-use Rattle.std.proofs.Common.{◌≡◌, ℕ, suc, ◌+◌, ◌<◌, ◌≤◌, ◌^◌, Bool, List, [], ◌∷◌, length, map, Option, Some, None, arith}
+use Rattle.std.proofs.Common.{◌≡◌, ℕ, suc, ◌+◌, ◌<◌, ◌≤◌, ◌^◌, Bool, List, [], ◌∷◌, length, map, Option, Some, None, arith, sym, subst}
 use Rattle.std.specs.Prelude.{sum}
 use Rattle.std.specs.List.{All}
 use Rattle.sl_net.specs.declared.input.Flow.{Flow}
@@ -7,6 +7,7 @@ use Rattle.sl_net.specs.declared.input.RawPart.{RawPart}
 use Rattle.sl_net.specs.declared.input.Script1.{Script1}
 use Rattle.sl_net.specs.declared.input.Script1.TheVariants.{Pass, Choice}
 use Rattle.sl_machine.specs.Book.{Book}
+use Rattle.sl_machine.specs.declared.wiring.Entry.{Entry}
 use Rattle.sl_net.specs.Wired.{IsNet}
 use Rattle.sl_machine.specs.Plan.{HasChoice}
 use Rattle.sl_net.specs.Spelling as spelling
@@ -20,14 +21,22 @@ use Rattle.sl_read.specs.Accepted.{IsEntry, IsAccepted}
 use Rattle.sl_flow.specs.Flow.{HasAddresses}
 use Rattle.sl_flow.specs.Sample.{IsSample, flow, host_count, sample_parts}
 use Rattle.sl_parts.specs.Lists.{Each}
+use Rattle.std.proofs.lemmas.List.{length-map}
+use Rattle.sl_model.specs.declared.findings.Findings.{Findings}
+use Rattle.sl_model.specs.History.{Losses}
+use Rattle.sl_model.specs.Setup.{Setup, setup_of}
+use Rattle.sl_model.specs.World.{Entry as Turn}
+use Rattle.sl_model.specs.Books.{schedule_of}
+use Rattle.sl_model.specs.Findings.{findings}
 use Rattle.sl_model.specs.Losses.{losses}
 use Rattle.sl_model.specs.Bound.{input_bound}
 use Rattle.sl_proto.specs.Nodes.{NodeState}
 use Rattle.sl_proto.specs.Script.{IsScriptEntry}
 use Rattle.sl_emul.specs.Run.{CanRun}
-use Rattle.sl_words.specs.declared.command.Command.TheVariants.{Step}
+use Rattle.sl_balance.specs.Balance.{AreFew}
+use Rattle.sl_words.specs.declared.command.Command.TheVariants.{Step, Balance}
 use Rattle.sl_words.specs.Words.{words_of}
-use Rattle.sl_app.specs.Served.{IsReport}
+use Rattle.sl_app.specs.Served.{IsReport, IsTable}
 use Rattle.sl_app.specs.Ends.{Reading, WasRead, IsServed}
 
 each-of : {A : Type 0} (P : A → Type 0) (xs : List A) → All P xs → Each P xs
@@ -88,3 +97,19 @@ pub stepped : (r : Reading) (i : Input) (trace : Bool) → words_of r.words ≡ 
 stepped r i trace words read few (Some book) front (Some nodes) text told = record { trace = trace; words = words; input = i; accepted = read; small = few; run = told }
 stepped r i trace words read few (Some book) front None text told = absurd told
 stepped r i trace words read few None front nodes text told = absurd told
+
+-- a table that was made of an input that was read
+pub tabled : (r : Reading) (i : Input) → words_of r.words ≡ Some Balance → WasRead r i → input_bound i < 2 ^ 27
+    → (book : Option Book) (front : ℕ) (nodes : Option (List NodeState)) (text : List ℕ) → IsTable i (losses i) book front nodes text → IsServed r book front nodes text
+tabled r i words read few (Some book) front None text told = record { words = words; input = i; accepted = read; small = few; run = told }
+tabled r i words read few (Some book) front (Some nodes) text told = absurd told
+tabled r i words read few None front nodes text told = absurd told
+
+-- the counts of a run within its bound are few
+abbrev pub FewCounts : Type 0
+FewCounts = (s : Setup) (lost : Losses) (es : List Turn) → length es < 2 ^ 40 → All (λ f. AreFew f.rows) (findings s lost es).list
+
+pub few_counts : FewCounts → (i : Input) (book : List Entry) (f : Findings) → input_bound i < 2 ^ 27 → length book ≤ input_bound i → f ≡ findings (setup_of i) (losses i) (schedule_of book)
+    → All (λ x. AreFew x.rows) f.list
+few_counts law i book f small within is = let same : length (schedule_of book) ≡ length book = simp length-map in
+    subst (λ (g : Findings). All (λ x. AreFew x.rows) g.list) (sym is) (law (setup_of i) (losses i) (schedule_of book) (omega (arith, same, within, small)))

@@ -26,7 +26,7 @@ use Rattle.sl_model.specs.Losses.{losses}
 use Rattle.sl_report.specs.FaultText.{fault_text}
 use Rattle.sl_report.specs.RoutesText.{routes_text}
 use Rattle.sl_proto.specs.Nodes.{NodeState}
-use Rattle.sl_app.specs.Served.{IsPrintedRun, IsSampleText, states_of}
+use Rattle.sl_app.specs.Served.{IsPrintedRun, IsTabledRun, IsSampleText, states_of}
 
 -- the words, and the source before and after: the bytes left, where it tells them, and its count of faults
 pub record Reading : Type 0 where
@@ -96,6 +96,7 @@ TellsFault fault _ = ⊥
 abbrev pub reads : Option Command → Type 0
 reads (Some (command.Step trace)) = Unit {0}
 reads (Some command.Routes) = Unit {0}
+reads (Some command.Balance) = Unit {0}
 reads _ = ⊥
 
 -- the words ask for a run on threads, which is not built
@@ -121,6 +122,14 @@ pub record IsStepped (r : Reading) (book : List Entry) (front : ℕ) (nodes : Li
   pub small : input_bound input < 2 ^ 27
   pub run : IsPrintedRun input (losses input) book front nodes trace text
 
+-- an input was run, with this book, and the text is the table of balance of its findings
+pub record IsBalanced (r : Reading) (book : List Entry) (front : ℕ) (text : List ℕ) : Type 0 where
+  pub words : words_of r.words ≡ Some command.Balance
+  pub input : Input
+  pub accepted : WasRead r input
+  pub small : input_bound input < 2 ^ 27
+  pub run : IsTabledRun input (losses input) book front text
+
 -- the text of the routes of an input's net
 pub record IsRouted (r : Reading) (text : List ℕ) : Type 0 where
   pub words : words_of r.words ≡ Some command.Routes
@@ -136,9 +145,10 @@ pub record IsSampled (r : Reading) (text : List ℕ) : Type 0 where
   pub unread : IsUnread r
   pub sample : IsSampleText number input text
 
--- what is served: a run, or a text for which there is no book and no node
+-- what is served: a run, the table of one, for which there is no node, or a text for which there is no book either
 abbrev pub IsServed : Reading → Option Book → ℕ → Option (List NodeState) → List ℕ → Type 0
 IsServed r (Some book) front (Some nodes) text = IsStepped r book.entries front nodes text
+IsServed r (Some book) front None text = IsBalanced r book.entries front text
 IsServed r None front None text = (IsRouted r text ⊎ IsSampled r text) × (front ≡ 0)
 IsServed r _ front _ text = ⊥
 

@@ -1,5 +1,5 @@
 -- What is served: for an input the book and the nodes of its run, and the text; for a sample the text.
-use Rattle.std.specs.Prelude.{◌≡◌, ℕ, Bool, true, false, if◌then◌else◌, List, [], ◌++◌, map, Option, Some, option_map, Vec}
+use Rattle.std.specs.Prelude.{◌≡◌, ℕ, Bool, true, false, if◌then◌else◌, List, [], ◌++◌, map, Option, Some, None, option_map, Vec}
 use Rattle.std.specs.Global.{Global}
 use Rattle.sl_machine.specs.Book.{Book}
 use Rattle.sl_machine.specs.declared.wiring.Entry.{Entry}
@@ -15,6 +15,8 @@ use Rattle.sl_model.specs.Findings.{findings}
 use Rattle.sl_proto.specs.declared.node.Node.{Node}
 use Rattle.sl_proto.specs.Nodes.{NodeState, node_state}
 use Rattle.sl_emul.specs.Run.{IsRunBook, AreNodesOf}
+use Rattle.sl_balance.specs.Balance.{balance}
+use Rattle.sl_balance.specs.BalanceText.{balance_text}
 use Rattle.sl_report.specs.Report.{report_text}
 use Rattle.sl_report.specs.TraceText.{trace_text}
 use Rattle.sl_report.specs.SummaryText.{summary_text}
@@ -37,6 +39,20 @@ states_of nodes = option_map (λ ns. map node_state ns.items) nodes
 abbrev pub IsReport : Input → Losses → Option Book → ℕ → Option (List NodeState) → Bool → List ℕ → Type 0
 IsReport i lost (Some book) front (Some nodes) trace text = IsPrintedRun i lost book.entries front nodes trace text
 IsReport i lost _ front _ trace text = ⊥
+
+-- the table of balance of a run
+abbrev pub table_text : Input → Losses → List Entry → List ℕ
+table_text i lost book = balance_text i.net (balance i.net (findings (setup_of i) lost (schedule_of book)).list)
+
+-- the book of a run under a loss table, and the text of its table
+pub record IsTabledRun (i : Input) (lost : Losses) (book : List Entry) (front : ℕ) (text : List ℕ) : Type 0 where
+  pub run : IsRunBook i lost book front
+  pub text_is : text ≡ table_text i lost book
+
+-- a table, with the book of its run
+abbrev pub IsTable : Input → Losses → Option Book → ℕ → Option (List NodeState) → List ℕ → Type 0
+IsTable i lost (Some book) front None text = IsTabledRun i lost book.entries front text
+IsTable i lost _ front _ text = ⊥
 
 -- the summary of the findings of a run of a sample's input
 pub record IsSummary (number : ℕ) (i : Input) (text : List ℕ) : Type 0 where

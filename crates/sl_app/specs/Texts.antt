@@ -11,7 +11,7 @@ status_of ReadFault = 4
 status_of Memory = 6
 
 unfoldable pub refusal_text : Refusal → List ℕ
-refusal_text Usage = codes "speedlight: usage: speedlight step [--trace] | run [--trace] | routes | sample N [--input]\n"
+refusal_text Usage = codes "speedlight: usage: speedlight step [--trace] | run [--trace] | routes | sample N [--input] | balance\n"
 refusal_text NotBuilt = codes "speedlight: not built\n"
 refusal_text (Input line) = line.items
 refusal_text ReadFault = codes "speedlight: read fault\n"

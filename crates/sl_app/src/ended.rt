@@ -41,7 +41,7 @@ impl Refusal {
     {
         match self {
             Refusal::Usage => {
-                b"speedlight: usage: speedlight step [--trace] | run [--trace] | routes | sample N [--input]\n"
+                b"speedlight: usage: speedlight step [--trace] | run [--trace] | routes | sample N [--input] | balance\n"
             }
             Refusal::NotBuilt => b"speedlight: not built\n",
             Refusal::Input(line) => line.as_slice(),

@@ -4,6 +4,7 @@
 mod ended;
 mod run;
 mod sample;
+mod table;
 mod top;
 
 pub use ended::{Ended, Refusal};

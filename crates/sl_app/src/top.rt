@@ -8,6 +8,7 @@ ghost use Rattle.sl_app.specs.Ends.{reading, writing, texts_of, reads, TellsFaul
 use crate::ended::{Ended, Refusal};
 use crate::run::{Served, only_text, serve_routes, serve_run};
 use crate::sample::sample_bytes;
+use crate::table::serve_balance;
 use sl_io::{ReadFault, Sink, Source, read_all, write_all};
 use sl_model::input_bounds_are_small;
 use sl_net::Input;
@@ -68,6 +69,22 @@ fn step<I: Source>(
     }
 }
 
+fn balance<I: Source>(alloc: Global, words: &[String], input: &mut I) -> Result<Served, Refusal>
+    requires { words_of (texts_of words.now) ≡ Some command.Balance }
+    ensures { Serves (reading I.Source (texts_of words.now) input.old input.new) result }
+{
+    passes_are_choices();
+    input_bounds_are_small();
+    let accepted = match accept(alloc, words, input) {
+        Ok(accepted) => accepted,
+        Err(refusal) => return Err(refusal),
+    };
+    match serve_balance(alloc, &accepted) {
+        Ok(served) => Ok(served),
+        Err(_) => Err(Refusal::Memory),
+    }
+}
+
 fn routes<I: Source>(alloc: Global, words: &[String], input: &mut I) -> Result<Served, Refusal>
     requires { words_of (texts_of words.now) ≡ Some command.Routes }
     ensures { Serves (reading I.Source (texts_of words.now) input.old input.new) result }
@@ -97,6 +114,7 @@ fn serve<I: Source>(alloc: Global, words: &[String], input: &mut I) -> Result<Se
 {
     match words_of(alloc, words) {
         Ok(Some(Command::Step(trace))) => step(alloc, words, trace, input),
+        Ok(Some(Command::Balance)) => balance(alloc, words, input),
         Ok(Some(Command::Routes)) => routes(alloc, words, input),
         Ok(Some(Command::Sample(number, text))) => sample(alloc, number, text),
         Ok(Some(Command::Run(_))) => Err(Refusal::NotBuilt),

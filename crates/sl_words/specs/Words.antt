@@ -8,7 +8,7 @@ use Rattle.clap.specs.Walk.{Rule}
 use Rattle.sl_words.specs.declared.flags.Flag.{Flag}
 use Rattle.sl_words.specs.declared.flags.Flag.TheVariants.{Trace, Input}
 use Rattle.sl_words.specs.declared.command.Command.{Command}
-use Rattle.sl_words.specs.declared.command.Command.TheVariants.{Step, Run, Routes, Sample}
+use Rattle.sl_words.specs.declared.command.Command.TheVariants.{Step, Run, Routes, Sample, Balance}
 use Rattle.clap.specs.declared.builder.action.ArgAction.TheVariants.{SetTrue}
 
 abbrev pub dashes : List ℕ
@@ -79,6 +79,9 @@ routes_of ws = option_map (λ asked. Routes) (ends false ws)
 abbrev pub sample_of : List (List ℕ) → Option Command
 sample_of ws = option_map (λ p. Sample p.0 p.1) (sample_words ws)
 
+abbrev pub balance_of : List (List ℕ) → Option Command
+balance_of ws = option_map (λ asked. Balance) (ends false ws)
+
 -- the first word is the command's name
 abbrev pub command_of : List ℕ → List (List ℕ) → Option Command
 command_of w ws =
@@ -86,6 +89,7 @@ command_of w ws =
     else if bytes_eq w (codes "run") then run_of ws
     else if bytes_eq w (codes "routes") then routes_of ws
     else if bytes_eq w (codes "sample") then sample_of ws
+    else if bytes_eq w (codes "balance") then balance_of ws
     else None
 
 abbrev pub words_of : List (List ℕ) → Option Command

@@ -1,6 +1,6 @@
 // The command that words ask for.
 ghost use Rattle.std.specs.Prelude.{◌≡◌, IfOk, IfSome, map, string_bytes, is_some, false};
-ghost use Rattle.sl_words.specs.Words.{ends, step_of, run_of, routes_of, sample_of, command_of, words_of, HasNumber};
+ghost use Rattle.sl_words.specs.Words.{ends, step_of, run_of, routes_of, sample_of, balance_of, command_of, words_of, HasNumber};
 
 use crate::flags::{Flag, flag_words};
 use crate::sample::sample_words;
@@ -18,6 +18,8 @@ pub enum Command {
     Routes,
     /// `sample` with its number, from 1 to 64, and whether with `--input`.
     Sample(u8, bool),
+    /// `balance`.
+    Balance,
 }
 
 fn step_words(alloc: Global, words: &[String]) -> Result<Option<Command>, Memory>
@@ -40,7 +42,7 @@ fn run_words(alloc: Global, words: &[String]) -> Result<Option<Command>, Memory>
     }
 }
 
-/// `routes` has no option: what is one elsewhere is refused.
+/// `routes` and `balance` have no option: what is one elsewhere is refused.
 #[tactic(auto, using(crate::proofs::RouteLemmas::no_option))]
 fn is_bare(alloc: Global, words: &[String]) -> Result<bool, Memory>
     ensures { IfOk result (λ fits. fits ≡ is_some (ends false (map string_bytes words.now))) }
@@ -72,6 +74,17 @@ fn sample_command(alloc: Global, words: &[String]) -> Result<Option<Command>, Me
     }
 }
 
+fn balance_words(alloc: Global, words: &[String]) -> Result<Option<Command>, Memory>
+    ensures command { IfOk result (λ c. c ≡ balance_of (map string_bytes words.now)) }
+    ensures number { IfOk result (λ c. IfSome c HasNumber) }
+{
+    if is_bare(alloc, words)? {
+        Ok(Some(Command::Balance))
+    } else {
+        Ok(None)
+    }
+}
+
 fn command_of(alloc: Global, name: &str, words: &[String]) -> Result<Option<Command>, Memory>
     ensures command { IfOk result (λ c. c ≡ command_of name.now (map string_bytes words.now)) }
     ensures number { IfOk result (λ c. IfSome c HasNumber) }
@@ -84,6 +97,8 @@ fn command_of(alloc: Global, name: &str, words: &[String]) -> Result<Option<Comm
         routes_words(alloc, words)
     } else if name == "sample" {
         sample_command(alloc, words)
+    } else if name == "balance" {
+        balance_words(alloc, words)
     } else {
         Ok(None)
     }

@@ -12,3 +12,6 @@ returns-then-eq-3 c = record { command = rw (sym c.if-eq.ensures, sym c.if-eq-2.
 
 pub returns-then-eq-4 : goal.returns-then-eq-4
 returns-then-eq-4 c = record { command = rw (sym c.if-eq.ensures, sym c.if-eq-2.ensures, sym c.if-eq-3.ensures, sym c.if-eq-4.ensures) c.sample_command.ensures.command; number = c.sample_command.ensures.number }
+
+pub returns-then-eq-5 : goal.returns-then-eq-5
+returns-then-eq-5 c = record { command = rw (sym c.if-eq.ensures, sym c.if-eq-2.ensures, sym c.if-eq-3.ensures, sym c.if-eq-4.ensures, sym c.if-eq-5.ensures) c.balance_words.ensures.command; number = c.balance_words.ensures.number }

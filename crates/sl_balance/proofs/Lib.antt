@@ -1,0 +1,5 @@
+pub mod Sums
+pub mod Few
+pub mod OneCuts
+pub mod Ways
+pub mod Texts

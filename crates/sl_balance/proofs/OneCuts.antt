@@ -1,0 +1,56 @@
+-- Each line of the table of a run's findings is of one consistent cut.
+use Rattle.std.proofs.Common.{◌≡◌, ℕ, zero, suc, ◌<◌, List, [], ◌∷◌, map, length, get_or, refl, sym, ap, ◌∙◌, arith}
+use Rattle.std.specs.List.{All}
+use Rattle.sl_parts.specs.Parts.{below, numbers_from}
+use Rattle.sl_parts.specs.Lists.{Each}
+use Rattle.sl_parts.proofs.Lists.{all-from_each, each-flat, each-map, each-below, each-filter, each-from}
+use Rattle.sl_layout.specs.Net.{Net, actor_of, units}
+use Rattle.sl_model.specs.declared.verdict.Verdict.{Verdict}
+use Rattle.sl_model.specs.declared.verdict.Verdict.TheVariants.{Consistent, Inconsistent, Pending, NotIssued}
+use Rattle.sl_model.specs.declared.findings.Row.{Row}
+use Rattle.sl_model.specs.declared.findings.Finding.{Finding}
+use Rattle.sl_model.specs.History.{World, Losses}
+use Rattle.sl_model.specs.Cut.{cuts}
+use Rattle.sl_model.specs.Matching.{IsConsistentCut}
+use Rattle.sl_model.specs.Verdict.{verdict}
+use Rattle.sl_model.specs.Findings.{row, rows_for, finding}
+use Rattle.sl_balance.specs.Cabled.{is_cabled, unit_at, cabled}
+use Rattle.sl_balance.specs.Balance.{packets_at, line_of, device_line, lines_if, finding_lines, balance}
+use Rattle.sl_balance.specs.OneCut.{packets_before, IsOfOneCut}
+
+-- the row of the unit at a place
+row_at : (f : ℕ → Row) (us : List ℕ) (i : ℕ) → i < length us → packets_at (map f us) i ≡ (f (get_or us i 0)).packets
+row_at f [] i h = absurd (omega (arith, h))
+row_at f (u ∷ us) zero h = refl
+row_at f (u ∷ us) (suc i) h = row_at f us i (omega (arith, h))
+
+map_same : (f g : ℕ → ℕ) (xs : List ℕ) → Each (λ x. f x ≡ g x) xs → map f xs ≡ map g xs
+map_same f g [] e = refl
+map_same f g (x ∷ xs) e = ap (λ y. y ∷ map f xs) e.0 ∙ ap (λ ys. g x ∷ ys) (map_same f g xs e.1)
+
+module _ (net : Net) (lost : Losses) (w : World) (consistent : (k : ℕ) → IsConsistentCut net lost w (cuts w k)) where
+  -- in the rows of a finding stands what the units counted before
+  counted : (k d : ℕ) → map (packets_at (map (row net lost w k) (units net))) (cabled net d) ≡ map (packets_before net w k) (cabled net d)
+  counted k d = map_same (packets_at (map (row net lost w k) (units net))) (packets_before net w k) (cabled net d)
+      (each-filter (λ i. packets_at (map (row net lost w k) (units net)) i ≡ packets_before net w k i) (λ i. is_cabled net.parts d (actor_of net (unit_at net i))) (below (length (units net)))
+      (each-below (λ i. packets_at (map (row net lost w k) (units net)) i ≡ packets_before net w k i) (length (units net)) (λ i h. row_at (row net lost w k) (units net) i h)))
+
+  of_device : (k d : ℕ) → verdict net w k ≡ Consistent → Each (IsOfOneCut net lost w) (device_line net k (map (row net lost w k) (units net)) d)
+  of_device k d v = go (map (packets_at (map (row net lost w k) (units net))) (cabled net d)) (sym (counted k d))
+    where
+      go : (xs : List ℕ) → map (packets_before net w k) (cabled net d) ≡ xs → Each (IsOfOneCut net lost w) (line_of k d xs)
+      go [] e = tt
+      go (x ∷ xs) e = (record { is_consistent = v; cut = consistent k; counts = ap (line_of k d) e }, tt)
+
+  of_verdict : (k : ℕ) (v : Verdict) → verdict net w k ≡ v → Each (IsOfOneCut net lost w) (lines_if net k (rows_for net lost w k v) v)
+  of_verdict k Consistent e = each-flat (IsOfOneCut net lost w) (device_line net k (map (row net lost w k) (units net))) (below (length net.parts.devices))
+      (each-below (λ d. Each (IsOfOneCut net lost w) (device_line net k (map (row net lost w k) (units net)) d)) (length net.parts.devices) (λ d h. of_device k d e))
+  of_verdict k (Inconsistent unit cause) e = tt
+  of_verdict k (Pending unit lag) e = tt
+  of_verdict k (NotIssued unit floor) e = tt
+
+  pub of_findings : (count : ℕ) → All (IsOfOneCut net lost w) (balance net (map (finding net lost w) (numbers_from 1 count)))
+  of_findings count = all-from_each (IsOfOneCut net lost w) (balance net (map (finding net lost w) (numbers_from 1 count)))
+      (each-flat (IsOfOneCut net lost w) (finding_lines net) (map (finding net lost w) (numbers_from 1 count))
+      (each-map (λ (f : Finding). Each (IsOfOneCut net lost w) (finding_lines net f)) (finding net lost w) (numbers_from 1 count)
+      (each-from (λ k. Each (IsOfOneCut net lost w) (finding_lines net (finding net lost w k))) 1 count (λ k g h. of_verdict k (verdict net w k) refl))))

@@ -1,0 +1,3 @@
+pub mod Moves
+pub mod Pairs
+pub mod Cuts

@@ -1,0 +1,3 @@
+pub mod Trail
+pub mod Reading
+pub mod DataCut

@@ -1,0 +1,11 @@
+// The polling baseline: counters read one unit after the other along a run, and whether what was read
+// is a consistent cut of data packets.
+#![tactic(auto)]
+
+mod laws;
+mod reading;
+mod trail;
+
+pub use laws::{broken_readings_are_no_cut, whole_readings_are_cuts};
+pub use reading::Read1;
+pub use trail::{Counted, Pair};

@@ -1,0 +1,19 @@
+// What a run did with data packets.
+
+/// A data packet that was taken on a data channel: its link, and the entries that put and took it,
+/// from 1.
+#[derive(Clone, Copy, Debug, PartialEq, Eq)]
+pub struct Pair {
+    pub link: u32,
+    pub put: u64,
+    pub take: u64,
+}
+
+/// A step that counts a data packet: its unit, by its place among the units, its entry from 1, and
+/// the bytes of the packet.
+#[derive(Clone, Copy, Debug, PartialEq, Eq)]
+pub struct Counted {
+    pub unit: u32,
+    pub entry: u64,
+    pub bytes: u64,
+}

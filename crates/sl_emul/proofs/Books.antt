@@ -99,10 +99,9 @@ module _ (turns : TakesTurns) (i : Input) (lost : Losses) (v u t : Scene NodeSta
   pub is-run : Bounded → Consistent → IsNet i.net → StandsFor i.net (case_of i lost) t → IsRunBook i lost t.book (length u.book)
   is-run bounded consistent net stands = record {
     run = is-book stands;
-    finished = ends.finished;
     within = subst (λ n. n ≤ input_bound i) (sym (ap length whole) ∙ length-map t.book (λ (e : BookEntry). (e.actor, e.choice)))
         (bounded i lost ends.turns net (subst (λ (w : World). IsFin (setup_of i) lost w ends.turns) reached ends.finishes));
-    cuts_consistent = λ k. consistent (setup_of i) lost (schedule_of t.book) k net;
+    ended = record { finished = ends.finished; cuts_consistent = λ k. consistent (setup_of i) lost (schedule_of t.book) k net };
   }
 
   -- what is kept of the last scene

@@ -1,1 +1,6 @@
 pub mod Books
+pub mod Plans
+pub mod Come
+pub mod Standing
+pub mod Rested
+pub mod ThreadedBook

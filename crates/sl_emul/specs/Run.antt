@@ -1,8 +1,9 @@
 -- The run of an input on its nodes.
 --     CanRun i              what a run asks of its input
---     IsRunBook ..          the book of a run: legal, finished, bounded, and cut consistently for each number
+--     IsEndedBook ..        how the book of any run ends: its world is finished, and cut consistently for each number
+--     IsRunBook ..          the book of the run of a script: legal, bounded, and ended so
 --     AreNodesOf i w ns     one node per actor, each of which stands for its history
---     IsOutcome ..            the book, the findings and the nodes of a run
+--     IsOutcome ..          the book, the findings and the nodes of a run
 use Rattle.std.specs.Prelude.{◌≡◌, ℕ, ◌≤◌, List, length, Some, slice_get}
 use Rattle.std.specs.List.{All}
 use Rattle.sl_machine.specs.declared.wiring.Entry.{Entry}
@@ -34,13 +35,16 @@ pub record CanRun (i : Input) : Type 0 where
   pub short : SendsShort (setup_of i)
   pub script : All (IsScriptEntry i.net) i.script
 
--- The book is the script's and then what finishing takes, and legal, with so many entries before finishing; its world is finished; it has at most as many
--- entries as the bound says; and for each number the steps before the units' ids reached it are a consistent cut, whatever the verdict on it.
+-- its world is finished, and for each number the steps before the units' ids reached it are a consistent cut, whatever the verdict on it
+pub record IsEndedBook (i : Input) (lost : Losses) (book : List Entry) : Type 0 where
+  pub finished : IsFinished (setup_of i) lost (world (setup_of i) lost (schedule_of book))
+  pub cuts_consistent : (k : ℕ) → IsConsistentCut i.net lost (world (setup_of i) lost (schedule_of book)) (cuts (world (setup_of i) lost (schedule_of book)) k)
+
+-- the book is the script's and then what finishing takes, and legal, with so many entries before finishing, and at most as many in all as the bound says
 pub record IsRunBook (i : Input) (lost : Losses) (book : List Entry) (front : ℕ) : Type 0 where
   pub run : IsBookOfRun i lost book front
-  pub finished : IsFinished (setup_of i) lost (world (setup_of i) lost (schedule_of book))
   pub within : length book ≤ input_bound i
-  pub cuts_consistent : (k : ℕ) → IsConsistentCut i.net lost (world (setup_of i) lost (schedule_of book)) (cuts (world (setup_of i) lost (schedule_of book)) k)
+  pub ended : IsEndedBook i lost book
 
 pub record AreNodesOf (i : Input) (w : World) (nodes : List NodeState) : Type 0 where
   pub each : length nodes ≡ length i.net.actors

@@ -1,3 +1,5 @@
 pub mod Trail
 pub mod Reading
 pub mod DataCut
+pub mod Sums
+pub mod PollText

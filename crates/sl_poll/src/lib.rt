@@ -3,9 +3,14 @@
 #![tactic(auto)]
 
 mod laws;
+mod poll;
 mod reading;
+mod sums;
+mod text;
 mod trail;
 
 pub use laws::{broken_readings_are_no_cut, whole_readings_are_cuts};
-pub use reading::Read1;
-pub use trail::{Counted, Pair};
+pub use poll::reading_of;
+pub use reading::{Polled, Read1};
+pub use text::polled_bytes;
+pub use trail::{Counted, Pair, Trail};

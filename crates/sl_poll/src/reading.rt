@@ -1,4 +1,5 @@
 // Readings of units.
+use crate::trail::Pair;
 
 /// What was read of a unit, by its place among the units: after how many entries, and the data
 /// packets and bytes that it had counted.
@@ -8,4 +9,11 @@ pub struct Read1 {
     pub at: u64,
     pub packets: u64,
     pub bytes: u64,
+}
+
+/// A reading of all units in order, and the first packet that breaks it, where one does.
+#[derive(Debug, Drop)]
+pub struct Polled {
+    pub reads: Vec<Read1>,
+    pub broken: Option<Pair>,
 }

@@ -17,3 +17,11 @@ pub struct Counted {
     pub entry: u64,
     pub bytes: u64,
 }
+
+/// What a run did with data packets: those that were taken on data channels, in the order of the
+/// taking entries, and the steps that count one.
+#[derive(Debug, Drop)]
+pub struct Trail {
+    pub pairs: Vec<Pair>,
+    pub counted: Vec<Counted>,
+}

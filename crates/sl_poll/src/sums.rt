@@ -1,0 +1,134 @@
+// What units counted until they were read.
+ghost use Rattle.std.specs.Prelude.{ℕ, ◌≡◌, ◌≤◌, IfOk, OnOk, length, map};
+ghost use Rattle.sl_parts.specs.Parts.{below};
+ghost use Rattle.sl_layout.specs.Net.{units};
+ghost use Rattle.sl_poll.specs.Reading.{read_after};
+ghost use Rattle.sl_poll.specs.Sums.{no_sum, with_one, add_one, add_all, read_by};
+
+use crate::reading::Read1;
+use crate::trail::Counted;
+use sl_machine::Memory;
+use sl_net::Net;
+use std::alloc::{AllocError, Global};
+
+/// When units are read: the first after `start` entries, each further one after `gap` more, and all
+/// after at most `count`.
+#[derive(Clone, Copy)]
+pub struct Pace {
+    pub count: u64,
+    pub start: u64,
+    pub gap: u64,
+}
+
+/// The data packets that a unit counted so far, and their bytes.
+#[derive(Clone, Copy)]
+struct Sum {
+    packets: u64,
+    bytes: u64,
+}
+
+/// After how many entries the unit at a place is read.
+pub fn read_after(pace: Pace, place: u32) -> u64
+    ensures { result ≡ read_after pace.count pace.start pace.gap place }
+{
+    let wait = (place as u64).saturating_mul(pace.gap);
+    pace.start.saturating_add(wait).min(pace.count)
+}
+
+fn with_one(sum: Sum, counted: Counted) -> Result<Sum, Memory>
+    ensures { IfOk result (λ more. more ≡ with_one counted sum) }
+{
+    match (
+        sum.packets.checked_add(1),
+        sum.bytes.checked_add(counted.bytes),
+    ) {
+        (Some(packets), Some(bytes)) => Ok(Sum { packets, bytes }),
+        _ => Err(Memory),
+    }
+}
+
+/// Adds a step to the sum of its unit, where it comes before this is read.
+fn add_one(sums: &mut Vec<Sum>, pace: Pace, counted: Counted) -> Result<(), Memory>
+    ensures { OnOk result (sums.new.items ≡ add_one (read_after pace.count pace.start pace.gap) counted sums.old.items) }
+{
+    let place = counted.unit as usize;
+    if counted.entry <= read_after(pace, counted.unit) && place < sums.len() {
+        sums[place] = with_one(sums[place], counted)?;
+    }
+    Ok(())
+}
+
+fn no_sums(alloc: Global, count: u32) -> Result<Vec<Sum>, AllocError>
+    ensures { IfOk result (λ sums. sums.items ≡ map (λ (i : ℕ). no_sum) (below count)) }
+{
+    let mut sums = Vec::new(alloc);
+    for _i in 0..count {
+        sums.push(Sum {
+            packets: 0,
+            bytes: 0,
+        })?;
+    }
+    Ok(sums)
+}
+
+fn add_all(sums: &mut Vec<Sum>, pace: Pace, counted: &[Counted]) -> Result<(), Memory>
+    ensures { OnOk result (sums.new.items ≡ add_all (read_after pace.count pace.start pace.gap) counted.now sums.old.items) }
+{
+    for one in counted {
+        add_one(sums, pace, *one)?;
+    }
+    Ok(())
+}
+
+fn read_by(pace: Pace, sums: &[Sum], place: u32) -> Read1
+    ensures { result ≡ read_by (read_after pace.count pace.start pace.gap) sums.now place }
+{
+    let at = read_after(pace, place);
+    match sums.get(place as usize) {
+        Some(sum) => Read1 {
+            unit: place,
+            at,
+            packets: sum.packets,
+            bytes: sum.bytes,
+        },
+        None => Read1 {
+            unit: place,
+            at,
+            packets: 0,
+            bytes: 0,
+        },
+    }
+}
+
+fn list_reads(alloc: Global, pace: Pace, sums: &[Sum], count: u32) -> Result<Vec<Read1>, AllocError>
+    ensures { IfOk result (λ reads. reads.items ≡ map (read_by (read_after pace.count pace.start pace.gap) sums.now) (below count)) }
+{
+    let mut reads = Vec::new(alloc);
+    for place in 0..count {
+        reads.push(read_by(pace, sums, place))?;
+    }
+    Ok(reads)
+}
+
+fn unit_count(net: &Net) -> u32
+    ensures { result ≡ length (units net.now) }
+{
+    let _actors = net.actors();
+    net.unit_actors().len() as u32
+}
+
+/// What was read of each unit.
+pub fn reads_of(
+    alloc: Global,
+    net: &Net,
+    pace: Pace,
+    counted: &[Counted],
+) -> Result<Vec<Read1>, Memory>
+    ensures { let at = read_after pace.count pace.start pace.gap in let places = below (length (units net.now)) in
+        IfOk result (λ reads. reads.items ≡ map (read_by at (add_all at counted.now (map (λ (i : ℕ). no_sum) places))) places) }
+{
+    let count = unit_count(net);
+    let mut sums = no_sums(alloc, count)?;
+    add_all(&mut sums, pace, counted)?;
+    Ok(list_reads(alloc, pace, sums.as_slice(), count)?)
+}

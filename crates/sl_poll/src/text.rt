@@ -1,0 +1,160 @@
+// The text of a reading.
+ghost use Rattle.std.specs.Prelude.{◌≡◌, ◌<◌, ◌++◌, Some, IfOk, OnOk, IfSome, length, flat_map, codes, string_bytes};
+ghost use Rattle.sl_net.specs.Spelling.{side_text};
+ghost use Rattle.sl_poll.specs.PollText.{port_text, unit_or_none, unit_at, unit_text, link_text, counts_text, read_line, times_text, broken_line, poll_text};
+ghost use Rattle.sl_layout.specs.Net.{actor_of};
+ghost use Rattle.sl_layout.specs.Wiring.{wired_link};
+
+use crate::reading::{Polled, Read1};
+use crate::trail::Pair;
+use sl_machine::{Link, Memory};
+use sl_net::{ActorId, Line, Net, Parts, Side, UnitId, choice_text, nets_have_ways};
+use std::alloc::{AllocError, Global};
+
+fn side_text(side: Side) -> &'static str
+    ensures { result.now ≡ side_text side }
+{
+    match side {
+        Side::Ingress => "in",
+        Side::Egress => "out",
+    }
+}
+
+#[tactic(auto, unfolding(crate::specs::PollText::port_text))]
+fn push_port(out: &mut String, parts: &Parts, unit: UnitId) -> Result<(), AllocError>
+    ensures { OnOk result (string_bytes out.new ≡ string_bytes out.old ++ port_text parts.now unit) }
+{
+    let side = side_text(unit.side);
+    let port = unit.port;
+    match parts.devices.get(unit.device as usize) {
+        Some(part) => {
+            let name = &part.name;
+            write!(out, "{side} {name}.{port}")
+        }
+        None => write!(out, "{side} .{port}"),
+    }
+}
+
+fn push_actor(out: &mut String, net: &Net, actor: u32) -> Result<(), AllocError>
+    ensures { OnOk result (string_bytes out.new ≡ string_bytes out.old ++ unit_or_none net.now.parts (actor_of net.now actor)) }
+{
+    match net.actors().get(actor as usize) {
+        Some(ActorId::Unit(unit)) => push_port(out, net.parts(), *unit),
+        _ => Ok(()),
+    }
+}
+
+fn unit_at(net: &Net, place: u32) -> u32
+    ensures { result ≡ unit_at net.now place }
+{
+    match net.unit_actors().get(place as usize) {
+        Some(actor) => *actor,
+        None => 0,
+    }
+}
+
+/// Writes the unit at a place among the units, or nothing where there is none.
+fn push_unit(out: &mut String, net: &Net, place: u32) -> Result<(), AllocError>
+    ensures { OnOk result (string_bytes out.new ≡ string_bytes out.old ++ unit_text net.now place) }
+{
+    push_actor(out, net, unit_at(net, place))
+}
+
+/// Writes what was read of a unit.
+#[tactic(auto, unfolding(crate::specs::PollText::counts_text))]
+fn push_read(out: &mut String, net: &Net, read: &Read1) -> Result<(), AllocError>
+    ensures { OnOk result (string_bytes out.new ≡ string_bytes out.old ++ read_line net.now read.now) }
+{
+    let at = read.at;
+    let packets = read.packets;
+    let bytes = read.bytes;
+    write!(out, "read ")?;
+    push_unit(out, net, read.unit)?;
+    write!(out, " {at} {packets} {bytes}\n")
+}
+
+#[tactic(auto, using(crate::proofs::Texts::reads_more))]
+fn push_reads(out: &mut String, net: &Net, reads: &[Read1]) -> Result<(), AllocError>
+    ensures { OnOk result (string_bytes out.new ≡ string_bytes out.old ++ flat_map (read_line net.now) reads.now) }
+{
+    for read in reads {
+        push_read(out, net, read)?;
+    }
+    Ok(())
+}
+
+/// The text of the head and of what was read.
+fn reads_bytes(alloc: Global, net: &Net, reads: &[Read1]) -> Result<Vec<u8>, AllocError>
+    ensures { IfOk result (λ bytes. bytes.items ≡ codes "poll 1\n" ++ flat_map (read_line net.now) reads.now) }
+{
+    let mut out = String::new(alloc);
+    write!(out, "poll 1\n")?;
+    push_reads(&mut out, net, reads)?;
+    Ok(out.into_bytes())
+}
+
+#[tactic(auto, unfolding(crate::specs::PollText::times_text))]
+fn times_bytes(alloc: Global, pair: Pair) -> Result<Vec<u8>, AllocError>
+    ensures { IfOk result (λ bytes. bytes.items ≡ times_text pair) }
+{
+    let put = pair.put;
+    let take = pair.take;
+    Ok(format!(in alloc; " sent {put} received {take}\n")?.into_bytes())
+}
+
+fn wire_of(net: &Net, link: u32) -> Link
+    requires { link < length net.now.links }
+    ensures { result ≡ wired_link net.now link }
+{
+    let wired = net.wiring();
+    wired.links[link as usize]
+}
+
+/// The spelling of a link.
+fn link_text(alloc: Global, net: &Net, link: u32) -> Result<Line, Memory>
+    requires { link < length net.now.links }
+    ensures { IfOk result (λ line. line ≡ link_text net.now link) }
+{
+    nets_have_ways();
+    let _part = net.link(link);
+    let wire = wire_of(net, link);
+    choice_text(alloc, net, wire.to, wire.choice)
+}
+
+fn push_pair(alloc: Global, out: &mut Vec<u8>, net: &Net, pair: Pair) -> Result<(), Memory>
+    requires { pair.link < length net.now.links }
+    ensures { OnOk result (out.new.items ≡ out.old.items ++ broken_line net.now (Some pair)) }
+{
+    let link = link_text(alloc, net, pair.link)?;
+    let times = times_bytes(alloc, pair)?;
+    out.extend_from_slice(b"broken ")?;
+    out.extend_from_slice(link.items.as_slice())?;
+    Ok(out.extend_from_slice(times.as_slice())?)
+}
+
+fn push_broken(
+    alloc: Global,
+    out: &mut Vec<u8>,
+    net: &Net,
+    broken: Option<Pair>,
+) -> Result<(), Memory>
+    requires { IfSome broken (λ p. p.link < length net.now.links) }
+    ensures { OnOk result (out.new.items ≡ out.old.items ++ broken_line net.now broken) }
+{
+    match broken {
+        Some(pair) => push_pair(alloc, out, net, pair),
+        None => Ok(out.extend_from_slice(b"whole\n")?),
+    }
+}
+
+/// The text of a reading: a line for each unit, then the first packet that breaks it, or that it is
+/// whole.
+pub fn polled_bytes(alloc: Global, net: &Net, polled: &Polled) -> Result<Vec<u8>, Memory>
+    requires { IfSome polled.now.broken (λ p. p.link < length net.now.links) }
+    ensures { IfOk result (λ bytes. bytes.items ≡ poll_text net.now polled.now.reads.items polled.now.broken) }
+{
+    let mut out = reads_bytes(alloc, net, polled.reads.as_slice())?;
+    push_broken(alloc, &mut out, net, polled.broken)?;
+    out.extend_from_slice(b"end\n")?;
+    Ok(out)
+}

@@ -5,8 +5,8 @@ use sl_ids::{Wid, Width};
 use sl_net::Packet;
 use sl_saves::{Slots, View};
 use sl_wire::{
-    Boxed, Done, Header, Kind, Msg, PlainDump, Rows, WireFault, decode, encode, plain_frame,
-    reached,
+    Boxed, Done, Dump, Header, Kind, Msg, Rows, WireFault, are_wids, decode, encode, has_room,
+    have_room, is_wid, plain_frame, reached, unwrap_each, wrap_each,
 };
 use std::test::Fail;
 
@@ -141,10 +141,11 @@ fn messages_go_to_other_threads(rt: HostRuntime) -> Result<(), Fail> {
     let slots = Slots {
         items: Vec::new(rt.alloc()),
     };
-    let dump = PlainDump {
-        id: 0,
-        cpu: 0,
-        last: [0; 8],
+    let none = Wid { raw: 0 };
+    let dump = Dump {
+        id: none,
+        cpu: none,
+        last: [none; 8],
         view: View { at: 0, slots },
     };
     let dump = Msg::Dump(Boxed::new(rt.alloc(), dump)?);
@@ -164,5 +165,22 @@ fn messages_go_to_other_threads(rt: HostRuntime) -> Result<(), Fail> {
         return Err("no report".into());
     };
     assert_eq!(rt; done.get().unit, 3);
+    Ok(())
+}
+
+/// Eight ids of two bits are unwrapped from numbers that are known, and one of three bits is none.
+#[test]
+fn eight_ids(rt: HostRuntime) -> Result<(), Fail> {
+    let width = Width::new(2).ok_or("two bits")?;
+    let known = [0, 0, 1, 3, 4, 5, 100, 1001];
+    let numbers = [0, 3, 4, 3, 7, 5, 103, 1002];
+    let wids = wrap_each(width, &numbers);
+    if !are_wids(width, &wids) || !have_room(width, &known) {
+        return Err("eight ids".into());
+    }
+    assert_eq!(rt; unwrap_each(width, &known, &wids), numbers);
+    assert!(rt; !is_wid(width, Wid { raw: 4 }));
+    assert!(rt; has_room(width, u64::MAX - 4));
+    assert!(rt; !has_room(width, u64::MAX - 3));
     Ok(())
 }

@@ -11,22 +11,27 @@ use sl_net::{Net, Snapshot};
 use std::alloc::Global;
 use std::test::Fail;
 
-static TURNS: [Turn; 15] = [
+static TURNS: [Turn; 20] = [
     (0, Begin(1), 10101_40101),
     (3, Begin(1), 0),
     (4, Dump(1, 1, 1), 0),
     (1, Notice, 20001),
     (2, Notice, 0),
     (1, Notice, 0),
-    (2, Dump(1, 0, 9), 01100_20001),
+    (2, Dump(1, 0, 3), 01100_20001),
     (9, Act, 30001_50001_60001),
     (9, Act, 0),
     (9, Act, IDLE),
     (4, Dump(2, 0, 1), 02111_30001),
     (4, Dump(2, 0, 2), 02122),
     (4, Dump(3, 0, 3), 0),
-    (6, Dump(4, 4, 0), 0),
+    (6, Dump(0, 0, 100), 0),
+    (6, Dump(100, 0, 0), 0),
+    (6, Dump(0, 100, 0), 0),
     (9, Act, 30001),
+    (4, Dump(4, 0, 4), 02244),
+    (9, Act, 30001),
+    (4, Dump(6, 0, 3), 02267),
 ];
 
 fn turns() -> &'static [Turn] {

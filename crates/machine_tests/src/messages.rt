@@ -1,8 +1,9 @@
 // The messages that turns take and put.
+use sl_ids::Wid;
 use sl_machine::{Memory, Outputs};
 use sl_net::{Bytes, Packet};
-use sl_saves::{ListSaves, Saved, Saves, View};
-use sl_wire::{Boxed, Done, Msg, PlainDump, Rows, plain_frame};
+use sl_saves::{RingSaves, Saved, Saves, View};
+use sl_wire::{Boxed, Done, Dump, Msg, Rows, plain_frame};
 use std::alloc::{AllocError, Global};
 use std::test::Fail;
 
@@ -20,7 +21,7 @@ pub enum Event {
     /// The plain frame of a packet with this destination and hop limit, its byte at a place
     /// changed by so much.
     Frame(u16, u8, usize, u8),
-    /// A dump of this id, with the last-seen id of the control plane and those of the channels.
+    /// A dump of this number, with the last-seen number of the control plane and that of each channel.
     Dump(u64, u64, u64),
     /// A report on a unit, with rows from one number to another, the number that it has reached.
     Done(u32, u64, u64),
@@ -47,21 +48,32 @@ fn frame(alloc: Global, packet: &Packet, place: usize, more: u8) -> Result<Bytes
     })
 }
 
-/// A view of three slots of a unit that went from 0 to a number in one step.
+/// A view of three slots of a unit that went from 0 to a number below 7, by at most 3 in one step.
 fn view_at(alloc: Global, id: u64) -> Result<View, Memory> {
-    let mut saves = ListSaves::new(alloc, 3, 3)?;
-    saves.ready()?;
-    if id >= 1 && id <= 3 {
-        saves.adopt(id as u16, 5, 500);
+    let mut saves = RingSaves::new(alloc, 3, 3)?;
+    let first = id.min(3);
+    if first >= 1 {
+        saves.adopt(first as u16, 5, 500);
+    }
+    if id > 3 && id <= 6 {
+        saves.adopt((id - 3) as u16, 7, 700);
     }
     saves.view()
 }
 
-fn dump(alloc: Global, id: u64, cpu: u64, seen: u64) -> Result<Boxed<PlainDump>, Memory> {
-    let dump = PlainDump {
-        id,
-        cpu,
-        last: [seen; 8],
+/// The wrapped id of two bits of a number below 100. From 100 on it is the number itself.
+fn wid(number: u64) -> Wid {
+    let raw = if number < 100 { number % 4 } else { number };
+    Wid {
+        raw: raw.min(1000) as u16,
+    }
+}
+
+fn dump(alloc: Global, id: u64, cpu: u64, seen: u64) -> Result<Boxed<Dump>, Memory> {
+    let dump = Dump {
+        id: wid(id),
+        cpu: wid(cpu),
+        last: [wid(seen); 8],
         view: view_at(alloc, id)?,
     };
     Boxed::new(alloc, dump).map_err(|_| Memory)

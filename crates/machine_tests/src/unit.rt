@@ -12,7 +12,7 @@ use sl_net::{Net, Side, Snapshot};
 use sl_route::Routes;
 use sl_saves::{Saved, View, read_saved, try_read_saved};
 use sl_unit::{Unit, UnitCounts, unit_side};
-use sl_wire::{Boxed, Msg, PlainDump};
+use sl_wire::{Boxed, Dump, Msg};
 use std::alloc::Global;
 use std::test::Fail;
 
@@ -67,7 +67,7 @@ fn unit(alloc: Global, place: u32) -> Result<Bench<Unit>, Fail> {
 }
 
 /// The dump with which a unit answers a poll by its last choice.
-fn polled(alloc: Global, unit: &mut Bench<Unit>) -> Result<Boxed<PlainDump>, Fail> {
+fn polled(alloc: Global, unit: &mut Bench<Unit>) -> Result<Boxed<Dump>, Fail> {
     let mut out = unit.take(alloc, 2, Msg::Poll)?;
     match out.take_first() {
         Some((_, Msg::Dump(dump))) => Ok(dump),
@@ -109,18 +109,18 @@ fn late_packet(rt: HostRuntime) -> Result<(), Fail> {
     let first = saved(&dump.view, 2, 1);
     let late = Saved::Miscredited { by: 2, reach: 2 };
     assert_eq!(rt;
-        (dump.id, dump.last[0], dump.last[1], first),
+        (dump.id.raw, dump.last[0].raw, dump.last[1].raw, first),
         (2, 0, 2, Some(late))
     );
     Ok(())
 }
 
 /// Whether the registers of a unit are zeros, with a view of two slots in which nothing is saved.
-fn is_blank(dump: &PlainDump) -> bool {
-    dump.id == 0
-        && dump.cpu == 0
+fn is_blank(dump: &Dump) -> bool {
+    dump.id.raw == 0
+        && dump.cpu.raw == 0
         && dump.view.at == 0
-        && dump.last.iter().all(|last| *last == 0)
+        && dump.last.iter().all(|last| last.raw == 0)
         && dump.view.slots.items.len() == 2
         && dump.view.slots.items.iter().all(|slot| slot.back == 0)
 }

@@ -7,9 +7,12 @@ use Rattle.std.proofs.lemmas.Bool.Decides.{eqb_tells}
 use Rattle.sl_machine.specs.Machine.{puts_on, is_fitting, send_all}
 use Rattle.sl_wire.specs.declared.message.Msg.{Msg}
 use Rattle.sl_wire.specs.declared.message.Msg.TheVariants.{Poll as PollMsg, Done as DoneMsg}
-use Rattle.sl_wire.specs.declared.message.PlainDump.{PlainDump}
+use Rattle.sl_saves.specs.declared.entry.View.{View}
+use Rattle.sl_wire.specs.declared.message.Dump.{Dump}
+use Rattle.sl_wire.specs.Sizes.{Sizes}
+use Rattle.sl_control.specs.declared.known.Numbers.{Numbers}
 use Rattle.sl_control.specs.declared.known.Known.{Known}
-use Rattle.sl_control.specs.Control.{asked, is_asked, ask_by, ask_puts, answered, done_of, answer_by, is_read, takes_dump, dump_by, dump_puts}
+use Rattle.sl_control.specs.Control.{asked, is_asked, ask_by, ask_puts, numbers_told, answered, done_of, answer_by, is_taken, takes_dump, dump_by, dump_puts}
 use Rattle.sl_control.specs.Joined.{AreApart, AreOuts, IsJoined, polls_of, dumps_of}
 use Rattle.sl_control.proofs.EachUnit.{not-equal, none-put}
 
@@ -34,8 +37,8 @@ kept outs inits done f k rs h = record {
 pub asked-joined : (outs : ℕ) (inits : List ℕ) (done : ℕ) (o : Option ℕ) (rs : List Known) → IsJoined outs inits done rs → IsJoined outs inits done (map (ask_by o) rs)
 asked-joined outs inits done o rs h = kept outs inits done (ask_by o) (λ r. elim (is_asked o r) as (λ b. (cond b (asked r) r).wires ≡ r.wires) [ true ↦ refl | false ↦ refl ]) rs h
 
-pub answered-joined : (outs : ℕ) (inits : List ℕ) (done ring c : ℕ) (d : PlainDump) (rs : List Known) → IsJoined outs inits done rs → IsJoined outs inits done (map (dump_by ring c d) rs)
-answered-joined outs inits done ring c d rs h = kept outs inits done (dump_by ring c d) (λ r. elim (takes_dump ring c d r) as (λ b. (cond b (answered d r) r).wires ≡ r.wires) [ true ↦ refl | false ↦ refl ]) rs h
+pub answered-joined : (outs : ℕ) (inits : List ℕ) (done : ℕ) (sizes : Sizes) (c : ℕ) (d : Dump) (rs : List Known) → IsJoined outs inits done rs → IsJoined outs inits done (map (dump_by sizes c d) rs)
+answered-joined outs inits done sizes c d rs h = kept outs inits done (dump_by sizes c d) (λ r. elim (takes_dump sizes c d r) as (λ b. (cond b (answered (numbers_told sizes.bits d r) r) r).wires ≡ r.wires) [ true ↦ refl | false ↦ refl ]) rs h
 
 -- Puts.
 
@@ -81,23 +84,26 @@ asks-fit outs o rs h = fitting outs (flat_map (ask_puts o) rs) (polls-hold (λ x
 
 -- Answers.
 
-answer-fits : (outs done : ℕ) (d : PlainDump) (r : Known) (b : Bool) → r.again ≡ b → AreOuts outs (done ∷ r.wires.poll ∷ []) → is_fitting outs (answer_by done d r) ≡ true
-answer-fits outs done d r true q h = subst (λ b. is_fitting outs ((done, DoneMsg (done_of d r)) ∷ cond b ((r.wires.poll, PollMsg) ∷ []) []) ≡ true) (sym q)
-    (fitting outs ((done, DoneMsg (done_of d r)) ∷ (r.wires.poll, PollMsg) ∷ []) h.below h.apart)
-answer-fits outs done d r false q h = subst (λ b. is_fitting outs ((done, DoneMsg (done_of d r)) ∷ cond b ((r.wires.poll, PollMsg) ∷ []) []) ≡ true) (sym q)
-    (fitting outs ((done, DoneMsg (done_of d r)) ∷ []) (h.below.0, tt) (tt, tt))
+answer-fits : (outs done : ℕ) (n : Numbers) (view : View) (r : Known) (b : Bool) → r.again ≡ b → AreOuts outs (done ∷ r.wires.poll ∷ []) → is_fitting outs (answer_by done n view r) ≡ true
+answer-fits outs done n view r true q h = subst (λ b. is_fitting outs ((done, DoneMsg (done_of n view r)) ∷ cond b ((r.wires.poll, PollMsg) ∷ []) []) ≡ true) (sym q)
+    (fitting outs ((done, DoneMsg (done_of n view r)) ∷ (r.wires.poll, PollMsg) ∷ []) h.below h.apart)
+answer-fits outs done n view r false q h = subst (λ b. is_fitting outs ((done, DoneMsg (done_of n view r)) ∷ cond b ((r.wires.poll, PollMsg) ∷ []) []) ≡ true) (sym q)
+    (fitting outs ((done, DoneMsg (done_of n view r)) ∷ []) (h.below.0, tt) (tt, tt))
 
-pub answers-fit : (outs ring done c : ℕ) (d : PlainDump) (rs : List Known) → AllByRecursion (λ r. AreOuts outs (done ∷ r.wires.poll ∷ [])) rs → AreApart (dumps_of rs) → is_fitting outs (flat_map (dump_puts ring done c d) rs) ≡ true
-answers-fit outs ring done c d [] h a = refl
-answers-fit outs ring done c d (r ∷ rs) h a = by_tells (answers-fit outs ring done c d rs h.1 a.1) (eqb_tells c r.wires.dump) (is_read ring d r)
+pub answers-fit : (outs : ℕ) (sizes : Sizes) (done c : ℕ) (d : Dump) (rs : List Known) → AllByRecursion (λ r. AreOuts outs (done ∷ r.wires.poll ∷ [])) rs → AreApart (dumps_of rs) → is_fitting outs (flat_map (dump_puts sizes done c d) rs) ≡ true
+answers-fit outs sizes done c d [] h a = refl
+answers-fit outs sizes done c d (r ∷ rs) h a = by_tells (answers-fit outs sizes done c d rs h.1 a.1) (eqb_tells c r.wires.dump) (is_taken sizes d r)
   where
-    by_tells : is_fitting outs (flat_map (dump_puts ring done c d) rs) ≡ true → ((nat_eq c r.wires.dump ≡ true) × (c ≡ r.wires.dump)) ⊎ ((nat_eq c r.wires.dump ≡ false) × (c ≡ r.wires.dump → ⊥)) → (b : Bool)
-        → is_fitting outs (cond ((c == r.wires.dump) && b) (answer_by done d r) [] ++ flat_map (dump_puts ring done c d) rs) ≡ true
-    by_tells ih (inr n) b = ap (λ t. is_fitting outs (cond (t && b) (answer_by done d r) [] ++ flat_map (dump_puts ring done c d) rs)) n.0 ∙ ih
-    by_tells ih (inl e) false = ap (λ t. is_fitting outs (cond (t && false) (answer_by done d r) [] ++ flat_map (dump_puts ring done c d) rs)) e.0 ∙ ih
-    by_tells ih (inl e) true = ap (λ t. is_fitting outs (cond (t && true) (answer_by done d r) [] ++ flat_map (dump_puts ring done c d) rs)) e.0
-        ∙ ap (λ ps. is_fitting outs (answer_by done d r ++ ps)) (none-put (λ r. r.wires.dump) c (is_read ring d) (answer_by done d) rs (subst (λ n. AllByRecursion (λ y. y ≡ n → ⊥) (dumps_of rs)) (sym e.1) a.0))
-        ∙ ap (is_fitting outs) (append-nil (answer_by done d r)) ∙ answer-fits outs done d r r.again refl h.0
+    put : Known → List (ℕ × Msg)
+    put r = answer_by done (numbers_told sizes.bits d r) d.view r
+
+    by_tells : is_fitting outs (flat_map (dump_puts sizes done c d) rs) ≡ true → ((nat_eq c r.wires.dump ≡ true) × (c ≡ r.wires.dump)) ⊎ ((nat_eq c r.wires.dump ≡ false) × (c ≡ r.wires.dump → ⊥)) → (b : Bool)
+        → is_fitting outs (cond ((c == r.wires.dump) && b) (put r) [] ++ flat_map (dump_puts sizes done c d) rs) ≡ true
+    by_tells ih (inr n) b = ap (λ t. is_fitting outs (cond (t && b) (put r) [] ++ flat_map (dump_puts sizes done c d) rs)) n.0 ∙ ih
+    by_tells ih (inl e) false = ap (λ t. is_fitting outs (cond (t && false) (put r) [] ++ flat_map (dump_puts sizes done c d) rs)) e.0 ∙ ih
+    by_tells ih (inl e) true = ap (λ t. is_fitting outs (cond (t && true) (put r) [] ++ flat_map (dump_puts sizes done c d) rs)) e.0
+        ∙ ap (λ ps. is_fitting outs (put r ++ ps)) (none-put (λ r. r.wires.dump) c (is_taken sizes d) put rs (subst (λ n. AllByRecursion (λ y. y ≡ n → ⊥) (dumps_of rs)) (sym e.1) a.0))
+        ∙ ap (is_fitting outs) (append-nil (put r)) ∙ answer-fits outs done (numbers_told sizes.bits d r) d.view r r.again refl h.0
 
 pub room-for-two : (outs done : ℕ) (rs : List Known) → AllByRecursion (λ r. AreOuts outs (done ∷ r.wires.poll ∷ [])) rs → 0 < length rs → 2 ≤ outs
 room-for-two outs done [] h p = absurd (omega arith)

@@ -2,3 +2,4 @@ pub mod Reading
 pub mod EachUnit
 pub mod Fitting
 pub mod Joining
+pub mod Lowering

@@ -2,3 +2,4 @@ pub mod Rows
 pub mod Control
 pub mod Wires
 pub mod Joined
+pub mod Known

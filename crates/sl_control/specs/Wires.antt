@@ -7,6 +7,7 @@ use Rattle.sl_layout.specs.declared.actor.ActorId.TheVariants.{Control}
 use Rattle.sl_layout.specs.Net.{Net, place_of, links_into, links_from, links_out, choices_of, data_channels, action_choice, unit_place}
 use Rattle.sl_layout.specs.Serving.{Served, served}
 use Rattle.sl_layout.specs.Wires.{out_of}
+use Rattle.sl_wire.specs.Sizes.{Sizes}
 use Rattle.sl_control.specs.declared.known.UnitWires.{UnitWires}
 use Rattle.sl_control.specs.declared.known.Known.{Known}
 use Rattle.sl_control.specs.Control.{ControlWires, ControlState}
@@ -30,13 +31,13 @@ unit_wires net v = record {
   channels = length (data_channels net v.unit);
 }
 
-abbrev pub control_wires : Net → ℕ → ℕ → ControlWires
-control_wires net a ring = record {
+abbrev pub control_wires : Net → ℕ → Sizes → ControlWires
+control_wires net a sizes = record {
   begin = 0;
   sweep = action_choice net a;
   inits = outs_of net a Init;
   done = slice_index_or (outs_of net a Done) 0 0;
-  ring = ring;
+  sizes = sizes;
 }
 
 -- a unit from which no dump came
@@ -44,8 +45,8 @@ abbrev pub unheard : UnitWires → Known
 unheard w = record { wires = w; id = 0; last = replicate 8 0; cpu = 0; upto = 0; waits = false; again = false }
 
 -- an actor's state as a control plane at the start
-abbrev pub first_control : Net → ℕ → ℕ → ControlState
-first_control net a ring = record { wires = control_wires net a ring; units = map (λ v. unheard (unit_wires net v)) (served net a) }
+abbrev pub first_control : Net → ℕ → Sizes → ControlState
+first_control net a sizes = record { wires = control_wires net a sizes; units = map (λ v. unheard (unit_wires net v)) (served net a) }
 
 abbrev pub control_counts : Net → ℕ → Counts
 control_counts net a = record { ins = length (links_into net a); outs = length (links_from net a); actions = 1 }

@@ -1,11 +1,14 @@
 // The machine of a control plane.
-ghost use Rattle.std.specs.Prelude.{◌≡◌, ◌<◌, None, IfOk, length};
+ghost use Rattle.std.specs.Prelude.{◌≡◌, ◌<◌, ◌≤◌, None, IfOk, length};
+ghost use Rattle.sl_ids.specs.Ids.{most_bits};
+ghost use Rattle.sl_wire.specs.Sizes.{sizes_of};
 ghost use Rattle.sl_control.specs.Wires.{control_of, first_control, control_counts};
 
 use crate::blanks::Blanks;
 use crate::known::Known;
 use crate::units::{answer_all, ask_all, is_swept, put_inits};
 use crate::wires::{control_of, done_of, inits_of, units_of};
+use sl_ids::Width;
 use sl_machine::{Machine, Memory, Outputs};
 use sl_net::{Net, Snapshot, nets_are_wired};
 use sl_wire::Msg;
@@ -23,6 +26,7 @@ pub struct Control {
     outs: u32,
     inits: Vec<u32>,
     done: u32,
+    width: Width,
     ring: u16,
     units: Vec<Known>,
     blanks: Blanks,
@@ -38,7 +42,7 @@ impl Model for Control {
     ghost Value = { ControlView };
 
     ghost view = { λ a. record {
-      state = record { wires = record { begin = 0; sweep = a.links; inits = a.inits.items; done = a.done; ring = a.ring }; units = a.units.items };
+      state = record { wires = record { begin = 0; sweep = a.links; inits = a.inits.items; done = a.done; sizes = record { bits = a.width.bits; ring = a.ring } }; units = a.units.items };
       counts = record { ins = a.links; outs = a.outs; actions = 1 };
       ready = a.prepared;
     } };
@@ -54,18 +58,29 @@ impl Control {
         device: u32,
         snapshot: &Snapshot,
     ) -> Result<Control, Memory>
-        requires { device < length net.now.parts.devices }
-        ensures state { IfOk result (λ c. c.state ≡ first_control net.now (control_of net.now device) snapshot.now.ring) }
+        requires device { device < length net.now.parts.devices }
+        requires some_bits { 1 ≤ snapshot.now.width }
+        requires few_bits { snapshot.now.width ≤ most_bits }
+        ensures state { IfOk result (λ c. c.state ≡ first_control net.now (control_of net.now device) (sizes_of snapshot.now)) }
         ensures counts { IfOk result (λ c. c.counts ≡ control_counts net.now (control_of net.now device)) }
         ensures ready { IfOk result (λ c. c.ready ≡ None) }
     {
-        Control::make(alloc, net, control_of(net, device), snapshot.ring)
+        let width = Width {
+            bits: snapshot.width,
+        };
+        Control::make(alloc, net, control_of(net, device), width, snapshot.ring)
     }
 
     /// The control plane that an actor is.
-    fn make(alloc: Global, net: &Net, actor: u32, ring: u16) -> Result<Control, Memory>
+    fn make(
+        alloc: Global,
+        net: &Net,
+        actor: u32,
+        width: Width,
+        ring: u16,
+    ) -> Result<Control, Memory>
         requires { actor < length net.now.actors }
-        ensures state { IfOk result (λ c. c.state ≡ first_control net.now actor ring) }
+        ensures state { IfOk result (λ c. c.state ≡ first_control net.now actor (record { bits = width.bits; ring = ring })) }
         ensures counts { IfOk result (λ c. c.counts ≡ control_counts net.now actor) }
         ensures ready { IfOk result (λ c. c.ready ≡ None) }
     {
@@ -77,6 +92,7 @@ impl Control {
             outs: net.links_from(actor).len() as u32,
             inits: inits_of(alloc, net, actor)?,
             done: done_of(alloc, net, actor)?,
+            width,
             ring,
             units: units_of(alloc, net, actor)?,
             blanks: Blanks::new(alloc),
@@ -116,6 +132,7 @@ impl Machine for Control {
             Msg::Dump(dump) => {
                 answer_all(
                     &mut self.units,
+                    self.width,
                     self.ring,
                     self.done,
                     link,

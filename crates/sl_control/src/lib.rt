@@ -5,9 +5,11 @@
 mod blanks;
 mod control;
 mod known;
+mod laws;
 mod rows;
 mod units;
 mod wires;
 
 pub use control::Control;
-pub use known::{Known, UnitWires};
+pub use known::{Known, Numbers, UnitWires};
+pub use laws::dumps_lower_nothing;

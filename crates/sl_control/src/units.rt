@@ -4,13 +4,15 @@ ghost use Rattle.std.specs.Vec.{vec_capacity};
 ghost use Rattle.std.specs.List.{AllByRecursion};
 ghost use Rattle.sl_control.specs.declared.known.Known.{Known};
 ghost use Rattle.sl_machine.specs.Machine.{send_all};
-ghost use Rattle.sl_control.specs.Control.{ask_by, ask_puts, dump_by, dump_puts, answered, answer_by, is_read, is_swept};
+ghost use Rattle.sl_control.specs.Control.{ask_by, ask_puts, dump_by, dump_puts, numbers_told, answered, answer_by, is_read, is_taken, is_swept};
 ghost use Rattle.sl_control.specs.Joined.{AreApart, dumps_of, HasDumpChoice};
 
 use crate::blanks::Blanks;
-use crate::known::Known;
+use crate::known::{Known, Numbers, has_wids};
+use sl_ids::Width;
 use sl_machine::Outputs;
-use sl_wire::{Msg, PlainDump};
+use sl_saves::View;
+use sl_wire::{Dump, Msg};
 
 /// What notices by this choice, or without one a sweep, do to the units.
 pub fn ask_all(units: &mut Vec<Known>, notice: Option<u32>, out: &mut Outputs<Msg>)
@@ -56,12 +58,13 @@ fn find_dump(units: &[Known], choice: u32) -> Option<usize>
     None
 }
 
-/// What a dump by this choice does to the unit.
-fn answer_one(
+/// What the numbers and the view of a dump do to the unit.
+fn answer_numbers(
     known: &mut Known,
     ring: u16,
     done: u32,
-    dump: &PlainDump,
+    numbers: &Numbers,
+    view: &View,
     blanks: &mut Blanks,
     out: &mut Outputs<Msg>,
 )
@@ -69,28 +72,56 @@ fn answer_one(
     requires rows { ring ≤ vec_capacity blanks.old.rows }
     requires report { IsSome blanks.old.done }
     requires room { length out.old.items + 2 ≤ out.old.room }
-    ensures known { known.new ≡ cond (is_read ring dump.now known.old) (answered dump.now known.old) known.old }
-    ensures puts { out.new.items ≡ out.old.items ++ cond (is_read ring dump.now known.old) (answer_by done dump.now known.old) [] }
+    ensures known { known.new ≡ cond (is_read ring numbers.now view.now known.old) (answered numbers.now known.old) known.old }
+    ensures puts { out.new.items ≡ out.old.items ++ cond (is_read ring numbers.now view.now known.old) (answer_by done numbers.now view.now known.old) [] }
     ensures room { out.new.room ≡ out.old.room }
     ensures left { blanks.new.rows.items ≡ [] }
 {
-    if known.read(ring, dump, &mut blanks.rows) {
+    if known.read(ring, numbers, view, &mut blanks.rows) {
         if let Some(told) = blanks.done.take() {
             let rows = blanks.take_rows();
-            known.answer(done, dump, told, rows, out);
+            known.answer(done, numbers, view, told, rows, out);
         }
     } else {
         blanks.rows.clear();
     }
 }
 
+/// What a dump by this choice does to the unit.
+fn answer_one(
+    known: &mut Known,
+    width: Width,
+    ring: u16,
+    done: u32,
+    dump: &Dump,
+    blanks: &mut Blanks,
+    out: &mut Outputs<Msg>,
+)
+    requires empty { blanks.old.rows.items ≡ [] }
+    requires rows { ring ≤ vec_capacity blanks.old.rows }
+    requires report { IsSome blanks.old.done }
+    requires room { length out.old.items + 2 ≤ out.old.room }
+    ensures known { known.new ≡ cond (is_taken (record { bits = width.bits; ring = ring }) dump.now known.old)
+        (answered (numbers_told width.bits dump.now known.old) known.old) known.old }
+    ensures puts { out.new.items ≡ out.old.items ++ cond (is_taken (record { bits = width.bits; ring = ring }) dump.now known.old)
+        (answer_by done (numbers_told width.bits dump.now known.old) dump.now.view known.old) [] }
+    ensures room { out.new.room ≡ out.old.room }
+    ensures left { blanks.new.rows.items ≡ [] }
+{
+    if has_wids(width, dump) && known.has_rooms(width) {
+        let numbers = known.numbers_told(width, dump);
+        answer_numbers(known, ring, done, &numbers, &dump.view, blanks, out);
+    }
+}
+
 /// What a dump by this choice does to the units.
 pub fn answer_all(
     units: &mut Vec<Known>,
+    width: Width,
     ring: u16,
     done: u32,
     choice: u32,
-    dump: &PlainDump,
+    dump: &Dump,
     blanks: &mut Blanks,
     out: &mut Outputs<Msg>,
 )
@@ -99,12 +130,12 @@ pub fn answer_all(
     requires report { IsSome blanks.old.done }
     requires apart { AreApart (dumps_of units.old.items) }
     requires room { 0 < length units.old.items → length out.old.items + 2 ≤ out.old.room }
-    ensures units { units.new.items ≡ map (dump_by ring choice dump.now) units.old.items }
-    ensures puts { out.new.items ≡ out.old.items ++ flat_map (dump_puts ring done choice dump.now) units.old.items }
+    ensures units { units.new.items ≡ map (dump_by (record { bits = width.bits; ring = ring }) choice dump.now) units.old.items }
+    ensures puts { out.new.items ≡ out.old.items ++ flat_map (dump_puts (record { bits = width.bits; ring = ring }) done choice dump.now) units.old.items }
     ensures room { out.new.room ≡ out.old.room }
     ensures left { blanks.new.rows.items ≡ [] }
 {
     if let Some(i) = find_dump(units, choice) {
-        answer_one(&mut units[i], ring, done, dump, blanks, out);
+        answer_one(&mut units[i], width, ring, done, dump, blanks, out);
     }
 }

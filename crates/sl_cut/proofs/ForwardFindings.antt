@@ -4,7 +4,8 @@ use Rattle.std.specs.Prelude.{Bool, true, false, min, unwrap_or, slice_index_or,
 use Rattle.sl_saves.specs.declared.entry.Total.{Total}
 use Rattle.sl_model.specs.Words.{weigh}
 use Rattle.sl_route.specs.Least.{least, least_in}
-use Rattle.sl_model.specs.Findings.{no_total, eight_totals}
+use Rattle.sl_saves.specs.Keeping.{no_total}
+use Rattle.sl_model.specs.Findings.{eight_totals}
 use Rattle.sl_parts.specs.Parts.{below}
 use Rattle.sl_parts.proofs.Lists.{length_filter_le, length_numbers}
 use Rattle.sl_layout.specs.Net.{Net, actor_of, is_unit, units}

@@ -2,10 +2,11 @@
 ghost use Rattle.std.specs.Prelude.{◌≡◌, ◌+◌, ◌<◌, ◌≤◌, ◌^◌, cond, length, map, IfOk, IfSome, is_some};
 ghost use Rattle.sl_parts.specs.Parts.{numbers_from};
 ghost use Rattle.sl_layout.specs.Net.{actor_of, units, hosts};
+ghost use Rattle.sl_layout.specs.Devices.{device_of};
 ghost use Rattle.sl_model.specs.History.{history};
 ghost use Rattle.sl_model.specs.Counting.{bad, expired, noroute};
 ghost use Rattle.sl_model.specs.Setup.{setup_of};
-ghost use Rattle.sl_model.specs.Findings.{row, rows_for, finding, is_ingress, device_of, drops_of, sent_by, delivered_to, findings_in, findings};
+ghost use Rattle.sl_model.specs.Findings.{row, rows_for, finding, is_ingress, drops_of, sent_by, delivered_to, findings_in, findings};
 ghost use Rattle.std.specs.List.{All};
 ghost use Rattle.sl_route.specs.Routes.{IsRoutesOf};
 ghost use Rattle.sl_model.specs.Losses.{losses};

@@ -4,7 +4,8 @@ ghost use Rattle.std.specs.List.{All};
 ghost use Rattle.sl_layout.specs.Net.{choice_of};
 ghost use Rattle.sl_model.specs.Words.{weigh};
 ghost use Rattle.sl_model.specs.Cut.{before, data_count, data_bytes, channel_value};
-ghost use Rattle.sl_model.specs.Findings.{channel_links, no_total, eight_totals, row};
+ghost use Rattle.sl_model.specs.Findings.{channel_links, eight_totals, row};
+ghost use Rattle.sl_saves.specs.Keeping.{no_total};
 ghost use Rattle.sl_model.specs.Losses.{losses};
 ghost use Rattle.sl_model.specs.History.{steps_in};
 

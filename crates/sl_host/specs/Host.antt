@@ -1,5 +1,5 @@
 -- What a host sends, and what the turns of its machine do.
---     frames_of input h          the frames that the host h sends, in order
+--     messages_of input h          the frames that the host h sends, in order
 --     host_take, host_act        a frame that comes is counted; the next frame is sent
 use Rattle.std.specs.Prelude.{ℕ, suc, ◌==◌, List, [], ◌∷◌, ◌++◌, map, filter, Option, slice_get, option_map}
 use Rattle.sl_machine.specs.Machine.{After, Rules, Counts}
@@ -21,8 +21,8 @@ abbrev pub raws_of : List RawPart → ℕ → List (List ℕ)
 raws_of raws h = map (λ r. r.bytes) (filter (λ r. r.from == h) raws)
 
 -- what a host sends: its packets, then its raw frames in input order
-abbrev pub frames_of : Input → ℕ → List (List ℕ)
-frames_of i h = messages (packets_of i.flows h) (raws_of i.raws h)
+abbrev pub messages_of : Input → ℕ → List (List ℕ)
+messages_of i h = messages (packets_of i.flows h) (raws_of i.raws h)
 
 -- all that the host sends, how many of these it has sent, and how many frames it has taken
 pub record HostState : Type 0 where

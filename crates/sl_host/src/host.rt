@@ -2,7 +2,7 @@
 ghost use Rattle.std.specs.Prelude.{◌≡◌, ◌+◌, ◌<◌, Option, None, IfOk};
 ghost use Rattle.std.specs.List.{All};
 ghost use Rattle.sl_flow.specs.Flow.{HasAddresses};
-ghost use Rattle.sl_host.specs.Host.{HostState, frames_of, host_rules, host_counts};
+ghost use Rattle.sl_host.specs.Host.{HostState, messages_of, host_rules, host_counts};
 
 use crate::frames::{frame_at, raws_of};
 use sl_flow::packets_of;
@@ -43,7 +43,7 @@ impl Host {
     /// hosts that flows name are below 65,536, as those of an accepted input are.
     pub fn new(alloc: Global, host: u32, input: &Input) -> Result<Host, Memory>
         requires { All HasAddresses input.now.flows }
-        ensures state { IfOk result (λ h. h.state ≡ record { messages = frames_of input.now host; sent = 0; delivered = 0 }) }
+        ensures state { IfOk result (λ h. h.state ≡ record { messages = messages_of input.now host; sent = 0; delivered = 0 }) }
         ensures ready { IfOk result (λ h. h.ready ≡ None) }
     {
         let packets = packets_of(alloc, host, input.flows.as_slice())?;

@@ -3,7 +3,7 @@ use Rattle.std.proofs.Common.{◌≡◌, ℕ, ◌+◌, ◌-◌, ◌*◌, ◌/◌
 use Rattle.std.proofs.lemmas.Bool.{cases_lt}
 use Rattle.std.proofs.lemmas.Nat.{div-add-mod', mod-mul-add, mod_below, pow_pos}
 use Rattle.std.proofs.Math.Nat.{add-mod-mod, mod-add-mod, mod-eq_of_lt}
-use Rattle.sl_ids.specs.Ids.{modulus, wrapped, distance}
+use Rattle.sl_ids.specs.Ids.{modulus, wrapped, distance, unwrapped}
 
 -- going up from a wrapped id by its distance to another leads there
 around : (m base w : ℕ) → w < m → (base + (w + m - base % m) % m) % m ≡ w
@@ -36,3 +36,7 @@ distance-wrapped bits a b h l =
     let sum : a + (b - a) ≡ b = omega arith in
     distance-by (modulus bits) (wrapped bits a) (b - a) (wrapped bits b) (mod_below a (modulus bits) (pow_pos bits)) (omega (arith, h, l))
     (sym (mod-add-mod a (modulus bits) (b - a) ∙ ap (λ n. n % modulus bits) sum))
+
+-- the number that a wrapped id stands for is the one near that was wrapped
+pub unwrapped-near : (bits base n : ℕ) → base ≤ n → n < base + modulus bits → unwrapped bits base (wrapped bits n) ≡ n
+unwrapped-near bits base n h l = let e = distance-wrapped bits base n h l in omega (arith, e, h)

@@ -6,6 +6,6 @@ mod laws;
 mod wid;
 mod width;
 
-pub use laws::{distances_are_differences, distances_lead_back};
+pub use laws::{distances_are_differences, distances_lead_back, numbers_near_are_unwrapped};
 pub use wid::{Wid, distance, newer, unwrap_from, wrap};
 pub use width::Width;

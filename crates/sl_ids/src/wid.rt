@@ -1,6 +1,7 @@
 // Wrapped ids, and what one tells beside another.
 ghost use Rattle.std.specs.Prelude.{◌≡◌, ℕ, ◌+◌, ◌-◌, ◌<◌, ◌≤◌, ◌^◌, ◌↔◌, IsTrue};
-ghost use Rattle.sl_ids.specs.Ids.{modulus, wrapped, distance};
+ghost use Rattle.sl_ids.specs.Ids.{modulus, wrapped, distance, unwrapped};
+ghost use Rattle.sl_ids.specs.Wids.{wid};
 
 use crate::width::Width;
 
@@ -14,6 +15,7 @@ pub struct Wid {
 /// The wrapped id of the number `k`.
 pub fn wrap(width: Width, k: u64) -> Wid
     ensures value { result.raw ≡ wrapped width.bits k }
+    ensures wid { result ≡ wid width.bits k }
     ensures below { result.raw < modulus width.bits }
 {
     let mask = u64::from(width.modulus()) - 1;
@@ -44,6 +46,7 @@ pub fn distance(width: Width, from: Wid, to: Wid) -> u16
 pub fn unwrap_from(width: Width, base: u64, w: Wid) -> u64
     requires wid { w.raw < modulus width.bits }
     requires room { base + modulus width.bits < 2 ^ 64 }
+    ensures value { result ≡ unwrapped width.bits base w.raw }
     ensures wraps { wrapped width.bits result ≡ w.raw }
     ensures from { base ≤ result }
     ensures near { result < base + modulus width.bits }

@@ -5,6 +5,7 @@ use Rattle.sl_layout.specs.Net.{link_of, links_out, choice_of, action_choice}
 use Rattle.sl_layout.specs.Serving.{serving}
 use Rattle.sl_net.specs.Wired.{IsWired}
 use Rattle.sl_control.specs.Control.{ControlState}
+use Rattle.sl_wire.specs.Sizes.{Sizes}
 use Rattle.sl_model.specs.History.{World, Losses, history}
 use Rattle.sl_model.specs.Setup.{Setup}
 use Rattle.sl_model.specs.Knowledge.{dumped, is_outstanding, is_again}
@@ -25,8 +26,8 @@ known-steps s lost w a l reported r v = subst (λ c. dumped c (history w a) ≤ 
     (subst (λ b. dumped (choice_of s.net v.reports.dump) (history w b) ≤ length (history w (link_of s.net l).to)) (sym v.control)
     (reported lost w (link_of s.net l).to v.unit v.reports r v.is_unit).dumped_at_most)
 
-pub stays : TakesTurns → (s : Setup) (lost : Losses) (es : List Entry) (e : Entry) (a ring : ℕ) (t : ControlState) → AreReported s → IsWired s.net → (a ≡ e.0 → ⊥) → IsControlOf s.net ring (history (world s lost es)) a t → IsControlOf s.net ring (history (turn s lost (world s lost es) e)) a t
-stays turns s lost es e a ring t reported z ne r = record {
+pub stays : TakesTurns → (s : Setup) (lost : Losses) (es : List Entry) (e : Entry) (a : ℕ) (sizes : Sizes) (t : ControlState) → AreReported s → IsWired s.net → (a ≡ e.0 → ⊥) → IsControlOf s.net sizes (history (world s lost es)) a t → IsControlOf s.net sizes (history (turn s lost (world s lost es) e)) a t
+stays turns s lost es e a sizes t reported z ne r = record {
   wires = r.wires;
   units = r.units ∙ same-units (known_of s.net (history w) a) (known_of s.net (history (turn s lost w e)) a) (serving s.net a) (links_out s.net a Poll)
       (each-of (λ l. known_of s.net (history w) a (serving s.net a l) ≡ known_of s.net (history (turn s lost w e)) a (serving s.net a l)) (links_out s.net a Poll) one);

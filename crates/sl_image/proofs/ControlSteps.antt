@@ -10,9 +10,10 @@ use Rattle.sl_layout.specs.declared.actor.Sort.TheVariants.{Init, Poll, Notice, 
 use Rattle.sl_layout.specs.Net.{Net, actor_of, link_of, links_into, links_out, action_choice}
 use Rattle.sl_layout.specs.Serving.{Served, serving, served}
 use Rattle.sl_net.specs.Wired.{IsWired}
-use Rattle.sl_wire.specs.declared.message.PlainDump.{PlainDump}
+use Rattle.sl_wire.specs.declared.message.Dump.{Dump as UnitDump}
+use Rattle.sl_wire.specs.Sizes.{Sizes}
 use Rattle.sl_control.specs.declared.known.Known.{Known}
-use Rattle.sl_control.specs.Control.{asked, ask_by, ask_puts, is_read, takes_dump, dump_by, dump_puts, answered, answer_by}
+use Rattle.sl_control.specs.Control.{asked, ask_by, ask_puts, numbers_told, is_taken, takes_dump, dump_by, dump_puts, answered, answer_by}
 use Rattle.sl_control.specs.Wires.{unit_wires, unheard, control_wires, first_control}
 use Rattle.sl_model.specs.declared.message.Message.{Message}
 use Rattle.sl_model.specs.declared.message.Message.TheVariants.{Init as InitMsg, Notice as NoticeMsg, Dump as DumpMsg, Begin as BeginMsg}
@@ -31,12 +32,12 @@ use Rattle.sl_image.specs.Messages.{AreSent}
 use Rattle.sl_image.specs.ControlImage.{known_of, IsControlOf, told_at}
 use Rattle.sl_model.proofs.Polls.{send-off, own-link, polls-else, again-else, if-off, answer-on, is-served}
 use Rattle.sl_image.proofs.ControlUnits.{seen, unheard-is, still, asked-is, dumped-is}
-use Rattle.sl_image.proofs.ControlTells.{Tells, answered-is, done-is, read-is}
+use Rattle.sl_image.proofs.ControlTells.{Tells, answered-is, done-is, taken-is}
 use Rattle.sl_image.proofs.ControlWays.{unit-at, dump-from, no-dump}
 use Rattle.sl_image.proofs.ControlPuts.{sent-each, flat-map, sent-if, sent-polls, sent-answer}
 
-pub starts : TakesTurns → (net : Net) (a ring : ℕ) → IsControlOf net ring (history (start net)) a (first_control net a ring)
-starts turns net a ring = record { wires = refl; units = each (served net a) }
+pub starts : TakesTurns → (net : Net) (a : ℕ) (sizes : Sizes) → IsControlOf net sizes (history (start net)) a (first_control net a sizes)
+starts turns net a sizes = record { wires = refl; units = each (served net a) }
   where
     one : (v : Served) → unheard (unit_wires net v) ≡ known_of net (history (start net)) a v
     one v = sym (unheard-is net (action_choice net a) v) ∙ sym (λ i. seen net (action_choice net a) v (turns.starts net a i) (turns.starts net v.unit i))
@@ -125,12 +126,12 @@ notice-one net us ws a d l k step z q t m b i o e p = by_test (eqb_tells step.ch
         ∙ sym (still net (action_choice net a) (serving net a l) step (us a) g no-dumps (asking ∙ x.0) (puts ∙ ap (λ b. on_link l (if b then poll_puts (serving net a l) (us a) else [])) x.0))
         ∙ after-is net us ws a d l step q v t
 
-pub notice-sent : (net : Net) (ring : ℕ) (us ws : ℕ → History) (a c : ℕ) (vs : List Served)
-    → AreSent net ring ws a (told_at net us a) (flat_map (λ v. if c == v.notice then poll_puts v (us a) else []) vs) (flat_map (ask_puts (Some c)) (map (known_of net us a) vs))
-notice-sent net ring us ws a c vs = subst (AreSent net ring ws a (told_at net us a) (flat_map (λ v. if c == v.notice then poll_puts v (us a) else []) vs)) (sym (flat-map (ask_puts (Some c)) (known_of net us a) vs))
-    (sent-each net ring ws a (told_at net us a) (λ v. if c == v.notice then poll_puts v (us a) else []) (λ v. ask_puts (Some c) (known_of net us a v)) vs
-    (each-of (λ v. AreSent net ring ws a (told_at net us a) (if c == v.notice then poll_puts v (us a) else []) (ask_puts (Some c) (known_of net us a v))) vs
-    (λ v m. sent-if net ring ws a (told_at net us a) (c == v.notice) (poll_puts v (us a)) _ (sent-polls net ring us ws a (told_at net us a) v))))
+pub notice-sent : (net : Net) (sizes : Sizes) (us ws : ℕ → History) (a c : ℕ) (vs : List Served)
+    → AreSent net sizes ws a (told_at net us a) (flat_map (λ v. if c == v.notice then poll_puts v (us a) else []) vs) (flat_map (ask_puts (Some c)) (map (known_of net us a) vs))
+notice-sent net sizes us ws a c vs = subst (AreSent net sizes ws a (told_at net us a) (flat_map (λ v. if c == v.notice then poll_puts v (us a) else []) vs)) (sym (flat-map (ask_puts (Some c)) (known_of net us a) vs))
+    (sent-each net sizes ws a (told_at net us a) (λ v. if c == v.notice then poll_puts v (us a) else []) (λ v. ask_puts (Some c) (known_of net us a v)) vs
+    (each-of (λ v. AreSent net sizes ws a (told_at net us a) (if c == v.notice then poll_puts v (us a) else []) (ask_puts (Some c) (known_of net us a v))) vs
+    (λ v m. sent-if net sizes ws a (told_at net us a) (c == v.notice) (poll_puts v (us a)) _ (sent-polls net sizes us ws a (told_at net us a) v))))
 
 -- A sweep.
 
@@ -143,18 +144,18 @@ sweep-one net us ws a d l step z q t m b i c e p = let v = served-at net a l z m
     (ap (on_link l) p ∙ own-link net a l (λ v. poll_puts v (us a)) m (λ x ne. polls-else (serving net a x) (us a) l ne)) b)
     ∙ after-is net us ws a d l step q v t
 
-pub sweep-sent : (net : Net) (ring : ℕ) (us ws : ℕ → History) (a : ℕ) (vs : List Served)
-    → AreSent net ring ws a (told_at net us a) (flat_map (λ v. poll_puts v (us a)) vs) (flat_map (ask_puts None) (map (known_of net us a) vs))
-sweep-sent net ring us ws a vs = subst (AreSent net ring ws a (told_at net us a) (flat_map (λ v. poll_puts v (us a)) vs)) (sym (flat-map (ask_puts None) (known_of net us a) vs))
-    (sent-each net ring ws a (told_at net us a) (λ v. poll_puts v (us a)) (λ v. ask_puts None (known_of net us a v)) vs
-    (each-of (λ v. AreSent net ring ws a (told_at net us a) (poll_puts v (us a)) (ask_puts None (known_of net us a v))) vs
-    (λ v m. sent-polls net ring us ws a (told_at net us a) v)))
+pub sweep-sent : (net : Net) (sizes : Sizes) (us ws : ℕ → History) (a : ℕ) (vs : List Served)
+    → AreSent net sizes ws a (told_at net us a) (flat_map (λ v. poll_puts v (us a)) vs) (flat_map (ask_puts None) (map (known_of net us a) vs))
+sweep-sent net sizes us ws a vs = subst (AreSent net sizes ws a (told_at net us a) (flat_map (λ v. poll_puts v (us a)) vs)) (sym (flat-map (ask_puts None) (known_of net us a) vs))
+    (sent-each net sizes ws a (told_at net us a) (λ v. poll_puts v (us a)) (λ v. ask_puts None (known_of net us a v)) vs
+    (each-of (λ v. AreSent net sizes ws a (told_at net us a) (poll_puts v (us a)) (ask_puts None (known_of net us a v))) vs
+    (λ v m. sent-polls net sizes us ws a (told_at net us a) v)))
 
 -- A dump.
 
 -- what holds of the unit whose dump comes
-pub record Answers (net : Net) (ring : ℕ) (us : ℕ → History) (a l n : ℕ) (d : PlainDump) : Type 0 where
-  pub tells : Tells net ring (serving net a l) (told_of us (serving net a l) (us a)) (first n (us (link_of net l).to)) d
+pub record Answers (net : Net) (sizes : Sizes) (us : ℕ → History) (a l n : ℕ) (d : UnitDump) : Type 0 where
+  pub tells : Tells net sizes (serving net a l) (told_of us (serving net a l) (us a)) (first n (us (link_of net l).to)) d
   pub waits : is_outstanding (serving net a l) (us a) ≡ true
 
 dump-puts : (net : Net) (a c l n : ℕ) (h : History) (ps : List Put) → Member l (links_out net a Poll) → ps ≡ control_puts net a h c (DumpMsg n)
@@ -162,16 +163,16 @@ dump-puts : (net : Net) (a c l n : ℕ) (h : History) (ps : List Put) → Member
 dump-puts net a c l n h ps m p = ap (on_link l) p ∙ own-link net a l (λ v. if c == v.dump then dump_answer net a h n v else []) m
     (λ x ne. if-off (c == (serving net a x).dump) l (dump_answer net a h n (serving net a x)) (answer-on net a l n h (serving net a x) m ∙ again-else (is_again (action_choice net a) (serving net a x) h) x l ne))
 
-takes-it : (net : Net) (ring : ℕ) (us : ℕ → History) (a c l n : ℕ) (d : PlainDump) → Answers net ring us a l n d → nat_eq c (serving net a l).dump ≡ true → takes_dump ring c d (known_of net us a (serving net a l)) ≡ true
-takes-it net ring us a c l n d x e = and_from _ _ e (read-is net ring (serving net a l) (told_of us (serving net a l) (us a)) (first n (us (link_of net l).to)) d (is_outstanding (serving net a l) (us a)) (is_again (action_choice net a) (serving net a l) (us a)) x.tells x.waits)
+takes-it : (net : Net) (sizes : Sizes) (us : ℕ → History) (a c l n : ℕ) (d : UnitDump) → Answers net sizes us a l n d → nat_eq c (serving net a l).dump ≡ true → takes_dump sizes c d (known_of net us a (serving net a l)) ≡ true
+takes-it net sizes us a c l n d x e = and_from _ _ e (taken-is net sizes (serving net a l) (told_of us (serving net a l) (us a)) (first n (us (link_of net l).to)) d (is_outstanding (serving net a l) (us a)) (is_again (action_choice net a) (serving net a l) (us a)) x.tells x.waits)
 
-leaves-it : (net : Net) (ring : ℕ) (us : ℕ → History) (a c l : ℕ) (d : PlainDump) → nat_eq c (serving net a l).dump ≡ false → takes_dump ring c d (known_of net us a (serving net a l)) ≡ false
-leaves-it net ring us a c l d e = ap (λ b. b && is_read ring d (known_of net us a (serving net a l))) e
+leaves-it : (net : Net) (sizes : Sizes) (us : ℕ → History) (a c l : ℕ) (d : UnitDump) → nat_eq c (serving net a l).dump ≡ false → takes_dump sizes c d (known_of net us a (serving net a l)) ≡ false
+leaves-it net sizes us a c l d e = ap (λ b. b && is_taken sizes d (known_of net us a (serving net a l))) e
 
-pub dump-one : (net : Net) (ring : ℕ) (us ws : ℕ → History) (a c l n : ℕ) (step : Step) (d : PlainDump) → IsWired net → actor_of net a ≡ Control c → Turns us ws a step → Member l (links_out net a Poll) → IsAsked (serving net a l) (us a)
-    → (step.choice ≡ (serving net a l).dump → Answers net ring us a l n d) → step.taken ≡ Some (DumpMsg n) → step.puts ≡ control_puts net a (us a) step.choice (DumpMsg n)
-    → dump_by ring step.choice d (known_of net us a (serving net a l)) ≡ known_of net ws a (serving net a l)
-dump-one net ring us ws a c l n step d z q t m b f e p = by_test (eqb_tells step.choice (serving net a l).dump)
+pub dump-one : (net : Net) (sizes : Sizes) (us ws : ℕ → History) (a c l n : ℕ) (step : Step) (d : UnitDump) → IsWired net → actor_of net a ≡ Control c → Turns us ws a step → Member l (links_out net a Poll) → IsAsked (serving net a l) (us a)
+    → (step.choice ≡ (serving net a l).dump → Answers net sizes us a l n d) → step.taken ≡ Some (DumpMsg n) → step.puts ≡ control_puts net a (us a) step.choice (DumpMsg n)
+    → dump_by sizes step.choice d (known_of net us a (serving net a l)) ≡ known_of net ws a (serving net a l)
+dump-one net sizes us ws a c l n step d z q t m b f e p = by_test (eqb_tells step.choice (serving net a l).dump)
   where
     v : IsServed net a l
     v = served-at net a l z m
@@ -185,22 +186,22 @@ dump-one net ring us ws a c l n step d z q t m b f e p = by_test (eqb_tells step
     puts : on_link l step.puts ≡ on_link l (if step.choice == (serving net a l).dump then dump_answer net a (us a) n (serving net a l) else [])
     puts = dump-puts net a step.choice l n (us a) step.puts m p
 
-    by_test : Tested step.choice (serving net a l).dump → dump_by ring step.choice d (known_of net us a (serving net a l)) ≡ known_of net ws a (serving net a l)
+    by_test : Tested step.choice (serving net a l).dump → dump_by sizes step.choice d (known_of net us a (serving net a l)) ≡ known_of net ws a (serving net a l)
     by_test (inl x) = let y = f x.1 in
-        ap (λ b. cond b (answered d r) r) (takes-it net ring us a step.choice l n d y x.0)
-        ∙ answered-is net ring (serving net a l) (told_of us (serving net a l) (us a)) (first n g) d (is_outstanding (serving net a l) (us a)) (is_again (action_choice net a) (serving net a l) (us a)) y.tells
+        ap (λ b. cond b (answered (numbers_told sizes.bits d r) r) r) (takes-it net sizes us a step.choice l n d y x.0)
+        ∙ answered-is net sizes (serving net a l) (told_of us (serving net a l) (us a)) (first n g) d (is_outstanding (serving net a l) (us a)) (is_again (action_choice net a) (serving net a l) (us a)) y.tells
         ∙ sym (dumped-is net (action_choice net a) (serving net a l) step (us a) g n x.1 e
         (puts ∙ ap (λ b. on_link l (if b then dump_answer net a (us a) n (serving net a l) else [])) x.0 ∙ answer-on net a l n (us a) (serving net a l) m) y.waits b)
         ∙ after-is net us ws a c l step q v t
-    by_test (inr x) = ap (λ b. cond b (answered d r) r) (leaves-it net ring us a step.choice l d x.0)
+    by_test (inr x) = ap (λ b. cond b (answered (numbers_told sizes.bits d r) r) r) (leaves-it net sizes us a step.choice l d x.0)
         ∙ sym (still net (action_choice net a) (serving net a l) step (us a) g x.1 (ap (asks (action_choice net a) (serving net a l) step.choice) e)
         (puts ∙ ap (λ b. on_link l (if b then dump_answer net a (us a) n (serving net a l) else [])) x.0))
         ∙ after-is net us ws a c l step q v t
 
-pub answer-one : (net : Net) (ring : ℕ) (us ws : ℕ → History) (a c e l n : ℕ) (step : Step) (d : PlainDump) → IsWired net → actor_of net a ≡ Control e → Turns us ws a step → Member l (links_out net a Poll)
-    → (c ≡ (serving net a l).dump → Answers net ring us a l n d)
-    → AreSent net ring ws a (told_at net us a) (if c == (serving net a l).dump then dump_answer net a (us a) n (serving net a l) else []) (dump_puts ring (control_wires net a ring).done c d (known_of net us a (serving net a l)))
-answer-one net ring us ws a c e l n step d z q t m f = by_test (eqb_tells c (serving net a l).dump)
+pub answer-one : (net : Net) (sizes : Sizes) (us ws : ℕ → History) (a c e l n : ℕ) (step : Step) (d : UnitDump) → IsWired net → actor_of net a ≡ Control e → Turns us ws a step → Member l (links_out net a Poll)
+    → (c ≡ (serving net a l).dump → Answers net sizes us a l n d)
+    → AreSent net sizes ws a (told_at net us a) (if c == (serving net a l).dump then dump_answer net a (us a) n (serving net a l) else []) (dump_puts sizes (control_wires net a sizes).done c d (known_of net us a (serving net a l)))
+answer-one net sizes us ws a c e l n step d z q t m f = by_test (eqb_tells c (serving net a l).dump)
   where
     v : IsServed net a l
     v = served-at net a l z m
@@ -215,12 +216,12 @@ answer-one net ring us ws a c e l n step d z q t m f = by_test (eqb_tells c (ser
     dones = ap (λ b. links_out net b Done) v.control ∙ v.reports.dones
 
     by_test : Tested c (serving net a l).dump
-        → AreSent net ring ws a (told_at net us a) (if c == (serving net a l).dump then dump_answer net a (us a) n (serving net a l) else []) (dump_puts ring (control_wires net a ring).done c d (known_of net us a (serving net a l)))
-    by_test (inl x) = let y = f x.1 in let b = takes-it net ring us a c l n d y x.0 in
-        subst (λ y. AreSent net ring ws a (told_at net us a) (if y then dump_answer net a (us a) n (serving net a l) else []) (dump_puts ring (control_wires net a ring).done c d r)) (sym x.0)
-        (subst (λ y. AreSent net ring ws a (told_at net us a) (dump_answer net a (us a) n (serving net a l)) (cond y (answer_by (control_wires net a ring).done d r) [])) (sym b)
-        (sent-answer net ring us ws a v.reports.done n s d dones (unit-at net (link_of net l).to (z.ways.unit (link_of net l).to v.unit v.is_unit)) refl (t.other (link_of net l).to (not-control net a e l q v))
-        (done-is net ring s (told_of us s (us a)) (first n (us (link_of net l).to)) d (is_outstanding s (us a)) (is_again (action_choice net a) s (us a)) y.tells)))
-    by_test (inr x) = let b = leaves-it net ring us a c l d x.0 in
-        subst (λ y. AreSent net ring ws a (told_at net us a) (if y then dump_answer net a (us a) n (serving net a l) else []) (dump_puts ring (control_wires net a ring).done c d r)) (sym x.0)
-        (subst (λ y. AreSent net ring ws a (told_at net us a) [] (cond y (answer_by (control_wires net a ring).done d r) [])) (sym b) tt)
+        → AreSent net sizes ws a (told_at net us a) (if c == (serving net a l).dump then dump_answer net a (us a) n (serving net a l) else []) (dump_puts sizes (control_wires net a sizes).done c d (known_of net us a (serving net a l)))
+    by_test (inl x) = let y = f x.1 in let b = takes-it net sizes us a c l n d y x.0 in
+        subst (λ y. AreSent net sizes ws a (told_at net us a) (if y then dump_answer net a (us a) n (serving net a l) else []) (dump_puts sizes (control_wires net a sizes).done c d r)) (sym x.0)
+        (subst (λ y. AreSent net sizes ws a (told_at net us a) (dump_answer net a (us a) n (serving net a l)) (cond y (answer_by (control_wires net a sizes).done (numbers_told sizes.bits d r) d.view r) [])) (sym b)
+        (sent-answer net sizes us ws a v.reports.done n s (numbers_told sizes.bits d r) d.view dones (unit-at net (link_of net l).to (z.ways.unit (link_of net l).to v.unit v.is_unit)) refl (t.other (link_of net l).to (not-control net a e l q v))
+        (done-is net sizes s (told_of us s (us a)) (first n (us (link_of net l).to)) d (is_outstanding s (us a)) (is_again (action_choice net a) s (us a)) y.tells)))
+    by_test (inr x) = let b = leaves-it net sizes us a c l d x.0 in
+        subst (λ y. AreSent net sizes ws a (told_at net us a) (if y then dump_answer net a (us a) n (serving net a l) else []) (dump_puts sizes (control_wires net a sizes).done c d r)) (sym x.0)
+        (subst (λ y. AreSent net sizes ws a (told_at net us a) [] (cond y (answer_by (control_wires net a sizes).done (numbers_told sizes.bits d r) d.view r) [])) (sym b) tt)

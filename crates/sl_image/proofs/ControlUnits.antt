@@ -1,6 +1,7 @@
 -- What a control plane knows of one unit, in a step.
 use Rattle.std.proofs.Common.{◌≡◌, ℕ, zero, suc, ◌+◌, ◌<◌, ◌≤◌, List, [], ◌∷◌, ◌++◌, length, refl, sym, ap, ◌∙◌, Option, Some, None, arith, inl, inr, length-append, append-nil, eq-eqb, map}
-use Rattle.std.specs.Prelude.{cond, true, false, Bool, nat_lt, ◌==◌, ◌||◌, ◌⊎◌, if◌then◌else◌, replicate, take, option_map, unwrap_or, option_and_then, slice_get}
+use Rattle.std.specs.Prelude.{min, cond, true, false, Bool, nat_lt, ◌==◌, ◌||◌, ◌⊎◌, if◌then◌else◌, replicate, take, option_map, unwrap_or, option_and_then, slice_get}
+use Rattle.std.specs.List.{fold}
 use Rattle.std.proofs.lemmas.Bool.{lt-ltb, le-ltb, ltb-true, cases_Bool, ne_eqb}
 use Rattle.sl_layout.specs.declared.actor.Sort.TheVariants.{Init}
 use Rattle.sl_layout.specs.Net.{Net, choices_of, data_channels}
@@ -12,7 +13,6 @@ use Rattle.sl_model.specs.declared.message.Message.{Message}
 use Rattle.sl_model.specs.declared.message.Message.TheVariants.{Poll as PollMsg, Dump as DumpMsg}
 use Rattle.sl_model.specs.declared.message.Put.{Put}
 use Rattle.sl_model.specs.declared.message.Step.{Step}
-use Rattle.sl_model.specs.Words.{least_of}
 use Rattle.sl_model.specs.History.{History, last, first, dump_of, taken, on_link, put}
 use Rattle.sl_model.specs.Knowledge.{dumped, is_outstanding, puts_on, asks, is_again}
 use Rattle.sl_model.specs.Puts.{send, poll_puts}
@@ -42,7 +42,7 @@ more-zeros (suc n) (suc m) i p = ap (λ xs. 0 ∷ xs) (more-zeros n m i (omega (
 no-last : (net : Net) (u : ℕ) → eight (lasts net u []) ≡ nulls 8
 no-last net u = ap eight (zeros (data_channels net u)) ∙ more-zeros 8 (length (data_channels net u)) 8 (omega arith)
 
-pub least-zero : (cs : List ℕ) → least_of 0 (map (λ c. last c []) cs) ≡ 0
+pub least-zero : (cs : List ℕ) → fold min 0 (map (λ c. last c []) cs) ≡ 0
 least-zero [] = refl
 least-zero (c ∷ cs) = least-zero cs
 

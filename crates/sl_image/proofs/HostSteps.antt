@@ -11,6 +11,7 @@ use Rattle.sl_net.specs.Wired.{IsWired, receives, HostLinks}
 use Rattle.sl_net.specs.Ways.{IsInto}
 use Rattle.sl_wire.specs.declared.message.Msg.{Msg}
 use Rattle.sl_wire.specs.declared.message.Msg.TheVariants as wire
+use Rattle.sl_wire.specs.Sizes.{Sizes}
 use Rattle.sl_machine.specs.Counting.{one_more}
 use Rattle.sl_host.specs.Host.{HostState, host_take, host_act, sending}
 use Rattle.sl_model.specs.declared.message.Message.{Message}
@@ -70,9 +71,9 @@ comes-frame turns s lost w a i step z r q t = frame-fits t.took.message (ap (λ 
     fit : fits_link s.net t.took.link t.took.message ≡ true
     fit = turns.fits s lost w a step r t
 
-module _ (turns : TakesTurns) (s : Setup) (lost : Losses) (es : List Entry) (a c i ring : ℕ) (told : ℕ → ℕ) (step : Step) (z : IsWired s.net) (q : actor_of s.net a ≡ OfHost i) (k : HostLinks s.net a) (x : next_step s lost (world s lost es) (a, c) ≡ Some step) where
+module _ (turns : TakesTurns) (s : Setup) (lost : Losses) (es : List Entry) (a c i : ℕ) (sizes : Sizes) (told : ℕ → ℕ) (step : Step) (z : IsWired s.net) (q : actor_of s.net a ≡ OfHost i) (k : HostLinks s.net a) (x : next_step s lost (world s lost es) (a, c) ≡ Some step) where
   abbrev SimulatesIt : After HostState Msg → Type 0
-  SimulatesIt y = Simulates (IsHostOf s a i (turn s lost (world s lost es) (a, c))) s.net ring (λ u. history (turn s lost (world s lost es) (a, c)) u) a told step.puts y
+  SimulatesIt y = Simulates (IsHostOf s a i (turn s lost (world s lost es) (a, c))) s.net sizes (λ u. history (turn s lost (world s lost es) (a, c)) u) a told step.puts y
 
   takes-frame : (b : List ℕ) → step.choice ≡ 0 → step.puts ≡ [] → length es < 2 ^ 40 → SimulatesIt (host_take (host_of s a i (history (world s lost es) a)) c (wire.Host b))
   takes-frame b e ps l =
@@ -83,10 +84,10 @@ module _ (turns : TakesTurns) (s : Setup) (lost : Losses) (es : List Entry) (a c
       let delivered : one_more (taken 0 h) ≡ taken 0 (history (turn s lost w (a, c)) a) = more ∙ sym (ap (taken 0) g.same ∙ turns.counted 0 step h e) in
       record {
         stands = λ j. record { messages = frames_of s i; sent = sent j; delivered = delivered j };
-        sent = subst (λ ps. AreSent s.net ring (λ u. history (turn s lost w (a, c)) u) a told ps []) (sym ps) tt;
+        sent = subst (λ ps. AreSent s.net sizes (λ u. history (turn s lost w (a, c)) u) a told ps []) (sym ps) tt;
       }
 
-  pub host-takes : (b : ℕ) (before : ℕ → ℕ) (m : Message) (y : Msg) → step.taken ≡ Some m → length es < 2 ^ 40 → IsMessage s.net ring (λ u. history (world s lost es) u) b before m y
+  pub host-takes : (b : ℕ) (before : ℕ → ℕ) (m : Message) (y : Msg) → step.taken ≡ Some m → length es < 2 ^ 40 → IsMessage s.net sizes (λ u. history (world s lost es) u) b before m y
       → SimulatesIt (host_take (host_of s a i (history (world s lost es) a)) c y)
   host-takes b before m y e l is = by_view (turns.view s lost (world s lost es) (a, c) step x)
     where
@@ -94,7 +95,7 @@ module _ (turns : TakesTurns) (s : Setup) (lost : Losses) (es : List Entry) (a c
       by_view (inl t) =
           let f = comes-frame turns s lost (world s lost es) a i step z (turns.ran s lost es) q t in
           let same : m ≡ HostMsg f.0 = (let u : Some m ≡ Some t.took.message = sym e ∙ t.took.taken in let v : m ≡ t.took.message = cc in v ∙ f.1) in
-          let frame : y ≡ wire.Host f.0 = subst (λ m. IsMessage s.net ring (λ u. history (world s lost es) u) b before m y) same is in
+          let frame : y ≡ wire.Host f.0 = subst (λ m. IsMessage s.net sizes (λ u. history (world s lost es) u) b before m y) same is in
           let low = slice_get_within (links_into s.net a) step.choice t.took.link t.took.into in let one = k.one_in in
           subst (λ y. SimulatesIt (host_take (host_of s a i (history (world s lost es) a)) c y)) (sym frame)
           (takes-frame f.0 (omega (arith, low, one)) (t.took.puts ∙ ap (λ y. puts_of s a y (history (world s lost es) a) step.choice t.took.link t.took.message) q) l)
@@ -116,11 +117,11 @@ module _ (turns : TakesTurns) (s : Setup) (lost : Losses) (es : List Entry) (a c
       by_frame (Some bytes) f p = record { bytes = bytes; found = f; puts = (let y : send_all (HostMsg bytes) (links_out s.net a FromHost) ≡ step.puts = cc in sym y); choice = d }
   injects fl (suc n) d p = absurd cc
 
-  pub host-acts : step.taken ≡ None → ActSimulates (IsHostOf s a i (turn s lost (world s lost es) (a, c))) s.net ring (λ u. history (turn s lost (world s lost es) (a, c)) u) a told step.puts (host_act (host_of s a i (history (world s lost es) a)) c)
+  pub host-acts : step.taken ≡ None → ActSimulates (IsHostOf s a i (turn s lost (world s lost es) (a, c))) s.net sizes (λ u. history (turn s lost (world s lost es) (a, c)) u) a told step.puts (host_act (host_of s a i (history (world s lost es) a)) c)
   host-acts e = by_view (turns.view s lost (world s lost es) (a, c) step x)
     where
       of_frame : length (links_into s.net a) ≤ step.choice → Injects
-          → ActSimulates (IsHostOf s a i (turn s lost (world s lost es) (a, c))) s.net ring (λ u. history (turn s lost (world s lost es) (a, c)) u) a told step.puts (host_act (host_of s a i (history (world s lost es) a)) c)
+          → ActSimulates (IsHostOf s a i (turn s lost (world s lost es) (a, c))) s.net sizes (λ u. history (turn s lost (world s lost es) (a, c)) u) a told step.puts (host_act (host_of s a i (history (world s lost es) a)) c)
       of_frame p f =
           let w = world s lost es in let h = history w a in let g = turns.grows s lost es (a, c) step x in let d = f.choice in let one = k.one_in in
           let here : step.choice ≡ action_choice s.net a = omega (arith, p, d) in
@@ -131,12 +132,12 @@ module _ (turns : TakesTurns) (s : Setup) (lost : Losses) (es : List Entry) (a c
             is = ap (option_map (sending (host_of s a i h))) f.found;
             simulates = record {
               stands = λ j. record { messages = frames_of s i; sent = sent j; delivered = delivered j };
-              sent = subst (λ ps. AreSent s.net ring (λ u. history (turn s lost w (a, c)) u) a told ps ((0, wire.Host f.bytes) ∷ [])) (sym (f.puts ∙ ap (send_all (HostMsg f.bytes)) k.puts_on)) ((sym k.is_out, refl), tt);
+              sent = subst (λ ps. AreSent s.net sizes (λ u. history (turn s lost w (a, c)) u) a told ps ((0, wire.Host f.bytes) ∷ [])) (sym (f.puts ∙ ap (send_all (HostMsg f.bytes)) k.puts_on)) ((sym k.is_out, refl), tt);
             };
           }
 
       by_view : Takes s lost (world s lost es) a step ⊎ Acts s (world s lost es) a step
-          → ActSimulates (IsHostOf s a i (turn s lost (world s lost es) (a, c))) s.net ring (λ u. history (turn s lost (world s lost es) (a, c)) u) a told step.puts (host_act (host_of s a i (history (world s lost es) a)) c)
+          → ActSimulates (IsHostOf s a i (turn s lost (world s lost es) (a, c))) s.net sizes (λ u. history (turn s lost (world s lost es) (a, c)) u) a told step.puts (host_act (host_of s a i (history (world s lost es) a)) c)
       by_view (inl t) = absurd (let u : None ≡ Some t.took.message = sym e ∙ t.took.taken in cc)
       by_view (inr t) = of_frame (past-end (links_into s.net a) step.choice t.acted.past)
           (injects t.acted.floor (step.choice - action_choice s.net a) refl (subst (λ y. action s t.acted.floor a y (history (world s lost es) a) (step.choice - action_choice s.net a) ≡ Some step.puts) q t.acted.puts))

@@ -1,6 +1,7 @@
 -- The observer's own actions, by its machine.
 use Rattle.std.proofs.Common.{◌≡◌, ℕ, zero, suc, ◌+◌, ◌-◌, ◌<◌, ◌≤◌, List, [], ◌∷◌, length, refl, sym, ap, subst, ◌∙◌, Option, Some, None, arith, inl, inr, eq-eqb, get_or}
 use Rattle.std.specs.Prelude.{◌⊎◌, ◌==◌, ◌&&◌, true, false, Bool, nat_lt, nat_le, nat_eq, if◌then◌else◌, map, slice_get, unwrap_or, option_map, option_and_then}
+use Rattle.sl_route.specs.Least.{least}
 use Rattle.std.proofs.lemmas.Bool.{eqb-true}
 use Rattle.std.proofs.lemmas.Bool.Decides.{eqb_tells}
 use Rattle.sl_machine.specs.Machine.{After}
@@ -15,7 +16,7 @@ use Rattle.sl_parts.proofs.Lists.{distinct-filter, distinct-from, each-index, ea
 use Rattle.std.proofs.lemmas.Simd.{map-map}
 use Rattle.sl_wire.specs.declared.message.Msg.{Msg}
 use Rattle.sl_wire.specs.declared.message.Msg.TheVariants as wire
-use Rattle.sl_observe.specs.Least.{least as least_there}
+use Rattle.sl_wire.specs.Sizes.{Sizes}
 use Rattle.sl_observe.specs.Observer.{ObserverState, observer_act, issue, resend}
 use Rattle.sl_observe.specs.Observer.{register_floor, registers_can_issue, registers_can_resend, begins_out}
 use Rattle.sl_model.specs.declared.message.Message.TheVariants.{Begin as BeginMsg}
@@ -30,14 +31,13 @@ use Rattle.sl_model.specs.Turns.{Takes, Acts, Begins, TakesTurns}
 use Rattle.sl_image.specs.Simulates.{ActSimulates}
 use Rattle.sl_image.specs.Messages.{AreSent}
 use Rattle.sl_image.specs.ObserverImage.{unit_of, observer_of, IsObserverOf, IsTableOf}
-use Rattle.sl_image.proofs.ObserverLists.{place-at, least-same}
+use Rattle.sl_image.proofs.ObserverLists.{place-at}
 use Rattle.sl_image.proofs.ObserverTakes.{same-units}
 
 -- The floor and the guards.
 
 pub floor-same : (net : Net) (table : Snapshot) (w : World) → register_floor (observer_of net table w) ≡ floor net w
-floor-same net table w = ap (λ xs. unwrap_or (least_there xs) (issued net (observer w))) (map-map (λ x. x.floor) (λ u. unit_of net u (collected net w u)) (units net))
-    ∙ ap (λ o. unwrap_or o (issued net (observer w))) (least-same (floors net w))
+floor-same net table w = ap (λ xs. unwrap_or (least xs) (issued net (observer w))) (map-map (λ x. x.floor) (λ u. unit_of net u (collected net w u)) (units net))
 
 issue-same : (s : Setup) (table : Snapshot) (w : World) → IsTableOf s table → registers_can_issue (observer_of s.net table w) ≡ can_issue s (floor s.net w) (observer w)
 issue-same s table w f = let e = floor-same s.net table w in let c = f.count in let d = f.window in
@@ -56,18 +56,18 @@ out-at net i p =
     ap (λ a. place_in 0 (get_or (links_from net 0) i 0) (links_from net a)) from
     ∙ place-at (links_from net 0) 0 i (distinct-filter (λ l. (link_of net l).from == 0) (link_numbers net) (distinct-from 0 (length net.links))) p ∙ (omega arith)
 
-each-sent : (net : Net) (ring : ℕ) (us : ℕ → History) (told : ℕ → ℕ) (k : ℕ) (ls : List ℕ) (j : ℕ) → ((i : ℕ) → i < length ls → out_of net (get_or ls i 0) ≡ j + i)
-    → AreSent net ring us 0 told (send_all (BeginMsg k) ls) (map (λ out. (out, wire.Begin k)) (numbers_from j (length ls)))
-each-sent net ring us told k [] j h = tt
-each-sent net ring us told k (l ∷ ls) j h = (
+each-sent : (net : Net) (sizes : Sizes) (us : ℕ → History) (told : ℕ → ℕ) (k : ℕ) (ls : List ℕ) (j : ℕ) → ((i : ℕ) → i < length ls → out_of net (get_or ls i 0) ≡ j + i)
+    → AreSent net sizes us 0 told (send_all (BeginMsg k) ls) (map (λ out. (out, wire.Begin k)) (numbers_from j (length ls)))
+each-sent net sizes us told k [] j h = tt
+each-sent net sizes us told k (l ∷ ls) j h = (
   ((let e = h 0 (omega arith) in omega (arith, e)), refl),
-  each-sent net ring us told k ls (suc j) (λ i p. let e = h (suc i) (omega (arith, p)) in omega (arith, e)),
+  each-sent net sizes us told k ls (suc j) (λ i p. let e = h (suc i) (omega (arith, p)) in omega (arith, e)),
 )
 
-begins-sent : (net : Net) (ring : ℕ) (us : ℕ → History) (told : ℕ → ℕ) (k : ℕ) → links_out net 0 BeginSort ≡ links_from net 0
-    → AreSent net ring us 0 told (begin_all net k) (begins_out (length (links_from net 0)) k)
-begins-sent net ring us told k q = subst (λ ls. AreSent net ring us 0 told (send_all (BeginMsg k) ls) (begins_out (length (links_from net 0)) k)) (sym q)
-    (each-sent net ring us told k (links_from net 0) 0 (λ i p. out-at net i p ∙ (omega arith)))
+begins-sent : (net : Net) (sizes : Sizes) (us : ℕ → History) (told : ℕ → ℕ) (k : ℕ) → links_out net 0 BeginSort ≡ links_from net 0
+    → AreSent net sizes us 0 told (begin_all net k) (begins_out (length (links_from net 0)) k)
+begins-sent net sizes us told k q = subst (λ ls. AreSent net sizes us 0 told (send_all (BeginMsg k) ls) (begins_out (length (links_from net 0)) k)) (sym q)
+    (each-sent net sizes us told k (links_from net 0) 0 (λ i p. out-at net i p ∙ (omega arith)))
 
 -- Actions that are done.
 
@@ -76,17 +76,17 @@ past-end [] k e = omega arith
 past-end (x ∷ xs) zero e = absurd cc
 past-end (x ∷ xs) (suc k) e = let p = past-end xs k e in omega (arith, p)
 
-module _ (turns : TakesTurns) (s : Setup) (lost : Losses) (table : Snapshot) (es : List Entry) (c ring : ℕ) (told : ℕ → ℕ) (step : Step) (z : IsWired s.net) (f : IsTableOf s table) (all : links_out s.net 0 BeginSort ≡ links_from s.net 0)
+module _ (turns : TakesTurns) (s : Setup) (lost : Losses) (table : Snapshot) (es : List Entry) (c : ℕ) (sizes : Sizes) (told : ℕ → ℕ) (step : Step) (z : IsWired s.net) (f : IsTableOf s table) (all : links_out s.net 0 BeginSort ≡ links_from s.net 0)
     (x : next_step s lost (world s lost es) (0, c) ≡ Some step) (e : step.taken ≡ None) where
   abbrev ActSimulatesIt : Option (After ObserverState Msg) → Type 0
-  ActSimulatesIt o = ActSimulates (IsObserverOf s.net table (turn s lost (world s lost es) (0, c))) s.net ring (λ u. history (turn s lost (world s lost es) (0, c)) u) 0 told step.puts o
+  ActSimulatesIt o = ActSimulates (IsObserverOf s.net table (turn s lost (world s lost es) (0, c))) s.net sizes (λ u. history (turn s lost (world s lost es) (0, c)) u) 0 told step.puts o
 
   units-stay : map (λ u. unit_of s.net u (collected s.net (world s lost es) u)) (units s.net) ≡ map (λ u. unit_of s.net u (collected s.net (turn s lost (world s lost es) (0, c)) u)) (units s.net)
   units-stay = same-units turns s table (world s lost es) (turn s lost (world s lost es) (0, c)) step z (turns.grows s lost es (0, c) step x) (λ u i q. ap (option_and_then (done_of (unit_place s.net u))) e)
 
-  sends : (k : ℕ) → step.puts ≡ begin_all s.net k → AreSent s.net ring (λ u. history (turn s lost (world s lost es) (0, c)) u) 0 told step.puts (begins_out (length (links_from s.net 0)) k)
-  sends k q = subst (λ ps. AreSent s.net ring (λ u. history (turn s lost (world s lost es) (0, c)) u) 0 told ps (begins_out (length (links_from s.net 0)) k)) (sym q)
-      (begins-sent s.net ring (λ u. history (turn s lost (world s lost es) (0, c)) u) told k all)
+  sends : (k : ℕ) → step.puts ≡ begin_all s.net k → AreSent s.net sizes (λ u. history (turn s lost (world s lost es) (0, c)) u) 0 told step.puts (begins_out (length (links_from s.net 0)) k)
+  sends k q = subst (λ ps. AreSent s.net sizes (λ u. history (turn s lost (world s lost es) (0, c)) u) 0 told ps (begins_out (length (links_from s.net 0)) k)) (sym q)
+      (begins-sent s.net sizes (λ u. history (turn s lost (world s lost es) (0, c)) u) told k all)
 
   issues : step.choice ≡ action_choice s.net 0 → can_issue s (floor s.net (world s lost es)) (observer (world s lost es)) ≡ true → step.puts ≡ begin_all s.net (suc (issued s.net (observer (world s lost es))))
       → ActSimulatesIt (observer_act (observer_of s.net table (world s lost es)) c)

@@ -5,12 +5,8 @@ use Rattle.std.proofs.lemmas.Bool.Decides.{eqb_tells}
 use Rattle.sl_parts.specs.Parts.{numbers_from}
 use Rattle.sl_layout.specs.Net.{place_in}
 use Rattle.sl_saves.specs.declared.entry.Saved.{Saved}
-use Rattle.sl_model.specs.Words.{least_of}
-use Rattle.sl_route.specs.Least.{least, least_in}
 use Rattle.sl_parts.specs.Lists.{Member, Distinct}
 use Rattle.sl_parts.proofs.Lists.{inside}
-use Rattle.sl_wire.specs.Reach.{least_of as least_of_there}
-use Rattle.sl_observe.specs.Least.{least as least_there}
 use Rattle.sl_observe.specs.Observer.{is_after}
 
 -- Places.
@@ -79,17 +75,3 @@ pub take-zeros : (cs : List ℕ) (n m : ℕ) → n ≤ m → take {A = ℕ} n (m
 take-zeros [] n m l = take-replicate n m l
 take-zeros (c ∷ cs) zero m l = refl
 take-zeros (c ∷ cs) (suc n) m l = ap (λ r. 0 ∷ r) (take-zeros cs n m (omega (arith, l)))
-
--- Least numbers.
-
-pub least-of-same : (n : ℕ) (xs : List ℕ) → least_of_there n xs ≡ least_of n xs
-least-of-same n [] = refl
-least-of-same n (x ∷ xs) = least-of-same (min n x) xs
-
-least-some : (n : ℕ) (xs : List ℕ) → least_in (Some n) xs ≡ Some (least_of_there n xs)
-least-some n [] = refl
-least-some n (x ∷ xs) = least-some (min n x) xs
-
-pub least-same : (xs : List ℕ) → least_there xs ≡ least xs
-least-same [] = refl
-least-same (x ∷ xs) = let e : x ≡ min x x = omega arith in sym (least-some x xs) ∙ ap (λ n. least_in (Some n) xs) e

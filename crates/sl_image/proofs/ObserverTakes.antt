@@ -17,6 +17,7 @@ use Rattle.sl_parts.proofs.Lists.{distinct-filter, distinct-from, each-at, each-
 use Rattle.std.proofs.lemmas.List.{length-map}
 use Rattle.sl_wire.specs.declared.message.Done.{Done}
 use Rattle.sl_wire.specs.declared.message.Msg.{Msg}
+use Rattle.sl_wire.specs.Sizes.{Sizes}
 use Rattle.sl_layout.specs.Devices.{device_of}
 use Rattle.sl_observe.specs.Observer.{UnitState, ObserverState, new_unit, unit_at, after_done, units_after, observer_take}
 use Rattle.sl_model.specs.declared.message.Message.{Message}
@@ -195,15 +196,15 @@ is-take turns s lost w c step m z x e = by_view (turns.view s lost w (0, c) step
     by_view (inl t) = record { low = slice_get_within (links_into s.net 0) step.choice t.took.link t.took.into; puts = t.took.puts ∙ ap (λ y. puts_of s 0 y (history w 0) step.choice t.took.link t.took.message) z.observer }
     by_view (inr t) = absurd (let q : None ≡ Some m = sym t.acted.taken ∙ e in cc)
 
-module _ (turns : TakesTurns) (s : Setup) (lost : Losses) (table : Snapshot) (es : List Entry) (c ring a : ℕ) (told : ℕ → ℕ) (step : Step) (reported : AreReported s) (rows : BringsRows s lost es step) (z : IsWired s.net) (f : IsTableOf s table) (x : next_step s lost (world s lost es) (0, c) ≡ Some step) where
+module _ (turns : TakesTurns) (s : Setup) (lost : Losses) (table : Snapshot) (es : List Entry) (c : ℕ) (sizes : Sizes) (a : ℕ) (told : ℕ → ℕ) (step : Step) (reported : AreReported s) (rows : BringsRows s lost es step) (z : IsWired s.net) (f : IsTableOf s table) (x : next_step s lost (world s lost es) (0, c) ≡ Some step) where
   abbrev SimulatesIt : After ObserverState Msg → Type 0
-  SimulatesIt y = Simulates (IsObserverOf s.net table (turn s lost (world s lost es) (0, c))) s.net ring (λ u. history (turn s lost (world s lost es) (0, c)) u) 0 told step.puts y
+  SimulatesIt y = Simulates (IsObserverOf s.net table (turn s lost (world s lost es) (0, c))) s.net sizes (λ u. history (turn s lost (world s lost es) (0, c)) u) 0 told step.puts y
 
   leaves : (m : Message) → step.taken ≡ Some m → (us : List UnitState) → us ≡ map (λ u. unit_of s.net u (collected s.net (turn s lost (world s lost es) (0, c)) u)) (units s.net)
       → SimulatesIt (record { state = record (observer_of s.net table (world s lost es)) { units = us }; puts = [] })
   leaves m e us q = let k = is-take turns s lost (world s lost es) c step m z x e in record {
     stands = state-after turns s table (world s lost es) (turn s lost (world s lost es) (0, c)) step z (turns.grows s lost es (0, c) step x) k.low us q;
-    sent = subst (λ ps. AreSent s.net ring (λ u. history (turn s lost (world s lost es) (0, c)) u) 0 told ps []) (sym k.puts) tt;
+    sent = subst (λ ps. AreSent s.net sizes (λ u. history (turn s lost (world s lost es) (0, c)) u) 0 told ps []) (sym k.puts) tt;
   }
 
   -- a message that is no Done
@@ -211,7 +212,7 @@ module _ (turns : TakesTurns) (s : Setup) (lost : Losses) (table : Snapshot) (es
   quiet m e h = leaves m e (map (λ u. unit_of s.net u (collected s.net (world s lost es) u)) (units s.net))
       (same-units turns s table (world s lost es) (turn s lost (world s lost es) (0, c)) step z (turns.grows s lost es (0, c) step x) (λ u i q. ap (option_and_then (done_of (unit_place s.net u))) e ∙ h (unit_place s.net u)))
 
-  pub takes : (m : Message) (y : Msg) → step.taken ≡ Some m → IsMessage s.net ring (λ u. history (world s lost es) u) a (known_at (world s lost es)) m y → SimulatesIt (observer_take (observer_of s.net table (world s lost es)) c y)
+  pub takes : (m : Message) (y : Msg) → step.taken ≡ Some m → IsMessage s.net sizes (λ u. history (world s lost es) u) a (known_at (world s lost es)) m y → SimulatesIt (observer_take (observer_of s.net table (world s lost es)) c y)
   takes (Host b) y e k = subst (λ y. SimulatesIt (observer_take (observer_of s.net table (world s lost es)) c y)) (sym k) (quiet (Host b) e (λ p. refl))
   takes (Data j p) y e k = subst (λ y. SimulatesIt (observer_take (observer_of s.net table (world s lost es)) c y)) (sym k) (quiet (Data j p) e (λ p. refl))
   takes (Probe j) y e k = subst (λ y. SimulatesIt (observer_take (observer_of s.net table (world s lost es)) c y)) (sym k) (quiet (Probe j) e (λ p. refl))

@@ -1,6 +1,7 @@
 -- A unit as the observer has it: what a report changes.
 use Rattle.std.proofs.Common.{◌≡◌, ℕ, suc, ◌+◌, ◌-◌, ◌≤◌, [], ◌++◌, length, sym, ap, ◌∙◌, arith, inl, inr, eq-eqb}
-use Rattle.std.specs.Prelude.{◌⊎◌, ◌==◌, ◌&&◌, true, false, Bool, map, take, replicate, if◌then◌else◌}
+use Rattle.std.specs.Prelude.{◌⊎◌, ◌==◌, ◌&&◌, true, false, Bool, min, map, take, replicate, if◌then◌else◌}
+use Rattle.std.specs.List.{fold}
 use Rattle.std.proofs.lemmas.Bool.{le-leb, and_from}
 use Rattle.std.proofs.lemmas.List.{map-append}
 use Rattle.sl_parts.specs.Parts.{numbers_from}
@@ -12,18 +13,16 @@ use Rattle.std.proofs.lemmas.Simd.{map-map}
 use Rattle.sl_saves.specs.declared.entry.Saved.{Saved}
 use Rattle.sl_saves.specs.Views.{held_saved}
 use Rattle.sl_wire.specs.declared.message.Done.{Done}
-use Rattle.sl_wire.specs.Reach.{least_of as least_of_there}
 use Rattle.sl_layout.specs.Devices.{device_of}
 use Rattle.sl_observe.specs.Observer.{reached, is_after, is_next, told, after_done, first_unit}
 use Rattle.sl_control.specs.Rows.{span}
-use Rattle.sl_model.specs.Words.{least_of}
 use Rattle.sl_model.specs.History.{History, id, last}
 use Rattle.sl_model.specs.Knowledge.{upto_of, floor_of}
 use Rattle.sl_model.specs.Rows.{row}
 use Rattle.sl_image.specs.Messages.{eight, lasts, held_row, IsDoneOf}
 use Rattle.sl_image.specs.ObserverImage.{unit_of}
 use Rattle.sl_image.proofs.ControlUnits.{least-zero}
-use Rattle.sl_image.proofs.ObserverLists.{map-numbers, numbers-more, rows-follow, take-front, take-zeros, least-of-same}
+use Rattle.sl_image.proofs.ObserverLists.{map-numbers, numbers-more, rows-follow, take-front, take-zeros}
 
 abbrev held : Net → ℕ → History → ℕ → Saved
 held net u g k = held_saved (row (data_channels net u) k g)
@@ -49,8 +48,8 @@ channels-are net u g l = let n : length (lasts net u g) ≡ length (data_channel
     ap (λ k. take k (eight (lasts net u g))) (sym n) ∙ take-front (lasts net u g) (replicate 8 0) 8 (omega (arith, n, l))
 
 reached-is : (net : Net) (u ring : ℕ) (before now : History) (d : Done) → Brings net u ring before now d → reached (unit_of net u before) d ≡ upto_of net u now
-reached-is net u ring before now d b = ap (λ n. least_of_there n (take (length (data_channels net u)) d.last)) b.of.id ∙ ap (λ xs. least_of_there (id now) (take (length (data_channels net u)) xs)) b.of.last
-    ∙ ap (least_of_there (id now)) (channels-are net u now b.few) ∙ least-of-same (id now) (lasts net u now)
+reached-is net u ring before now d b = ap (λ n. fold min n (take (length (data_channels net u)) d.last)) b.of.id ∙ ap (λ xs. fold min (id now) (take (length (data_channels net u)) xs)) b.of.last
+    ∙ ap (fold min (id now)) (channels-are net u now b.few)
 
 next-is : (net : Net) (u ring : ℕ) (before now : History) (d : Done) → Brings net u ring before now d → is_next ring (unit_of net u before) d ≡ true
 next-is net u ring before now d b = and_from _ _ (le-leb (length d.rows) ring (omega (arith, n, w))) (and_from _ _
@@ -104,7 +103,7 @@ upto-zero : (net : Net) (u : ℕ) → upto_of net u [] ≡ 0
 upto-zero net u = least-zero (data_channels net u)
 
 floor-zero : (net : Net) (u : ℕ) → floor_of net u [] ≡ 0
-floor-zero net u = ap (λ n. least_of n (map (λ c. last c []) (choices_of net u Init))) (upto-zero net u) ∙ least-zero (choices_of net u Init)
+floor-zero net u = ap (λ n. fold min n (map (λ c. last c []) (choices_of net u Init))) (upto-zero net u) ∙ least-zero (choices_of net u Init)
 
 pub unit-start : (net : Net) (u : ℕ) → first_unit net u ≡ unit_of net u []
 unit-start net u = let l = sym (take-zeros (data_channels net u) 8 8 (omega arith)) in let f = sym (floor-zero net u) in let r = ap (λ n. map (held net u []) (numbers_from 1 n)) (sym (upto-zero net u)) in

@@ -21,6 +21,7 @@ use Rattle.sl_unit.specs.Registers.{Registers, more, dump_of, after_stamp, after
 use Rattle.sl_unit.specs.Registers.{counted as counted_by}
 use Rattle.sl_unit.specs.Step.{UnitState, take_at, framed, routed, passed, probed, initiated, absorbed, send}
 use Rattle.sl_wire.specs.Frames.{plain_frame as wire_frame}
+use Rattle.sl_wire.specs.Sizes.{Sizes, sizes_of}
 use Rattle.sl_model.specs.declared.message.Message.{Message}
 use Rattle.sl_model.specs.declared.message.Message.TheVariants.{Host as HostMsg, Data, Probe as ProbeMsg, Init as InitMsg, Poll as PollMsg, Dump as DumpMsg}
 use Rattle.sl_model.specs.declared.message.Put.{Put}
@@ -92,7 +93,7 @@ cable-data net table u d p us told c k q ps h saved g m out =
     of_moves (data-moves net table.ring u c k q ps h (bad h) (expired h) (noroute net.parts d h) saved g.chans g.room m out g.keeps (adopts-by table.window table.ring c k h (g.near k refl) g.holds))
   where
     of_routes : (v : Moves net table.ring u (taking c (Data k q) ps ∷ h) (bad h) (expired h) (noroute net.parts d h) (after_data (place net u c) k q (regs_at net u d Ingress h saved)))
-        → Routes net table.ring us told u d (taking c (Data k q) ps ∷ h) (bad h) (expired h) (noroute net.parts d h) v.saved q
+        → Routes net (sizes_of table) us told u d (taking c (Data k q) ps ∷ h) (bad h) (expired h) (noroute net.parts d h) v.saved q
         (routed (wires_at net u d Ingress table) q (regs net u (taking c (Data k q) ps ∷ h) (bad h) (expired h) (noroute net.parts d h) v.saved))
         → Ends net table u (unit_at d p Ingress) us told (taking c (Data k q) ps ∷ h) (route net u d (id (taking c (Data k q) ps ∷ h)) q ++ (notice_puts net u (last c h) (Some k) ++ []))
         (take_at (entrance.Cable (place net u c)) (state_at net table u d Ingress h saved) (wire.Data k q))
@@ -103,12 +104,12 @@ cable-data net table u d p us told c k q ps h saved g m out =
         (stands net table u d p Ingress (taking c (Data k q) ps ∷ h) (bad h) (one_if (q.hops == 0) + expired h) (one_if (not (q.hops == 0) && is_none (next_port net.parts d q.dst)) + noroute net.parts d h)
         (routed (wires_at net u d Ingress table) q (after_data (place net u c) k q (regs_at net u d Ingress h saved))).state g.actor
         (record { saved = v.saved; is = ap (λ a. a.state) e ∙ r.state; keeps = v.keeps }) z refl refl)
-        (subst (λ a. AreSent net table.ring us u told (route net u d (id (taking c (Data k q) ps ∷ h)) q) a.puts) (sym e) r.sent)
+        (subst (λ a. AreSent net (sizes_of table) us u told (route net u d (id (taking c (Data k q) ps ∷ h)) q) a.puts) (sym e) r.sent)
 
     of_moves : Moves net table.ring u (taking c (Data k q) ps ∷ h) (bad h) (expired h) (noroute net.parts d h) (after_data (place net u c) k q (regs_at net u d Ingress h saved))
         → Ends net table u (unit_at d p Ingress) us told (taking c (Data k q) ps ∷ h) (route net u d (id (taking c (Data k q) ps ∷ h)) q ++ (notice_puts net u (last c h) (Some k) ++ []))
         (take_at (entrance.Cable (place net u c)) (state_at net table u d Ingress h saved) (wire.Data k q))
-    of_moves v = of_routes v (routes net table.ring us told u d (taking c (Data k q) ps ∷ h) (bad h) (expired h) (noroute net.parts d h) v.saved q table
+    of_moves v = of_routes v (routes net (sizes_of table) us told u d (taking c (Data k q) ps ∷ h) (bad h) (expired h) (noroute net.parts d h) v.saved q table
         (omega (arith, g.few, tally-le (λ s. is_expired (counted s)) h)) (omega (arith, g.few, tally-le (λ s. is_noroute net.parts d (counted s)) h)))
 
 pub cable-probe : (net : Net) (table : Snapshot) (u d p : ℕ) (us : ℕ → History) (told : ℕ → ℕ) (c k : ℕ) (ps : List Put) (h : History) (saved : View)
@@ -146,7 +147,7 @@ init-stamp net table u d p us told c k ps h saved g m out =
         refl lo (takeable-near table.window c k (cpu_last net u h) h lo (g.near k refl))
         (stands net table u d p Ingress (taking c (InitMsg k) ps ∷ h) (bad h) (expired h) (noroute net.parts d h)
         (after_stamp Cpu k (regs_at net u d Ingress h saved)) g.actor v x y z)
-        (sort-sent net table.ring us u told (ProbeMsg (id (taking c (InitMsg k) ps ∷ h))) (wire.Probe (after_stamp Cpu k (regs_at net u d Ingress h saved)).id) CrossbarSort (wires_at net u d Ingress table) refl
+        (sort-sent net (sizes_of table) us u told (ProbeMsg (id (taking c (InitMsg k) ps ∷ h))) (wire.Probe (after_stamp Cpu k (regs_at net u d Ingress h saved)).id) CrossbarSort (wires_at net u d Ingress table) refl
         (ap (λ r. wire.Probe r.id) v.is))
 
 -- Data packets and probes of the crossbar.
@@ -168,10 +169,10 @@ crossbar-data net table u d p us told c k own q ps h saved g m out = of_moves (d
         (passed (wires_at net u d Egress table) q (after_data (place net u c) k q (regs_at net u d Egress h saved)))
         refl lo (takeable-near table.window c k (slice_index_or (eight (lasts net u h)) (place net u c) 0) h lo (g.near k refl))
         (stands net table u d p Egress (taking c (Data k q) ps ∷ h) 0 0 0 (after_data (place net u c) k q (regs_at net u d Egress h saved)) g.actor v refl refl refl)
-        (sent-append net table.ring us u told (send_all (Data (id (taking c (Data k q) ps ∷ h)) q) (links_out net u CableSort)) (send_all (HostMsg (plain_frame q)) (links_out net u ToHost))
+        (sent-append net (sizes_of table) us u told (send_all (Data (id (taking c (Data k q) ps ∷ h)) q) (links_out net u CableSort)) (send_all (HostMsg (plain_frame q)) (links_out net u ToHost))
         (send (wires_at net u d Egress table) (All CableSort) (wire.Data (after_data (place net u c) k q (regs_at net u d Egress h saved)).id q)) (send (wires_at net u d Egress table) (All ToHost) (wire.Host (wire_frame q)))
-        (sort-sent net table.ring us u told (Data (id (taking c (Data k q) ps ∷ h)) q) (wire.Data (after_data (place net u c) k q (regs_at net u d Egress h saved)).id q) CableSort (wires_at net u d Egress table) refl (ap (λ r. wire.Data r.id q) v.is))
-        (sort-sent net table.ring us u told (HostMsg (plain_frame q)) (wire.Host (wire_frame q)) ToHost (wires_at net u d Egress table) refl (ap wire.Host (frame-is q))))
+        (sort-sent net (sizes_of table) us u told (Data (id (taking c (Data k q) ps ∷ h)) q) (wire.Data (after_data (place net u c) k q (regs_at net u d Egress h saved)).id q) CableSort (wires_at net u d Egress table) refl (ap (λ r. wire.Data r.id q) v.is))
+        (sort-sent net (sizes_of table) us u told (HostMsg (plain_frame q)) (wire.Host (wire_frame q)) ToHost (wires_at net u d Egress table) refl (ap wire.Host (frame-is q))))
 
 pub crossbar-probe : (net : Net) (table : Snapshot) (u d p : ℕ) (us : ℕ → History) (told : ℕ → ℕ) (c k : ℕ) (own : Bool) (ps : List Put) (h : History) (saved : View)
     → IsGiven net table u d p Egress c h saved (ProbeMsg k) → Member c (data_channels net u) → (Member c (choices_of net u InitSort) → ⊥)
@@ -190,8 +191,8 @@ crossbar-probe net table u d p us told c k own ps h saved g m out = of_moves (pr
         (probed (wires_at net u d Egress table) own (after_stamp (Upstream (place net u c)) k (regs_at net u d Egress h saved)))
         refl lo (takeable-near table.window c k (slice_index_or (eight (lasts net u h)) (place net u c) 0) h lo (g.near k refl))
         (stands net table u d p Egress (taking c (ProbeMsg k) ps ∷ h) 0 0 0 (after_stamp (Upstream (place net u c)) k (regs_at net u d Egress h saved)) g.actor v refl refl refl)
-        (sent-if net table.ring us u told own (send_all (ProbeMsg (id (taking c (ProbeMsg k) ps ∷ h))) (links_out net u CableSort)) (send (wires_at net u d Egress table) (All CableSort) (wire.Probe (after_stamp (Upstream (place net u c)) k (regs_at net u d Egress h saved)).id))
-        (sort-sent net table.ring us u told (ProbeMsg (id (taking c (ProbeMsg k) ps ∷ h))) (wire.Probe (after_stamp (Upstream (place net u c)) k (regs_at net u d Egress h saved)).id) CableSort (wires_at net u d Egress table) refl (ap (λ r. wire.Probe r.id) v.is)))
+        (sent-if net (sizes_of table) us u told own (send_all (ProbeMsg (id (taking c (ProbeMsg k) ps ∷ h))) (links_out net u CableSort)) (send (wires_at net u d Egress table) (All CableSort) (wire.Probe (after_stamp (Upstream (place net u c)) k (regs_at net u d Egress h saved)).id))
+        (sort-sent net (sizes_of table) us u told (ProbeMsg (id (taking c (ProbeMsg k) ps ∷ h))) (wire.Probe (after_stamp (Upstream (place net u c)) k (regs_at net u d Egress h saved)).id) CableSort (wires_at net u d Egress table) refl (ap (λ r. wire.Probe r.id) v.is)))
 
 -- Frames of the host.
 
@@ -228,7 +229,7 @@ host-frame net table u d p us told c bs ps h saved g = subst (λ o. Ends net tab
 
     of_routes : (q : Packet) → packet_of bs ≡ Some q
         → (v : Moves net table.ring u (taking c (HostMsg bs) ps ∷ h) (bad h) (expired h) (noroute net.parts d h) (counted_by q.len (regs_at net u d Ingress h saved)))
-        → Routes net table.ring us told u d (taking c (HostMsg bs) ps ∷ h) (bad h) (expired h) (noroute net.parts d h) v.saved q
+        → Routes net (sizes_of table) us told u d (taking c (HostMsg bs) ps ∷ h) (bad h) (expired h) (noroute net.parts d h) v.saved q
         (routed (wires_at net u d Ingress table) q (regs net u (taking c (HostMsg bs) ps ∷ h) (bad h) (expired h) (noroute net.parts d h) v.saved))
         → Ends net table u (unit_at d p Ingress) us told (taking c (HostMsg bs) ps ∷ h) (route net u d (id (taking c (HostMsg bs) ps ∷ h)) q) (framed (state_at net table u d Ingress h saved) (Some q))
     of_routes q e v r = let f = ap (routed (wires_at net u d Ingress table) q) v.is in
@@ -237,7 +238,7 @@ host-frame net table u d p us told c bs ps h saved g = subst (λ o. Ends net tab
               (routed (wires_at net u d Ingress table) q (counted_by q.len (regs_at net u d Ingress h saved))).state g.actor
               (record { saved = v.saved; is = ap (λ a. a.state) f ∙ r.state; keeps = v.keeps }) eb
               (sym (ap (λ o. one_if (is_expired o) + expired h) e)) (sym (ap (λ o. one_if (is_noroute net.parts d o) + noroute net.parts d h) e));
-          sent = subst (λ a. AreSent net table.ring us u told (route net u d (id (taking c (HostMsg bs) ps ∷ h)) q) a.puts) (sym f) r.sent;
+          sent = subst (λ a. AreSent net (sizes_of table) us u told (route net u d (id (taking c (HostMsg bs) ps ∷ h)) q) a.puts) (sym f) r.sent;
         }
 
     of_plain : (q : Packet) → packet_of bs ≡ Some q
@@ -247,20 +248,20 @@ host-frame net table u d p us told c bs ps h saved g = subst (λ o. Ends net tab
         let x : more (packets h) 1 ≡ packets (taking c (HostMsg bs) ps ∷ h) = (let z = ap one_of e in omega (arith, z, rp)) in
         let y : more (bytes h) q.len ≡ bytes (taking c (HostMsg bs) ps ∷ h) = (let z = ap long_of e in omega (arith, z, rb)) in
         let v = quiet-moves net table.ring u c (HostMsg bs) ps h (bad h) (expired h) (noroute net.parts d h) (more (packets h) 1) (more (bytes h) q.len) saved refl refl x y g.keeps in
-        of_routes q e v (routes net table.ring us told u d (taking c (HostMsg bs) ps ∷ h) (bad h) (expired h) (noroute net.parts d h) v.saved q table e_room n_room)
+        of_routes q e v (routes net (sizes_of table) us told u d (taking c (HostMsg bs) ps ∷ h) (bad h) (expired h) (noroute net.parts d h) v.saved q table e_room n_room)
 
     by_packet : (o : Option Packet) → packet_of bs ≡ o
         → Ends net table u (unit_at d p Ingress) us told (taking c (HostMsg bs) ps ∷ h) (route_frame net u d (id (taking c (HostMsg bs) ps ∷ h)) (packet_of bs) ++ []) (framed (state_at net table u d Ingress h saved) o)
     by_packet None e = subst (λ o. Ends net table u (unit_at d p Ingress) us told (taking c (HostMsg bs) ps ∷ h) (route_frame net u d (id (taking c (HostMsg bs) ps ∷ h)) o ++ []) (framed (state_at net table u d Ingress h saved) None)) (sym e) (of_bad e)
     by_packet (Some q) e = let a = of_plain q e in
         subst (λ o. Ends net table u (unit_at d p Ingress) us told (taking c (HostMsg bs) ps ∷ h) (route_frame net u d (id (taking c (HostMsg bs) ps ∷ h)) o ++ []) (framed (state_at net table u d Ingress h saved) (Some q))) (sym e)
-        (record { stands = a.stands; sent = sent-nil net table.ring us u told (route net u d (id (taking c (HostMsg bs) ps ∷ h)) q) (framed (state_at net table u d Ingress h saved) (Some q)).puts a.sent })
+        (record { stands = a.stands; sent = sent-nil net (sizes_of table) us u told (route net u d (id (taking c (HostMsg bs) ps ∷ h)) q) (framed (state_at net table u d Ingress h saved) (Some q)).puts a.sent })
 
 -- Polls.
 
 -- the dump of registers after a step
-dump-is : (net : Net) (ring u : ℕ) (h : History) (b e n : ℕ) (r : Registers) → Moves net ring u h b e n r → IsDumpOf net ring u h (dump_of r)
-dump-is net ring u h b e n r m = subst (λ r. IsDumpOf net ring u h (dump_of r)) (sym m.is) (record {
+dump-is : (net : Net) (sizes : Sizes) (u : ℕ) (h : History) (b e n : ℕ) (r : Registers) → Moves net sizes.ring u h b e n r → IsDumpOf net sizes u h (dump_of sizes.bits r)
+dump-is net sizes u h b e n r m = subst (λ r. IsDumpOf net sizes u h (dump_of sizes.bits r)) (sym m.is) (record {
   id = refl;
   cpu = refl;
   last = refl;
@@ -274,8 +275,8 @@ pub poll-dump : (net : Net) (table : Snapshot) (u d p : ℕ) (side : Side) (us :
     (take_at entrance.Poll (state_at net table u d side h saved) wire.Poll)
 poll-dump net table u d p side us told c ps h saved g now = record {
   stands = stands net table u d p side (taking c PollMsg ps ∷ h) (dropped side (bad h)) (dropped side (expired h)) (dropped side (noroute net.parts d h)) (regs_at net u d side h saved) g.actor moves (same side (bad h)) (same side (expired h)) (same side (noroute net.parts d h));
-  sent = sort-sent net table.ring us u told (DumpMsg (suc (length h))) (wire.Dump (dump_of (regs_at net u d side h saved))) DumpSort (wires_at net u d side table) refl
-      (record { dump = dump_of (regs_at net u d side h saved); is = refl; of = subst (λ k. IsDumpOf net table.ring u k (dump_of (regs_at net u d side h saved))) (sym whole) (dump-is net table.ring u (taking c PollMsg ps ∷ h) (dropped side (bad h)) (dropped side (expired h)) (dropped side (noroute net.parts d h)) (regs_at net u d side h saved) moves) });
+  sent = sort-sent net (sizes_of table) us u told (DumpMsg (suc (length h))) (wire.Dump (dump_of table.width (regs_at net u d side h saved))) DumpSort (wires_at net u d side table) refl
+      (record { dump = dump_of table.width (regs_at net u d side h saved); is = refl; of = subst (λ k. IsDumpOf net (sizes_of table) u k (dump_of table.width (regs_at net u d side h saved))) (sym whole) (dump-is net (sizes_of table) u (taking c PollMsg ps ∷ h) (dropped side (bad h)) (dropped side (expired h)) (dropped side (noroute net.parts d h)) (regs_at net u d side h saved) moves) });
 }
   where
     same : (side : Side) (n : ℕ) → dropped side n ≡ dropped side (0 + n)

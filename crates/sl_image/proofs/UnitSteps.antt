@@ -15,6 +15,7 @@ use Rattle.sl_parts.proofs.Lists.{each-at}
 use Rattle.sl_net.specs.Ways.{IsChoice, HasWays}
 use Rattle.sl_saves.specs.declared.entry.View.{View}
 use Rattle.sl_wire.specs.declared.message.Msg.{Msg}
+use Rattle.sl_wire.specs.Sizes.{sizes_of}
 use Rattle.sl_unit.specs.Wires.{entrance_at}
 use Rattle.sl_unit.specs.Made.{entrance, is_own}
 use Rattle.sl_unit.specs.Step.{take_at, unit_take}
@@ -64,7 +65,7 @@ Goes net table u d p side us told c l h saved t m x = Ends net table u (unit_at 
     (take_at (entrance t (place net u c) (is_own_port net d p l)) (state_at net table u d side h saved) x)
 
 ingress-goes : (net : Net) → HasWays net → (table : Snapshot) (u d p : ℕ) (us vs : ℕ → History) (told was : ℕ → ℕ) (a c l : ℕ) (h : History) (saved : View) (t : Sort) (m : Message) (x : Msg)
-    → IsGiven net table u d p Ingress c h saved m → slice_get (links_into net u) c ≡ Some l → (link_of net l).sort ≡ t → unit_receives Ingress t ≡ true → fits t m ≡ true → IsMessage net table.ring vs a was m x
+    → IsGiven net table u d p Ingress c h saved m → slice_get (links_into net u) c ≡ Some l → (link_of net l).sort ≡ t → unit_receives Ingress t ≡ true → fits t m ≡ true → IsMessage net (sizes_of table) vs a was m x
     → us u ≡ taking c m (unit_puts net u (unit_at d p Ingress) h c l m) ∷ h → Goes net table u d p Ingress us told c l h saved t m x
 ingress-goes net ways table u d p us vs told was a c l h saved FromHost (HostMsg bs) x g k s r f e now = subst (Goes net table u d p Ingress us told c l h saved FromHost (HostMsg bs)) (sym e)
     (host-frame net table u d p us told c bs (unit_puts net u (unit_at d p Ingress) h c l (HostMsg bs)) h saved g)
@@ -79,7 +80,7 @@ ingress-goes net ways table u d p us vs told was a c l h saved Poll PollMsg x g 
 ingress-goes net ways table u d p us vs told was a c l h saved _ _ x g k s r f e now = absurd cc
 
 egress-goes : (net : Net) → HasWays net → (table : Snapshot) (u d p : ℕ) (us vs : ℕ → History) (told was : ℕ → ℕ) (a c l : ℕ) (h : History) (saved : View) (t : Sort) (m : Message) (x : Msg)
-    → IsGiven net table u d p Egress c h saved m → slice_get (links_into net u) c ≡ Some l → (link_of net l).sort ≡ t → unit_receives Egress t ≡ true → fits t m ≡ true → IsMessage net table.ring vs a was m x
+    → IsGiven net table u d p Egress c h saved m → slice_get (links_into net u) c ≡ Some l → (link_of net l).sort ≡ t → unit_receives Egress t ≡ true → fits t m ≡ true → IsMessage net (sizes_of table) vs a was m x
     → us u ≡ taking c m (unit_puts net u (unit_at d p Egress) h c l m) ∷ h → Goes net table u d p Egress us told c l h saved t m x
 egress-goes net ways table u d p us vs told was a c l h saved Crossbar (Data j q) x g k s r f e now = subst (Goes net table u d p Egress us told c l h saved Crossbar (Data j q)) (sym e)
     (crossbar-data net table u d p us told c j (is_own_port net d p l) q (unit_puts net u (unit_at d p Egress) h c l (Data j q)) h saved g (is-channel net u c l k (inr s)) (no-init net ways u c l k (λ z. let y : Crossbar ≡ Init = sym s ∙ z in cc)))
@@ -91,7 +92,7 @@ egress-goes net ways table u d p us vs told was a c l h saved _ _ x g k s r f e 
 
 -- what a unit takes
 pub goes : (net : Net) → HasWays net → (table : Snapshot) (u d p : ℕ) (side : Side) (us vs : ℕ → History) (told was : ℕ → ℕ) (a c l : ℕ) (h : History) (saved : View) (m : Message) (x : Msg)
-    → IsGiven net table u d p side c h saved m → slice_get (links_into net u) c ≡ Some l → unit_receives side (link_of net l).sort ≡ true → fits_link net l m ≡ true → IsMessage net table.ring vs a was m x
+    → IsGiven net table u d p side c h saved m → slice_get (links_into net u) c ≡ Some l → unit_receives side (link_of net l).sort ≡ true → fits_link net l m ≡ true → IsMessage net (sizes_of table) vs a was m x
     → us u ≡ taking c m (unit_puts net u (unit_at d p side) h c l m) ∷ h
     → Ends net table u (unit_at d p side) us told (taking c m (unit_puts net u (unit_at d p side) h c l m) ∷ h) (unit_puts net u (unit_at d p side) h c l m) (unit_take (state_at net table u d side h saved) c x)
 goes net ways table u d p side us vs told was a c l h saved m x g k r f e now =

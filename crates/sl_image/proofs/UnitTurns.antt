@@ -21,6 +21,7 @@ use Rattle.sl_route.specs.Route.{next_port, least_walks, first_port}
 use Rattle.sl_saves.specs.declared.entry.View.{View}
 use Rattle.sl_wire.specs.declared.message.Msg.{Msg}
 use Rattle.sl_wire.specs.declared.message.Msg.TheVariants as wire
+use Rattle.sl_wire.specs.Sizes.{Sizes, sizes_of}
 use Rattle.sl_unit.specs.declared.registers.Channel.{Channel}
 use Rattle.sl_unit.specs.Wires.{Wires, port_to}
 use Rattle.sl_unit.specs.Registers.{Registers, more, last_on, is_near}
@@ -77,34 +78,34 @@ port-is net u d host n = by_cases (cases_lt host (length net.parts.hosts))
 abbrev pub one_if : Bool → ℕ
 one_if b = if b then 1 else 0
 
-pub record Routes (net : Net) (ring : ℕ) (us : ℕ → History) (told : ℕ → ℕ) (u d : ℕ) (h : History) (b e n : ℕ) (saved : View) (p : Packet) (a : After Registers Msg) : Type 0 where
+pub record Routes (net : Net) (sizes : Sizes) (us : ℕ → History) (told : ℕ → ℕ) (u d : ℕ) (h : History) (b e n : ℕ) (saved : View) (p : Packet) (a : After Registers Msg) : Type 0 where
   pub state : a.state ≡ regs net u h b (one_if (p.hops == 0) + e) (one_if (not (p.hops == 0) && is_none (next_port net.parts d p.dst)) + n) saved
-  pub sent : AreSent net ring us u told (route net u d (id h) p) a.puts
+  pub sent : AreSent net sizes us u told (route net u d (id h) p) a.puts
 
-pub routes : (net : Net) (ring : ℕ) (us : ℕ → History) (told : ℕ → ℕ) (u d : ℕ) (h : History) (b e n : ℕ) (saved : View) (p : Packet) (t : Snapshot) → e + 1 < 2 ^ 64 → n + 1 < 2 ^ 64
-    → Routes net ring us told u d h b e n saved p (routed (wires_at net u d Ingress t) p (regs net u h b e n saved))
-routes net ring us told u d h b e n saved p t room more_room = of_port (by_hops (p.hops == 0) (next_port net.parts d p.dst))
+pub routes : (net : Net) (sizes : Sizes) (us : ℕ → History) (told : ℕ → ℕ) (u d : ℕ) (h : History) (b e n : ℕ) (saved : View) (p : Packet) (t : Snapshot) → e + 1 < 2 ^ 64 → n + 1 < 2 ^ 64
+    → Routes net sizes us told u d h b e n saved p (routed (wires_at net u d Ingress t) p (regs net u h b e n saved))
+routes net sizes us told u d h b e n saved p t room more_room = of_port (by_hops (p.hops == 0) (next_port net.parts d p.dst))
   where
     by_hops : (z : Bool) (o : Option ℕ)
         → ((if z then record { state = record (regs net u h b e n saved) { expired = more e 1 }; puts = [] } else onward (wires_at net u d Ingress t) p (regs net u h b e n saved) o).state
         ≡ regs net u h b (one_if z + e) (one_if (not z && is_none o) + n) saved)
-        × AreSent net ring us u told (if z then [] else puts_onward net u d (id h) (record p { hops = p.hops - 1 }) o)
+        × AreSent net sizes us u told (if z then [] else puts_onward net u d (id h) (record p { hops = p.hops - 1 }) o)
         (if z then record { state = record (regs net u h b e n saved) { expired = more e 1 }; puts = [] } else onward (wires_at net u d Ingress t) p (regs net u h b e n saved) o).puts
     by_hops true o = let x : more e 1 ≡ 1 + e = omega (arith, room) in let y : n ≡ 0 + n = omega arith in (λ j. regs net u h b (x j) (y j) saved, tt)
     by_hops false None = let x : e ≡ 0 + e = omega arith in let y : more n 1 ≡ 1 + n = omega (arith, more_room) in (λ j. regs net u h b (x j) (y j) saved, tt)
     by_hops false (Some port) = let x : e ≡ 0 + e = omega arith in let y : n ≡ 0 + n = omega arith in (
       λ j. regs net u h b (x j) (y j) saved,
-      toward-sent net ring us u told (Data (id h) (record p { hops = p.hops - 1 })) (wire.Data (id h) (record p { hops = p.hops - 1 })) d port (wires_at net u d Ingress t) refl refl,
+      toward-sent net sizes us u told (Data (id h) (record p { hops = p.hops - 1 })) (wire.Data (id h) (record p { hops = p.hops - 1 })) d port (wires_at net u d Ingress t) refl refl,
     )
 
     of_port : ((if p.hops == 0 then record { state = record (regs net u h b e n saved) { expired = more e 1 }; puts = [] } else onward (wires_at net u d Ingress t) p (regs net u h b e n saved) (next_port net.parts d p.dst)).state
         ≡ regs net u h b (one_if (p.hops == 0) + e) (one_if (not (p.hops == 0) && is_none (next_port net.parts d p.dst)) + n) saved)
-        × AreSent net ring us u told (if p.hops == 0 then [] else puts_onward net u d (id h) (record p { hops = p.hops - 1 }) (next_port net.parts d p.dst))
+        × AreSent net sizes us u told (if p.hops == 0 then [] else puts_onward net u d (id h) (record p { hops = p.hops - 1 }) (next_port net.parts d p.dst))
         (if p.hops == 0 then record { state = record (regs net u h b e n saved) { expired = more e 1 }; puts = [] } else onward (wires_at net u d Ingress t) p (regs net u h b e n saved) (next_port net.parts d p.dst)).puts
-        → Routes net ring us told u d h b e n saved p (routed (wires_at net u d Ingress t) p (regs net u h b e n saved))
+        → Routes net sizes us told u d h b e n saved p (routed (wires_at net u d Ingress t) p (regs net u h b e n saved))
     of_port x = let q = port-is net u d p.dst t in record {
       state = ap (λ o. (if p.hops == 0 then record { state = record (regs net u h b e n saved) { expired = more e 1 }; puts = [] } else onward (wires_at net u d Ingress t) p (regs net u h b e n saved) o).state) q ∙ x.0;
-      sent = subst (λ o. AreSent net ring us u told (route net u d (id h) p) (if p.hops == 0 then record { state = record (regs net u h b e n saved) { expired = more e 1 }; puts = [] } else onward (wires_at net u d Ingress t) p (regs net u h b e n saved) o).puts) (sym q) x.1;
+      sent = subst (λ o. AreSent net sizes us u told (route net u d (id h) p) (if p.hops == 0 then record { state = record (regs net u h b e n saved) { expired = more e 1 }; puts = [] } else onward (wires_at net u d Ingress t) p (regs net u h b e n saved) o).puts) (sym q) x.1;
     }
 
 -- A stamp within the window.
@@ -118,23 +119,23 @@ takeable-near w c k l h e t = let a = t.order in let b = t.ahead in let x = t.ab
 
 pub record Ends (net : Net) (table : Snapshot) (u : ℕ) (i : UnitId) (us : ℕ → History) (told : ℕ → ℕ) (h : History) (ps : List Put) (after : After UnitState Msg) : Type 0 where
   pub stands : IsUnitOf net table u i h after.state
-  pub sent : AreSent net table.ring us u told ps after.puts
+  pub sent : AreSent net (sizes_of table) us u told ps after.puts
 
 -- its notice
-pub noticed : (net : Net) (ring : ℕ) (us : ℕ → History) (told : ℕ → ℕ) (u before k : ℕ) (s : UnitState) (ch : Channel) → s.wires.exits ≡ exits_of net u → last_on ch s.registers ≡ before
-    → AreSent net ring us u told (notice_puts net u before (Some k)) (notices s ch k)
-noticed net ring us told u before k s ch e l = subst (λ v. AreSent net ring us u told (if before == k then [] else send_all NoticeMsg (links_out net u NoticeSort)) (if v == k then [] else send s.wires (All NoticeSort) wire.Notice)) (sym l)
-    (sent-unless net ring us u told (before == k) (send_all NoticeMsg (links_out net u NoticeSort)) (send s.wires (All NoticeSort) wire.Notice) (sort-sent net ring us u told NoticeMsg wire.Notice NoticeSort s.wires e refl))
+pub noticed : (net : Net) (sizes : Sizes) (us : ℕ → History) (told : ℕ → ℕ) (u before k : ℕ) (s : UnitState) (ch : Channel) → s.wires.exits ≡ exits_of net u → last_on ch s.registers ≡ before
+    → AreSent net sizes us u told (notice_puts net u before (Some k)) (notices s ch k)
+noticed net sizes us told u before k s ch e l = subst (λ v. AreSent net sizes us u told (if before == k then [] else send_all NoticeMsg (links_out net u NoticeSort)) (if v == k then [] else send s.wires (All NoticeSort) wire.Notice)) (sym l)
+    (sent-unless net sizes us u told (before == k) (send_all NoticeMsg (links_out net u NoticeSort)) (send s.wires (All NoticeSort) wire.Notice) (sort-sent net sizes us u told NoticeMsg wire.Notice NoticeSort s.wires e refl))
 
 -- a is what the machine makes of the stamp, ps the puts without the notice
 pub stamped-ends : (net : Net) (table : Snapshot) (u : ℕ) (i : UnitId) (us : ℕ → History) (told : ℕ → ℕ) (h : History) (ps : List Put) (before k : ℕ) (s : UnitState) (ch : Channel) (a : After Registers Msg)
     → s.wires.exits ≡ exits_of net u → last_on ch s.registers ≡ before → is_near s.window (last_on ch s.registers) s.registers.id k ≡ true
-    → IsUnitOf net table u i h (record s { registers = a.state }) → AreSent net table.ring us u told ps a.puts
+    → IsUnitOf net table u i h (record s { registers = a.state }) → AreSent net (sizes_of table) us u told ps a.puts
     → Ends net table u i us told h (ps ++ (notice_puts net u before (Some k) ++ [])) (stamped s ch k a)
 stamped-ends net table u i us told h ps before k s ch a e l near stands sent =
     subst (λ t. Ends net table u i us told h (ps ++ (notice_puts net u before (Some k) ++ [])) (if t then record { state = record s { registers = a.state }; puts = a.puts ++ notices s ch k } else ignored s)) (sym near)
     (record {
       stands = stands;
-      sent = sent-append net table.ring us u told ps (notice_puts net u before (Some k) ++ []) a.puts (notices s ch k) sent
-          (sent-nil net table.ring us u told (notice_puts net u before (Some k)) (notices s ch k) (noticed net table.ring us told u before k s ch e l));
+      sent = sent-append net (sizes_of table) us u told ps (notice_puts net u before (Some k) ++ []) a.puts (notices s ch k) sent
+          (sent-nil net (sizes_of table) us u told (notice_puts net u before (Some k)) (notices s ch k) (noticed net (sizes_of table) us told u before k s ch e l));
     })

@@ -13,6 +13,7 @@ use Rattle.std.proofs.lemmas.List.{length-replicate}
 use Rattle.sl_saves.specs.Views.{free_slot}
 use Rattle.sl_saves.proofs.Rings.{ring-first}
 use Rattle.sl_wire.specs.declared.message.Msg.{Msg}
+use Rattle.sl_wire.specs.Sizes.{sizes_of}
 use Rattle.sl_unit.specs.Made.{IsRanged}
 use Rattle.sl_unit.specs.Registers.{first_registers}
 use Rattle.sl_unit.specs.Step.{UnitState, unit_take}
@@ -104,7 +105,7 @@ is-given s table lost es u c i step m st given wired t holds few q n e stands = 
 
 pub takes-follow : (s : Setup) (table : Snapshot) (lost : Losses) (es : List Entry) (u c : ℕ) (i : UnitId) (step : Step) (m : Message) (x : Msg) (st : UnitState) (vs : ℕ → History) (a : ℕ) (was told : ℕ → ℕ)
     → Given s lost es u step → IsWired s.net → s.window ≡ table.window → table.window ≤ table.ring → length es < 2 ^ 40
-    → actor_of s.net u ≡ OfUnit i → next_step s lost (world s lost es) (u, c) ≡ Some step → step.taken ≡ Some m → IsMessage s.net table.ring vs a was m x → IsUnitOf s.net table u i (history (world s lost es) u) st
+    → actor_of s.net u ≡ OfUnit i → next_step s lost (world s lost es) (u, c) ≡ Some step → step.taken ≡ Some m → IsMessage s.net (sizes_of table) vs a was m x → IsUnitOf s.net table u i (history (world s lost es) u) st
     → UnitSimulates s.net table u i (λ b. history (turn s lost (world s lost es) (u, c)) b) told step.puts (unit_take st c x)
 takes-follow s table lost es u c i step m x st vs a was told given wired t holds few q n e y stands = of_turn (is-turn given.turns s lost es u c i step m q n e)
   where
@@ -125,7 +126,7 @@ takes-follow s table lost es u c i step m x st vs a was told given wired t holds
         subst (λ st. UnitSimulates s.net table u i (λ b. history (turn s lost (world s lost es) (u, c)) b) told step.puts (unit_take st c x)) (sym state)
         (record {
           stands = subst (λ h. IsUnitOf s.net table u i h (unit_take (state_at s.net table u i.device i.side (history (world s lost es) u) st.registers.saved) c x).state) (sym now) ends.stands;
-          sent = subst (λ ps. AreSent s.net table.ring (λ b. history (turn s lost (world s lost es) (u, c)) b) u told ps (unit_take (state_at s.net table u i.device i.side (history (world s lost es) u) st.registers.saved) c x).puts)
+          sent = subst (λ ps. AreSent s.net (sizes_of table) (λ b. history (turn s lost (world s lost es) (u, c)) b) u told ps (unit_take (state_at s.net table u i.device i.side (history (world s lost es) u) st.registers.saved) c x).puts)
               (sym (ap (λ v. v.puts) z.step_is)) ends.sent;
         })
 

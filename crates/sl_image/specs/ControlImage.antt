@@ -1,7 +1,7 @@
--- What the machine of a control plane stands for. us gives the history of each actor, a is the control plane's number, ring the size of the units' rings.
---     IsControlOf net ring us a m       the state m is what these histories tell the control plane
+-- What the machine of a control plane stands for. us gives the history of each actor, a is the control plane's number, sizes are those of what dumps hold.
+--     IsControlOf net sizes us a m      the state m is what these histories tell the control plane
 --     told_at net us a place            how many steps of the unit at a place were told to it
---     ControlSimulates net ring us ws a    a turn of the machine simulates a step of a, which leads from the histories us to ws;
+--     ControlSimulates net sizes us ws a    a turn of the machine simulates a step of a, which leads from the histories us to ws;
 --         ControlActSimulates an action
 use Rattle.std.specs.Prelude.{◌≡◌, ℕ, Bool, List, map, slice_index, Option}
 use Rattle.sl_machine.specs.Machine.{After}
@@ -9,6 +9,7 @@ use Rattle.sl_layout.specs.declared.actor.Sort.TheVariants.{Dump}
 use Rattle.sl_layout.specs.Net.{Net, units, action_choice}
 use Rattle.sl_layout.specs.Serving.{Served, choice_from, served}
 use Rattle.sl_wire.specs.declared.message.Msg.{Msg}
+use Rattle.sl_wire.specs.Sizes.{Sizes}
 use Rattle.sl_control.specs.declared.known.Known.{Known}
 use Rattle.sl_control.specs.Control.{ControlState}
 use Rattle.sl_control.specs.Wires.{unit_wires, control_wires}
@@ -33,16 +34,16 @@ known_by net v g waits again = record {
 abbrev pub known_of : Net → (ℕ → History) → ℕ → Served → Known
 known_of net us a v = known_by net v (told_of us v (us a)) (is_outstanding v (us a)) (is_again (action_choice net a) v (us a))
 
-pub record IsControlOf (net : Net) (ring : ℕ) (us : ℕ → History) (a : ℕ) (m : ControlState) : Type 0 where
-  pub wires : m.wires ≡ control_wires net a ring
+pub record IsControlOf (net : Net) (sizes : Sizes) (us : ℕ → History) (a : ℕ) (m : ControlState) : Type 0 where
+  pub wires : m.wires ≡ control_wires net a sizes
   pub units : m.units ≡ map (known_of net us a) (served net a)
 
 abbrev pub told_at : Net → (ℕ → History) → ℕ → ℕ → ℕ
 told_at net us a place = dumped (choice_from net a (slice_index (units net) place) Dump) (us a)
 
 -- ps are the puts of the step
-abbrev pub ControlSimulates : Net → ℕ → (ℕ → History) → (ℕ → History) → ℕ → List Put → After ControlState Msg → Type 0
-ControlSimulates net ring us ws a ps turn = Simulates (IsControlOf net ring ws a) net ring ws a (told_at net us a) ps turn
+abbrev pub ControlSimulates : Net → Sizes → (ℕ → History) → (ℕ → History) → ℕ → List Put → After ControlState Msg → Type 0
+ControlSimulates net sizes us ws a ps turn = Simulates (IsControlOf net sizes ws a) net sizes ws a (told_at net us a) ps turn
 
-abbrev pub ControlActSimulates : Net → ℕ → (ℕ → History) → (ℕ → History) → ℕ → List Put → Option (After ControlState Msg) → Type 0
-ControlActSimulates net ring us ws a ps acts = ActSimulates (IsControlOf net ring ws a) net ring ws a (told_at net us a) ps acts
+abbrev pub ControlActSimulates : Net → Sizes → (ℕ → History) → (ℕ → History) → ℕ → List Put → Option (After ControlState Msg) → Type 0
+ControlActSimulates net sizes us ws a ps acts = ActSimulates (IsControlOf net sizes ws a) net sizes ws a (told_at net us a) ps acts

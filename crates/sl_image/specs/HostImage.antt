@@ -3,6 +3,7 @@ use Rattle.std.specs.Prelude.{◌≡◌, ℕ, List, Option}
 use Rattle.sl_machine.specs.Machine.{After}
 use Rattle.sl_layout.specs.Net.{action_choice}
 use Rattle.sl_wire.specs.declared.message.Msg.{Msg}
+use Rattle.sl_wire.specs.Sizes.{Sizes}
 use Rattle.sl_host.specs.Host.{HostState}
 use Rattle.sl_model.specs.declared.message.Put.{Put}
 use Rattle.sl_model.specs.History.{History, World, history, taken}
@@ -17,8 +18,8 @@ abbrev pub IsHostOf : Setup → ℕ → ℕ → World → HostState → Type 0
 IsHostOf s a i w x = x ≡ host_of s a i (history w a)
 
 -- a turn of the machine simulates a step of the host, which leads to the world v, and ps are the puts of the step
-abbrev pub HostSimulates : Setup → ℕ → ℕ → ℕ → World → (ℕ → ℕ) → List Put → After HostState Msg → Type 0
-HostSimulates s ring a i v told ps x = Simulates (IsHostOf s a i v) s.net ring (λ u. history v u) a told ps x
+abbrev pub HostSimulates : Setup → Sizes → ℕ → ℕ → World → (ℕ → ℕ) → List Put → After HostState Msg → Type 0
+HostSimulates s sizes a i v told ps x = Simulates (IsHostOf s a i v) s.net sizes (λ u. history v u) a told ps x
 
-abbrev pub HostActSimulates : Setup → ℕ → ℕ → ℕ → World → (ℕ → ℕ) → List Put → Option (After HostState Msg) → Type 0
-HostActSimulates s ring a i v told ps o = ActSimulates (IsHostOf s a i v) s.net ring (λ u. history v u) a told ps o
+abbrev pub HostActSimulates : Setup → Sizes → ℕ → ℕ → World → (ℕ → ℕ) → List Put → Option (After HostState Msg) → Type 0
+HostActSimulates s sizes a i v told ps o = ActSimulates (IsHostOf s a i v) s.net sizes (λ u. history v u) a told ps o

@@ -1,19 +1,25 @@
--- What the messages of machines stand for. us gives the history of each actor, ring is the size of the units' rings.
---     IsDumpOf net ring u g d            d has the registers of the unit u after its history g
---     IsDoneOf net u before now d        d brings, over what was known of the unit u before, what is known now
---     IsMessage net ring us a told m x   x stands for the message m that the actor a puts
---     AreSent net ring us a told ps xs   the puts of a machine stand for those of a step
+-- What the messages of machines stand for. us gives the history of each actor, sizes are those of what dumps hold.
+--     HoldWindow window sizes             what sizes must be for the numbers of a window
+--     numbers_after net u g               the numbers that a unit u has after its history g
+--     IsDumpOf net sizes u g d            d has the registers of the unit u after its history g
+--     IsDoneOf net u before now d         d brings, over what was known of the unit u before, what is known now
+--     IsMessage net sizes us a told m x   x stands for the message m that the actor a puts
+--     AreSent net sizes us a told ps xs   the puts of a machine stand for those of a step
 -- told gives for the place of each unit how many of its steps were told before.
-use Rattle.std.specs.Prelude.{◌≡◌, ℕ, List, [], ◌∷◌, ◌++◌, map, take, length, replicate, slice_index, slice_get, option_map, unwrap_or}
+use Rattle.std.specs.Prelude.{◌≡◌, ℕ, ◌<◌, ◌≤◌, List, [], ◌∷◌, ◌++◌, map, take, length, replicate, slice_index, slice_get, option_map, unwrap_or}
+use Rattle.sl_ids.specs.Ids.{most_bits, modulus}
+use Rattle.sl_ids.specs.Wids.{wid}
 use Rattle.sl_layout.specs.declared.actor.Sort.TheVariants.{Init as InitSort}
 use Rattle.sl_layout.specs.Net.{Net, units, unit_place, data_channels, choices_of}
 use Rattle.sl_layout.specs.Wires.{out_of}
 use Rattle.sl_saves.specs.declared.entry.Saved.{Saved}
 use Rattle.sl_saves.specs.Views.{IsShown, held_saved}
-use Rattle.sl_wire.specs.declared.message.PlainDump.{PlainDump}
+use Rattle.sl_wire.specs.declared.message.Dump.{Dump}
 use Rattle.sl_wire.specs.declared.message.Done.{Done}
 use Rattle.sl_wire.specs.declared.message.Msg.{Msg}
 use Rattle.sl_wire.specs.declared.message.Msg.TheVariants as wire
+use Rattle.sl_wire.specs.Sizes.{Sizes}
+use Rattle.sl_control.specs.declared.known.Numbers.{Numbers}
 use Rattle.sl_control.specs.Rows.{span}
 use Rattle.sl_model.specs.declared.message.Message.{Message}
 use Rattle.sl_model.specs.declared.message.Message.TheVariants.{Host, Data, Probe, Init, Poll, Notice, Dump as DumpMsg, Begin, Done as DoneMsg}
@@ -35,11 +41,21 @@ lasts net u g = map (λ c. last c g) (data_channels net u)
 abbrev pub cpu_last : Net → ℕ → History → ℕ
 cpu_last net u g = unwrap_or (option_map (λ c. last c g) (slice_get (choices_of net u InitSort) 0)) 0
 
-pub record IsDumpOf (net : Net) (ring u : ℕ) (g : History) (d : PlainDump) : Type 0 where
-  pub id : d.id ≡ id g
-  pub cpu : d.cpu ≡ cpu_last net u g
-  pub last : d.last ≡ eight (lasts net u g)
-  pub size : length d.view.slots ≡ ring
+-- a wrapped id stands for one number of a window, and a ring has a slot for each
+pub record HoldWindow (window : ℕ) (sizes : Sizes) : Type 0 where
+  pub few_bits : sizes.bits ≤ most_bits
+  pub apart : window < modulus sizes.bits
+  pub room : window ≤ sizes.ring
+
+abbrev pub numbers_after : Net → ℕ → History → Numbers
+numbers_after net u g = record { id = id g; cpu = cpu_last net u g; last = eight (lasts net u g) }
+
+-- the ids are wrapped
+pub record IsDumpOf (net : Net) (sizes : Sizes) (u : ℕ) (g : History) (d : Dump) : Type 0 where
+  pub id : d.id ≡ wid sizes.bits (id g)
+  pub cpu : d.cpu ≡ wid sizes.bits (cpu_last net u g)
+  pub last : d.last ≡ map (wid sizes.bits) (eight (lasts net u g))
+  pub size : length d.view.slots ≡ sizes.ring
   pub shown : IsShown d.view (calls (data_channels net u) g)
 
 -- a number with its row, as slots hold it
@@ -53,30 +69,30 @@ pub record IsDoneOf (net : Net) (u : ℕ) (before now : History) (d : Done) : Ty
   pub floor : d.floor ≡ floor_of net u now
   pub rows : d.rows ≡ map (held_row net u now) (span (upto_of net u before) (upto_of net u now))
 
-pub record SaysDump (net : Net) (ring u : ℕ) (g : History) (x : Msg) : Type 0 where
-  pub dump : PlainDump
+pub record SaysDump (net : Net) (sizes : Sizes) (u : ℕ) (g : History) (x : Msg) : Type 0 where
+  pub dump : Dump
   pub is : x ≡ wire.Dump dump
-  pub of : IsDumpOf net ring u g dump
+  pub of : IsDumpOf net sizes u g dump
 
 pub record SaysDone (net : Net) (u : ℕ) (before now : History) (x : Msg) : Type 0 where
   pub done : Done
   pub is : x ≡ wire.Done done
   pub of : IsDoneOf net u before now done
 
-abbrev pub IsMessage : Net → ℕ → (ℕ → History) → ℕ → (ℕ → ℕ) → Message → Msg → Type 0
-IsMessage net ring us a told (Host bytes) x = x ≡ wire.Host bytes
-IsMessage net ring us a told (Data s p) x = x ≡ wire.Data s p
-IsMessage net ring us a told (Probe s) x = x ≡ wire.Probe s
-IsMessage net ring us a told (Init s) x = x ≡ wire.Init s
-IsMessage net ring us a told Poll x = x ≡ wire.Poll
-IsMessage net ring us a told Notice x = x ≡ wire.Notice
-IsMessage net ring us a told (DumpMsg n) x = SaysDump net ring a (first n (us a)) x
-IsMessage net ring us a told (Begin k) x = x ≡ wire.Begin k
-IsMessage net ring us a told (DoneMsg place n) x =
+abbrev pub IsMessage : Net → Sizes → (ℕ → History) → ℕ → (ℕ → ℕ) → Message → Msg → Type 0
+IsMessage net sizes us a told (Host bytes) x = x ≡ wire.Host bytes
+IsMessage net sizes us a told (Data s p) x = x ≡ wire.Data s p
+IsMessage net sizes us a told (Probe s) x = x ≡ wire.Probe s
+IsMessage net sizes us a told (Init s) x = x ≡ wire.Init s
+IsMessage net sizes us a told Poll x = x ≡ wire.Poll
+IsMessage net sizes us a told Notice x = x ≡ wire.Notice
+IsMessage net sizes us a told (DumpMsg n) x = SaysDump net sizes a (first n (us a)) x
+IsMessage net sizes us a told (Begin k) x = x ≡ wire.Begin k
+IsMessage net sizes us a told (DoneMsg place n) x =
     let u : ℕ = slice_index (units net) place in SaysDone net u (first (told place) (us u)) (first n (us u)) x
 
 -- in order, each on the outgoing link that has the number of the put's link
-abbrev pub AreSent : Net → ℕ → (ℕ → History) → ℕ → (ℕ → ℕ) → List Put → List (ℕ × Msg) → Type 0
-AreSent net ring us a told [] [] = Unit {0}
-AreSent net ring us a told (p ∷ ps) (x ∷ xs) = ((x.0 ≡ out_of net p.link) × IsMessage net ring us a told p.message x.1) × AreSent net ring us a told ps xs
-AreSent net ring us a told _ _ = ⊥
+abbrev pub AreSent : Net → Sizes → (ℕ → History) → ℕ → (ℕ → ℕ) → List Put → List (ℕ × Msg) → Type 0
+AreSent net sizes us a told [] [] = Unit {0}
+AreSent net sizes us a told (p ∷ ps) (x ∷ xs) = ((x.0 ≡ out_of net p.link) × IsMessage net sizes us a told p.message x.1) × AreSent net sizes us a told ps xs
+AreSent net sizes us a told _ _ = ⊥

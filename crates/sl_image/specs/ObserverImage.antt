@@ -5,14 +5,16 @@
 --     account_of x              the account that a unit's state is
 --     ObserverSimulates ..      a turn of the machine simulates a step of the observer; ObserverActSimulates an action
 --     seen_by net w u           what the observer has seen of the unit u
-use Rattle.std.specs.Prelude.{◌≡◌, ℕ, ◌≤◌, List, Option, map, length, take}
+use Rattle.std.specs.Prelude.{◌≡◌, ℕ, ◌<◌, ◌≤◌, List, Option, map, length, take}
 use Rattle.sl_machine.specs.Machine.{After}
+use Rattle.sl_ids.specs.Ids.{most_bits, modulus}
 use Rattle.sl_net.specs.declared.input.Snapshot.{Snapshot}
 use Rattle.sl_parts.specs.Parts.{numbers_from}
 use Rattle.sl_layout.specs.Net.{Net, actor_of, links_into, links_from, units, data_channels}
 use Rattle.sl_saves.specs.Views.{held_saved}
 use Rattle.sl_layout.specs.Devices.{device_of}
 use Rattle.sl_wire.specs.declared.message.Msg.{Msg}
+use Rattle.sl_wire.specs.Sizes.{Sizes}
 use Rattle.sl_observe.specs.declared.unit.Seen.{Seen}
 use Rattle.sl_observe.specs.Observer.{UnitState, ObserverState}
 use Rattle.sl_model.specs.declared.message.Put.{Put}
@@ -49,20 +51,22 @@ abbrev pub IsObserverOf : Net → Snapshot → World → ObserverState → Type 
 IsObserverOf net table w x = x ≡ observer_of net table w
 
 -- a turn of the machine simulates a step of the observer, which leads to the world v, and ps are the puts of the step
-abbrev pub ObserverSimulates : Net → Snapshot → ℕ → World → (ℕ → ℕ) → List Put → After ObserverState Msg → Type 0
-ObserverSimulates net table ring v told ps x = Simulates (IsObserverOf net table v) net ring (λ u. history v u) 0 told ps x
+abbrev pub ObserverSimulates : Net → Snapshot → Sizes → World → (ℕ → ℕ) → List Put → After ObserverState Msg → Type 0
+ObserverSimulates net table sizes v told ps x = Simulates (IsObserverOf net table v) net sizes (λ u. history v u) 0 told ps x
 
-abbrev pub ObserverActSimulates : Net → Snapshot → ℕ → World → (ℕ → ℕ) → List Put → Option (After ObserverState Msg) → Type 0
-ObserverActSimulates net table ring v told ps o = ActSimulates (IsObserverOf net table v) net ring (λ u. history v u) 0 told ps o
+abbrev pub ObserverActSimulates : Net → Snapshot → Sizes → World → (ℕ → ℕ) → List Put → Option (After ObserverState Msg) → Type 0
+ObserverActSimulates net table sizes v told ps o = ActSimulates (IsObserverOf net table v) net sizes (λ u. history v u) 0 told ps o
 
 abbrev pub known_at : World → ℕ → ℕ
 known_at w place = known place (observer w)
 
--- the table is that of the setup, and a ring holds a window
+-- the table is that of the setup, a wrapped id stands for one number of a window, and a ring holds a window
 pub record IsTableOf (s : Setup) (table : Snapshot) : Type 0 where
   pub window : table.window ≡ s.window
   pub count : table.count ≡ s.count
   pub retries : table.retries ≡ s.retries
+  pub few_bits : table.width ≤ most_bits
+  pub apart : table.window < modulus table.width
   pub room : table.window ≤ table.ring
 
 abbrev pub account_of : UnitState → Account

@@ -7,16 +7,17 @@ use Rattle.std.specs.Prelude.{◌≡◌, ℕ, List, Option, Some}
 use Rattle.sl_machine.specs.Machine.{After}
 use Rattle.sl_layout.specs.Net.{Net}
 use Rattle.sl_wire.specs.declared.message.Msg.{Msg}
+use Rattle.sl_wire.specs.Sizes.{Sizes}
 use Rattle.sl_model.specs.declared.message.Put.{Put}
 use Rattle.sl_model.specs.History.{History}
 use Rattle.sl_image.specs.Messages.{AreSent}
 
-pub record Simulates {S : Type 0} (Stands : S → Type 0) (net : Net) (ring : ℕ) (us : ℕ → History) (a : ℕ) (told : ℕ → ℕ) (ps : List Put) (x : After S Msg) : Type 0 where
+pub record Simulates {S : Type 0} (Stands : S → Type 0) (net : Net) (sizes : Sizes) (us : ℕ → History) (a : ℕ) (told : ℕ → ℕ) (ps : List Put) (x : After S Msg) : Type 0 where
   pub stands : Stands x.state
-  pub sent : AreSent net ring us a told ps x.puts
+  pub sent : AreSent net sizes us a told ps x.puts
 
 -- it is done, and leaves this
-pub record ActSimulates {S : Type 0} (Stands : S → Type 0) (net : Net) (ring : ℕ) (us : ℕ → History) (a : ℕ) (told : ℕ → ℕ) (ps : List Put) (o : Option (After S Msg)) : Type 0 where
+pub record ActSimulates {S : Type 0} (Stands : S → Type 0) (net : Net) (sizes : Sizes) (us : ℕ → History) (a : ℕ) (told : ℕ → ℕ) (ps : List Put) (o : Option (After S Msg)) : Type 0 where
   pub after : After S Msg
   pub is : o ≡ Some after
-  pub simulates : Simulates Stands net ring us a told ps after
+  pub simulates : Simulates Stands net sizes us a told ps after

@@ -13,6 +13,7 @@ use Rattle.sl_saves.specs.Calls.{Call}
 use Rattle.sl_saves.specs.declared.entry.View.{View}
 use Rattle.sl_saves.specs.Views.{IsShown}
 use Rattle.sl_wire.specs.declared.message.Msg.{Msg}
+use Rattle.sl_wire.specs.Sizes.{sizes_of}
 use Rattle.sl_unit.specs.Registers.{Registers}
 use Rattle.sl_unit.specs.Step.{UnitState}
 use Rattle.sl_unit.specs.Made.{ingress_state, egress_state}
@@ -57,4 +58,4 @@ pub record IsUnitOf (net : Net) (table : Snapshot) (u : ℕ) (i : UnitId) (h : H
 
 -- us gives the history of each actor after the step, ps the puts of the step; a unit tells of no other, so told doesn't matter
 abbrev pub UnitSimulates : Net → Snapshot → ℕ → UnitId → (ℕ → History) → (ℕ → ℕ) → List Put → After UnitState Msg → Type 0
-UnitSimulates net table u i us told ps after = Simulates (IsUnitOf net table u i (us u)) net table.ring us u told ps after
+UnitSimulates net table u i us told ps after = Simulates (IsUnitOf net table u i (us u)) net (sizes_of table) us u told ps after

@@ -7,7 +7,9 @@ mod hosts;
 mod observers;
 mod units;
 
-pub use controls::{controls_act, controls_start, controls_stay, controls_take};
+pub use controls::{
+    controls_act, controls_start, controls_stay, controls_take, dumps_are_unwrapped,
+};
 pub use hosts::{hosts_act, hosts_have_two_links, hosts_start, hosts_stay, hosts_take};
 pub use observers::{
     observers_act, observers_give_findings, observers_start, observers_stay, observers_take,

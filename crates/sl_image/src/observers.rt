@@ -8,6 +8,7 @@ ghost use Rattle.sl_parts.specs.Parts.{numbers_from};
 ghost use Rattle.sl_layout.specs.Net.{actor_of, action_choice, units, unit_place, data_channels};
 ghost use Rattle.sl_net.specs.Wired.{IsNet};
 ghost use Rattle.sl_wire.specs.declared.message.Msg.{Msg};
+ghost use Rattle.sl_wire.specs.Sizes.{Sizes};
 ghost use Rattle.sl_observe.specs.Observer.{ObserverState, first_state, observer_take, observer_act, unit_at, seen_of, saved_of};
 ghost use Rattle.sl_observe.specs.Observer.{register_floor};
 ghost use Rattle.sl_model.specs.declared.message.Message.{Message};
@@ -52,11 +53,11 @@ pub fn observers_stay()
 /// A message that the observer takes next, which stands for that of its step by what was told
 /// before, leaves a state that stands for the world after the step, and the observer puts nothing.
 pub fn observers_take()
-    ensures { (s : Setup) (lost : Losses) (table : Snapshot) (es : List Entry) (c ring a : ℕ) (told : ℕ → ℕ)
+    ensures { (s : Setup) (lost : Losses) (table : Snapshot) (es : List Entry) (c : ℕ) (sizes : Sizes) (a : ℕ) (told : ℕ → ℕ)
         (step : Step) (m : Message) (x : Msg) (o : ObserverState) → IsNet s.net → IsTableOf s table → IsObserverOf s.net table (world s lost es) o
         → next_step s lost (world s lost es) (0, c) ≡ Some step → step.taken ≡ Some m
-        → IsMessage s.net ring (λ u. history (world s lost es) u) a (known_at (world s lost es)) m x
-        → ObserverSimulates s.net table ring (turn s lost (world s lost es) (0, c)) told step.puts (observer_take o c x) }
+        → IsMessage s.net sizes (λ u. history (world s lost es) u) a (known_at (world s lost es)) m x
+        → ObserverSimulates s.net table sizes (turn s lost (world s lost es) (0, c)) told step.puts (observer_take o c x) }
 {
     nets_are_wired();
     worlds_take_turns();
@@ -67,10 +68,10 @@ pub fn observers_take()
 /// The observer's machine issues and resends where the world's observer does, leaves a state that
 /// stands for the world after the step, and puts the step's Begins.
 pub fn observers_act()
-    ensures did { (s : Setup) (lost : Losses) (table : Snapshot) (es : List Entry) (c ring : ℕ) (told : ℕ → ℕ) (step : Step) (o : ObserverState)
+    ensures did { (s : Setup) (lost : Losses) (table : Snapshot) (es : List Entry) (c : ℕ) (sizes : Sizes) (told : ℕ → ℕ) (step : Step) (o : ObserverState)
         → IsNet s.net → IsTableOf s table → IsObserverOf s.net table (world s lost es) o
         → next_step s lost (world s lost es) (0, c) ≡ Some step → step.taken ≡ None
-        → ObserverActSimulates s.net table ring (turn s lost (world s lost es) (0, c)) told step.puts (observer_act o c) }
+        → ObserverActSimulates s.net table sizes (turn s lost (world s lost es) (0, c)) told step.puts (observer_act o c) }
     ensures idle { (s : Setup) (lost : Losses) (table : Snapshot) (es : List Entry) (c : ℕ) (o : ObserverState)
         → IsNet s.net → IsTableOf s table → IsObserverOf s.net table (world s lost es) o
         → next_step s lost (world s lost es) (0, c) ≡ None → action_choice s.net 0 ≤ c → c < action_choice s.net 0 + 2

@@ -8,6 +8,7 @@ ghost use Rattle.sl_net.specs.declared.input.Snapshot.{Snapshot};
 ghost use Rattle.sl_layout.specs.Net.{Net, actor_of, links_into};
 ghost use Rattle.sl_net.specs.Wired.{IsNet};
 ghost use Rattle.sl_wire.specs.declared.message.Msg.{Msg};
+ghost use Rattle.sl_wire.specs.Sizes.{sizes_of};
 ghost use Rattle.sl_unit.specs.Made.{IsRanged, ingress_state, egress_state};
 ghost use Rattle.sl_unit.specs.Step.{UnitState, unit_rules};
 ghost use Rattle.sl_unit.specs.Units.{shown_counts};
@@ -40,7 +41,7 @@ pub fn units_take_messages()
     ensures follows { (s : Setup) (table : Snapshot) (lost : Losses) (es : List Entry) (u c a : ℕ) (i : UnitId) (step : Step) (m : Message)
         (x : Msg) (state : UnitState) (us : ℕ → History) (was told : ℕ → ℕ) → IsNet s.net → s.window ≡ table.window → table.window ≤ table.ring → SendsShort s
         → length es < 2 ^ 40 → actor_of s.net u ≡ OfUnit i → next_step s lost (world s lost es) (u, c) ≡ Some step → step.taken ≡ Some m
-        → IsMessage s.net table.ring us a was m x → IsUnitOf s.net table u i (history (world s lost es) u) state
+        → IsMessage s.net (sizes_of table) us a was m x → IsUnitOf s.net table u i (history (world s lost es) u) state
         → UnitSimulates s.net table u i (λ b. history (turn s lost (world s lost es) (u, c)) b) told step.puts (unit_rules.take state c x) }
     ensures choice { (s : Setup) (lost : Losses) (es : List Entry) (u c : ℕ) (step : Step)
         → next_step s lost (world s lost es) (u, c) ≡ Some step → step.choice ≡ c }

@@ -1,6 +1,7 @@
 -- Findings by what the observer knows are those of the world.
 use Rattle.std.proofs.Common.{◌≡◌, ℕ, zero, suc, ◌+◌, ◌-◌, ◌<◌, ◌≤◌, List, [], ◌∷◌, refl, sym, ap, subst, ◌∙◌, Option, Some, None, arith, inl, inr}
 use Rattle.std.specs.Prelude.{◌⊎◌, true, false, Bool, ◌==◌, if◌then◌else◌, nat_lt, map, slice_get, option_and_then, unwrap_or, min}
+use Rattle.std.specs.List.{fold}
 use Rattle.std.proofs.lemmas.Bool.{le-leb, lt-leb, cases_lt}
 use Rattle.sl_parts.specs.Parts.{numbers_from}
 use Rattle.sl_layout.specs.Net.{Net, units, data_channels, unit_place}
@@ -13,7 +14,7 @@ use Rattle.sl_model.specs.declared.verdict.Verdict.{Verdict}
 use Rattle.sl_model.specs.declared.verdict.Verdict.TheVariants.{Consistent, Inconsistent, Pending, NotIssued}
 use Rattle.sl_parts.specs.Lists.{Each}
 use Rattle.sl_parts.proofs.Lists.{each-imp, each-map, each-both-of}
-use Rattle.sl_model.specs.Words.{least_of, first_from, first_told, or_later}
+use Rattle.sl_model.specs.Words.{first_from, first_told, or_later}
 use Rattle.sl_route.specs.Least.{least, least_in}
 use Rattle.sl_model.specs.History.{History, World, Losses, history, id, last}
 use Rattle.sl_model.specs.Setup.{Setup}
@@ -45,7 +46,7 @@ found f s zero i p = absurd (omega (arith, p))
 found f s (suc m) zero p = let e : s ≡ s + 0 = omega arith in ap (λ k. Some (f k)) e
 found f s (suc m) (suc i) p = let e : suc s + i ≡ s + suc i = omega arith in found f (suc s) m i (omega (arith, p)) ∙ ap (λ k. Some (f k)) e
 
-least-ge : (k n : ℕ) (xs : List ℕ) → k ≤ n → Each (λ x. k ≤ x) xs → k ≤ least_of n xs
+least-ge : (k n : ℕ) (xs : List ℕ) → k ≤ n → Each (λ x. k ≤ x) xs → k ≤ fold min n xs
 least-ge k n [] p e = p
 least-ge k n (x ∷ xs) p e = least-ge k (min n x) xs (let q : k ≤ x = e.0 in omega (arith, p, q)) e.1
 

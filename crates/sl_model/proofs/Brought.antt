@@ -1,6 +1,6 @@
 -- What dumps bring a control plane, and Dones the observer.
 use Rattle.std.proofs.Common.{◌≡◌, ℕ, ◌+◌, ◌≤◌, List, [], ◌∷◌, length, refl, sym, ap, subst, ◌∙◌, Option, Some, None, arith, inl, inr}
-use Rattle.std.specs.Prelude.{◌⊎◌, map, slice_get, unwrap_or, option_and_then, if◌then◌else◌}
+use Rattle.std.specs.Prelude.{◌⊎◌, true, false, Bool, ◌==◌, max, map, slice_get, unwrap_or, option_and_then, if◌then◌else◌}
 use Rattle.std.proofs.lemmas.Bool.{eq-eqb}
 use Rattle.std.proofs.lemmas.List.{length-set, length-map}
 use Rattle.sl_layout.specs.declared.actor.UnitId.{UnitId}
@@ -12,11 +12,11 @@ use Rattle.sl_net.specs.Wired.{Reports, IsWired}
 use Rattle.sl_model.specs.declared.message.Message.TheVariants.{Dump as DumpMsg, Done as DoneMsg}
 use Rattle.sl_model.specs.declared.message.Step.{Step}
 use Rattle.sl_parts.specs.Lists.{Each}
-use Rattle.sl_parts.proofs.Lists.{each-imp, each-map}
+use Rattle.sl_parts.proofs.Lists.{each-imp, each-map, each-of, each-at}
 use Rattle.sl_model.specs.Words.{Rises, numbers}
-use Rattle.sl_model.specs.History.{History, World, Losses, history, dump_of, done_of, id, last, first}
+use Rattle.sl_model.specs.History.{History, World, Losses, history, dump_of, done_of, stamp_taken, id, last, first, NeverFalls}
 use Rattle.sl_model.specs.Setup.{Setup}
-use Rattle.sl_model.specs.Knowledge.{observer, dumped, known, collected, issued, upto_of, floor, unit_floor}
+use Rattle.sl_model.specs.Knowledge.{observer, dumped, known, collected, issued, upto_of, floor_of, floor, unit_floor}
 use Rattle.sl_model.specs.World.{Entry, start, next_step, after, world}
 use Rattle.sl_model.specs.Made.{Ran}
 use Rattle.sl_model.specs.Window.{on_way, IsInWindow}
@@ -26,10 +26,10 @@ use Rattle.sl_model.proofs.Ran.{ran, ran-turn}
 use Rattle.sl_model.proofs.Numbers.{rises-le, never-falls, falls-first}
 use Rattle.sl_model.proofs.Stamps.{id-falls}
 use Rattle.sl_model.proofs.Reported.{Knows, knows, dumps-into}
-use Rattle.sl_model.proofs.Floors.{upto-falls, known-le}
-use Rattle.sl_model.proofs.Near.{in-window, on-way-is, least-start, least-each, floor-unit}
+use Rattle.sl_model.proofs.Floors.{choice-falls, channels-fall, upto-falls, floor-of-falls, known-le}
+use Rattle.sl_model.proofs.Near.{in-window, on-way-is, least-start, least-each, floor-id, floor-unit}
 use Rattle.sl_model.proofs.Collected.{Reached, lag-of}
-use Rattle.sl_model.specs.Brought.{IsBrought}
+use Rattle.sl_model.specs.Brought.{IsRaised, IsBrought}
 use Rattle.sl_model.specs.Rows.{row}
 use Rattle.sl_model.specs.Turns.{GrowsAt, Takes, Acts}
 use Rattle.sl_model.proofs.Prefixes.{first-all}
@@ -58,6 +58,20 @@ floor-upto s lost w u m i n r q p = let k = known (unit_place s.net u) (observer
     let c : upto_of s.net u (first k (history w u)) ≤ upto_of s.net u (first m (history w u)) = never-falls (upto_of s.net u) k m (history w u) (upto-falls s lost w u n r) p in
     omega (arith, a, b, c)
 
+-- a last-seen number is at most the id
+pub last-id : (c : ℕ) (h : History) → last c h ≤ id h
+last-id c [] = omega arith
+last-id c (s ∷ h) = by_bool (s.choice == c) (stamp_taken s) (last-id c h)
+  where
+    by_bool : (b : Bool) (o : Option ℕ) → last c h ≤ id h → (if b then unwrap_or o (last c h) else last c h) ≤ max (unwrap_or o 0) (id h)
+    by_bool true (Some j) p = omega arith
+    by_bool true None p = omega (arith, p)
+    by_bool false o p = omega (arith, p)
+
+-- a number that never falls, where K lies at most the window above what is known of it
+raised : (f : History → ℕ) (window m k top : ℕ) (h : History) → NeverFalls f h → m ≤ k → f (first k h) ≤ top → top ≤ f (first m h) + window → IsRaised window (f (first m h)) (f (first k h))
+raised f window m k top h r o a b = (never-falls f m k h r o, omega (arith, a, b))
+
 brings : (s : Setup) (lost : Losses) (w : World) (u m k : ℕ) (i : UnitId) → IsWired s.net → Ran s lost w → IsInWindow s lost w → actor_of s.net u ≡ OfUnit i → known (unit_place s.net u) (observer w) ≤ m → m ≤ k → k ≤ length (history w u)
     → IsBrought s.net s.window u (history w u) m k
 brings s lost w u m k i n r x q p o t = record {
@@ -67,14 +81,31 @@ brings s lost w u m k i n r x q p o t = record {
   within = omega (arith, high, low);
   near = λ j l. omega (arith, l, top, low);
   stays = λ cs j l. row-later s lost w cs u j m k n r o (lag-of s.net j u (first m (history w u)) (reached-upto s.net u j (first m (history w u)) l));
+  id_raised = raised id s.window m k (issued s.net (observer w)) (history w u) (id-falls (history w u)) o top
+      (let a = floor-id s.net u (first m (history w u)) in omega (arith, a, base));
+  lasts_raised = each-of (λ c. IsRaised s.window (last c (first m (history w u))) (last c (first k (history w u)))) (data_channels s.net u) (λ c i.
+      let a = each-at (λ c. upto_of s.net u (first m (history w u)) ≤ last c (first m (history w u))) c (data_channels s.net u) (least-each (λ c. last c (first m (history w u))) (data_channels s.net u) (id (first m (history w u)))) i in
+      last-raised c (each-at (λ c. NeverFalls (last c) (history w u)) c (data_channels s.net u) (channels-fall s lost w u n r) i) (omega (arith, a, low)));
+  inits_raised = each-of (λ c. IsRaised s.window (last c (first m (history w u))) (last c (first k (history w u)))) (choices_of s.net u Init) (λ c i.
+      let a = each-at (λ c. floor_of s.net u (first m (history w u)) ≤ last c (first m (history w u))) c (choices_of s.net u Init) (least-each (λ c. last c (first m (history w u))) (choices_of s.net u Init) (upto_of s.net u (first m (history w u)))) i in
+      last-raised c (each-at (λ c. NeverFalls (last c) (history w u)) c (choices_of s.net u Init) (choice-falls s lost w u Init n r refl) i) (omega (arith, a, base)));
 }
   where
+    -- K is at most F + W, and F at most each number that is known
+    base : issued s.net (observer w) ≤ floor_of s.net u (first m (history w u)) + s.window
+    base = let a : floor s.net w ≤ unit_floor s.net w u = floor-unit s.net n.ways w u i q in
+        let b : unit_floor s.net w u ≤ floor_of s.net u (first m (history w u)) = never-falls (floor_of s.net u) (known (unit_place s.net u) (observer w)) m (history w u) (floor-of-falls s lost w u n r) p in
+        let c = x.within in omega (arith, a, b, c)
+
     -- K is at most F + W
     low : issued s.net (observer w) ≤ upto_of s.net u (first m (history w u)) + s.window
     low = let f = floor-upto s lost w u m i n r q p in let b = x.within in omega (arith, f, b)
 
     top : id (first k (history w u)) ≤ issued s.net (observer w)
     top = let a = falls-first id k (history w u) (id-falls (history w u)) in let b = x.ids u in omega (arith, a, b)
+
+    last-raised : (c : ℕ) → NeverFalls (last c) (history w u) → issued s.net (observer w) ≤ last c (first m (history w u)) + s.window → IsRaised s.window (last c (first m (history w u))) (last c (first k (history w u)))
+    last-raised c f b = raised (last c) s.window m k (issued s.net (observer w)) (history w u) f o (let a = last-id c (first k (history w u)) in omega (arith, a, top)) b
 
     high : upto_of s.net u (first k (history w u)) ≤ issued s.net (observer w)
     high = let a = least-start (map (λ c. last c (first k (history w u))) (data_channels s.net u)) (id (first k (history w u))) in omega (arith, a, top)

@@ -1,6 +1,7 @@
 -- The floor never falls, and the number issued lies within the window above it.
 use Rattle.std.proofs.Common.{◌≡◌, ℕ, suc, ◌+◌, ◌-◌, ◌<◌, ◌≤◌, List, [], ◌∷◌, length, refl, sym, ap, subst, ◌∙◌, Some, None, arith, inl, inr}
 use Rattle.std.specs.Prelude.{◌⊎◌, true, false, nat_eq, nat_lt, nat_le, min, map, unwrap_or, IsTrue}
+use Rattle.std.specs.List.{fold}
 use Rattle.std.proofs.lemmas.Bool.{and_parts, leb-true}
 use Rattle.std.proofs.lemmas.Bool.Decides.{eqb_tells}
 use Rattle.std.proofs.lemmas.Option.{slice_get_within}
@@ -15,7 +16,6 @@ use Rattle.sl_layout.specs.Net.{Net, links_into, link_at, actor_of, choices_of, 
 use Rattle.sl_net.specs.Wired.{IsWired}
 use Rattle.sl_parts.specs.Lists.{Each}
 use Rattle.sl_parts.proofs.Lists.{each-append, each-imp, each-passes}
-use Rattle.sl_model.specs.Words.{least_of}
 use Rattle.sl_route.specs.Least.{least_in}
 use Rattle.sl_model.specs.History.{History, World, Losses, history, done_of, id, last, heard, first, taken, NeverFalls}
 use Rattle.sl_model.specs.Setup.{Setup}
@@ -35,11 +35,11 @@ use Rattle.sl_model.proofs.Reported.{knows}
 
 -- Least numbers.
 
-least-le : (f g : ℕ → ℕ) (cs : List ℕ) (m n : ℕ) → m ≤ n → Each (λ c. f c ≤ g c) cs → least_of m (map f cs) ≤ least_of n (map g cs)
+least-le : (f g : ℕ → ℕ) (cs : List ℕ) (m n : ℕ) → m ≤ n → Each (λ c. f c ≤ g c) cs → fold min m (map f cs) ≤ fold min n (map g cs)
 least-le f g [] m n i h = i
 least-le f g (c ∷ cs) m n i h = least-le f g cs (min m (f c)) (min n (g c)) (let k : f c ≤ g c = h.0 in omega arith) h.1
 
-falls-least : (g : History → ℕ) (cs : List ℕ) (h : History) → NeverFalls g h → Each (λ c. NeverFalls (last c) h) cs → NeverFalls (λ h. least_of (g h) (map (λ c. last c h) cs)) h
+falls-least : (g : History → ℕ) (cs : List ℕ) (h : History) → NeverFalls g h → Each (λ c. NeverFalls (last c) h) cs → NeverFalls (λ h. fold min (g h) (map (λ c. last c h) cs)) h
 falls-least g cs [] n e = tt
 falls-least g cs (s ∷ h) n e = (
   least-le (λ c. last c h) (λ c. last c (s ∷ h)) cs (g h) (g (s ∷ h)) n.0 (each-imp (λ c. NeverFalls (last c) (s ∷ h)) (λ c. last c h ≤ last c (s ∷ h)) cs (λ c p. p.0) e),
@@ -48,13 +48,16 @@ falls-least g cs (s ∷ h) n e = (
 
 -- The floor of any actor's history never falls as it grows.
 
-choice-falls : (s : Setup) (lost : Losses) (w : World) (a : ℕ) (t : Sort) → IsWired s.net → Ran s lost w → IsTrue (is_stamped t) → Each (λ c. NeverFalls (last c) (history w a)) (choices_of s.net a t)
+pub choice-falls : (s : Setup) (lost : Losses) (w : World) (a : ℕ) (t : Sort) → IsWired s.net → Ran s lost w → IsTrue (is_stamped t) → Each (λ c. NeverFalls (last c) (history w a)) (choices_of s.net a t)
 choice-falls s lost w a t n r i = each-imp (IsChoice s.net a t) (λ c. NeverFalls (last c) (history w a)) (choices_of s.net a t)
     (λ c p. last-never-falls s lost w a c (link_at s.net a c) n r p.into (subst (λ x. IsTrue (is_stamped x)) (sym p.sort) i)) (n.ways.choices a t)
 
+pub channels-fall : (s : Setup) (lost : Losses) (w : World) (a : ℕ) → IsWired s.net → Ran s lost w → Each (λ c. NeverFalls (last c) (history w a)) (data_channels s.net a)
+channels-fall s lost w a n r =
+    each-append (λ c. NeverFalls (last c) (history w a)) (choices_of s.net a Cable) (choices_of s.net a Crossbar) (choice-falls s lost w a Cable n r refl) (choice-falls s lost w a Crossbar n r refl)
+
 pub upto-falls : (s : Setup) (lost : Losses) (w : World) (a : ℕ) → IsWired s.net → Ran s lost w → NeverFalls (upto_of s.net a) (history w a)
-upto-falls s lost w a n r = falls-least id (data_channels s.net a) (history w a) (id-falls (history w a))
-    (each-append (λ c. NeverFalls (last c) (history w a)) (choices_of s.net a Cable) (choices_of s.net a Crossbar) (choice-falls s lost w a Cable n r refl) (choice-falls s lost w a Crossbar n r refl))
+upto-falls s lost w a n r = falls-least id (data_channels s.net a) (history w a) (id-falls (history w a)) (channels-fall s lost w a n r)
 
 pub floor-of-falls : (s : Setup) (lost : Losses) (w : World) (a : ℕ) → IsWired s.net → Ran s lost w → NeverFalls (floor_of s.net a) (history w a)
 floor-of-falls s lost w a n r = falls-least (upto_of s.net a) (choices_of s.net a Init) (history w a) (upto-falls s lost w a n r) (choice-falls s lost w a Init n r refl)

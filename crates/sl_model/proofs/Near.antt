@@ -1,6 +1,7 @@
 -- The window law: what is known, what is on its way, and the bounds of all numbers.
 use Rattle.std.proofs.Common.{◌≡◌, ℕ, ◌+◌, ◌<◌, ◌≤◌, List, [], ◌∷◌, ◌++◌, length, refl, sym, ap, subst, ◌∙◌, Option, Some, None, arith, drop}
 use Rattle.std.specs.Prelude.{min, map, unwrap_or, slice_get, IsTrue}
+use Rattle.std.specs.List.{fold}
 use Rattle.sl_model.specs.declared.message.Message.{Message}
 use Rattle.sl_layout.specs.declared.actor.Sort.{Sort}
 use Rattle.sl_layout.specs.declared.actor.Sort.TheVariants.{Cable, Crossbar, Init, Poll, Dump, Begin}
@@ -11,7 +12,7 @@ use Rattle.sl_layout.specs.Net.{Net, link_of, links_into, links_out, actor_of, c
 use Rattle.sl_net.specs.Wired.{Reports, IsWired}
 use Rattle.sl_parts.specs.Lists.{Each}
 use Rattle.sl_parts.proofs.Lists.{each-map, each-imp, each-at, each-front, each-back}
-use Rattle.sl_model.specs.Words.{Rises, numbers, least_of}
+use Rattle.sl_model.specs.Words.{Rises, numbers}
 use Rattle.sl_route.specs.Least.{least_in}
 use Rattle.sl_model.specs.History.{History, World, Losses, history, stamp_of, begin_of, dump_of, done_of, id, heard, last, first, taken, takes, put, NeverFalls}
 use Rattle.sl_model.specs.Setup.{Setup}
@@ -53,11 +54,11 @@ of-unit net ways u i P e q = each-at P u (units net) e (ways.unit u i q)
 
 -- The least is at most each.
 
-pub least-start : (xs : List ℕ) (n : ℕ) → least_of n xs ≤ n
+pub least-start : (xs : List ℕ) (n : ℕ) → fold min n xs ≤ n
 least-start [] n = omega arith
 least-start (x ∷ xs) n = omega (arith, least-start xs (min n x))
 
-pub least-each : (f : ℕ → ℕ) (cs : List ℕ) (n : ℕ) → Each (λ c. least_of n (map f cs) ≤ f c) cs
+pub least-each : (f : ℕ → ℕ) (cs : List ℕ) (n : ℕ) → Each (λ c. fold min n (map f cs) ≤ f c) cs
 least-each f [] n = tt
 least-each f (c ∷ cs) n = (omega (arith, least-start (map f cs) (min n (f c))), least-each f cs (min n (f c)))
 

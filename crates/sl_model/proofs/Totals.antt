@@ -20,7 +20,8 @@ use Rattle.sl_model.specs.Matching.{is_data}
 use Rattle.sl_model.specs.Cut.{channel_value}
 use Rattle.sl_model.specs.Verdict.{miscredits}
 use Rattle.sl_model.specs.Late.{IsLateData}
-use Rattle.sl_model.specs.Findings.{no_total, eight_totals, channel_links}
+use Rattle.sl_saves.specs.Keeping.{no_total}
+use Rattle.sl_model.specs.Findings.{eight_totals, channel_links}
 use Rattle.sl_net.specs.Ways.{IsChoice}
 use Rattle.sl_net.proofs.Sorts.{each-choice}
 use Rattle.sl_model.proofs.Begins.{fit-taken}

@@ -7,7 +7,7 @@ use Rattle.sl_saves.specs.Calls.{Adopt, Credited, saves, saved}
 use Rattle.sl_model.specs.declared.message.Message.TheVariants.{Data, Probe as ProbeMsg}
 use Rattle.sl_model.specs.declared.message.Message.{Message}
 use Rattle.sl_model.specs.declared.message.Step.{Step}
-use Rattle.sl_model.specs.Findings.{no_total}
+use Rattle.sl_saves.specs.Keeping.{no_total}
 use Rattle.sl_model.specs.History.{History}
 use Rattle.sl_model.specs.Calls.{calls}
 use Rattle.sl_model.specs.Rows.{row}

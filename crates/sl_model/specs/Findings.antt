@@ -7,7 +7,9 @@ use Rattle.sl_layout.specs.declared.actor.Sort.{Sort}
 use Rattle.sl_layout.specs.declared.actor.Sort.TheVariants.{Cable, Crossbar, Init, Notice}
 use Rattle.sl_parts.specs.Parts.{numbers_from}
 use Rattle.sl_layout.specs.Net.{Net, same_side, same_sort, actor_of, link_of, link_at, link_numbers, action_choice, units, hosts, data_channels}
+use Rattle.sl_layout.specs.Devices.{device_of}
 use Rattle.sl_saves.specs.declared.entry.Total.{Total}
+use Rattle.sl_saves.specs.Keeping.{no_total}
 use Rattle.sl_model.specs.declared.verdict.Verdict.{Verdict}
 use Rattle.sl_model.specs.declared.verdict.Verdict.TheVariants.{Consistent}
 use Rattle.sl_model.specs.declared.findings.Row.{Row}
@@ -30,9 +32,6 @@ use Rattle.sl_model.specs.Verdict.{verdict}
 abbrev pub channel_links : Net → ℕ → List ℕ
 channel_links net u = map (link_at net u) (data_channels net u)
 
-abbrev pub no_total : Total
-no_total = record { packets = 0; bytes = 0 }
-
 -- a unit has at most eight data channels; places past them are 0
 abbrev pub eight_totals : List Total → List Total
 eight_totals ts = take 8 (ts ++ replicate 8 no_total)
@@ -52,10 +51,6 @@ finding net lost w k = record { k = k; verdict = verdict net w k; rows = rows_fo
 abbrev pub is_ingress : ActorId → Bool
 is_ingress (OfUnit u) = same_side u.side Ingress
 is_ingress _ = false
-
-abbrev pub device_of : ActorId → ℕ
-device_of (OfUnit u) = u.device
-device_of _ = 0
 
 abbrev pub ingress_units : Net → List ℕ
 ingress_units net = filter (λ u. is_ingress (actor_of net u)) (units net)

@@ -4,15 +4,14 @@
 --     known place h           what the observer knows of one
 --     floor net w             F, up to which the observer knows all units
 -- Choices of the observer, a control plane and a host past their links are their own actions.
-use Rattle.std.specs.Prelude.{ℕ, suc, ◌+◌, Bool, false, ◌&&◌, ◌||◌, List, [], ◌∷◌, map, length, nat_lt, nat_le, ◌==◌, if◌then◌else◌, Option, Some, None, unwrap_or, option_and_then}
-use Rattle.std.specs.List.{list_any, list_all}
+use Rattle.std.specs.Prelude.{ℕ, suc, ◌+◌, min, Bool, false, ◌&&◌, ◌||◌, List, [], ◌∷◌, map, length, nat_lt, nat_le, ◌==◌, if◌then◌else◌, Option, Some, None, unwrap_or, option_and_then}
+use Rattle.std.specs.List.{fold, list_any, list_all}
 use Rattle.sl_layout.specs.declared.actor.Sort.TheVariants.{Init}
 use Rattle.sl_layout.specs.Net.{Net, choices_of, action_choice, data_channels, units, unit_place}
 use Rattle.sl_layout.specs.Serving.{Served, served}
 use Rattle.sl_model.specs.declared.message.Message.{Message}
 use Rattle.sl_model.specs.declared.message.Message.TheVariants.{Notice as NoticeMsg}
 use Rattle.sl_model.specs.declared.message.Put.{Put}
-use Rattle.sl_model.specs.Words.{least_of}
 use Rattle.sl_route.specs.Least.{least}
 use Rattle.sl_model.specs.History.{History, World, history, dump_of, done_of, id, heard, last, first, taken, put}
 use Rattle.sl_model.specs.Setup.{Setup}
@@ -21,11 +20,11 @@ use Rattle.sl_model.specs.Setup.{Setup}
 
 -- the least of the id and the data last-seen numbers
 abbrev pub upto_of : Net → ℕ → History → ℕ
-upto_of net u h = least_of (id h) (map (λ c. last c h) (data_channels net u))
+upto_of net u h = fold min (id h) (map (λ c. last c h) (data_channels net u))
 
 -- the least of that and, for an ingress unit, the last-seen number of its initiations
 abbrev pub floor_of : Net → ℕ → History → ℕ
-floor_of net u h = least_of (upto_of net u h) (map (λ c. last c h) (choices_of net u Init))
+floor_of net u h = fold min (upto_of net u h) (map (λ c. last c h) (choices_of net u Init))
 
 -- Control planes. h is the history of the control plane, v a unit that it serves, sweep its own action.
 

@@ -8,6 +8,8 @@ pub mod Knowledge
 pub mod Puts
 pub mod World
 pub mod Losses
+pub mod Putting
+pub mod Lamport
 -- Cuts and verdicts.
 pub mod Matching
 pub mod Cut

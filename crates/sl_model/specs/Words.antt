@@ -1,7 +1,7 @@
 -- Words on lists and numbers that the definitions share.
 --     Rises n xs b     n, then the numbers xs, then b, never fall
 --     weigh f xs       a number of each element, added up
-use Rattle.std.specs.Prelude.{ℕ, suc, ◌+◌, ◌≤◌, min, Bool, List, [], ◌∷◌, ◌++◌, if◌then◌else◌, Option, Some, None}
+use Rattle.std.specs.Prelude.{ℕ, suc, ◌+◌, ◌≤◌, Bool, List, [], ◌∷◌, ◌++◌, if◌then◌else◌, Option, Some, None}
 
 abbrev pub Rises : ℕ → List ℕ → ℕ → Type 0
 Rises n [] b = n ≤ b
@@ -28,11 +28,6 @@ numbers f (x ∷ xs) = listed (f x) ++ numbers f xs
 abbrev pub last_of : ℕ → List ℕ → ℕ
 last_of n [] = n
 last_of n (x ∷ xs) = last_of x xs
-
--- the least of a number and others
-abbrev pub least_of : ℕ → List ℕ → ℕ
-least_of n [] = n
-least_of n (x ∷ xs) = least_of (min n x) xs
 
 abbrev pub or_later : {A : Type 0} → ℕ → Option A → Option (ℕ × A) → Option (ℕ × A)
 or_later n (Some a) o = Some (n, a)

@@ -1,10 +1,10 @@
 -- Trees of minima: the node 1 is the least of the numbers.
 use Rattle.std.proofs.Common.{◌≡◌, ◌≢◌, ℕ, zero, suc, ◌+◌, ◌-◌, ◌*◌, ◌/◌, ◌%◌, ◌<◌, ◌≤◌, ◌⊎◌, inl, inr, List, [], ◌∷◌, length, refl, sym, ap, ◌∙◌, subst, drop, get_or, set, replicate, arith}
 use Rattle.std.specs.Prelude.{min, Some, None}
+use Rattle.std.specs.List.{fold}
 use Rattle.std.proofs.lemmas.List.{get_or-drop, length-drop, drop-replicate, length-replicate, nil_from_length, get_or-set_other, get_or-set_same}
 use Rattle.std.proofs.lemmas.Bool.{cases_lt, cases_eq}
-use Rattle.sl_wire.specs.Reach.{least_of}
-use Rattle.sl_observe.specs.Least.{least}
+use Rattle.sl_route.specs.Least.{least, least_in}
 use Rattle.sl_observe.specs.Floors.{IsTree, IsLesserOfChildren}
 
 -- Zeros.
@@ -29,27 +29,32 @@ zeros_are_numbers n tree e = let h : n + n - n ≡ n = omega arith in ap (drop n
 
 -- The least of a list is a number of it that is above no other.
 
-pub least_of_bound : (n m : ℕ) (xs : List ℕ) → m ≤ n → ((k : ℕ) → k < length xs → m ≤ get_or xs k 0) → m ≤ least_of n xs
+pub least_of_bound : (n m : ℕ) (xs : List ℕ) → m ≤ n → ((k : ℕ) → k < length xs → m ≤ get_or xs k 0) → m ≤ fold min n xs
 least_of_bound n m [] l f = l
 least_of_bound n m (x ∷ xs) l f = least_of_bound (min n x) m xs (let h : m ≤ x = f 0 (omega arith) in omega arith) (λ k h. f (suc k) (omega arith))
 
-pub least_of_below : (n : ℕ) (xs : List ℕ) → least_of n xs ≤ n
+pub least_of_below : (n : ℕ) (xs : List ℕ) → fold min n xs ≤ n
 least_of_below n [] = omega arith
 least_of_below n (x ∷ xs) = let h = least_of_below (min n x) xs in omega (arith, h)
 
-pub least_of_member : (n : ℕ) (xs : List ℕ) (k : ℕ) → k < length xs → least_of n xs ≤ get_or xs k 0
+pub least_of_member : (n : ℕ) (xs : List ℕ) (k : ℕ) → k < length xs → fold min n xs ≤ get_or xs k 0
 least_of_member n [] k h = absurd (omega arith)
 least_of_member n (x ∷ xs) zero h = let b = least_of_below (min n x) xs in omega (arith, b)
 least_of_member n (x ∷ xs) (suc k) h = least_of_member (min n x) xs k (omega arith)
 
+least_some : (n : ℕ) (xs : List ℕ) → least_in (Some n) xs ≡ Some (fold min n xs)
+least_some n [] = refl
+least_some n (x ∷ xs) = least_some (min n x) xs
+
 pub least_is : (xs : List ℕ) (m k : ℕ) → k < length xs → get_or xs k 0 ≡ m → ((j : ℕ) → j < length xs → m ≤ get_or xs j 0) → least xs ≡ Some m
 least_is [] m k h e f = absurd (omega arith)
 least_is (x ∷ xs) m k h e f =
-    let low : m ≤ least_of x xs = least_of_bound x m xs (f 0 (omega arith)) (λ j l. f (suc j) (omega arith)) in
-    let high : least_of x xs ≤ m = at_most k h e in
-    ap Some (omega arith)
+    let low : m ≤ fold min x xs = least_of_bound x m xs (f 0 (omega arith)) (λ j l. f (suc j) (omega arith)) in
+    let high : fold min x xs ≤ m = at_most k h e in
+    let same : min x x ≡ x = omega arith in
+    ap (λ n. least_in (Some n) xs) same ∙ least_some x xs ∙ ap Some (omega (arith, low, high))
   where
-    at_most : (k : ℕ) → k < length (x ∷ xs) → get_or (x ∷ xs) k 0 ≡ m → least_of x xs ≤ m
+    at_most : (k : ℕ) → k < length (x ∷ xs) → get_or (x ∷ xs) k 0 ≡ m → fold min x xs ≤ m
     at_most zero h e = let b = least_of_below x xs in omega (arith, b, e)
     at_most (suc k) h e = let b = least_of_member x xs k (omega arith) in omega (arith, b, e)
 

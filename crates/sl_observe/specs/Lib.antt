@@ -1,4 +1,3 @@
-pub mod Least
 pub mod Observer
 pub mod Floors
 pub mod Kept

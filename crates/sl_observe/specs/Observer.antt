@@ -15,7 +15,7 @@ use Rattle.sl_wire.specs.declared.message.Done.{Done}
 use Rattle.sl_wire.specs.declared.message.Msg.{Msg}
 use Rattle.sl_wire.specs.declared.message.Msg.TheVariants.{Begin, Done as DoneMsg}
 use Rattle.sl_wire.specs.Reach.{reached as reached_by}
-use Rattle.sl_observe.specs.Least.{least}
+use Rattle.sl_route.specs.Least.{least}
 use Rattle.sl_observe.specs.declared.unit.Seen.{Seen}
 
 -- A unit: its device, which is also the choice by which reports on it come; how many data channels it has; the id, last-seen numbers and floor

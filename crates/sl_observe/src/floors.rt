@@ -1,6 +1,6 @@
 // Numbers of which the least is known.
 ghost use Rattle.std.specs.Prelude.{◌≡◌, ◌+◌, ◌<◌, ◌^◌, IfOk, length, drop, replicate, slice_set};
-ghost use Rattle.sl_observe.specs.Least.{least};
+ghost use Rattle.sl_route.specs.Least.{least};
 ghost use Rattle.sl_observe.specs.Floors.{IsTree};
 
 use std::alloc::{AllocError, Global};

@@ -12,6 +12,7 @@ use Rattle.sl_layout.specs.Wires.{out_of}
 use Rattle.sl_layout.specs.Wiring.{kind_of, wired_link, plan_of}
 use Rattle.sl_net.specs.Wired.{IsWired}
 use Rattle.sl_wire.specs.declared.message.Msg.{Msg}
+use Rattle.sl_wire.specs.Sizes.{Sizes}
 use Rattle.sl_model.specs.declared.message.Message.{Message}
 use Rattle.sl_model.specs.declared.message.Message.TheVariants.{Done as DoneMsg}
 use Rattle.sl_model.specs.declared.message.Put.{Put}
@@ -125,8 +126,8 @@ told-still net w v a step k g ne = by_tells (link_of net k).to (eqb_tells (link_
 
 -- Links and their puts.
 
-pub line-retold : (net : Net) (ring : ℕ) (us : ℕ → History) (a : ℕ) (lost : ℕ → Bool) (told now : ℕ → ℕ) (n i : ℕ) (ms : List Message) (line : Line Msg) → now ≡ told → i ≡ n → IsLine net ring us a lost told n ms line → IsLine net ring us a lost now i ms line
-line-retold net ring us a lost told now n i ms line p q l = subst (λ t. IsLine net ring us a lost t i ms line) (sym p) (subst (λ j. IsLine net ring us a lost told j ms line) (sym q) l)
+pub line-retold : (net : Net) (sizes : Sizes) (us : ℕ → History) (a : ℕ) (lost : ℕ → Bool) (told now : ℕ → ℕ) (n i : ℕ) (ms : List Message) (line : Line Msg) → now ≡ told → i ≡ n → IsLine net sizes us a lost told n ms line → IsLine net sizes us a lost now i ms line
+line-retold net sizes us a lost told now n i ms line p q l = subst (λ t. IsLine net sizes us a lost t i ms line) (sym p) (subst (λ j. IsLine net sizes us a lost told j ms line) (sym q) l)
 
 -- what was told at the end of a link of Dones is what all messages put on it tell
 told-end : (net : Net) (lost : Losses) (w : World) (l : ℕ) → Fifo (choice_of net l) (history w (link_of net l).to) (carried net lost w l) → ((k : ℕ) → lost l k ≡ false)
@@ -186,16 +187,16 @@ link-out-is net a l sound p from = let w = wire-at net l p in let once = sound.o
 -- The scene.
 
 -- the links of a scene that stands for the world w, seen by internal words
-pub lines-of : {S : Type 0} (s : Setup) → HasWays s.net → (lost : Losses) (ring : ℕ) (Stands : World → ℕ → S → Type 0) (w : World) (v : Scene S Msg) → Ran s lost w → IsImage s lost ring Stands w v
-    → LinesAre s.net ring (history w) lost (told_at s.net w) (taken_at s.net w) (put_at s.net w) v.lines
-lines-of s ways lost ring Stands w v x image l p = let i = image.lines l p in let k = ways.taken l p in
+pub lines-of : {S : Type 0} (s : Setup) → HasWays s.net → (lost : Losses) (sizes : Sizes) (Stands : World → ℕ → S → Type 0) (w : World) (v : Scene S Msg) → Ran s lost w → IsImage s lost sizes Stands w v
+    → LinesAre s.net sizes (history w) lost (told_at s.net w) (taken_at s.net w) (put_at s.net w) v.lines
+lines-of s ways lost sizes Stands w v x image l p = let i = image.lines l p in let k = ways.taken l p in
     record { within = taken-within s.net lost w l (x.fifo (link_of s.net l).to (choice_of s.net l) l k); queue = i.queue; loss = i.loss; count = i.count }
 
-pub lines-grown : PassesMessages → (s : Setup) (lost : Losses) (ring : ℕ) (w v : World) (a : ℕ) (step : Step) (lines : List (Line Msg)) → AreReported s → IsWired s.net → Ran s lost w → GrowsAt w v a step
-    → LinesAre s.net ring (history w) lost (told_at s.net w) (taken_at s.net w) (put_at s.net w) lines → LinesAre s.net ring (history v) lost (told_at s.net w) (taken_at s.net w) (put_at s.net w) lines
-lines-grown passing s lost ring w v a step lines reported z x g all l p = let i = all l p in record {
+pub lines-grown : PassesMessages → (s : Setup) (lost : Losses) (sizes : Sizes) (w v : World) (a : ℕ) (step : Step) (lines : List (Line Msg)) → AreReported s → IsWired s.net → Ran s lost w → GrowsAt w v a step
+    → LinesAre s.net sizes (history w) lost (told_at s.net w) (taken_at s.net w) (put_at s.net w) lines → LinesAre s.net sizes (history v) lost (told_at s.net w) (taken_at s.net w) (put_at s.net w) lines
+lines-grown passing s lost sizes w v a step lines reported z x g all l p = let i = all l p in record {
   within = i.within;
-  queue = queue-grown s.net ring w v a step (link_of s.net l).from (told_at s.net w l) (on_way s.net lost w l) (line_at lines l).queue g (told-there passing s lost w l reported z x p) (way-there passing s lost w l reported z x p) i.queue;
+  queue = queue-grown s.net sizes w v a step (link_of s.net l).from (told_at s.net w l) (on_way s.net lost w l) (line_at lines l).queue g (told-there passing s lost w l reported z x p) (way-there passing s lost w l reported z x p) i.queue;
   loss = i.loss;
   count = i.count;
 }
@@ -216,7 +217,7 @@ put-grown net w v a step l g from = by_tells (link_of net l).from refl (eqb_tell
     by_tells b e (inr q) = ap (λ ms. put l (history w b) ++ ms) (off step.puts from (λ k. q.1 (sym e ∙ k))) ∙ append-nil (put l (history w b)) ∙ ap (put l) (sym (g.other b q.1))
 
 -- Where a turn of the actor a makes a step, and its machine leaves what stands for this, after the links were as lines says.
-module _ {S : Type 0} (s : Setup) (lost : Losses) (ring : ℕ) (Stands : World → ℕ → S → Type 0) where
+module _ {S : Type 0} (s : Setup) (lost : Losses) (sizes : Sizes) (Stands : World → ℕ → S → Type 0) where
   pub record Turning (w v : World) (a : ℕ) (step : Step) : Type 0 where
     pub wired : IsWired s.net
     pub sound : IsSound (plan_of s.net)
@@ -243,11 +244,11 @@ module _ {S : Type 0} (s : Setup) (lost : Losses) (ring : ℕ) (Stands : World �
           let here : put_at s.net w l ≡ put l (history w a) = ap (λ b. put l (history w b)) f.1 in
           (λ i. tell_all untold (sym here i) place) ∙ (λ i. end i place) ∙ (λ i. sym (same l f.0) i place) ∙ (λ i. tell_all (told_at s.net v l) (drop (taken_at s.net v l) (without_lost (lost l) 0 (here i))) place)
 
-  pub image-after : (w v : World) (a c : ℕ) (step : Step) (scene : Scene S Msg) (lines : List (Line Msg)) (left : After S Msg) → Turning w v a step → IsImage s lost ring Stands w scene
+  pub image-after : (w v : World) (a c : ℕ) (step : Step) (scene : Scene S Msg) (lines : List (Line Msg)) (left : After S Msg) → Turning w v a step → IsImage s lost sizes Stands w scene
       → ((k : ℕ) → k < length s.net.links → told_last lost (told_at s.net v) (taken_at s.net v) (put_at s.net w) k ≡ told_last lost (told_at s.net w) (taken_at s.net w) (put_at s.net w) k)
-      → length lines ≡ length s.net.links → LinesAre s.net ring (history v) lost (told_at s.net v) (taken_at s.net v) (put_at s.net w) lines
-      → MachineSimulates s ring Stands w v a step left → ((b : ℕ) (state : S) → (b ≡ a → ⊥) → Stands w b state → Stands v b state)
-      → IsImage s lost ring Stands v (done scene a c lines left)
+      → length lines ≡ length s.net.links → LinesAre s.net sizes (history v) lost (told_at s.net v) (taken_at s.net v) (put_at s.net w) lines
+      → MachineSimulates s sizes Stands w v a step left → ((b : ℕ) (state : S) → (b ≡ a → ⊥) → Stands w b state → Stands v b state)
+      → IsImage s lost sizes Stands v (done scene a c lines left)
   image-after w v a c step scene lines left t image same long all stands stays = record {
     plan = image.plan;
     states_each = length-set scene.states a left.state ∙ image.states_each;
@@ -271,15 +272,15 @@ module _ {S : Type 0} (s : Setup) (lost : Losses) (ring : ℕ) (Stands : World �
       room : (l : ℕ) → length (put_at s.net w l) + length (on_link l step.puts) < 2 ^ 64
       room l = let one = one-each l step.puts spread.apart in let small = put-small s (link_of s.net l).from l (history w (link_of s.net l).from) t.wired (t.ran.made (link_of s.net l).from) in let few = t.few (link_of s.net l).from in omega (arith, one, small, few)
 
-      delivered : LinesAre s.net ring (history v) lost (told_at s.net v) (taken_at s.net v) (λ k. put_at s.net w k ++ on_link k step.puts) (put_each (link_out scene.plan.links a) left.puts lines)
-      delivered = all-put s.net ring (history v) a lost (told_at s.net v) (taken_at s.net v) (link_out scene.plan.links a) (put_at s.net w) lines step.puts left.puts placed room long
+      delivered : LinesAre s.net sizes (history v) lost (told_at s.net v) (taken_at s.net v) (λ k. put_at s.net w k ++ on_link k step.puts) (put_each (link_out scene.plan.links a) left.puts lines)
+      delivered = all-put s.net sizes (history v) a lost (told_at s.net v) (taken_at s.net v) (link_out scene.plan.links a) (put_at s.net w) lines step.puts left.puts placed room long
           (put-from s.net a step.puts spread.each)
-          (to-send s.net ring (history v) a lost (told_at s.net v) (taken_at s.net v) (history w a) (put_at s.net w) step.puts left.puts spread.apart
+          (to-send s.net sizes (history v) a lost (told_at s.net v) (taken_at s.net v) (history w a) (put_at s.net w) step.puts left.puts spread.apart
           (each-imp (λ p. (p.link < length s.net.links) × ((link_of s.net p.link).from ≡ a)) (λ p. put_at s.net w p.link ≡ put p.link (history w a)) step.puts (λ p f. ap (λ b. put p.link (history w b)) f.1) (put-from s.net a step.puts spread.each))
           (done-told w v a step t same) stands.puts) all
 
-      by_line : (l : ℕ) → IsLine s.net ring (history v) (link_of s.net l).from (lost l) (told_at s.net v l) (taken_at s.net v l) (put_at s.net w l ++ on_link l step.puts) (line_at (put_each (link_out scene.plan.links a) left.puts lines) l)
-          → IsLineOf s lost ring v l (line_at (put_each (link_out scene.plan.links a) left.puts lines) l)
+      by_line : (l : ℕ) → IsLine s.net sizes (history v) (link_of s.net l).from (lost l) (told_at s.net v l) (taken_at s.net v l) (put_at s.net w l ++ on_link l step.puts) (line_at (put_each (link_out scene.plan.links a) left.puts lines) l)
+          → IsLineOf s lost sizes v l (line_at (put_each (link_out scene.plan.links a) left.puts lines) l)
       by_line l i = let now = put-grown s.net w v a step l t.grows (put-from s.net a step.puts spread.each) in
-          let j = subst (λ ms. IsLine s.net ring (history v) (link_of s.net l).from (lost l) (told_at s.net v l) (taken_at s.net v l) ms (line_at (put_each (link_out scene.plan.links a) left.puts lines) l)) now i in
+          let j = subst (λ ms. IsLine s.net sizes (history v) (link_of s.net l).from (lost l) (told_at s.net v l) (taken_at s.net v l) ms (line_at (put_each (link_out scene.plan.links a) left.puts lines) l)) now i in
           record { queue = j.queue; loss = j.loss; count = j.count }

@@ -1,6 +1,7 @@
 -- What accounts of units say of a number, unit by unit.
 use Rattle.std.proofs.Common.{◌≡◌, ℕ, zero, suc, ◌+◌, ◌-◌, ◌<◌, ◌≤◌, List, [], ◌∷◌, ◌++◌, length, refl, sym, ap, subst, ◌∙◌, Option, Some, None, arith, inl, inr, take, drop, get_or, eq-eqb}
 use Rattle.std.specs.Prelude.{◌⊎◌, ◌==◌, true, false, nat_lt, nat_le, nat_eq, min, if◌then◌else◌, map, slice_get, unwrap_or, option_and_then, slice_index}
+use Rattle.std.specs.List.{fold}
 use Rattle.std.proofs.Math.Numerals.{add-one}
 use Rattle.std.proofs.lemmas.Bool.{ne_eqb}
 use Rattle.std.proofs.lemmas.Bool.Decides.{leb_tells, eqb_tells}
@@ -10,7 +11,6 @@ use Rattle.sl_layout.specs.Net.{Net, units}
 use Rattle.std.proofs.lemmas.Simd.{map-map}
 use Rattle.sl_saves.specs.declared.entry.Saved.{Saved}
 use Rattle.sl_saves.specs.declared.entry.Saved.TheVariants.{Value, Skipped, Miscredited}
-use Rattle.sl_wire.specs.Reach.{least_of as least_of_there}
 use Rattle.sl_observe.specs.Observer.{UnitState, ObserverState, new_unit, unit_at, saved_of, register_floor}
 use Rattle.sl_model.specs.declared.verdict.Cause.{Cause}
 use Rattle.sl_model.specs.declared.verdict.Lag.{Lag}
@@ -22,7 +22,6 @@ use Rattle.sl_route.specs.Least.{least as least_here}
 use Rattle.sl_model.specs.Verdict.{lag_at, judged, place_or_zero}
 use Rattle.sl_model.specs.Accounts.{Account, row_of, behind, lag_by, cause_in, cause_by, floor_by, holds, verdict_by}
 use Rattle.sl_image.specs.ObserverImage.{account_of}
-use Rattle.sl_image.proofs.ObserverLists.{least-same}
 use Rattle.sl_proto.specs.Told.{HasRows, HasAllRows, accounts_of, IsValue}
 
 -- Walks over the units.
@@ -68,7 +67,7 @@ row_is_saved x k p = ap (λ b. if b then None else slice_get x.rows (k - 1)) (no
 -- The floor.
 
 pub floor_is_by : (o : ObserverState) → register_floor o ≡ floor_by o.issued (accounts_of o)
-floor_is_by o = ap (λ m. unwrap_or m o.issued) (least-same (map (λ u. u.floor) o.units) ∙ ap least_here (sym (map-map (λ a. a.floor) account_of o.units)))
+floor_is_by o = ap (λ m. unwrap_or m o.issued) (ap least_here (sym (map-map (λ a. a.floor) account_of o.units)))
 
 pub holds_it : (f : ℕ) (a : Account) → a.floor ≡ f → holds f a ≡ Some a.floor
 holds_it f a e = ap (λ b. if b then Some a.floor else None) (eq-eqb a.floor f e)
@@ -104,14 +103,14 @@ not-behind k n h = by_tells (leb_tells (suc n) k)
     by_tells (inl q) = absurd (let e : Some n ≡ None = sym (ap (λ b. if b then Some n else None) q.0) ∙ h in cc)
     by_tells (inr q) = omega (arith, q.1)
 
-least-high : (k n : ℕ) (xs : List ℕ) → k ≤ n → Each (λ x. behind k x ≡ None) xs → k ≤ least_of_there n xs
+least-high : (k n : ℕ) (xs : List ℕ) → k ≤ n → Each (λ x. behind k x ≡ None) xs → k ≤ fold min n xs
 least-high k n [] p e = p
 least-high k n (x ∷ xs) p e = let q = not-behind k x e.0 in least-high k (min n x) xs (omega (arith, p, q)) e.1
 
-reached : (k : ℕ) (a : Account) → lag_by k a ≡ None → k ≤ least_of_there a.id a.last
+reached : (k : ℕ) (a : Account) → lag_by k a ≡ None → k ≤ fold min a.id a.last
 reached k a h = by_tells (leb_tells (suc a.id) k)
   where
-    by_tells : ((nat_lt a.id k ≡ true) × (suc a.id ≤ k)) ⊎ ((nat_lt a.id k ≡ false) × (k < suc a.id)) → k ≤ least_of_there a.id a.last
+    by_tells : ((nat_lt a.id k ≡ true) × (suc a.id ≤ k)) ⊎ ((nat_lt a.id k ≡ false) × (k < suc a.id)) → k ≤ fold min a.id a.last
     by_tells (inl q) = absurd (let e = sym (ap (λ b. if b then Some (Id a.id) else lag_at (first_told (behind k) a.last)) q.0) ∙ h in cc)
     by_tells (inr q) = least-high k a.id a.last (omega (arith, q.1)) (silent-each (behind k) 0 a.last (lag-none (first_told (behind k) a.last) (sym (ap (λ b. if b then Some (Id a.id) else lag_at (first_told (behind k) a.last)) q.0) ∙ h)))
 

@@ -1,5 +1,5 @@
 -- Links of a scene and of a world, through puts.
---     IsLine net ring us a lost told n ms line     the link stands for one on which these were put, and n of those that are not lost were taken
+--     IsLine net sizes us a lost told n ms line     the link stands for one on which these were put, and n of those that are not lost were taken
 use Rattle.std.proofs.Common.{◌≡◌, ℕ, zero, suc, ◌+◌, ◌^◌, ◌<◌, ◌≤◌, List, [], ◌∷◌, ◌++◌, length, refl, sym, ap, subst, ◌∙◌, Option, Some, None, arith, length-append, append-nil, drop}
 use Rattle.std.specs.Prelude.{true, false, Bool, if◌then◌else◌}
 use Rattle.sl_machine.specs.Counting.{one_more}
@@ -7,6 +7,7 @@ use Rattle.sl_loss.specs.Loss.{Loss, is_lost, loses_next, after_put}
 use Rattle.sl_parts.specs.Parts.{numbers_from}
 use Rattle.sl_layout.specs.Net.{Net}
 use Rattle.sl_wire.specs.declared.message.Msg.{Msg}
+use Rattle.sl_wire.specs.Sizes.{Sizes}
 use Rattle.sl_model.specs.declared.message.Message.{Message}
 use Rattle.sl_model.specs.Words.{tally}
 use Rattle.sl_model.specs.History.{History, without_lost}
@@ -18,9 +19,9 @@ use Rattle.sl_proto.proofs.Queues.{queue-push}
 abbrev pub counted : (ℕ → Bool) → List Message → ℕ
 counted lost ms = tally lost (numbers_from 1 (length ms))
 
-pub record IsLine (net : Net) (ring : ℕ) (us : ℕ → History) (a : ℕ) (lost : ℕ → Bool) (told : ℕ → ℕ) (n : ℕ) (ms : List Message) (line : Line Msg) : Type 0 where
+pub record IsLine (net : Net) (sizes : Sizes) (us : ℕ → History) (a : ℕ) (lost : ℕ → Bool) (told : ℕ → ℕ) (n : ℕ) (ms : List Message) (line : Line Msg) : Type 0 where
   pub within : n ≤ length (without_lost lost 0 ms)
-  pub queue : AreQueued net ring us a told (drop n (without_lost lost 0 ms)) line.queue
+  pub queue : AreQueued net sizes us a told (drop n (without_lost lost 0 ms)) line.queue
   pub loss : GoesOn lost (length ms) line.loss
   pub count : line.lost ≡ counted lost ms
 
@@ -35,7 +36,7 @@ without-push lost n (y ∷ ms) m = by_bool (lost (suc n)) (without-push lost (su
     by_bool true ih = ih ∙ ap (λ k. without_lost lost (suc n) ms ++ (if lost (suc k) then [] else m ∷ [])) (omega arith)
     by_bool false ih = ap (λ r. y ∷ r) ih ∙ ap (λ k. y ∷ (without_lost lost (suc n) ms ++ (if lost (suc k) then [] else m ∷ []))) (omega arith)
 
-drop-front : {A : Type 0} (n : ℕ) (xs ys : List A) → n ≤ length xs → drop n (xs ++ ys) ≡ drop n xs ++ ys
+pub drop-front : {A : Type 0} (n : ℕ) (xs ys : List A) → n ≤ length xs → drop n (xs ++ ys) ≡ drop n xs ++ ys
 drop-front zero xs ys p = refl
 drop-front (suc n) [] ys p = absurd (omega (arith, p))
 drop-front (suc n) (x ∷ xs) ys p = drop-front n xs ys (omega (arith, p))
@@ -66,12 +67,12 @@ goes-on : (lost : ℕ → Bool) (n : ℕ) (o : Option Loss) → suc n < 2 ^ 64 �
 goes-on lost n None p g = g
 goes-on lost n (Some loss) p g = (omega (arith, p, g.0), g.1)
 
-pub line-put : (net : Net) (ring : ℕ) (us : ℕ → History) (a : ℕ) (lost : ℕ → Bool) (told : ℕ → ℕ) (n : ℕ) (ms : List Message) (line : Line Msg) (m : Message) (x : Msg) → suc (length ms) < 2 ^ 64
-    → IsLine net ring us a lost told n ms line → IsMessage net ring us a (tell_all told (drop n (without_lost lost 0 ms))) m x → IsLine net ring us a lost told n (ms ++ m ∷ []) (line_put line x)
-line-put net ring us a lost told n ms line m x few i s = record {
+pub line-put : (net : Net) (sizes : Sizes) (us : ℕ → History) (a : ℕ) (lost : ℕ → Bool) (told : ℕ → ℕ) (n : ℕ) (ms : List Message) (line : Line Msg) (m : Message) (x : Msg) → suc (length ms) < 2 ^ 64
+    → IsLine net sizes us a lost told n ms line → IsMessage net sizes us a (tell_all told (drop n (without_lost lost 0 ms))) m x → IsLine net sizes us a lost told n (ms ++ m ∷ []) (line_put line x)
+line-put net sizes us a lost told n ms line m x few i s = record {
   within = omega (arith, i.within, ap length pushed, length-append (without_lost lost 0 ms) (if lost (suc (length ms)) then [] else m ∷ []));
-  queue = subst (λ b. AreQueued net ring us a told (drop n (without_lost lost 0 (ms ++ m ∷ []))) (if b then line.queue else line.queue ++ x ∷ [])) (sym next)
-      (subst (λ ks. AreQueued net ring us a told ks (if lost (suc (length ms)) then line.queue else line.queue ++ x ∷ [])) (sym (ap (drop n) pushed ∙ drop-front n (without_lost lost 0 ms) (if lost (suc (length ms)) then [] else m ∷ []) i.within))
+  queue = subst (λ b. AreQueued net sizes us a told (drop n (without_lost lost 0 (ms ++ m ∷ []))) (if b then line.queue else line.queue ++ x ∷ [])) (sym next)
+      (subst (λ ks. AreQueued net sizes us a told ks (if lost (suc (length ms)) then line.queue else line.queue ++ x ∷ [])) (sym (ap (drop n) pushed ∙ drop-front n (without_lost lost 0 ms) (if lost (suc (length ms)) then [] else m ∷ []) i.within))
       (by_bool (lost (suc (length ms)))));
   loss = subst (λ k. GoesOn lost k (after_put line.loss)) (sym long) (goes-on lost (length ms) line.loss few i.loss);
   count = ap (λ b. if b then one_more line.lost else line.lost) next ∙ more (lost (suc (length ms))) ∙ sym (ap (λ k. tally lost (numbers_from 1 k)) long ∙ ap (tally lost) (numbers-push 1 (length ms))
@@ -87,9 +88,9 @@ line-put net ring us a lost told n ms line m x few i s = record {
     pushed : without_lost lost 0 (ms ++ m ∷ []) ≡ without_lost lost 0 ms ++ (if lost (suc (length ms)) then [] else m ∷ [])
     pushed = let e : 0 + length ms ≡ length ms = omega arith in without-push lost 0 ms m ∙ ap (λ k. without_lost lost 0 ms ++ (if lost (suc k) then [] else m ∷ [])) e
 
-    by_bool : (b : Bool) → AreQueued net ring us a told (drop n (without_lost lost 0 ms) ++ (if b then [] else m ∷ [])) (if b then line.queue else line.queue ++ x ∷ [])
-    by_bool true = subst (λ ks. AreQueued net ring us a told ks line.queue) (sym (append-nil (drop n (without_lost lost 0 ms)))) i.queue
-    by_bool false = queue-push net ring us a told (drop n (without_lost lost 0 ms)) line.queue m x i.queue s
+    by_bool : (b : Bool) → AreQueued net sizes us a told (drop n (without_lost lost 0 ms) ++ (if b then [] else m ∷ [])) (if b then line.queue else line.queue ++ x ∷ [])
+    by_bool true = subst (λ ks. AreQueued net sizes us a told ks line.queue) (sym (append-nil (drop n (without_lost lost 0 ms)))) i.queue
+    by_bool false = queue-push net sizes us a told (drop n (without_lost lost 0 ms)) line.queue m x i.queue s
 
     few-lost : line.lost ≤ length ms
     few-lost = omega (arith, i.count, tally-small lost 1 (length ms))

@@ -10,6 +10,7 @@ use Rattle.sl_layout.specs.Net.{Net, actor_of, action_choice, link_of, links_int
 use Rattle.sl_layout.specs.Serving.{choice_from}
 use Rattle.sl_net.specs.Wired.{IsWired}
 use Rattle.sl_wire.specs.declared.message.Msg.{Msg}
+use Rattle.sl_wire.specs.Sizes.{Sizes}
 use Rattle.sl_model.specs.declared.message.Message.{Message}
 use Rattle.sl_model.specs.declared.message.Message.TheVariants.{Done as DoneMsg}
 use Rattle.sl_model.specs.declared.message.Put.{Put}
@@ -87,11 +88,11 @@ host-within turns s lost w a c i step q next none = let y = acts-view turns s lo
     let n = host-one s y.floor a i (history w a) step.puts (step.choice - action_choice s.net a) (subst (λ i. action s y.floor a i (history w a) (step.choice - action_choice s.net a) ≡ Some step.puts) q y.puts) in omega (arith, k, n)
 
 -- what is done is one thing, whatever was told
-pub does-put : {S : Type 0} (Stands : S → Type 0) (net : Net) (ring : ℕ) (us : ℕ → History) (a : ℕ) (h : History) (ps : List Put) (o : Option (After S Msg)) (g : (told : ℕ → ℕ) → ActSimulates Stands net ring us a told ps o)
-    → ArePut net ring us a h ps (g untold).after.puts
-does-put {S} Stands net ring us a h ps o g = put-by-any net ring us a h ps (g untold).after.puts (λ told.
+pub does-put : {S : Type 0} (Stands : S → Type 0) (net : Net) (sizes : Sizes) (us : ℕ → History) (a : ℕ) (h : History) (ps : List Put) (o : Option (After S Msg)) (g : (told : ℕ → ℕ) → ActSimulates Stands net sizes us a told ps o)
+    → ArePut net sizes us a h ps (g untold).after.puts
+does-put {S} Stands net sizes us a h ps o g = put-by-any net sizes us a h ps (g untold).after.puts (λ told.
     let e : Some (g told).after ≡ Some (g untold).after = sym (g told).is ∙ (g untold).is in let j : (g told).after ≡ (g untold).after = cc in
-    subst (λ (y : After S Msg). AreSent net ring us a told ps y.puts) j (g told).simulates.sent)
+    subst (λ (y : After S Msg). AreSent net sizes us a told ps y.puts) j (g told).simulates.sent)
 
 -- Dones.
 

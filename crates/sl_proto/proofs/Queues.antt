@@ -7,6 +7,7 @@ use Rattle.std.proofs.lemmas.Bool.{le-ltb}
 use Rattle.std.proofs.lemmas.Bool.Decides.{eqb_tells}
 use Rattle.sl_layout.specs.Net.{Net, units}
 use Rattle.sl_wire.specs.declared.message.Msg.{Msg}
+use Rattle.sl_wire.specs.Sizes.{Sizes}
 use Rattle.sl_model.specs.declared.message.Message.{Message}
 use Rattle.sl_model.specs.declared.message.Message.TheVariants.{Dump as DumpMsg, Done as DoneMsg}
 use Rattle.sl_model.specs.declared.message.Step.{Step}
@@ -38,9 +39,9 @@ heard-told c (s ∷ h) = by_bool (s.choice == c) s.taken (heard-told c h) ∙ sy
     by_bool false o ih = ih
 
 -- a message stands for what it stands for, also where other things were told of other units
-pub retold : (net : Net) (ring : ℕ) (us : ℕ → History) (a : ℕ) (told now : ℕ → ℕ) (m : Message) (x : Msg) → ((place n : ℕ) → m ≡ DoneMsg place n → told place ≡ now place) → IsMessage net ring us a told m x → IsMessage net ring us a now m x
-retold net ring us a told now (DoneMsg place n) x h i = let u : ℕ = slice_index (units net) place in subst (λ k. SaysDone net u (first k (us u)) (first n (us u)) x) (h place n refl) i
-retold net ring us a told now _ x h i = i
+pub retold : (net : Net) (sizes : Sizes) (us : ℕ → History) (a : ℕ) (told now : ℕ → ℕ) (m : Message) (x : Msg) → ((place n : ℕ) → m ≡ DoneMsg place n → told place ≡ now place) → IsMessage net sizes us a told m x → IsMessage net sizes us a now m x
+retold net sizes us a told now (DoneMsg place n) x h i = let u : ℕ = slice_index (units net) place in subst (λ k. SaysDone net u (first k (us u)) (first n (us u)) x) (h place n refl) i
+retold net sizes us a told now _ x h i = i
 
 -- Growing histories.
 
@@ -74,45 +75,45 @@ first-same w v b step u n g p = by_tells (eqb_tells u b)
 done-itself : (place n : ℕ) → done_of place (DoneMsg place n) ≡ Some n
 done-itself place n = ap (λ b. if b then Some n else None) (eq-eqb place place refl)
 
-pub message-grown : (net : Net) (ring : ℕ) (w v : World) (b : ℕ) (step : Step) (a : ℕ) (told : ℕ → ℕ) (m : Message) (x : Msg) → GrowsAt w v b step → Told net (history w) told → IsThere net (history w) a m
-    → IsMessage net ring (history w) a told m x → IsMessage net ring (history v) a told m x
-message-grown net ring w v b step a told (DumpMsg n) x g t i s = subst (λ h. SaysDump net ring a h x) (first-same w v b step a n g (i.dump n refl)) s
-message-grown net ring w v b step a told (DoneMsg place n) x g t i s = let u : ℕ = slice_index (units net) place in
+pub message-grown : (net : Net) (sizes : Sizes) (w v : World) (b : ℕ) (step : Step) (a : ℕ) (told : ℕ → ℕ) (m : Message) (x : Msg) → GrowsAt w v b step → Told net (history w) told → IsThere net (history w) a m
+    → IsMessage net sizes (history w) a told m x → IsMessage net sizes (history v) a told m x
+message-grown net sizes w v b step a told (DumpMsg n) x g t i s = subst (λ h. SaysDump net sizes a h x) (first-same w v b step a n g (i.dump n refl)) s
+message-grown net sizes w v b step a told (DoneMsg place n) x g t i s = let u : ℕ = slice_index (units net) place in
     subst (λ h. SaysDone net u (first (told place) (history v u)) h x) (first-same w v b step u n g (i.done place n (done-itself place n)))
     (subst (λ h. SaysDone net u h (first n (history w u)) x) (first-same w v b step u (told place) g (t place)) s)
-message-grown net ring w v b step a told _ x g t i s = s
+message-grown net sizes w v b step a told _ x g t i s = s
 
-pub queue-grown : (net : Net) (ring : ℕ) (w v : World) (b : ℕ) (step : Step) (a : ℕ) (told : ℕ → ℕ) (ms : List Message) (xs : List Msg) → GrowsAt w v b step → Told net (history w) told → Each (IsThere net (history w) a) ms
-    → AreQueued net ring (history w) a told ms xs → AreQueued net ring (history v) a told ms xs
-queue-grown net ring w v b step a told [] [] g t e q = tt
-queue-grown net ring w v b step a told [] (x ∷ xs) g t e q = q
-queue-grown net ring w v b step a told (m ∷ ms) [] g t e q = q
-queue-grown net ring w v b step a told (m ∷ ms) (x ∷ xs) g t e q =
-    (message-grown net ring w v b step a told m x g t e.0 q.0, queue-grown net ring w v b step a (tell told m) ms xs g (told-more net (history w) a told m t e.0) e.1 q.1)
+pub queue-grown : (net : Net) (sizes : Sizes) (w v : World) (b : ℕ) (step : Step) (a : ℕ) (told : ℕ → ℕ) (ms : List Message) (xs : List Msg) → GrowsAt w v b step → Told net (history w) told → Each (IsThere net (history w) a) ms
+    → AreQueued net sizes (history w) a told ms xs → AreQueued net sizes (history v) a told ms xs
+queue-grown net sizes w v b step a told [] [] g t e q = tt
+queue-grown net sizes w v b step a told [] (x ∷ xs) g t e q = q
+queue-grown net sizes w v b step a told (m ∷ ms) [] g t e q = q
+queue-grown net sizes w v b step a told (m ∷ ms) (x ∷ xs) g t e q =
+    (message-grown net sizes w v b step a told m x g t e.0 q.0, queue-grown net sizes w v b step a (tell told m) ms xs g (told-more net (history w) a told m t e.0) e.1 q.1)
 
 -- Puts.
 
-pub queue-push : (net : Net) (ring : ℕ) (us : ℕ → History) (a : ℕ) (told : ℕ → ℕ) (ms : List Message) (xs : List Msg) (m : Message) (x : Msg) → AreQueued net ring us a told ms xs → IsMessage net ring us a (tell_all told ms) m x
-    → AreQueued net ring us a told (ms ++ m ∷ []) (xs ++ x ∷ [])
-queue-push net ring us a told [] [] m x q i = (i, tt)
-queue-push net ring us a told [] (y ∷ xs) m x q i = absurd q
-queue-push net ring us a told (k ∷ ms) [] m x q i = absurd q
-queue-push net ring us a told (k ∷ ms) (y ∷ xs) m x q i = (q.0, queue-push net ring us a (tell told k) ms xs m x q.1 i)
+pub queue-push : (net : Net) (sizes : Sizes) (us : ℕ → History) (a : ℕ) (told : ℕ → ℕ) (ms : List Message) (xs : List Msg) (m : Message) (x : Msg) → AreQueued net sizes us a told ms xs → IsMessage net sizes us a (tell_all told ms) m x
+    → AreQueued net sizes us a told (ms ++ m ∷ []) (xs ++ x ∷ [])
+queue-push net sizes us a told [] [] m x q i = (i, tt)
+queue-push net sizes us a told [] (y ∷ xs) m x q i = absurd q
+queue-push net sizes us a told (k ∷ ms) [] m x q i = absurd q
+queue-push net sizes us a told (k ∷ ms) (y ∷ xs) m x q i = (q.0, queue-push net sizes us a (tell told k) ms xs m x q.1 i)
 
 -- Takes.
 
 -- the first message of a queue
-pub record Front (net : Net) (ring : ℕ) (us : ℕ → History) (a : ℕ) (told : ℕ → ℕ) (m : Message) (ms : List Message) (queue : List Msg) : Type 0 where
+pub record Front (net : Net) (sizes : Sizes) (us : ℕ → History) (a : ℕ) (told : ℕ → ℕ) (m : Message) (ms : List Message) (queue : List Msg) : Type 0 where
   pub message : Msg
   pub rest : List Msg
   pub is : queue ≡ message ∷ rest
-  pub stands : IsMessage net ring us a told m message
-  pub queued : AreQueued net ring us a (tell told m) ms rest
+  pub stands : IsMessage net sizes us a told m message
+  pub queued : AreQueued net sizes us a (tell told m) ms rest
 
-pub front-of : (net : Net) (ring : ℕ) (us : ℕ → History) (a : ℕ) (told : ℕ → ℕ) (m : Message) (ms : List Message) (queue : List Msg) → AreQueued net ring us a told (m ∷ ms) queue → Front net ring us a told m ms queue
-front-of net ring us a told m ms [] q = absurd q
-front-of net ring us a told m ms (x ∷ xs) q = record { message = x; rest = xs; is = refl; stands = q.0; queued = q.1 }
+pub front-of : (net : Net) (sizes : Sizes) (us : ℕ → History) (a : ℕ) (told : ℕ → ℕ) (m : Message) (ms : List Message) (queue : List Msg) → AreQueued net sizes us a told (m ∷ ms) queue → Front net sizes us a told m ms queue
+front-of net sizes us a told m ms [] q = absurd q
+front-of net sizes us a told m ms (x ∷ xs) q = record { message = x; rest = xs; is = refl; stands = q.0; queued = q.1 }
 
-pub queue-empty : (net : Net) (ring : ℕ) (us : ℕ → History) (a : ℕ) (told : ℕ → ℕ) (queue : List Msg) → AreQueued net ring us a told [] queue → queue ≡ []
-queue-empty net ring us a told [] q = refl
-queue-empty net ring us a told (x ∷ xs) q = absurd q
+pub queue-empty : (net : Net) (sizes : Sizes) (us : ℕ → History) (a : ℕ) (told : ℕ → ℕ) (queue : List Msg) → AreQueued net sizes us a told [] queue → queue ≡ []
+queue-empty net sizes us a told [] q = refl
+queue-empty net sizes us a told (x ∷ xs) q = absurd q

@@ -8,6 +8,7 @@ use Rattle.sl_loss.specs.Loss.{Loss}
 use Rattle.sl_layout.specs.Net.{link_of, choice_of}
 use Rattle.sl_layout.specs.Wiring.{plan_of}
 use Rattle.sl_wire.specs.declared.message.Msg.{Msg}
+use Rattle.sl_wire.specs.Sizes.{Sizes}
 use Rattle.sl_model.specs.declared.message.Message.{Message}
 use Rattle.sl_model.specs.declared.message.Step.{Step}
 use Rattle.sl_model.specs.History.{World, Losses, history, taken, put, without_lost}
@@ -26,47 +27,47 @@ use Rattle.sl_proto.proofs.Turned.{Given, turned}
 abbrev no-messages : List Message
 no-messages = []
 
-module _ {S : Type 0} (s : Setup) (lost : Losses) (ring : ℕ) (Stands : World → ℕ → S → Type 0) (rules : Rules S Msg) where
+module _ {S : Type 0} (s : Setup) (lost : Losses) (sizes : Sizes) (Stands : World → ℕ → S → Type 0) (rules : Rules S Msg) where
   -- One turn.
 
-  after-turned : (w : World) (a : ℕ) (v : Scene S Msg) (o : Option Step) (t : Option (Scene S Msg)) → IsImage s lost ring Stands w v → IsTurned s lost ring Stands (after w a o) o t → IsImage s lost ring Stands (after w a o) (unwrap_or t v)
+  after-turned : (w : World) (a : ℕ) (v : Scene S Msg) (o : Option Step) (t : Option (Scene S Msg)) → IsImage s lost sizes Stands w v → IsTurned s lost sizes Stands (after w a o) o t → IsImage s lost sizes Stands (after w a o) (unwrap_or t v)
   after-turned w a v None None i z = i
   after-turned w a v None (Some u) i z = absurd z
   after-turned w a v (Some step) None i z = absurd z
   after-turned w a v (Some step) (Some u) i z = z
 
-  same-did : (w : World) (o : Option Step) (t : Option (Scene S Msg)) → IsTurned s lost ring Stands w o t → is_some t ≡ is_some o
+  same-did : (w : World) (o : Option Step) (t : Option (Scene S Msg)) → IsTurned s lost sizes Stands w o t → is_some t ≡ is_some o
   same-did w None None z = refl
   same-did w None (Some u) z = absurd z
   same-did w (Some step) None z = absurd z
   same-did w (Some step) (Some u) z = refl
 
-  pub turn-image : (es : List Entry) (e : Entry) (v : Scene S Msg) → Given s lost ring Stands rules → length es < 2 ^ 40 → IsImage s lost ring Stands (world s lost es) v → IsImage s lost ring Stands (world s lost (es ++ e ∷ [])) (after_turn rules v e)
-  turn-image es e v given few image = subst (λ w. IsImage s lost ring Stands w (after_turn rules v e)) (sym (given.turns.parts s lost (start s.net) es (e ∷ [])))
-      (after-turned (world s lost es) e.0 v (next_step s lost (world s lost es) e) (turn_of rules v e.0 e.1) image (turned s lost ring Stands rules es e.0 e.1 v given few image))
+  pub turn-image : (es : List Entry) (e : Entry) (v : Scene S Msg) → Given s lost sizes Stands rules → length es < 2 ^ 40 → IsImage s lost sizes Stands (world s lost es) v → IsImage s lost sizes Stands (world s lost (es ++ e ∷ [])) (after_turn rules v e)
+  turn-image es e v given few image = subst (λ w. IsImage s lost sizes Stands w (after_turn rules v e)) (sym (given.turns.parts s lost (start s.net) es (e ∷ [])))
+      (after-turned (world s lost es) e.0 v (next_step s lost (world s lost es) e) (turn_of rules v e.0 e.1) image (turned s lost sizes Stands rules es e.0 e.1 v given few image))
 
   -- Schedules.
 
-  module _ (given : Given s lost ring Stands rules) where
+  module _ (given : Given s lost sizes Stands rules) where
     longer : (es : List Entry) (e : Entry) (fs : List Entry) → length es + length (e ∷ fs) < 2 ^ 40 → length (es ++ e ∷ []) + length fs < 2 ^ 40
     longer es e fs few = omega (arith, few, length-append es (e ∷ []))
 
     first-few : (es : List Entry) (e : Entry) (fs : List Entry) → length es + length (e ∷ fs) < 2 ^ 40 → length es < 2 ^ 40
     first-few es e fs few = omega (arith, few)
 
-    pub all-image : (es fs : List Entry) (v : Scene S Msg) → length es + length fs < 2 ^ 40 → IsImage s lost ring Stands (world s lost es) v → IsImage s lost ring Stands (run s lost (world s lost es) fs) (after_all rules v fs)
+    pub all-image : (es fs : List Entry) (v : Scene S Msg) → length es + length fs < 2 ^ 40 → IsImage s lost sizes Stands (world s lost es) v → IsImage s lost sizes Stands (run s lost (world s lost es) fs) (after_all rules v fs)
     all-image es [] v few image = image
-    all-image es (e ∷ fs) v few image = subst (λ w. IsImage s lost ring Stands (run s lost w fs) (after_all rules (after_turn rules v e) fs)) (given.turns.parts s lost (start s.net) es (e ∷ []))
+    all-image es (e ∷ fs) v few image = subst (λ w. IsImage s lost sizes Stands (run s lost w fs) (after_all rules (after_turn rules v e) fs)) (given.turns.parts s lost (start s.net) es (e ∷ []))
         (all-image (es ++ e ∷ []) fs (after_turn rules v e) (longer es e fs few) (turn-image es e v given (first-few es e fs few) image))
 
     idle-stays : (w : World) (a : ℕ) (o : Option Step) (fs : List Entry) → is_some o ≡ false → kept_from s lost (after w a o) fs ≡ kept_from s lost w fs
     idle-stays w a None fs e = refl
     idle-stays w a (Some step) fs e = absurd (cc)
 
-    pub same-kept : (es fs : List Entry) (v : Scene S Msg) → length es + length fs < 2 ^ 40 → IsImage s lost ring Stands (world s lost es) v → kept rules v fs ≡ kept_from s lost (world s lost es) fs
+    pub same-kept : (es fs : List Entry) (v : Scene S Msg) → length es + length fs < 2 ^ 40 → IsImage s lost sizes Stands (world s lost es) v → kept rules v fs ≡ kept_from s lost (world s lost es) fs
     same-kept es [] v few image = refl
     same-kept es (e ∷ fs) v few image = let w = world s lost es in let u = world s lost (es ++ e ∷ []) in
-        let did : is_some (turn_of rules v e.0 e.1) ≡ is_some (next_step s lost w e) = same-did (turn s lost w e) (next_step s lost w e) (turn_of rules v e.0 e.1) (turned s lost ring Stands rules es e.0 e.1 v given (first-few es e fs few) image) in
+        let did : is_some (turn_of rules v e.0 e.1) ≡ is_some (next_step s lost w e) = same-did (turn s lost w e) (next_step s lost w e) (turn_of rules v e.0 e.1) (turned s lost sizes Stands rules es e.0 e.1 v given (first-few es e fs few) image) in
         let rest : kept rules (after_turn rules v e) fs ≡ kept_from s lost (turn s lost w e) fs =
         same-kept (es ++ e ∷ []) fs (after_turn rules v e) (longer es e fs few) (turn-image es e v given (first-few es e fs few) image) ∙ ap (λ x. kept_from s lost x fs) (given.turns.parts s lost (start s.net) es (e ∷ [])) in
         (λ i. if did i then e ∷ rest i else rest i) ∙ by_bool (is_some (next_step s lost w e)) refl
@@ -76,20 +77,20 @@ module _ {S : Type 0} (s : Setup) (lost : Losses) (ring : ℕ) (Stands : World �
         by_bool true q = refl
         by_bool false q = idle-stays (world s lost es) e.0 (next_step s lost (world s lost es) e) fs q
 
-    pub legal-run : (es fs : List Entry) (v : Scene S Msg) → length es + length fs < 2 ^ 40 → IsImage s lost ring Stands (world s lost es) v → IsLegalFrom s lost (world s lost es) fs → run_of rules v fs ≡ Some (after_all rules v fs)
+    pub legal-run : (es fs : List Entry) (v : Scene S Msg) → length es + length fs < 2 ^ 40 → IsImage s lost sizes Stands (world s lost es) v → IsLegalFrom s lost (world s lost es) fs → run_of rules v fs ≡ Some (after_all rules v fs)
     legal-run es [] v few image legal = refl
     legal-run es (e ∷ fs) v few image legal = let w = world s lost es in
-        by_turn (turn_of rules v e.0 e.1) (same-did (turn s lost w e) (next_step s lost w e) (turn_of rules v e.0 e.1) (turned s lost ring Stands rules es e.0 e.1 v given (first-few es e fs few) image) ∙ legal.0)
+        by_turn (turn_of rules v e.0 e.1) (same-did (turn s lost w e) (next_step s lost w e) (turn_of rules v e.0 e.1) (turned s lost sizes Stands rules es e.0 e.1 v given (first-few es e fs few) image) ∙ legal.0)
         (legal-run (es ++ e ∷ []) fs (after_turn rules v e) (longer es e fs few) (turn-image es e v given (first-few es e fs few) image) (subst (λ x. IsLegalFrom s lost x fs) (sym (given.turns.parts s lost (start s.net) es (e ∷ []))) legal.1))
       where
         by_turn : (t : Option (Scene S Msg)) → is_some t ≡ true → run_of rules (unwrap_or t v) fs ≡ Some (after_all rules (unwrap_or t v) fs) → option_and_then (λ u. run_of rules u fs) t ≡ Some (after_all rules (unwrap_or t v) fs)
         by_turn None q ih = absurd (cc)
         by_turn (Some u) q ih = ih
 
-    pub run-legal : (es fs : List Entry) (v u : Scene S Msg) → length es + length fs < 2 ^ 40 → IsImage s lost ring Stands (world s lost es) v → run_of rules v fs ≡ Some u → IsLegalFrom s lost (world s lost es) fs
+    pub run-legal : (es fs : List Entry) (v u : Scene S Msg) → length es + length fs < 2 ^ 40 → IsImage s lost sizes Stands (world s lost es) v → run_of rules v fs ≡ Some u → IsLegalFrom s lost (world s lost es) fs
     run-legal es [] v u few image run = tt
     run-legal es (e ∷ fs) v u few image run = let w = world s lost es in
-        by_turn (turn_of rules v e.0 e.1) (sym (same-did (turn s lost w e) (next_step s lost w e) (turn_of rules v e.0 e.1) (turned s lost ring Stands rules es e.0 e.1 v given (first-few es e fs few) image)))
+        by_turn (turn_of rules v e.0 e.1) (sym (same-did (turn s lost w e) (next_step s lost w e) (turn_of rules v e.0 e.1) (turned s lost sizes Stands rules es e.0 e.1 v given (first-few es e fs few) image)))
         (λ q. subst (λ x. IsLegalFrom s lost x fs) (given.turns.parts s lost (start s.net) es (e ∷ [])) (run-legal (es ++ e ∷ []) fs (after_turn rules v e) u (longer es e fs few) (turn-image es e v given (first-few es e fs few) image) q)) run
       where
         by_turn : (t : Option (Scene S Msg)) → is_some (next_step s lost (world s lost es) e) ≡ is_some t → (run_of rules (unwrap_or t v) fs ≡ Some u → IsLegalFrom s lost (turn s lost (world s lost es) e) fs)
@@ -97,12 +98,12 @@ module _ {S : Type 0} (s : Setup) (lost : Losses) (ring : ℕ) (Stands : World �
         by_turn None q ih r = absurd (cc)
         by_turn (Some x) q ih r = (q, ih r)
 
-    pub grown-book : (es fs : List Entry) (v : Scene S Msg) → length es + length fs < 2 ^ 40 → IsImage s lost ring Stands (world s lost es) v → (after_all rules v fs).book ≡ v.book ++ numbered_from (last_number v.book) (kept_from s lost (world s lost es) fs)
+    pub grown-book : (es fs : List Entry) (v : Scene S Msg) → length es + length fs < 2 ^ 40 → IsImage s lost sizes Stands (world s lost es) v → (after_all rules v fs).book ≡ v.book ++ numbered_from (last_number v.book) (kept_from s lost (world s lost es) fs)
     grown-book es fs v few image = book-after_all rules v fs ∙ ap (λ ks. v.book ++ numbered_from (last_number v.book) ks) (same-kept es fs v few image)
 
 -- The first scene.
 
-module _ {S : Type 0} (turns : TakesTurns) (s : Setup) (lost : Losses) (ring : ℕ) (Stands : World → ℕ → S → Type 0) where
+module _ {S : Type 0} (turns : TakesTurns) (s : Setup) (lost : Losses) (sizes : Sizes) (Stands : World → ℕ → S → Type 0) where
   drop-nil : (n : ℕ) → drop n (no-messages) ≡ []
   drop-nil zero = refl
   drop-nil (suc n) = refl
@@ -111,18 +112,18 @@ module _ {S : Type 0} (turns : TakesTurns) (s : Setup) (lost : Losses) (ring : �
   nothing-on-way l = let n = taken (choice_of s.net l) (history (start s.net) (link_of s.net l).to) in
       ap (λ h. drop n (without_lost (lost l) 0 (put l h))) (turns.starts s.net (link_of s.net l).from) ∙ drop-nil n
 
-  first-line : (l : ℕ) (loss : Option Loss) → GoesOn (lost l) 0 loss → IsLineOf s lost ring (start s.net) l (new_line loss)
+  first-line : (l : ℕ) (loss : Option Loss) → GoesOn (lost l) 0 loss → IsLineOf s lost sizes (start s.net) l (new_line loss)
   first-line l loss g = let none : put l (history (start s.net) (link_of s.net l).from) ≡ [] = ap (put l) (turns.starts s.net (link_of s.net l).from) in record {
-    queue = subst (λ ms. AreQueued s.net ring (history (start s.net)) (link_of s.net l).from (told_by (choice_of s.net l) (history (start s.net) (link_of s.net l).to)) ms []) (sym (nothing-on-way l)) tt;
+    queue = subst (λ ms. AreQueued s.net sizes (history (start s.net)) (link_of s.net l).from (told_by (choice_of s.net l) (history (start s.net) (link_of s.net l).to)) ms []) (sym (nothing-on-way l)) tt;
     loss = subst (λ ms. GoesOn (lost l) (length ms) loss) (sym none) g;
     count = sym (ap (λ ms. tally (λ k. lost l k) (numbers_from 1 (length ms))) none);
   }
 
-  pub first-image : (states : List S) (losses : List (Option Loss)) → IsFirst s lost Stands states losses → IsImage s lost ring Stands (start s.net) (first_scene (plan_of s.net) states losses)
+  pub first-image : (states : List S) (losses : List (Option Loss)) → IsFirst s lost Stands states losses → IsImage s lost sizes Stands (start s.net) (first_scene (plan_of s.net) states losses)
   first-image states losses f = record {
     plan = refl;
     states_each = f.states_each;
     states = f.states_stand;
     lines_each = length-map losses new_line ∙ f.losses_each;
-    lines = λ l p. subst (IsLineOf s lost ring (start s.net) l) (sym (get_or-map new_line losses l None empty_line (let n = f.losses_each in omega (arith, n, p)))) (first-line l (slice_index_or losses l None) (f.losses_go l p));
+    lines = λ l p. subst (IsLineOf s lost sizes (start s.net) l) (sym (get_or-map new_line losses l None empty_line (let n = f.losses_each in omega (arith, n, p)))) (first-line l (slice_index_or losses l None) (f.losses_go l p));
   }

@@ -6,6 +6,7 @@ use Rattle.sl_layout.specs.declared.actor.ActorId.TheVariants.{Unit as OfUnit}
 use Rattle.sl_layout.specs.Net.{Net, actor_of, choice_of, unit_place}
 use Rattle.sl_net.specs.Wired.{Reports}
 use Rattle.sl_wire.specs.declared.message.Msg.{Msg}
+use Rattle.sl_wire.specs.Sizes.{Sizes}
 use Rattle.sl_model.specs.declared.message.Message.{Message}
 use Rattle.sl_model.specs.declared.message.Message.TheVariants.{Done as DoneMsg}
 use Rattle.sl_model.specs.declared.message.Put.{Put}
@@ -22,18 +23,18 @@ use Rattle.sl_proto.specs.Image.{tell, tell_all, told_on, told_by, ArePut}
 use Rattle.sl_proto.proofs.Queues.{retold, untold}
 
 -- what is told on each link is what is told of all Dones that are sent
-pub put-by-told : (net : Net) (ring : ℕ) (us : ℕ → History) (a : ℕ) (told : ℕ → ℕ) (h : History) (ps : List Put) (xs : List (ℕ × Msg))
-    → Each (λ p. (place n : ℕ) → p.message ≡ DoneMsg place n → told place ≡ told_on p.link h place) ps → AreSent net ring us a told ps xs → ArePut net ring us a h ps xs
-put-by-told net ring us a told h [] [] e s = tt
-put-by-told net ring us a told h [] (x ∷ xs) e s = s
-put-by-told net ring us a told h (p ∷ ps) [] e s = s
-put-by-told net ring us a told h (p ∷ ps) (x ∷ xs) e s = ((s.0.0, retold net ring us a told (told_on p.link h) p.message x.1 e.0 s.0.1), put-by-told net ring us a told h ps xs e.1 s.1)
+pub put-by-told : (net : Net) (sizes : Sizes) (us : ℕ → History) (a : ℕ) (told : ℕ → ℕ) (h : History) (ps : List Put) (xs : List (ℕ × Msg))
+    → Each (λ p. (place n : ℕ) → p.message ≡ DoneMsg place n → told place ≡ told_on p.link h place) ps → AreSent net sizes us a told ps xs → ArePut net sizes us a h ps xs
+put-by-told net sizes us a told h [] [] e s = tt
+put-by-told net sizes us a told h [] (x ∷ xs) e s = s
+put-by-told net sizes us a told h (p ∷ ps) [] e s = s
+put-by-told net sizes us a told h (p ∷ ps) (x ∷ xs) e s = ((s.0.0, retold net sizes us a told (told_on p.link h) p.message x.1 e.0 s.0.1), put-by-told net sizes us a told h ps xs e.1 s.1)
 
-pub put-by-any : (net : Net) (ring : ℕ) (us : ℕ → History) (a : ℕ) (h : History) (ps : List Put) (xs : List (ℕ × Msg)) → ((told : ℕ → ℕ) → AreSent net ring us a told ps xs) → ArePut net ring us a h ps xs
-put-by-any net ring us a h [] [] s = tt
-put-by-any net ring us a h [] (x ∷ xs) s = s untold
-put-by-any net ring us a h (p ∷ ps) [] s = s untold
-put-by-any net ring us a h (p ∷ ps) (x ∷ xs) s = (((s untold).0.0, (s (told_on p.link h)).0.1), put-by-any net ring us a h ps xs (λ told. (s told).1))
+pub put-by-any : (net : Net) (sizes : Sizes) (us : ℕ → History) (a : ℕ) (h : History) (ps : List Put) (xs : List (ℕ × Msg)) → ((told : ℕ → ℕ) → AreSent net sizes us a told ps xs) → ArePut net sizes us a h ps xs
+put-by-any net sizes us a h [] [] s = tt
+put-by-any net sizes us a h [] (x ∷ xs) s = s untold
+put-by-any net sizes us a h (p ∷ ps) [] s = s untold
+put-by-any net sizes us a h (p ∷ ps) (x ∷ xs) s = (((s untold).0.0, (s (told_on p.link h)).0.1), put-by-any net sizes us a h ps xs (λ told. (s told).1))
 
 -- What is told last.
 

@@ -5,6 +5,7 @@ use Rattle.sl_machine.specs.declared.wiring.Entry.{Entry as BookEntry}
 use Rattle.sl_parts.specs.Parts.{numbers_from}
 use Rattle.sl_layout.specs.Net.{Net}
 use Rattle.sl_wire.specs.declared.message.Msg.{Msg}
+use Rattle.sl_wire.specs.Sizes.{sizes_of}
 use Rattle.sl_model.specs.History.{Losses}
 use Rattle.sl_model.specs.Setup.{Setup}
 use Rattle.sl_model.specs.World.{Entry, start, run, world, IsLegal, kept_from}
@@ -43,7 +44,7 @@ schedule-grown old new n es h = ap schedule_of h ∙ map-append (λ (e : BookEnt
 
 -- Schedules.
 
-module _ (net : Net) (x : Case) (given : Given x.setup x.lost x.table.ring (NodeStands x.setup x.table) node_rules) (v : Scene NodeState Msg) (es : List Entry) (st : StandsFor net x v) (few : length v.book + length es < 2 ^ 40) where
+module _ (net : Net) (x : Case) (given : Given x.setup x.lost (sizes_of x.table) (NodeStands x.setup x.table) node_rules) (v : Scene NodeState Msg) (es : List Entry) (st : StandsFor net x v) (few : length v.book + length es < 2 ^ 40) where
   abbrev book : List Entry
   book = schedule_of v.book
 
@@ -57,7 +58,7 @@ module _ (net : Net) (x : Case) (given : Given x.setup x.lost x.table.ring (Node
   within = let n : length (schedule_of v.book) ≡ length v.book = length-map v.book _ in omega (arith, few, n)
 
   grown-by : after.book ≡ v.book ++ numbered_from (last_number v.book) done
-  grown-by = grown-book x.setup x.lost x.table.ring (NodeStands x.setup x.table) node_rules given book es v within st.image
+  grown-by = grown-book x.setup x.lost (sizes_of x.table) (NodeStands x.setup x.table) node_rules given book es v within st.image
 
   schedule : schedule_of after.book ≡ book ++ done
   schedule = schedule-grown v.book after.book (last_number v.book) done grown-by
@@ -73,8 +74,8 @@ module _ (net : Net) (x : Case) (given : Given x.setup x.lost x.table.ring (Node
     net_is = st.net_is;
     runnable = st.runnable;
     legal = subst (IsLegal x.setup x.lost) (sym schedule) (given.turns.legal_parts x.setup x.lost (start x.setup.net) book done st.legal (given.turns.legal x.setup x.lost (world_of x v) es));
-    image = subst (λ w. IsImage x.setup x.lost x.table.ring (NodeStands x.setup x.table) w after) (sym reached)
-        (all-image x.setup x.lost x.table.ring (NodeStands x.setup x.table) node_rules given book es v within st.image);
+    image = subst (λ w. IsImage x.setup x.lost (sizes_of x.table) (NodeStands x.setup x.table) w after) (sym reached)
+        (all-image x.setup x.lost (sizes_of x.table) (NodeStands x.setup x.table) node_rules given book es v within st.image);
   }
 
 -- Nothing follows an empty schedule.

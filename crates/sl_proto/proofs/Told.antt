@@ -1,6 +1,7 @@
 -- What a scene of nodes tells is what the world of histories that it stands for says.
 use Rattle.std.proofs.Common.{◌≡◌, ℕ, zero, suc, ◌+◌, ◌-◌, ◌*◌, ◌^◌, ◌<◌, ◌≤◌, List, [], ◌∷◌, ◌++◌, length, refl, sym, ap, subst, ◌∙◌, Option, Some, None, arith, take, get_or, append-nil, append_assoc}
-use Rattle.std.specs.Prelude.{◌&&◌, true, false, Bool, if◌then◌else◌, filter, map, slice_get}
+use Rattle.std.specs.Prelude.{min, ◌&&◌, true, false, Bool, if◌then◌else◌, filter, map, slice_get}
+use Rattle.std.specs.List.{fold}
 use Rattle.std.proofs.lemmas.List.{get_or-map, take_more}
 use Rattle.std.proofs.lemmas.Option.{slice_get_within, get_or_from_slice_get}
 use Rattle.sl_machine.specs.declared.wiring.Entry.{Entry as BookEntry}
@@ -13,13 +14,14 @@ use Rattle.sl_layout.specs.declared.actor.Sort.TheVariants.{Cable, Crossbar, Ini
 use Rattle.sl_net.specs.declared.input.Snapshot.{Snapshot}
 use Rattle.sl_parts.specs.Parts.{numbers_from, below}
 use Rattle.sl_layout.specs.Net.{Net, same_side, same_sort, actor_of, link_of, link_numbers, is_unit, is_host, units, hosts, data_channels}
+use Rattle.sl_layout.specs.Devices.{device_of}
 use Rattle.sl_net.specs.Input.{Input}
 use Rattle.sl_net.specs.Wired.{IsNet, IsWired}
 use Rattle.sl_parts.proofs.Lists.{length_numbers, filter-and}
 use Rattle.std.proofs.lemmas.List.{length-map}
 use Rattle.sl_saves.specs.Views.{held_saved}
 use Rattle.sl_wire.specs.declared.message.Msg.{Msg}
-use Rattle.sl_wire.specs.Reach.{least_of as least_of_there}
+use Rattle.sl_wire.specs.Sizes.{sizes_of}
 use Rattle.sl_observe.specs.Observer.{ObserverState, new_unit, register_floor}
 use Rattle.sl_model.specs.Words.{listed, numbers, weigh, tally}
 use Rattle.sl_model.specs.History.{History, World, Losses, history, put}
@@ -28,7 +30,7 @@ use Rattle.sl_model.specs.Books.{schedule_of}
 use Rattle.sl_model.specs.Setup.{Setup, setup_of}
 use Rattle.sl_model.specs.Knowledge.{observer, issued, resent, floor, collected, upto_of}
 use Rattle.sl_model.specs.World.{Entry, world, sender}
-use Rattle.sl_model.specs.Findings.{is_ingress, device_of, ingress_units, drops_of, lost_on, sent_by, delivered_to, findings}
+use Rattle.sl_model.specs.Findings.{is_ingress, ingress_units, drops_of, lost_on, sent_by, delivered_to, findings}
 use Rattle.sl_model.proofs.Weighed.{weigh_more, weigh_take, weigh_below_more}
 use Rattle.sl_model.specs.Accounts.{finding_by}
 use Rattle.sl_model.specs.Turns.{TakesTurns}
@@ -36,7 +38,6 @@ use Rattle.sl_image.specs.ObserverImage.{unit_of, observer_of, IsObserverOf}
 use Rattle.sl_image.specs.Messages.{lasts}
 use Rattle.sl_model.specs.Rows.{row}
 use Rattle.sl_image.specs.UnitImage.{dropped}
-use Rattle.sl_image.proofs.ObserverLists.{least-of-same}
 use Rattle.sl_image.proofs.ObserverUnits.{channels-are}
 use Rattle.sl_image.proofs.ObserverWorlds.{unit-at}
 use Rattle.sl_world.specs.Scene.{Scene}
@@ -192,7 +193,7 @@ unit-collected : (net : Net) (u : ℕ) (g : History) → length (data_channels n
 unit-collected net u g few = record {
   channels = refl;
   rows = length-map (numbers_from 1 (upto_of net u g)) (λ k. held_saved (row (data_channels net u) k g)) ∙ length_numbers 1 (upto_of net u g)
-      ∙ sym (ap (least_of_there (unit_of net u g).id) (channels-are net u g few) ∙ least-of-same (unit_of net u g).id (lasts net u g));
+      ∙ sym (ap (fold min (unit_of net u g).id) (channels-are net u g few));
 }
 
 has-collected : (net : Net) (table : Snapshot) (w : World) → IsWired net → HasAllRows net (observer_of net table w)
@@ -204,7 +205,7 @@ has-collected net table w n = let f = λ (u : ℕ). unit_of net u (collected net
 
 -- A scene that stands for the world of a schedule.
 
-module _ (turns : TakesTurns) (s : Setup) (table : Snapshot) (lost : Losses) (es : List Entry) (v : Scene NodeState Msg) (net : IsNet s.net) (image : IsImage s lost table.ring (NodeStands s table) (world s lost es) v) where
+module _ (turns : TakesTurns) (s : Setup) (table : Snapshot) (lost : Losses) (es : List Entry) (v : Scene NodeState Msg) (net : IsNet s.net) (image : IsImage s lost (sizes_of table) (NodeStands s table) (world s lost es) v) where
   says : (i : ℕ) (x : NodeState) → slice_get v.states i ≡ Some x → SaysNode s (world s lost es) i (actor_of s.net i) x
   says i x e = node-says s table (world s lost es) i (actor_of s.net i) x (image.states i x e)
 

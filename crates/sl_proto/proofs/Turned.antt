@@ -11,6 +11,7 @@ use Rattle.sl_layout.specs.Net.{Net, link_of, links_into, choice_of}
 use Rattle.sl_layout.specs.Wiring.{plan_of}
 use Rattle.sl_net.specs.Wired.{IsWired}
 use Rattle.sl_wire.specs.declared.message.Msg.{Msg}
+use Rattle.sl_wire.specs.Sizes.{Sizes}
 use Rattle.sl_model.specs.declared.message.Message.{Message}
 use Rattle.sl_model.specs.declared.message.Step.{Step}
 use Rattle.sl_model.specs.History.{World, Losses, history, taken}
@@ -41,13 +42,13 @@ got [] i p = absurd (omega (arith, p))
 got (x ∷ xs) zero p = (x, refl)
 got (x ∷ xs) (suc i) p = got xs i (omega (arith, p))
 
-module _ {S : Type 0} (s : Setup) (lost : Losses) (ring : ℕ) (Stands : World → ℕ → S → Type 0) (rules : Rules S Msg) where
+module _ {S : Type 0} (s : Setup) (lost : Losses) (sizes : Sizes) (Stands : World → ℕ → S → Type 0) (rules : Rules S Msg) where
   -- what the laws are told of the setup
   pub record Given : Type 0 where
     pub wired : IsWired s.net
     pub sound : IsSound (plan_of s.net)
     pub table : IsLossTable s.net lost
-    pub follow : FollowSteps s lost ring Stands rules
+    pub follow : FollowSteps s lost sizes Stands rules
     pub turns : TakesTurns
     pub passing : PassesMessages
     pub reported : AreReported s
@@ -73,7 +74,7 @@ module _ {S : Type 0} (s : Setup) (lost : Losses) (ring : ℕ) (Stands : World �
 
   -- Takes.
 
-  taking-line : (es : List Entry) (a c l : ℕ) (step : Step) (m : Message) (rest : List Message) (v : Scene S Msg) → Given → IsImage s lost ring Stands (world s lost es) v → GrowsAt (world s lost es) (turn s lost (world s lost es) (a, c)) a step
+  taking-line : (es : List Entry) (a c l : ℕ) (step : Step) (m : Message) (rest : List Message) (v : Scene S Msg) → Given → IsImage s lost sizes Stands (world s lost es) v → GrowsAt (world s lost es) (turn s lost (world s lost es) (a, c)) a step
       → step.choice ≡ c → step.taken ≡ Some m → slice_get (links_into s.net a) c ≡ Some l → on_way s.net lost (world s lost es) l ≡ m ∷ rest
       → (told_at s.net (turn s lost (world s lost es) (a, c)) l ≡ tell (told_at s.net (world s lost es) l) m) × (taken_at s.net (turn s lost (world s lost es) (a, c)) l ≡ suc (taken_at s.net (world s lost es) l))
   taking-line es a c l step m rest v given image g choice took into way = let w = world s lost es in let u = turn s lost (world s lost es) (a, c) in
@@ -84,41 +85,41 @@ module _ {S : Type 0} (s : Setup) (lost : Losses) (ring : ℕ) (Stands : World �
       )
 
   -- the links once the first message is taken from one
-  took-lines : (es : List Entry) (a c l : ℕ) (step : Step) (m : Message) (rest : List Message) (v : Scene S Msg) (queue : List Msg) → Given → IsImage s lost ring Stands (world s lost es) v → GrowsAt (world s lost es) (turn s lost (world s lost es) (a, c)) a step
+  took-lines : (es : List Entry) (a c l : ℕ) (step : Step) (m : Message) (rest : List Message) (v : Scene S Msg) (queue : List Msg) → Given → IsImage s lost sizes Stands (world s lost es) v → GrowsAt (world s lost es) (turn s lost (world s lost es) (a, c)) a step
       → step.choice ≡ c → step.taken ≡ Some m → slice_get (links_into s.net a) c ≡ Some l → on_way s.net lost (world s lost es) l ≡ m ∷ rest → (x : Msg) → (line_at v.lines l).queue ≡ x ∷ queue
-      → LinesAre s.net ring (history (turn s lost (world s lost es) (a, c))) lost (told_at s.net (turn s lost (world s lost es) (a, c))) (taken_at s.net (turn s lost (world s lost es) (a, c))) (put_at s.net (world s lost es)) (slice_set v.lines l (without_first (line_at v.lines l) queue))
+      → LinesAre s.net sizes (history (turn s lost (world s lost es) (a, c))) lost (told_at s.net (turn s lost (world s lost es) (a, c))) (taken_at s.net (turn s lost (world s lost es) (a, c))) (put_at s.net (world s lost es)) (slice_set v.lines l (without_first (line_at v.lines l) queue))
   took-lines es a c l step m rest v queue given image g choice took into way x is k below = by_tells (eqb_tells k l)
     where
-      grown : LinesAre s.net ring (history (turn s lost (world s lost es) (a, c))) lost (told_at s.net (world s lost es)) (taken_at s.net (world s lost es)) (put_at s.net (world s lost es)) v.lines
-      grown = lines-grown given.passing s lost ring (world s lost es) (turn s lost (world s lost es) (a, c)) a step v.lines given.reported given.wired (given.turns.ran s lost es) g (lines-of s given.wired.ways lost ring Stands (world s lost es) v (given.turns.ran s lost es) image)
+      grown : LinesAre s.net sizes (history (turn s lost (world s lost es) (a, c))) lost (told_at s.net (world s lost es)) (taken_at s.net (world s lost es)) (put_at s.net (world s lost es)) v.lines
+      grown = lines-grown given.passing s lost sizes (world s lost es) (turn s lost (world s lost es) (a, c)) a step v.lines given.reported given.wired (given.turns.ran s lost es) g (lines-of s given.wired.ways lost sizes Stands (world s lost es) v (given.turns.ran s lost es) image)
 
       low : l < length s.net.links
       low = (given.wired.ways.into a c l into).is_link
 
-      shorter : IsLine s.net ring (history (turn s lost (world s lost es) (a, c))) (link_of s.net l).from (lost l) (tell (told_at s.net (world s lost es) l) m) (suc (taken_at s.net (world s lost es) l)) (put_at s.net (world s lost es) l) (without_first (line_at v.lines l) queue)
+      shorter : IsLine s.net sizes (history (turn s lost (world s lost es) (a, c))) (link_of s.net l).from (lost l) (tell (told_at s.net (world s lost es) l) m) (suc (taken_at s.net (world s lost es) l)) (put_at s.net (world s lost es) l) (without_first (line_at v.lines l) queue)
       shorter = let i = grown l low in let n = taken_at s.net (world s lost es) l in let u = history (turn s lost (world s lost es) (a, c)) in record {
         within = drop-longer n (carried s.net lost (world s lost es) l) m rest way;
-        queue = subst (λ ms. AreQueued s.net ring u (link_of s.net l).from (tell (told_at s.net (world s lost es) l) m) ms queue) (sym (drop-more n (carried s.net lost (world s lost es) l) m rest way))
-            (let both : AreQueued s.net ring u (link_of s.net l).from (told_at s.net (world s lost es) l) (m ∷ rest) (x ∷ queue) =
-            subst (λ xs. AreQueued s.net ring u (link_of s.net l).from (told_at s.net (world s lost es) l) (m ∷ rest) xs) is (subst (λ ms. AreQueued s.net ring u (link_of s.net l).from (told_at s.net (world s lost es) l) ms (line_at v.lines l).queue) way i.queue) in both.1);
+        queue = subst (λ ms. AreQueued s.net sizes u (link_of s.net l).from (tell (told_at s.net (world s lost es) l) m) ms queue) (sym (drop-more n (carried s.net lost (world s lost es) l) m rest way))
+            (let both : AreQueued s.net sizes u (link_of s.net l).from (told_at s.net (world s lost es) l) (m ∷ rest) (x ∷ queue) =
+            subst (λ xs. AreQueued s.net sizes u (link_of s.net l).from (told_at s.net (world s lost es) l) (m ∷ rest) xs) is (subst (λ ms. AreQueued s.net sizes u (link_of s.net l).from (told_at s.net (world s lost es) l) ms (line_at v.lines l).queue) way i.queue) in both.1);
         loss = i.loss;
         count = i.count;
       }
 
       by_tells : ((nat_eq k l ≡ true) × (k ≡ l)) ⊎ ((nat_eq k l ≡ false) × (k ≡ l → ⊥))
-          → IsLine s.net ring (history (turn s lost (world s lost es) (a, c))) (link_of s.net k).from (lost k) (told_at s.net (turn s lost (world s lost es) (a, c)) k) (taken_at s.net (turn s lost (world s lost es) (a, c)) k) (put_at s.net (world s lost es) k) (line_at (slice_set v.lines l (without_first (line_at v.lines l) queue)) k)
+          → IsLine s.net sizes (history (turn s lost (world s lost es) (a, c))) (link_of s.net k).from (lost k) (told_at s.net (turn s lost (world s lost es) (a, c)) k) (taken_at s.net (turn s lost (world s lost es) (a, c)) k) (put_at s.net (world s lost es) k) (line_at (slice_set v.lines l (without_first (line_at v.lines l) queue)) k)
       by_tells (inl q) = let t = taking-line es a c l step m rest v given image g choice took into way in let u = turn s lost (world s lost es) (a, c) in
-          subst (λ j. IsLine s.net ring (history u) (link_of s.net j).from (lost j) (told_at s.net u j) (taken_at s.net u j) (put_at s.net (world s lost es) j) (line_at (slice_set v.lines l (without_first (line_at v.lines l) queue)) j)) (sym q.1)
-          (subst (λ y. IsLine s.net ring (history u) (link_of s.net l).from (lost l) (told_at s.net u l) (taken_at s.net u l) (put_at s.net (world s lost es) l) y)
+          subst (λ j. IsLine s.net sizes (history u) (link_of s.net j).from (lost j) (told_at s.net u j) (taken_at s.net u j) (put_at s.net (world s lost es) j) (line_at (slice_set v.lines l (without_first (line_at v.lines l) queue)) j)) (sym q.1)
+          (subst (λ y. IsLine s.net sizes (history u) (link_of s.net l).from (lost l) (told_at s.net u l) (taken_at s.net u l) (put_at s.net (world s lost es) l) y)
           (sym (get_or-set_same v.lines l (without_first (line_at v.lines l) queue) empty_line (let n = image.lines_each in omega (arith, n, low))))
-          (line-retold s.net ring (history u) (link_of s.net l).from (lost l) (tell (told_at s.net (world s lost es) l) m) (told_at s.net u l) (suc (taken_at s.net (world s lost es) l)) (taken_at s.net u l) (put_at s.net (world s lost es) l) (without_first (line_at v.lines l) queue) t.0 t.1 shorter))
+          (line-retold s.net sizes (history u) (link_of s.net l).from (lost l) (tell (told_at s.net (world s lost es) l) m) (told_at s.net u l) (suc (taken_at s.net (world s lost es) l)) (taken_at s.net u l) (put_at s.net (world s lost es) l) (without_first (line_at v.lines l) queue) t.0 t.1 shorter))
       by_tells (inr q) = let u = turn s lost (world s lost es) (a, c) in let t = told-still s.net (world s lost es) u a step k g (λ to ch. q.1 (another s.net given.wired.ways a c k l below into to (ch ∙ choice))) in
-          subst (λ y. IsLine s.net ring (history u) (link_of s.net k).from (lost k) (told_at s.net u k) (taken_at s.net u k) (put_at s.net (world s lost es) k) y)
+          subst (λ y. IsLine s.net sizes (history u) (link_of s.net k).from (lost k) (told_at s.net u k) (taken_at s.net u k) (put_at s.net (world s lost es) k) y)
           (sym (get_or-set_other v.lines l k (without_first (line_at v.lines l) queue) empty_line q.1))
-          (line-retold s.net ring (history u) (link_of s.net k).from (lost k) (told_at s.net (world s lost es) k) (told_at s.net u k) (taken_at s.net (world s lost es) k) (taken_at s.net u k) (put_at s.net (world s lost es) k) (line_at v.lines k) t.0 t.1 (grown k below))
+          (line-retold s.net sizes (history u) (link_of s.net k).from (lost k) (told_at s.net (world s lost es) k) (told_at s.net u k) (taken_at s.net (world s lost es) k) (taken_at s.net u k) (put_at s.net (world s lost es) k) (line_at v.lines k) t.0 t.1 (grown k below))
 
   -- what is told at the ends of links stays
-  took-same : (es : List Entry) (a c l : ℕ) (step : Step) (m : Message) (rest : List Message) (v : Scene S Msg) → Given → IsImage s lost ring Stands (world s lost es) v → GrowsAt (world s lost es) (turn s lost (world s lost es) (a, c)) a step
+  took-same : (es : List Entry) (a c l : ℕ) (step : Step) (m : Message) (rest : List Message) (v : Scene S Msg) → Given → IsImage s lost sizes Stands (world s lost es) v → GrowsAt (world s lost es) (turn s lost (world s lost es) (a, c)) a step
       → step.choice ≡ c → step.taken ≡ Some m → slice_get (links_into s.net a) c ≡ Some l → on_way s.net lost (world s lost es) l ≡ m ∷ rest → (k : ℕ) → k < length s.net.links
       → told_last lost (told_at s.net (turn s lost (world s lost es) (a, c))) (taken_at s.net (turn s lost (world s lost es) (a, c))) (put_at s.net (world s lost es)) k
       ≡ told_last lost (told_at s.net (world s lost es)) (taken_at s.net (world s lost es)) (put_at s.net (world s lost es)) k
@@ -138,14 +139,14 @@ module _ {S : Type 0} (s : Setup) (lost : Losses) (ring : ℕ) (Stands : World �
 
   -- Turns.
 
-  turned-by : (u : World) (o n : Option Step) (t m : Option (Scene S Msg)) → n ≡ o → m ≡ t → IsTurned s lost ring Stands u o t → IsTurned s lost ring Stands u n m
-  turned-by u o n t m p q i = subst (λ x. IsTurned s lost ring Stands u x m) (sym p) (subst (λ y. IsTurned s lost ring Stands u o y) (sym q) i)
+  turned-by : (u : World) (o n : Option Step) (t m : Option (Scene S Msg)) → n ≡ o → m ≡ t → IsTurned s lost sizes Stands u o t → IsTurned s lost sizes Stands u n m
+  turned-by u o n t m p q i = subst (λ x. IsTurned s lost sizes Stands u x m) (sym p) (subst (λ y. IsTurned s lost sizes Stands u o y) (sym q) i)
 
   few-steps : Given → (es : List Entry) → length es < 2 ^ 40 → (b : ℕ) → length (history (world s lost es) b) < 2 ^ 40
   few-steps given es few b = let i = given.turns.few s lost es b in omega (arith, i, few)
 
   turning : (es : List Entry) (a c : ℕ) (step : Step) → Given → length es < 2 ^ 40 → next_step s lost (world s lost es) (a, c) ≡ Some step → a < length s.net.actors
-      → Turning s lost ring Stands (world s lost es) (turn s lost (world s lost es) (a, c)) a step
+      → Turning s lost sizes Stands (world s lost es) (turn s lost (world s lost es) (a, c)) a step
   turning es a c step given few next within = record {
     wired = given.wired;
     sound = given.sound;
@@ -163,8 +164,8 @@ module _ {S : Type 0} (s : Setup) (lost : Losses) (ring : ℕ) (Stands : World �
       made (inr t) = inr t.acted
 
   -- a turn by the choice of a link
-  by-take : (es : List Entry) (a c l : ℕ) (v : Scene S Msg) → Given → length es < 2 ^ 40 → IsImage s lost ring Stands (world s lost es) v → slice_get (links_into s.net a) c ≡ Some l
-      → IsTurned s lost ring Stands (turn s lost (world s lost es) (a, c)) (next_step s lost (world s lost es) (a, c)) (turn_of rules v a c)
+  by-take : (es : List Entry) (a c l : ℕ) (v : Scene S Msg) → Given → length es < 2 ^ 40 → IsImage s lost sizes Stands (world s lost es) v → slice_get (links_into s.net a) c ≡ Some l
+      → IsTurned s lost sizes Stands (turn s lost (world s lost es) (a, c)) (next_step s lost (world s lost es) (a, c)) (turn_of rules v a c)
   by-take es a c l v given few image into = by_way (on_way s.net lost (world s lost es) l) refl
     where
       low : l < length s.net.links
@@ -193,39 +194,39 @@ module _ {S : Type 0} (s : Setup) (lost : Losses) (ring : ℕ) (Stands : World �
       turned = turn-takes v a c l state.0 (line_at v.lines l) (ap (λ p. link_in p.links a c) image.plan ∙ link-in-is s.net given.wired.ways a c l given.sound into)
           (let n = wires-each s.net in let e = ap (λ p. length p.links) image.plan in omega (arith, n, e, low)) state.1 line
 
-      queued : AreQueued s.net ring (history (world s lost es)) (link_of s.net l).from (told_at s.net (world s lost es) l) (on_way s.net lost (world s lost es) l) (line_at v.lines l).queue
+      queued : AreQueued s.net sizes (history (world s lost es)) (link_of s.net l).from (told_at s.net (world s lost es) l) (on_way s.net lost (world s lost es) l) (line_at v.lines l).queue
       queued = (image.lines l low).queue
 
-      of_front : (m : Message) (rest : List Message) → on_way s.net lost (world s lost es) l ≡ m ∷ rest → Front s.net ring (history (world s lost es)) (link_of s.net l).from (told_at s.net (world s lost es) l) m rest (line_at v.lines l).queue
-          → (step : Step) → next_step s lost (world s lost es) (a, c) ≡ Some step → step.taken ≡ Some m → IsTurned s lost ring Stands (turn s lost (world s lost es) (a, c)) (next_step s lost (world s lost es) (a, c)) (turn_of rules v a c)
+      of_front : (m : Message) (rest : List Message) → on_way s.net lost (world s lost es) l ≡ m ∷ rest → Front s.net sizes (history (world s lost es)) (link_of s.net l).from (told_at s.net (world s lost es) l) m rest (line_at v.lines l).queue
+          → (step : Step) → next_step s lost (world s lost es) (a, c) ≡ Some step → step.taken ≡ Some m → IsTurned s lost sizes Stands (turn s lost (world s lost es) (a, c)) (next_step s lost (world s lost es) (a, c)) (turn_of rules v a c)
       of_front m rest way f step next took = let w = world s lost es in let u = turn s lost (world s lost es) (a, c) in
           let choice = given.turns.choice s lost w (a, c) step next in let g = given.turns.grows s lost es (a, c) step next in
           let lines = slice_set v.lines l (without_first (line_at v.lines l) f.rest) in
-          let msg : IsMessage s.net ring (history w) (link_of s.net l).from (told_by c (history w a)) m f.message = subst (λ t. IsMessage s.net ring (history w) (link_of s.net l).from t m f.message) told f.stands in
+          let msg : IsMessage s.net sizes (history w) (link_of s.net l).from (told_by c (history w a)) m f.message = subst (λ t. IsMessage s.net sizes (history w) (link_of s.net l).from t m f.message) told f.stands in
           let left = rules.take state.0 c f.message in
-          let stands : MachineSimulates s ring Stands w u a step left = given.follow.take es a c l step m f.message state.0 few next into took msg (image.states a state.0 state.1) in
+          let stands : MachineSimulates s sizes Stands w u a step left = given.follow.take es a c l step m f.message state.0 few next into took msg (image.states a state.0 state.1) in
           turned-by u (Some step) (next_step s lost w (a, c)) (Some (done v a c lines left)) (turn_of rules v a c) next (turned ∙ ap (take_first rules v a c l state.0 (line_at v.lines l)) f.is)
-          (image-after s lost ring Stands w u a c step v lines left (turning es a c step given few next within) image
+          (image-after s lost sizes Stands w u a c step v lines left (turning es a c step given few next within) image
           (took-same es a c l step m rest v given image g choice took into way)
           (length-set v.lines l (without_first (line_at v.lines l) f.rest) ∙ image.lines_each)
           (took-lines es a c l step m rest v f.rest given image g choice took into way f.message f.is)
           stands (λ b x ne st. given.follow.stays es a b c step x few next ne st))
 
-      by_way : (ms : List Message) → on_way s.net lost (world s lost es) l ≡ ms → IsTurned s lost ring Stands (turn s lost (world s lost es) (a, c)) (next_step s lost (world s lost es) (a, c)) (turn_of rules v a c)
+      by_way : (ms : List Message) → on_way s.net lost (world s lost es) l ≡ ms → IsTurned s lost sizes Stands (turn s lost (world s lost es) (a, c)) (next_step s lost (world s lost es) (a, c)) (turn_of rules v a c)
       by_way [] way = let w = world s lost es in
           let none : front s.net lost w a c l ≡ None = ap (slice_get (carried s.net lost w l)) (sym place) ∙ drop-none (taken_at s.net w l) (carried s.net lost w l) way in
           let next : next_step s lost w (a, c) ≡ None = step-takes w a c l actor.0 actor.1 into ∙ ap (option_map (λ m. taking c m (puts_of s a actor.0 (history w a) c l m))) none in
-          let empty : (line_at v.lines l).queue ≡ [] = queue-empty s.net ring (history w) (link_of s.net l).from (told_at s.net w l) (line_at v.lines l).queue (subst (λ ms. AreQueued s.net ring (history w) (link_of s.net l).from (told_at s.net w l) ms (line_at v.lines l).queue) way queued) in
+          let empty : (line_at v.lines l).queue ≡ [] = queue-empty s.net sizes (history w) (link_of s.net l).from (told_at s.net w l) (line_at v.lines l).queue (subst (λ ms. AreQueued s.net sizes (history w) (link_of s.net l).from (told_at s.net w l) ms (line_at v.lines l).queue) way queued) in
           turned-by (turn s lost w (a, c)) None (next_step s lost w (a, c)) None (turn_of rules v a c) next (turned ∙ ap (take_first rules v a c l state.0 (line_at v.lines l)) empty) tt
       by_way (m ∷ rest) way = let w = world s lost es in
           let some : front s.net lost w a c l ≡ Some m = ap (slice_get (carried s.net lost w l)) (sym place) ∙ drop-get (taken_at s.net w l) (carried s.net lost w l) m rest way in
           let next : next_step s lost w (a, c) ≡ Some (taking c m (puts_of s a actor.0 (history w a) c l m)) = step-takes w a c l actor.0 actor.1 into ∙ ap (option_map (λ m. taking c m (puts_of s a actor.0 (history w a) c l m))) some in
-          of_front m rest way (front-of s.net ring (history w) (link_of s.net l).from (told_at s.net w l) m rest (line_at v.lines l).queue (subst (λ ms. AreQueued s.net ring (history w) (link_of s.net l).from (told_at s.net w l) ms (line_at v.lines l).queue) way queued))
+          of_front m rest way (front-of s.net sizes (history w) (link_of s.net l).from (told_at s.net w l) m rest (line_at v.lines l).queue (subst (λ ms. AreQueued s.net sizes (history w) (link_of s.net l).from (told_at s.net w l) ms (line_at v.lines l).queue) way queued))
           (taking c m (puts_of s a actor.0 (history w a) c l m)) next refl
 
   -- a turn by another choice
-  by-act : (es : List Entry) (a c : ℕ) (v : Scene S Msg) → Given → length es < 2 ^ 40 → IsImage s lost ring Stands (world s lost es) v → slice_get (links_into s.net a) c ≡ None
-      → IsTurned s lost ring Stands (turn s lost (world s lost es) (a, c)) (next_step s lost (world s lost es) (a, c)) (turn_of rules v a c)
+  by-act : (es : List Entry) (a c : ℕ) (v : Scene S Msg) → Given → length es < 2 ^ 40 → IsImage s lost sizes Stands (world s lost es) v → slice_get (links_into s.net a) c ≡ None
+      → IsTurned s lost sizes Stands (turn s lost (world s lost es) (a, c)) (next_step s lost (world s lost es) (a, c)) (turn_of rules v a c)
   by-act es a c v given few image none = by_next (next_step s lost (world s lost es) (a, c)) refl
     where
       turned : turn_of rules v a c ≡ act_turn rules v a c (slice_get v.states a)
@@ -239,32 +240,32 @@ module _ {S : Type 0} (s : Setup) (lost : Losses) (ring : ℕ) (Stands : World �
           let e : None ≡ Some k = sym none ∙ sym ((λ i. slice_get (links_into s.net (to i)) ((ch ∙ choice) i))) ∙ given.wired.ways.taken k p in absurd (cc)
 
       of_acts : (step : Step) → next_step s lost (world s lost es) (a, c) ≡ Some step → (p : a < length s.net.actors) (x : S) → slice_get v.states a ≡ Some x
-          → MachineActSimulates s ring Stands (world s lost es) (turn s lost (world s lost es) (a, c)) a step (rules.act x c)
-          → IsTurned s lost ring Stands (turn s lost (world s lost es) (a, c)) (next_step s lost (world s lost es) (a, c)) (turn_of rules v a c)
+          → MachineActSimulates s sizes Stands (world s lost es) (turn s lost (world s lost es) (a, c)) a step (rules.act x c)
+          → IsTurned s lost sizes Stands (turn s lost (world s lost es) (a, c)) (next_step s lost (world s lost es) (a, c)) (turn_of rules v a c)
       of_acts step next p x st acts = let w = world s lost es in let u = turn s lost (world s lost es) (a, c) in let g = given.turns.grows s lost es (a, c) step next in
           turned-by u (Some step) (next_step s lost w (a, c)) (Some (done v a c v.lines acts.after)) (turn_of rules v a c) next (turned ∙ ap (act_turn rules v a c) st ∙ ap (option_map (done v a c v.lines)) acts.is)
-          (image-after s lost ring Stands w u a c step v v.lines acts.after (turning es a c step given few next p) image
+          (image-after s lost sizes Stands w u a c step v v.lines acts.after (turning es a c step given few next p) image
           (λ k low. let t = told-still s.net w u a step k g (still step next k low) in (λ i. tell_all (t.0 i) (drop (t.1 i) (carried s.net lost w k))))
           image.lines_each
           (λ k low. let t = told-still s.net w u a step k g (still step next k low) in
-          line-retold s.net ring (history u) (link_of s.net k).from (lost k) (told_at s.net w k) (told_at s.net u k) (taken_at s.net w k) (taken_at s.net u k) (put_at s.net w k) (line_at v.lines k) t.0 t.1
-          (lines-grown given.passing s lost ring w u a step v.lines given.reported given.wired (given.turns.ran s lost es) g (lines-of s given.wired.ways lost ring Stands w v (given.turns.ran s lost es) image) k low))
+          line-retold s.net sizes (history u) (link_of s.net k).from (lost k) (told_at s.net w k) (told_at s.net u k) (taken_at s.net w k) (taken_at s.net u k) (put_at s.net w k) (line_at v.lines k) t.0 t.1
+          (lines-grown given.passing s lost sizes w u a step v.lines given.reported given.wired (given.turns.ran s lost es) g (lines-of s given.wired.ways lost sizes Stands w v (given.turns.ran s lost es) image) k low))
           acts.simulates (λ b y ne z. given.follow.stays es a b c step y few next ne z))
 
       by_order : (a < length s.net.actors) ⊎ (length s.net.actors ≤ a) → next_step s lost (world s lost es) (a, c) ≡ None → turn_of rules v a c ≡ None
       by_order (inl p) next = turned ∙ ap (act_turn rules v a c) (state p).1 ∙ ap (option_map (done v a c v.lines)) (given.follow.idle es a c (state p).0 few p next none (image.states a (state p).0 (state p).1))
       by_order (inr p) next = turned ∙ ap (act_turn rules v a c) (slice_get_past v.states a (let n = image.states_each in omega (arith, n, p)))
 
-      by_next : (o : Option Step) → next_step s lost (world s lost es) (a, c) ≡ o → IsTurned s lost ring Stands (turn s lost (world s lost es) (a, c)) (next_step s lost (world s lost es) (a, c)) (turn_of rules v a c)
+      by_next : (o : Option Step) → next_step s lost (world s lost es) (a, c) ≡ o → IsTurned s lost sizes Stands (turn s lost (world s lost es) (a, c)) (next_step s lost (world s lost es) (a, c)) (turn_of rules v a c)
       by_next None next = turned-by (turn s lost (world s lost es) (a, c)) None (next_step s lost (world s lost es) (a, c)) None (turn_of rules v a c) next (by_order (cases_lt a (length s.net.actors)) next) tt
       by_next (Some step) next = let p = given.turns.within s lost (world s lost es) (a, c) step next in let x = state p in
           of_acts step next p x.0 x.1 (given.follow.act es a c step x.0 few next none (image.states a x.0 x.1))
 
   -- each turn of a scene that stands for a world
-  pub turned : (es : List Entry) (a c : ℕ) (v : Scene S Msg) → Given → length es < 2 ^ 40 → IsImage s lost ring Stands (world s lost es) v
-      → IsTurned s lost ring Stands (turn s lost (world s lost es) (a, c)) (next_step s lost (world s lost es) (a, c)) (turn_of rules v a c)
+  pub turned : (es : List Entry) (a c : ℕ) (v : Scene S Msg) → Given → length es < 2 ^ 40 → IsImage s lost sizes Stands (world s lost es) v
+      → IsTurned s lost sizes Stands (turn s lost (world s lost es) (a, c)) (next_step s lost (world s lost es) (a, c)) (turn_of rules v a c)
   turned es a c v given few image = by_link (slice_get (links_into s.net a) c) refl
     where
-      by_link : (o : Option ℕ) → slice_get (links_into s.net a) c ≡ o → IsTurned s lost ring Stands (turn s lost (world s lost es) (a, c)) (next_step s lost (world s lost es) (a, c)) (turn_of rules v a c)
+      by_link : (o : Option ℕ) → slice_get (links_into s.net a) c ≡ o → IsTurned s lost sizes Stands (turn s lost (world s lost es) (a, c)) (next_step s lost (world s lost es) (a, c)) (turn_of rules v a c)
       by_link (Some l) k = by-take es a c l v given few image k
       by_link None k = by-act es a c v given few image k

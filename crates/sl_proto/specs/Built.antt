@@ -15,9 +15,10 @@ use Rattle.sl_flow.specs.Flow.{HasAddresses}
 use Rattle.sl_observe.specs.Observer.{first_state}
 use Rattle.sl_control.specs.Wires.{first_control}
 use Rattle.sl_unit.specs.Made.{IsRanged, ingress_state, egress_state}
-use Rattle.sl_host.specs.Host.{frames_of}
+use Rattle.sl_host.specs.Host.{messages_of}
 use Rattle.sl_proto.specs.declared.node.Node.{Node}
 use Rattle.sl_proto.specs.Nodes.{NodeState, ObserverNode, ControlNode, UnitNode, HostNode, node_state, node_counts, node_ready}
+use Rattle.sl_wire.specs.Sizes.{sizes_of}
 
 -- a snapshot table within its ranges, and flows whose hosts have addresses, as each accepted input has
 pub record IsBuildable (input : Input) : Type 0 where
@@ -31,9 +32,9 @@ first_unit input a Egress = UnitNode (egress_state input.net a input.snapshot)
 -- the node of an actor that has the number a
 abbrev pub first_node : Input → ℕ → ActorId → NodeState
 first_node input a Observer = ObserverNode (first_state input.net input.snapshot)
-first_node input a (Control d) = ControlNode (first_control input.net a input.snapshot.ring)
+first_node input a (Control d) = ControlNode (first_control input.net a (sizes_of input.snapshot))
 first_node input a (OfUnit u) = first_unit input a u.side
-first_node input a (OfHost h) = HostNode (record { messages = frames_of input h; sent = 0; delivered = 0 })
+first_node input a (OfHost h) = HostNode (record { messages = messages_of input h; sent = 0; delivered = 0 })
 
 abbrev pub first_at : Input → ℕ → NodeState
 first_at input a = first_node input a (actor_of input.net a)

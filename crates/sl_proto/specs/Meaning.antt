@@ -9,6 +9,7 @@ use Rattle.sl_net.specs.declared.input.Snapshot.{Snapshot}
 use Rattle.sl_layout.specs.Net.{actor_of}
 use Rattle.sl_net.specs.Wired.{IsNet}
 use Rattle.sl_layout.specs.Wiring.{plan_of}
+use Rattle.sl_wire.specs.Sizes.{sizes_of}
 use Rattle.sl_model.specs.History.{World, Losses, history}
 use Rattle.sl_model.specs.Setup.{Setup}
 use Rattle.sl_model.specs.World.{IsLossTable}
@@ -22,7 +23,7 @@ use Rattle.sl_proto.specs.Nodes.{NodeState, ObserverNode, ControlNode, UnitNode,
 -- where the actor a is this one
 abbrev pub StandsAs : Setup → Snapshot → World → ℕ → ActorId → NodeState → Type 0
 StandsAs s table w a Observer (ObserverNode o) = IsObserverOf s.net table w o
-StandsAs s table w a (Control d) (ControlNode o) = IsControlOf s.net table.ring (history w) a o
+StandsAs s table w a (Control d) (ControlNode o) = IsControlOf s.net (sizes_of table) (history w) a o
 StandsAs s table w a (OfUnit i) (UnitNode o) = IsUnitOf s.net table a i (history w a) o
 StandsAs s table w a (OfHost i) (HostNode o) = IsHostOf s a i w o
 StandsAs s table w a _ _ = ⊥
@@ -30,7 +31,7 @@ StandsAs s table w a _ _ = ⊥
 abbrev pub NodeStands : Setup → Snapshot → World → ℕ → NodeState → Type 0
 NodeStands s table w a state = StandsAs s table w a (actor_of s.net a) state
 
--- the wiring is sound, reliable links lose nothing, packets are short, and a ring holds a window
+-- the wiring is sound, reliable links lose nothing, packets are short, and ids and rings hold a window
 pub record IsRunnable (s : Setup) (table : Snapshot) (lost : Losses) : Type 0 where
   pub net : IsNet s.net
   pub sound : IsSound (plan_of s.net)

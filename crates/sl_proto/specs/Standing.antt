@@ -13,6 +13,7 @@ use Rattle.sl_layout.specs.Net.{Net}
 use Rattle.sl_net.specs.Input.{Input}
 use Rattle.sl_layout.specs.Wiring.{plan_of}
 use Rattle.sl_wire.specs.declared.message.Msg.{Msg}
+use Rattle.sl_wire.specs.Sizes.{sizes_of}
 use Rattle.sl_observe.specs.Observer.{ObserverState}
 use Rattle.sl_model.specs.History.{World, Losses}
 use Rattle.sl_model.specs.Setup.{Setup, setup_of}
@@ -41,7 +42,7 @@ abbrev pub run_at : Case → Scene NodeState Msg → Run
 run_at x v = record { world = world_of x v; book = v.book }
 
 abbrev pub IsImageOf : Case → World → Scene NodeState Msg → Type 0
-IsImageOf x w v = IsImage x.setup x.lost x.table.ring (NodeStands x.setup x.table) w v
+IsImageOf x w v = IsImage x.setup x.lost (sizes_of x.table) (NodeStands x.setup x.table) w v
 
 -- the book is legal, however its entries are numbered, and the nodes and links stand for the world that it leads to
 pub record StandsFor (net : Net) (x : Case) (v : Scene NodeState Msg) : Type 0 where

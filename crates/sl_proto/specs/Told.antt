@@ -3,7 +3,8 @@
 --     HasAllRows net o      what the observer has of each unit fits, with no row missing
 --     CanTell net v o       what is asked of a scene v of the net whose observer has the state o
 --     told net count v o    its findings of so many snapshots
-use Rattle.std.specs.Prelude.{◌≡◌, ℕ, ◌<◌, ◌^◌, List, map, filter, length, take, Option, Some, None, slice_index}
+use Rattle.std.specs.Prelude.{◌≡◌, ℕ, ◌<◌, ◌^◌, min, List, map, filter, length, take, Option, Some, None, slice_index}
+use Rattle.std.specs.List.{fold}
 use Rattle.sl_layout.specs.declared.actor.Sort.{Sort}
 use Rattle.sl_layout.specs.declared.actor.Sort.TheVariants.{Cable, Crossbar, Init, Notice}
 use Rattle.sl_parts.specs.Parts.{numbers_from}
@@ -11,7 +12,6 @@ use Rattle.sl_layout.specs.Net.{Net, same_sort, link_of, link_numbers, units, da
 use Rattle.sl_saves.specs.declared.entry.Saved.{Saved}
 use Rattle.sl_saves.specs.declared.entry.Saved.TheVariants.{Value}
 use Rattle.sl_wire.specs.declared.message.Msg.{Msg}
-use Rattle.sl_wire.specs.Reach.{least_of}
 use Rattle.sl_observe.specs.Observer.{UnitState, ObserverState, unit_at, register_floor}
 use Rattle.sl_model.specs.declared.findings.Drops.{Drops}
 use Rattle.sl_model.specs.declared.findings.Findings.{Findings}
@@ -26,7 +26,7 @@ use Rattle.sl_proto.specs.Nodes.{NodeState, UnitNode, HostNode}
 -- the unit u has these data channels, and a row came for each number that its id and their last-seen numbers have reached
 pub record HasRows (net : Net) (u : ℕ) (x : UnitState) : Type 0 where
   pub channels : x.channels ≡ length (data_channels net u)
-  pub rows : length x.rows ≡ least_of x.id (take x.channels x.last)
+  pub rows : length x.rows ≡ fold min x.id (take x.channels x.last)
 
 pub record HasAllRows (net : Net) (o : ObserverState) : Type 0 where
   pub count : length o.units ≡ length (units net)

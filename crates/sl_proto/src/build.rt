@@ -46,6 +46,7 @@ fn make_control(alloc: Global, input: &Input, actor: u32, device: u32) -> Result
     requires below { actor < length input.now.net.actors }
     requires actor { actor_of input.now.net actor ≡ ActorId.Control device }
     requires device { device < length input.now.net.parts.devices }
+    requires input { IsBuildable input.now }
     ensures state { IfOk result (λ node. node_state node ≡ first_node input.now actor (ActorId.Control device)) }
     ensures counts { IfOk result (λ node. node_counts node ≡ counts_at input.now.net actor) }
     ensures ready { IfOk result (λ node. node_ready node ≡ None) }

@@ -7,6 +7,7 @@ ghost use Rattle.sl_layout.specs.declared.actor.ActorId.TheVariants.{Unit as OfU
 ghost use Rattle.sl_layout.specs.Net.{Net, actor_of, choice_of, unit_place};
 ghost use Rattle.sl_net.specs.Wired.{IsNet, Reports};
 ghost use Rattle.sl_wire.specs.declared.message.Msg.{Msg};
+ghost use Rattle.sl_wire.specs.Sizes.{Sizes};
 ghost use Rattle.sl_model.specs.declared.message.Message.TheVariants.{Done as DoneMsg};
 ghost use Rattle.sl_model.specs.declared.message.Put.{Put};
 ghost use Rattle.sl_model.specs.declared.message.Step.{Step};
@@ -37,11 +38,11 @@ pub fn steps_spread_their_puts()
 /// Puts stand for those of a step by what was told on each link before, where they do so by one
 /// account of what was told that agrees with it for each Done, or by any account at all.
 pub fn sent_messages_are_put()
-    ensures told { (net : Net) (ring : ℕ) (us : ℕ → History) (a : ℕ) (told : ℕ → ℕ) (h : History) (ps : List Put)
+    ensures told { (net : Net) (sizes : Sizes) (us : ℕ → History) (a : ℕ) (told : ℕ → ℕ) (h : History) (ps : List Put)
         (xs : List (ℕ × Msg)) → Each (λ p. (place n : ℕ) → p.message ≡ DoneMsg place n → told place ≡ told_on p.link h place) ps
-        → AreSent net ring us a told ps xs → ArePut net ring us a h ps xs }
-    ensures any { (net : Net) (ring : ℕ) (us : ℕ → History) (a : ℕ) (h : History) (ps : List Put) (xs : List (ℕ × Msg))
-        → ((told : ℕ → ℕ) → AreSent net ring us a told ps xs) → ArePut net ring us a h ps xs }
+        → AreSent net sizes us a told ps xs → ArePut net sizes us a h ps xs }
+    ensures any { (net : Net) (sizes : Sizes) (us : ℕ → History) (a : ℕ) (h : History) (ps : List Put) (xs : List (ℕ × Msg))
+        → ((told : ℕ → ℕ) → AreSent net sizes us a told ps xs) → ArePut net sizes us a h ps xs }
 {}
 
 /// What a control plane told of a unit is what the last dump told that it took of it, and what the

@@ -8,6 +8,7 @@ ghost use Rattle.sl_net.specs.Input.{Input};
 ghost use Rattle.sl_net.specs.Wired.{IsNet};
 ghost use Rattle.sl_layout.specs.Wiring.{plan_of};
 ghost use Rattle.sl_wire.specs.declared.message.Msg.{Msg};
+ghost use Rattle.sl_wire.specs.Sizes.{sizes_of};
 ghost use Rattle.sl_model.specs.History.{Losses};
 ghost use Rattle.sl_unit.specs.Made.{IsRanged};
 ghost use Rattle.sl_model.specs.Setup.{Setup, setup_of};
@@ -32,7 +33,8 @@ use sl_net::nets_are_wired;
 
 /// Each turn of a node does the step of its actor, and is idle where this has none.
 pub fn nodes_follow()
-    ensures { (s : Setup) (table : Snapshot) (lost : Losses) → IsRunnable s table lost → FollowHistories s lost table.ring (NodeStands s table) node_rules }
+    ensures { (s : Setup) (table : Snapshot) (lost : Losses) → IsRunnable s table lost
+        → FollowHistories s lost (sizes_of table) (NodeStands s table) node_rules }
 {
     nets_are_wired();
     units_take_messages();

@@ -4,6 +4,7 @@ ghost use Rattle.std.specs.Prelude.{◌≡◌, ℕ, ◌+◌, ◌^◌, ◌<◌, L
 ghost use Rattle.sl_loss.specs.Loss.{Loss};
 ghost use Rattle.sl_layout.specs.Wiring.{plan_of};
 ghost use Rattle.sl_wire.specs.declared.message.Msg.{Msg};
+ghost use Rattle.sl_wire.specs.Sizes.{Sizes};
 ghost use Rattle.sl_model.specs.History.{World, Losses};
 ghost use Rattle.sl_model.specs.Setup.{Setup};
 ghost use Rattle.sl_model.specs.World.{Entry, start, next_step, turn, run, world, IsLegalFrom, IsLegal, kept};
@@ -27,8 +28,8 @@ pub trait Meaning {
 
 /// The first scene stands for the world where nothing has happened.
 pub fn first_scenes_stand<I: Meaning>()
-    ensures { (s : Setup) (lost : Losses) (ring : ℕ) (states : List I.State) (losses : List (Option Loss))
-        → IsFirst s lost I.stands states losses → IsImage s lost ring I.stands (start s.net) (first_scene (plan_of s.net) states losses) }
+    ensures { (s : Setup) (lost : Losses) (sizes : Sizes) (states : List I.State) (losses : List (Option Loss))
+        → IsFirst s lost I.stands states losses → IsImage s lost sizes I.stands (start s.net) (first_scene (plan_of s.net) states losses) }
 {
     worlds_take_turns()
 }
@@ -36,7 +37,7 @@ pub fn first_scenes_stand<I: Meaning>()
 /// A turn of a scene that stands for a world is idle where the actor makes no step, and else leads
 /// to a scene that stands for the world after this step.
 pub fn turns_follow_steps<I: Meaning>()
-    ensures { (t : Shown I.stands) (a c : ℕ) → length t.turns < 2 ^ 40 → IsTurned t.setup t.lost t.ring I.stands
+    ensures { (t : Shown I.stands) (a c : ℕ) → length t.turns < 2 ^ 40 → IsTurned t.setup t.lost t.sizes I.stands
         (turn t.setup t.lost (world_shown t) (a, c)) (next_step t.setup t.lost (world_shown t) (a, c)) (turn_of t.rules t.scene a c) }
 {
     nets_are_wired();
@@ -50,7 +51,7 @@ pub fn turns_follow_steps<I: Meaning>()
 /// book gains the others, each with a number one above the last.
 pub fn schedules_follow_histories<I: Meaning>()
     ensures image { (t : Shown I.stands) (fs : List Entry) → length t.turns + length fs < 2 ^ 40
-        → IsImage t.setup t.lost t.ring I.stands (run t.setup t.lost (world_shown t) fs) (after_all t.rules t.scene fs) }
+        → IsImage t.setup t.lost t.sizes I.stands (run t.setup t.lost (world_shown t) fs) (after_all t.rules t.scene fs) }
     ensures kept { (t : Shown I.stands) (fs : List Entry) → length t.turns + length fs < 2 ^ 40
         → scene_kept t.rules t.scene fs ≡ kept_shown t fs }
     ensures book { (t : Shown I.stands) (fs : List Entry) → length t.turns + length fs < 2 ^ 40
@@ -71,7 +72,7 @@ pub fn schedules_follow_histories<I: Meaning>()
 /// the same, and the book has these, numbered from 1.
 pub fn machines_stand_for_histories<I: Meaning>()
     ensures image { (b : Begun I.stands) (es : List Entry) → length es < 2 ^ 40
-        → IsImage b.setup b.lost b.ring I.stands (world b.setup b.lost es) (after_all b.rules (scene_begun b) es) }
+        → IsImage b.setup b.lost b.sizes I.stands (world b.setup b.lost es) (after_all b.rules (scene_begun b) es) }
     ensures kept { (b : Begun I.stands) (es : List Entry) → length es < 2 ^ 40
         → scene_kept b.rules (scene_begun b) es ≡ kept b.setup b.lost es }
     ensures book { (b : Begun I.stands) (es : List Entry) → length es < 2 ^ 40

@@ -1,12 +1,12 @@
 -- Loops over the steps of a history, the oldest first.
 use Rattle.std.proofs.Common.{◌≡◌, ℕ, ◌+◌, ◌<◌, ◌≤◌, List, [], ◌∷◌, ◌++◌, length, refl, ap, sym, ◌∙◌, take, drop, get_or, arith, inl, inr, lt-ltb, le-ltb, length-append, length-take}
 use Rattle.std.specs.Prelude.{reverse, cond, true, false, Bool, ◌||◌, ◌==◌, map, min, if◌then◌else◌, ◌⊎◌, Option, Some, unwrap_or}
+use Rattle.std.specs.List.{fold}
 use Rattle.std.proofs.lemmas.Bool.{cases_lt}
 use Rattle.std.proofs.lemmas.List.{take_more, reverse-append, map-append, length-reverse, take-append-drop}
 use Rattle.std.proofs.lemmas.List.Folds.{list_any-append}
 use Rattle.sl_model.specs.declared.message.Put.{Put}
 use Rattle.sl_model.specs.declared.message.Step.{Step}
-use Rattle.sl_model.specs.Words.{least_of}
 use Rattle.sl_route.specs.Least.{least_in}
 use Rattle.sl_model.specs.History.{on_link, first}
 use Rattle.sl_model.specs.Knowledge.{puts_on}
@@ -32,12 +32,12 @@ puts_on_more l ps i d h = ap (puts_on l) (take_more ps i d h) ∙ list_any-appen
     or_false true = refl
     or_false false = refl
 
-least-snoc : (n : ℕ) (xs : List ℕ) (x : ℕ) → least_of n (xs ++ x ∷ []) ≡ min (least_of n xs) x
+least-snoc : (n : ℕ) (xs : List ℕ) (x : ℕ) → fold min n (xs ++ x ∷ []) ≡ min (fold min n xs) x
 least-snoc n [] x = refl
 least-snoc n (y ∷ ys) x = least-snoc (min n y) ys x
 
-pub least_more : (n : ℕ) (f : ℕ → ℕ) (cs : List ℕ) (i : ℕ) → i < length cs → least_of n (map f (take (i + 1) cs)) ≡ min (least_of n (map f (take i cs))) (f (get_or cs i 0))
-least_more n f cs i h = ap (λ xs. least_of n (map f xs)) (take_more cs i 0 h) ∙ ap (least_of n) (map-append f (take i cs) (get_or cs i 0 ∷ [])) ∙ least-snoc n (map f (take i cs)) (f (get_or cs i 0))
+pub least_more : (n : ℕ) (f : ℕ → ℕ) (cs : List ℕ) (i : ℕ) → i < length cs → fold min n (map f (take (i + 1) cs)) ≡ min (fold min n (map f (take i cs))) (f (get_or cs i 0))
+least_more n f cs i h = ap (λ xs. fold min n (map f xs)) (take_more cs i 0 h) ∙ ap (fold min n) (map-append f (take i cs) (get_or cs i 0 ∷ [])) ∙ least-snoc n (map f (take i cs)) (f (get_or cs i 0))
 
 first-all : (n : ℕ) (h : List Step) → length h ≤ n → first n h ≡ h
 first-all n [] p = refl

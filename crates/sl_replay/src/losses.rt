@@ -33,7 +33,7 @@ fn drops_on(alloc: Global, loss: &LossSpec, link: u32) -> Result<Vec<u64>, Memor
 }
 
 /// The loss of a link before any put, or none where it is reliable.
-fn loss_on(alloc: Global, input: &Input, link: u32) -> Result<Option<Loss>, Memory>
+pub fn loss_on(alloc: Global, input: &Input, link: u32) -> Result<Option<Loss>, Memory>
     requires { link < length input.now.net.links }
     ensures { IfOk result (λ loss. loss ≡ loss_on input.now link) }
 {

@@ -1,8 +1,8 @@
 // What histories tell, over slices of steps, the oldest first.
-ghost use Rattle.std.specs.Prelude.{◌≡◌, ◌≤◌, [], ◌∷◌, ◌++◌, length, reverse, map, OnOk, IfOk, cond, ◌==◌, option_and_then};
+ghost use Rattle.std.specs.Prelude.{◌≡◌, ◌≤◌, min, [], ◌∷◌, ◌++◌, length, reverse, map, OnOk, IfOk, cond, ◌==◌, option_and_then};
+ghost use Rattle.std.specs.List.{fold};
 ghost use Rattle.sl_model.specs.History.{stamp_of, stamp_taken, id, last, taken, put, on_link, done_of};
 ghost use Rattle.sl_model.specs.Knowledge.{known, puts_on};
-ghost use Rattle.sl_model.specs.Words.{least_of};
 
 use crate::message::copy_message;
 use sl_machine::Memory;
@@ -153,7 +153,7 @@ pub fn puts_on(link: u32, puts: &[Put]) -> bool
 /// The least of a number and the last stamps of some choices.
 #[tactic(auto, using(crate::proofs::ForwardSteps::least_more))]
 pub fn least_last(start: u64, choices: &[u32], steps: &[Step]) -> u64
-    ensures { result ≡ least_of start (map (λ c. last c (reverse steps.now)) choices.now) }
+    ensures { result ≡ fold min start (map (λ c. last c (reverse steps.now)) choices.now) }
 {
     let mut least = start;
     for choice in choices {

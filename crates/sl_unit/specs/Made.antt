@@ -1,5 +1,5 @@
 -- A unit of a net. a is its actor's number.
-use Rattle.std.specs.Prelude.{ℕ, ◌≤◌, Bool, false, List, [], length, map, Option, Some, None, slice_index}
+use Rattle.std.specs.Prelude.{ℕ, ◌<◌, ◌≤◌, Bool, false, List, [], length, map, Option, Some, None, slice_index}
 use Rattle.sl_layout.specs.declared.actor.Side.{Side}
 use Rattle.sl_layout.specs.declared.actor.ActorId.{ActorId}
 use Rattle.sl_layout.specs.declared.actor.ActorId.TheVariants.{Unit as OfUnit}
@@ -7,6 +7,7 @@ use Rattle.sl_layout.specs.declared.actor.Sort.{Sort}
 use Rattle.sl_layout.specs.declared.actor.Sort.TheVariants.{FromHost, Cable as CableSort, Crossbar as CrossbarSort, Init as InitSort, Poll as PollSort}
 use Rattle.sl_layout.specs.Devices.{device_of}
 use Rattle.sl_net.specs.declared.input.Snapshot.{Snapshot}
+use Rattle.sl_ids.specs.Ids.{most_bits, modulus}
 use Rattle.sl_parts.specs.Parts.{below}
 use Rattle.sl_layout.specs.Net.{Net, same_actor, ingress, actor_of, link_of, link_at, links_into, links_from, place_in, data_channels, units}
 use Rattle.sl_route.specs.Route.{next_port}
@@ -70,9 +71,10 @@ ingress_state net a n = first_state (wires_of net a (ports_of net (device_of (ac
 abbrev pub egress_state : Net → ℕ → Snapshot → UnitState
 egress_state net a n = first_state (wires_of net a [] n.width) n
 
--- a snapshot table within the ranges that a unit needs
+-- a snapshot table within the ranges that machines need
 pub record IsRanged (n : Snapshot) : Type 0 where
   pub some_bits : 1 ≤ n.width
-  pub few_bits : n.width ≤ 8
+  pub few_bits : n.width ≤ most_bits
   pub some_window : 1 ≤ n.window
+  pub few_window : n.window < modulus n.width
   pub some_ring : n.window ≤ n.ring

@@ -1,10 +1,11 @@
 -- The registers of a unit, with whole numbers as ids, and what a stamped message makes of them (Yaseen, Sonchack and Liu 2018).
-use Rattle.std.specs.Prelude.{ℕ, ◌+◌, ◌-◌, ◌<◌, Bool, ◌&&◌, List, min, nat_lt, nat_le, if◌then◌else◌, replicate, slice_index_or, slice_set}
+use Rattle.std.specs.Prelude.{ℕ, ◌+◌, ◌-◌, ◌<◌, Bool, ◌&&◌, List, map, min, nat_lt, nat_le, if◌then◌else◌, replicate, slice_index_or, slice_set}
 use Rattle.sl_net.specs.declared.input.Packet.{Packet}
 use Rattle.sl_saves.specs.declared.entry.View.{View}
 use Rattle.sl_saves.specs.Views.{last_count, free_slot}
 use Rattle.sl_saves.specs.Keeping.{view_adopted, view_credited}
-use Rattle.sl_wire.specs.declared.message.PlainDump.{PlainDump}
+use Rattle.sl_ids.specs.Wids.{wid}
+use Rattle.sl_wire.specs.declared.message.Dump.{Dump}
 use Rattle.sl_unit.specs.declared.registers.Channel.{Channel}
 use Rattle.sl_unit.specs.declared.registers.Channel.TheVariants.{Cpu, Upstream}
 
@@ -72,8 +73,9 @@ after_stamp channel stamp r = seen channel stamp (adopted stamp r)
 abbrev pub after_data : ℕ → ℕ → Packet → Registers → Registers
 after_data channel stamp p r = counted p.len (seen (Upstream channel) stamp (credited channel stamp p.len (adopted stamp r)))
 
-abbrev pub dump_of : Registers → PlainDump
-dump_of r = record { id = r.id; cpu = r.cpu; last = r.last; view = r.saved }
+-- a dump, with wrapped ids of so many bits
+abbrev pub dump_of : ℕ → Registers → Dump
+dump_of bits r = record { id = wid bits r.id; cpu = wid bits r.cpu; last = map (wid bits) r.last; view = r.saved }
 
 -- there is such a register
 abbrev pub IsChannel : Channel → Type 0

@@ -95,7 +95,7 @@ framed s None = record { state = record s { registers = record s.registers { bad
 framed s (Some p) = let a = routed s.wires p (counted p.len s.registers) in record { state = record s { registers = a.state }; puts = a.puts }
 
 abbrev pub dumped : UnitState → After UnitState Msg
-dumped s = record { state = s; puts = send s.wires (All DumpSort) (Dump (dump_of s.registers)) }
+dumped s = record { state = s; puts = send s.wires (All DumpSort) (Dump (dump_of s.wires.bits s.registers)) }
 
 abbrev pub take_at : Entrance → UnitState → Msg → After UnitState Msg
 take_at Host s (HostMsg bytes) = framed s (plain_packet s.wires.bits bytes)

@@ -1,17 +1,17 @@
 // The messages that a unit puts.
 ghost use Rattle.std.specs.Prelude.{◌≡◌, ◌+◌, ◌≤◌, ◌<◌, ◌^◌, ◌++◌, ◌∷◌, [], length, cond, true};
 ghost use Rattle.std.specs.List.{All};
-ghost use Rattle.sl_wire.specs.declared.message.Msg.TheVariants.{Host, Dump};
+ghost use Rattle.sl_wire.specs.declared.message.Msg.TheVariants.{Host, Dump as DumpMsg};
 ghost use Rattle.sl_wire.specs.Frames.{plain_frame};
 ghost use Rattle.sl_unit.specs.Wires.{outs};
 ghost use Rattle.sl_machine.specs.Machine.{send_all};
 ghost use Rattle.sl_unit.specs.Notes.{message_of};
-ghost use Rattle.sl_wire.specs.declared.message.PlainDump.{PlainDump};
+ghost use Rattle.sl_wire.specs.declared.message.Dump.{Dump};
 
 use crate::wires::{Exit, Way};
 use sl_machine::Outputs;
 use sl_net::{Bytes, Packet, Sort};
-use sl_wire::{Boxed, Msg, PlainDump, plain_frame};
+use sl_wire::{Boxed, Dump, Msg, plain_frame};
 
 /// A message that can go on several links.
 #[derive(Clone, Copy)]
@@ -109,14 +109,14 @@ pub fn put_frames(exits: &[Exit], packet: &Packet, frames: &mut Vec<Bytes>, out:
 }
 
 /// Puts the last of some dumps on an outgoing link where it goes there.
-fn put_dump_if(out: &mut Outputs<Msg>, goes: bool, link: u32, dumps: &mut Vec<Boxed<PlainDump>>)
+fn put_dump_if(out: &mut Outputs<Msg>, goes: bool, link: u32, dumps: &mut Vec<Boxed<Dump>>)
     requires room { goes ≡ true → length out.old.items < out.old.room }
     requires some { goes ≡ true → 0 < length dumps.old.items }
-    ensures items { (dump : PlainDump) → All (λ d. d ≡ dump) dumps.old.items → out.new.items ≡ out.old.items ++ cond goes ((link, Dump dump) ∷ []) [] }
+    ensures items { (dump : Dump) → All (λ d. d ≡ dump) dumps.old.items → out.new.items ≡ out.old.items ++ cond goes ((link, DumpMsg dump) ∷ []) [] }
     ensures room { out.new.room ≡ out.old.room }
     ensures many { length out.new.items ≡ length out.old.items + cond goes 1 0 }
     ensures left { length dumps.new.items + cond goes 1 0 ≡ length dumps.old.items }
-    ensures still { (dump : PlainDump) → All (λ d. d ≡ dump) dumps.old.items → All (λ d. d ≡ dump) dumps.new.items }
+    ensures still { (dump : Dump) → All (λ d. d ≡ dump) dumps.old.items → All (λ d. d ≡ dump) dumps.new.items }
 {
     if goes {
         if let Some(dump) = dumps.pop() {
@@ -126,11 +126,11 @@ fn put_dump_if(out: &mut Outputs<Msg>, goes: bool, link: u32, dumps: &mut Vec<Bo
 }
 
 /// Puts a dump, of some that are the same, on each link of dumps.
-pub fn put_dumps(exits: &[Exit], dumps: &mut Vec<Boxed<PlainDump>>, out: &mut Outputs<Msg>)
+pub fn put_dumps(exits: &[Exit], dumps: &mut Vec<Boxed<Dump>>, out: &mut Outputs<Msg>)
     requires few { length exits.now < 2 ^ 32 }
     requires room { length out.old.items + length (outs (Way.All Sort.Dump) exits.now) ≤ out.old.room }
     requires dumps { length dumps.old.items ≡ length (outs (Way.All Sort.Dump) exits.now) }
-    ensures items { (dump : PlainDump) → All (λ d. d ≡ dump) dumps.old.items → out.new.items ≡ out.old.items ++ send_all (Dump dump) (outs (Way.All Sort.Dump) exits.now) }
+    ensures items { (dump : Dump) → All (λ d. d ≡ dump) dumps.old.items → out.new.items ≡ out.old.items ++ send_all (DumpMsg dump) (outs (Way.All Sort.Dump) exits.now) }
     ensures room { out.new.room ≡ out.old.room }
 {
     for i in 0..exits.len() {

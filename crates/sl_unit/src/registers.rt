@@ -3,10 +3,11 @@ ghost use Rattle.std.specs.Prelude.{◌≡◌, ◌<◌, ◌≤◌, ◌-◌, ◌^
 ghost use Rattle.sl_saves.specs.Rings.{ring_window};
 ghost use Rattle.sl_unit.specs.Registers.{IsChannel, first_registers, last_on, is_near, adopted, credited, seen, counted, after_stamp, after_data, more, dump_of};
 
+use sl_ids::{Width, wrap};
 use sl_machine::Memory;
 use sl_net::Packet;
 use sl_saves::{RingSaves, Saves};
-use sl_wire::PlainDump;
+use sl_wire::{Dump, wrap_each};
 use std::alloc::Global;
 
 /// The channel by which a stamped message comes.
@@ -190,15 +191,15 @@ impl Registers {
         self.noroute = self.noroute.saturating_add(1);
     }
 
-    /// The registers as a dump.
-    pub fn dump(&self) -> Result<PlainDump, Memory>
-        ensures { IfOk result (λ dump. dump ≡ dump_of (registers_of self.now)) }
+    /// The registers as a dump, with ids of this width.
+    pub fn dump(&self, width: Width) -> Result<Dump, Memory>
+        ensures { IfOk result (λ dump. dump ≡ dump_of width.bits (registers_of self.now)) }
     {
         let view = self.saves.view()?;
-        Ok(PlainDump {
-            id: self.id,
-            cpu: self.cpu,
-            last: self.last,
+        Ok(Dump {
+            id: wrap(width, self.id),
+            cpu: wrap(width, self.cpu),
+            last: wrap_each(width, &self.last),
             view,
         })
     }

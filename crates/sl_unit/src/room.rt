@@ -8,7 +8,7 @@ use crate::registers::Registers;
 use crate::wires::{Exit, Way, Wires};
 use sl_machine::Memory;
 use sl_net::{Bytes, Sort};
-use sl_wire::{Boxed, PlainDump};
+use sl_wire::{Boxed, Dump};
 use std::alloc::Global;
 
 /// How many outgoing links a way has.
@@ -53,7 +53,7 @@ pub fn make_frames(wires: &Wires, frames: &mut Vec<Bytes>) -> Result<(), Memory>
 pub fn make_dumps(
     wires: &Wires,
     registers: &Registers,
-    dumps: &mut Vec<Boxed<PlainDump>>,
+    dumps: &mut Vec<Boxed<Dump>>,
 ) -> Result<(), Memory>
     ensures { OnOk result (HasDumps wires.now (registers_of registers.now) dumps.new.items) }
 {
@@ -61,7 +61,7 @@ pub fn make_dumps(
     dumps.clear();
     let alloc = *dumps.allocator();
     for _i in 0..count {
-        let dump = Boxed::new(alloc, registers.dump()?)?;
+        let dump = Boxed::new(alloc, registers.dump(wires.width())?)?;
         dumps.push(dump)?;
     }
     Ok(())

@@ -12,7 +12,7 @@ use crate::wires::{Entrance, Way, Wires};
 use sl_ids::Width;
 use sl_machine::Outputs;
 use sl_net::{Bytes, Packet, Sort};
-use sl_wire::{Boxed, Kind, Msg, PlainDump, decode};
+use sl_wire::{Boxed, Dump, Kind, Msg, decode};
 
 /// Puts a notice where the last-seen number of a channel changes.
 fn put_notice(wires: &Wires, before: u64, stamp: u64, out: &mut Outputs<Msg>)
@@ -273,7 +273,7 @@ pub fn take_init(wires: &Wires, registers: &mut Registers, stamp: u64, out: &mut
 pub fn take_poll(
     wires: &Wires,
     registers: &Registers,
-    dumps: &mut Vec<Boxed<PlainDump>>,
+    dumps: &mut Vec<Boxed<Dump>>,
     out: &mut Outputs<Msg>,
 )
     requires empty { out.old.items ≡ [] }

@@ -15,7 +15,7 @@ use sl_ids::Width;
 use sl_machine::{Machine, Memory, Outputs};
 use sl_net::{Bytes, Net, Side, Snapshot};
 use sl_route::Routes;
-use sl_wire::{Boxed, Msg, PlainDump};
+use sl_wire::{Boxed, Dump, Msg};
 use std::alloc::Global;
 
 /// A processing unit. An ingress unit handles what comes in from the cable or the host of its
@@ -24,7 +24,7 @@ use std::alloc::Global;
 pub struct Unit {
     prepared: Option<u32>,
     frames: Vec<Bytes>,
-    dumps: Vec<Boxed<PlainDump>>,
+    dumps: Vec<Boxed<Dump>>,
     wires: Wires,
     registers: Registers,
     ghost sized: { All (λ frame. length frame ≡ 24) frames.items },
@@ -125,10 +125,10 @@ impl Unit {
     }
 
     /// All registers.
-    pub fn dump(&self) -> Result<PlainDump, Memory>
-        ensures { IfOk result (λ dump. dump ≡ dump_of (unit_state self.now).registers) }
+    pub fn dump(&self) -> Result<Dump, Memory>
+        ensures { IfOk result (λ dump. dump ≡ dump_of (unit_state self.now).wires.bits (unit_state self.now).registers) }
     {
-        self.registers.dump()
+        self.registers.dump(self.wires.width())
     }
 }
 

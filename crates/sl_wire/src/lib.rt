@@ -6,9 +6,11 @@ mod frame;
 mod laws;
 mod message;
 mod reach;
+mod wids;
 
 pub use boxed::Boxed;
 pub use frame::{Frame, Header, Kind, WireFault, decode, encode, plain_frame};
 pub use laws::one_frame;
-pub use message::{Done, Dump, Msg, PlainDump, Rows};
+pub use message::{Done, Dump, Msg, Rows};
 pub use reach::reached;
+pub use wids::{are_wids, has_room, have_room, is_wid, unwrap_each, wrap_each};

@@ -1,4 +1,4 @@
-// Messages between actors, with whole numbers as stamps, and the registers in a dump.
+// Messages between actors, with whole numbers as stamps and wrapped ids in dumps.
 use crate::boxed::Boxed;
 use sl_ids::Wid;
 use sl_net::{Bytes, Packet};
@@ -50,20 +50,8 @@ pub struct Dump {
     pub view: View,
 }
 
-/// The registers of a unit, with whole numbers.
-#[derive(Debug, Drop)]
-pub struct PlainDump {
-    /// Its id.
-    pub id: u64,
-    /// The last-seen id of its control plane, 0 of an egress unit.
-    pub cpu: u64,
-    /// The last-seen ids of its data channels in order, 0 past them.
-    pub last: [u64; 8],
-    /// What it saved, in its ring.
-    pub view: View,
-}
-
-/// A message between actors. Stamps and the numbers of snapshots are whole numbers.
+/// A message between actors. Stamps and the numbers of snapshots are whole numbers, but for the ids
+/// in a dump.
 #[derive(Debug, Drop)]
 pub enum Msg {
     /// The bytes of a frame from a host to its ingress unit, or from an egress unit to its host.
@@ -79,9 +67,11 @@ pub enum Msg {
     /// A notice that a last-seen number of a unit has changed, to its control plane.
     Notice,
     /// A unit's registers, to its control plane.
-    Dump(Boxed<PlainDump>),
+    Dump(Boxed<Dump>),
     /// The begin of a snapshot, from the observer to a control plane.
     Begin(u64),
     /// A report on a unit, from its control plane to the observer.
     Done(Boxed<Done>),
 }
+
+const _: () = prove!(size_of::<Msg>() <= 32);

@@ -1,10 +1,11 @@
 // The number that a unit has reached, by what a dump or a report says.
-ghost use Rattle.std.specs.Prelude.{◌≡◌, ◌≤◌};
-ghost use Rattle.sl_wire.specs.Reach.{least_of, reached};
+ghost use Rattle.std.specs.Prelude.{◌≡◌, ◌≤◌, min};
+ghost use Rattle.std.specs.List.{fold};
+ghost use Rattle.sl_wire.specs.Reach.{reached};
 
 /// The least of a number and others.
 fn least_of(number: u64, others: &[u64]) -> u64
-    ensures least { result ≡ least_of number others.now }
+    ensures least { result ≡ fold min number others.now }
     ensures most { result ≤ number }
 {
     let mut least = number;

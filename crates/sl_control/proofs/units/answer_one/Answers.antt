@@ -1,7 +1,10 @@
-use Rattle.std.proofs.Common.{◌++◌, [], ap, ◌∙◌}
-use Rattle.std.specs.Prelude.{cond}
-use Rattle.sl_control.specs.Control.{answer_by}
+use Rattle.std.proofs.Common.{◌++◌, [], ◌∙◌}
+use Rattle.std.specs.Prelude.{◌&&◌, cond}
+use Rattle.sl_control.specs.Control.{answer_by, is_read}
 use Rattle.sl_control.proofs.units.answer_one.Goals as goal
 
-pub returns-in-Some-clause-puts : goal.returns-in-Some-clause-puts
-returns-in-Some-clause-puts c = c.answer.ensures.puts ∙ ap (λ b. c.args.out.now.items ++ cond b (answer_by c.args.done c.args.dump.now c.args.known.now) []) c.if-read.ensures.read
+pub returns-then-has_rooms-clause-puts : goal.returns-then-has_rooms-clause-puts
+returns-then-has_rooms-clause-puts c =
+    let w = c.if-has_wids.ensures in let r = c.if-has_rooms.ensures in let e = c.numbers_told-numbers.ensures in
+    c.answer_numbers.ensures.puts
+    ∙ (λ i. c.args.out.now.items ++ cond (w i && (r i && is_read c.args.ring (e i) c.args.dump.now.view c.args.known.now)) (answer_by c.args.done (e i) c.args.dump.now.view c.args.known.now) [])

@@ -5,7 +5,8 @@ use Rattle.sl_layout.specs.Net.{Net, actor_of, units}
 use Rattle.sl_model.proofs.Sizes.{ingress_size}
 use Rattle.sl_model.proofs.Weighed.{weigh_more, weigh_take}
 use Rattle.sl_model.specs.Counting.{bad, expired, noroute}
-use Rattle.sl_model.specs.Findings.{device_of, ingress_units, is_ingress}
+use Rattle.sl_model.specs.Findings.{ingress_units, is_ingress}
+use Rattle.sl_layout.specs.Devices.{device_of}
 use Rattle.sl_model.specs.History.{World, history, steps_in}
 use Rattle.sl_model.specs.Words.{weigh}
 use Rattle.sl_model.specs.declared.findings.Drops.{Drops}

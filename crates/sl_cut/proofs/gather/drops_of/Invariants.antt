@@ -1,6 +1,7 @@
 use Rattle.sl_layout.specs.Net.{actor_of}
 use Rattle.sl_model.specs.Counting.{bad, expired, noroute}
-use Rattle.sl_model.specs.Findings.{device_of, is_ingress}
+use Rattle.sl_model.specs.Findings.{is_ingress}
+use Rattle.sl_layout.specs.Devices.{device_of}
 use Rattle.sl_model.specs.History.{history}
 use Rattle.sl_model.specs.Words.{weigh}
 use Rattle.std.proofs.Common.{length, take, ℕ, ◌≡◌, ◌≤◌}

@@ -6,4 +6,4 @@ pub returns-clause-place : goal.returns-clause-place
 returns-clause-place c net a d n q = control-place net a d (c.nets_are_wired.ensures net n) q
 
 pub returns-clause-stands : goal.returns-clause-stands
-returns-clause-stands c net a ring = starts c.worlds_take_turns.ensures net a ring
+returns-clause-stands c net a sizes = starts c.worlds_take_turns.ensures net a sizes

@@ -2,6 +2,7 @@ use Rattle.std.proofs.Common.{◌<◌, length, refl, ap, ◌∙◌, Some, arith}
 use Rattle.std.proofs.lemmas.Option.{slice_get-get_or}
 use Rattle.sl_parts.proofs.Lists.{at_below, length_below}
 use Rattle.sl_observe.specs.Observer.{first_state}
+use Rattle.sl_wire.specs.Sizes.{sizes_of}
 use Rattle.sl_model.specs.Setup.{setup_of}
 use Rattle.sl_proto.specs.Built.{first_node, first_at, first_states}
 use Rattle.sl_proto.specs.Meaning.{NodeStands}
@@ -15,7 +16,7 @@ returns-clause-stands c i lost losses r ranged new = record {
   net_is = refl;
   runnable = r;
   legal = tt;
-  image = first-image c.worlds_take_turns.ensures (setup_of i) lost i.snapshot.ring (NodeStands (setup_of i) i.snapshot) (first_states i) losses (record {
+  image = first-image c.worlds_take_turns.ensures (setup_of i) lost (sizes_of i.snapshot) (NodeStands (setup_of i) i.snapshot) (first_states i) losses (record {
     states_each = c.nodes_start.ensures.each i;
     states_stand = λ a state here. c.nodes_start.ensures.stand i a state ranged here;
     losses_each = new.each;

@@ -8,6 +8,7 @@ use Rattle.sl_layout.specs.declared.actor.Side.TheVariants.{Ingress, Egress}
 use Rattle.sl_layout.specs.declared.actor.UnitId.{UnitId}
 use Rattle.sl_layout.specs.Net.{actor_of}
 use Rattle.sl_parts.proofs.Lists.{at_below, length_below}
+use Rattle.sl_wire.specs.Sizes.{sizes_of}
 use Rattle.sl_model.specs.Setup.{setup_of}
 use Rattle.sl_model.specs.World.{start}
 use Rattle.sl_image.specs.UnitImage.{IsUnitOf}
@@ -35,6 +36,6 @@ returns-clause-stand c i a state ranged here = subst (NodeStands (setup_of i) i.
 
     by_actor : (y : ActorId) → StandsAs (setup_of i) i.snapshot (start i.net) a y (first_node i a y)
     by_actor Observer = c.observers_start.ensures (setup_of i) (λ l n. false) i.snapshot
-    by_actor (Control d) = c.controls_start.ensures.stands i.net a i.snapshot.ring
+    by_actor (Control d) = c.controls_start.ensures.stands i.net a (sizes_of i.snapshot)
     by_actor (OfUnit u) = by_side u u.side refl
     by_actor (OfHost h) = c.hosts_start.ensures i (λ l n. false) a h

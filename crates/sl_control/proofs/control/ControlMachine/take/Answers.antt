@@ -41,13 +41,13 @@ pub invariant_of-self-in-Dump : goal.invariant_of-self-in-Dump
 invariant_of-self-in-Dump c =
     let s = c.self.inside in (
       subst (λ (rs : List Known). IsJoined s.outs s.inits.items s.done rs) (sym c.answer_all.ensures.units)
-          (answered-joined s.outs s.inits.items s.done s.ring c.args.link c.get.result.now s.units.items c.self.invariant.0),
+          (answered-joined s.outs s.inits.items s.done (record { bits = s.width.bits; ring = s.ring }) c.args.link c.get.result.now s.units.items c.self.invariant.0),
       record { empty = c.answer_all.ensures.left; room = λ n. search rules; report = λ n. search rules },
     )
 
 pub returns-in-Dump-clause-fitting : goal.returns-in-Dump-clause-fitting
 returns-in-Dump-clause-fitting c =
     let s = c.self.inside in
-    added-to-none c.args.self.now.counts.outs s.outs c.args.out.now.items c.answer_all.new.out.items (flat_map (dump_puts s.ring s.done c.args.link c.get.result.now) s.units.items)
+    added-to-none c.args.self.now.counts.outs s.outs c.args.out.now.items c.answer_all.new.out.items (flat_map (dump_puts (record { bits = s.width.bits; ring = s.ring }) s.done c.args.link c.get.result.now) s.units.items)
     (ap (λ (v : ControlView). v.counts.outs) c.self.view_is) c.requires.empty c.answer_all.ensures.puts
-    (answers-fit s.outs s.ring s.done c.args.link c.get.result.now s.units.items c.self.invariant.0.dones_apart c.self.invariant.0.dumps_apart)
+    (answers-fit s.outs (record { bits = s.width.bits; ring = s.ring }) s.done c.args.link c.get.result.now s.units.items c.self.invariant.0.dones_apart c.self.invariant.0.dumps_apart)

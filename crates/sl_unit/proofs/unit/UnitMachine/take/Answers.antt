@@ -38,7 +38,7 @@ returns-in-Init-Init-clause-fitting c = let s = unit_state c.args.self.now in le
 
 pub returns-in-Poll-Poll-clause-fitting : goal.returns-in-Poll-Poll-clause-fitting
 returns-in-Poll-Poll-clause-fitting c = let s = unit_state c.args.self.now in
-    subst (λ ps. is_fitting (length s.wires.exits) ps ≡ true) (sym c.take_poll.ensures.puts) (one_fits s.wires (All sort.Dump) (Dump (dump_of s.registers)))
+    subst (λ ps. is_fitting (length s.wires.exits) ps ≡ true) (sym c.take_poll.ensures.puts) (one_fits s.wires (All sort.Dump) (Dump (dump_of s.wires.bits s.registers)))
 
 pub take_crossbar_data-requires-clause-frames : goal.take_crossbar_data-requires-clause-frames
 take_crossbar_data-requires-clause-frames c = let r = c.args.self.now.ready c.args.link c.requires.ready in

@@ -12,6 +12,7 @@ use crate::moved::Moved;
 use crate::outs::Outs;
 use crate::part::OutPart;
 use crate::rows::Row;
+use crate::sleep::Sleeper;
 use crate::steps::{moved, next_number, note};
 use sl_link::TakeEnd;
 use sl_machine::{Machine, Memory, Outputs};
@@ -26,8 +27,9 @@ pub struct Actor<A: Machine> {
     number: u64,
     log: Vec<(u64, u32)>,
     takes: Vec<TakeEnd<A::Msg>>,
-    outs: Outs<A::Msg>,
+    pub(crate) outs: Outs<A::Msg>,
     out: Outputs<A::Msg>,
+    pub(crate) sleeper: Sleeper,
     ghost takes_each: { (A.counts machine).ins ≡ length takes.items },
     ghost outs_each: { (A.counts machine).outs ≡ length outs.parts.items },
     ghost clear: { length out.items ≡ 0 },
@@ -61,6 +63,7 @@ impl<A: Machine> Actor<A> {
         machine: A,
         takes: Row<TakeEnd<A::Msg>>,
         outs: Row<OutPart<A::Msg>>,
+        sleeper: Sleeper,
     ) -> Result<Actor<A>, Memory>
         requires takes { All IsFilled takes }
         requires outs { All IsFilled outs }
@@ -80,6 +83,7 @@ impl<A: Machine> Actor<A> {
             takes,
             outs,
             out,
+            sleeper,
         })
     }
 
@@ -139,9 +143,12 @@ impl<A: Machine> Actor<A> {
         ensures counts { (held self.new).counts ≡ (held self.old).counts }
     {
         self.prepare(choice)?;
+        self.sleeper.note(&self.outs.waiting);
         let before = self.outs.offer(rt);
         let did = self.step(rt, choice);
+        self.sleeper.note(&self.outs.waiting);
         let after = self.outs.offer(rt);
+        self.sleeper.wake_receivers();
         Ok(moved(did, before, after))
     }
 
@@ -195,7 +202,10 @@ impl<A: Machine> Actor<A> {
     {
         let end = &mut self.takes[choice as usize];
         let s = match end.take(rt) {
-            None => return false,
+            None => {
+                self.sleeper.emptied(choice);
+                return false;
+            }
             Some(s) => s,
         };
         let number = next_number(rt, self.number, s.number);

@@ -9,6 +9,7 @@ mod outs;
 mod part;
 mod rows;
 mod run;
+mod sleep;
 mod steps;
 
 pub use actor::{Actor, ActorParts};

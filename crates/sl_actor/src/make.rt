@@ -11,6 +11,7 @@ ghost use Rattle.sl_actor.specs.Rows.{AreSuch, IsFilled};
 use crate::actor::Actor;
 use crate::part::OutPart;
 use crate::rows::{Row, empty_rows, fill_at};
+use crate::sleep::{Neighbours, Roster, Sleeper};
 use sl_link::{TakeEnd, make_link};
 use sl_loss::Loss;
 use sl_machine::{Link, Machine, Memory, Wiring};
@@ -40,12 +41,13 @@ pub fn make_actors<A: Machine>(
     let mut outs = empty_rows(alloc, wiring.out_counts.as_slice())?;
     let links = wiring.links.as_slice();
     join_all(alloc, links, losses, capacity, &mut takes, &mut outs)?;
-    assemble(alloc, machines, takes, outs)
+    assemble(alloc, wiring, machines, takes, outs)
 }
 
 /// The actors of these machines, whose links have these ends.
 fn assemble<A: Machine>(
     alloc: Global,
+    wiring: &Wiring,
     machines: Vec<A>,
     takes: Vec<Row<TakeEnd<A::Msg>>>,
     outs: Vec<Row<OutPart<A::Msg>>>,
@@ -59,6 +61,8 @@ fn assemble<A: Machine>(
     ensures len { IfOk result (λ v. length v.items ≡ length machines.items) }
     ensures new { IfOk result (λ v. AreNew A.state A.counts machines.items (length machines.items) takes.items outs.items (map held v.items)) }
 {
+    let roster = Roster::shared(alloc, wiring)?;
+    let neighbours = Neighbours::in_wiring(alloc, wiring)?;
     let mut machines = VecDeque::from(machines);
     let mut takes = VecDeque::from(takes);
     let mut outs = VecDeque::from(outs);
@@ -66,7 +70,9 @@ fn assemble<A: Machine>(
     while let Some(machine) = machines.pop_front() {
         let ends = first(&mut takes);
         let parts = first(&mut outs);
-        let actor = Actor::new(alloc, actors.len() as u32, machine, ends, parts)?;
+        let place = actors.len() as u32;
+        let sleeper = Sleeper::of(alloc, &roster, &neighbours, place)?;
+        let actor = Actor::new(alloc, place, machine, ends, parts, sleeper)?;
         actors.push(actor)?;
     }
     Ok(actors)

@@ -10,7 +10,8 @@ use crossbeam_utils::Backoff;
 use sl_machine::{Machine, Memory};
 use std::sync::Wait;
 
-/// What an actor passes at the start of each round of a run.
+/// What an actor passes at the start of each round of a run. Where nothing moves at an actor, its next
+/// round may come only seconds later.
 pub trait Gate {
     /// The actor of this number begins a round of its run. `round` counts from 0.
     fn pass(&self, actor: u32, round: u64);
@@ -49,7 +50,10 @@ impl<A: Machine> Actor<A> {
 
     /// Rounds of one turn by each choice of the plan, until the log has grown by `steps` entries
     /// (`Spent`), or for `quiet` rounds in a row no turn did or moved anything (`Rested`). A run
-    /// that is refused for memory stands after the turns that it took.
+    /// that is refused for memory stands after the turns that it took. Before its first round it
+    /// waits a moment for the runs of the other actors to begin; between rounds in which nothing
+    /// moved it sleeps while others run, until a neighbour puts something on one of its links or
+    /// makes room.
     pub fn run<R: Wait, G: Gate>(
         &mut self,
         rt: &R,
@@ -72,6 +76,33 @@ impl<A: Machine> Actor<A> {
         if steps == 0 {
             return Ok(Rest::Spent);
         }
+        self.sleeper.begin(rt);
+        let rest = self.rounds(rt, plan, steps, quiet, gate);
+        self.sleeper.end();
+        rest
+    }
+
+    /// The rounds of a run.
+    fn rounds<R: Wait, G: Gate>(
+        &mut self,
+        rt: &R,
+        plan: &[u32],
+        steps: u64,
+        quiet: u64,
+        gate: &G,
+    ) -> Result<Rest, Memory>
+        requires plan { All (λ choice. IsChoice (held self.old).counts choice) plan.now }
+        requires steps { 0 < steps }
+        requires quiet { 1 ≤ quiet }
+        ensures follows { (first : A.State) → Follows A.rules first (held self.old) → Follows A.rules first (held self.new) }
+        ensures log { LogGoesOn plan.now (held self.old).log (held self.new).log }
+        ensures spent { result ≡ Ok Rest.Spent → length (held self.new).log ≡ length (held self.old).log + steps }
+        ensures rested { result ≡ Ok Rest.Rested → length (held self.new).log < length (held self.old).log + steps }
+        ensures settled { result ≡ Ok Rest.Rested → All (λ choice. Settled A.rules choice (held self.new)) plan.now }
+        ensures fronts { result ≡ Ok Rest.Rested → 0 < length plan.now → AreOffered (held self.new).outs }
+        ensures ends { KeepsEnds (held self.old) (held self.new) }
+        ensures counts { (held self.new).counts ≡ (held self.old).counts }
+    {
         let backoff = Backoff::new();
         let mut done = 0;
         let mut idle = 0;
@@ -80,18 +111,15 @@ impl<A: Machine> Actor<A> {
             gate.pass(self.place(), round);
             match self.round(rt, plan, steps, &mut done)? {
                 Round::Full => return Ok(Rest::Spent),
-                Round::Busy => {
-                    idle = 0;
-                    backoff.reset();
-                }
+                Round::Busy => idle = 0,
                 Round::Calm => {
                     idle += 1;
                     if idle >= quiet {
                         return Ok(Rest::Rested);
                     }
-                    backoff.snooze();
                 }
             }
+            self.sleeper.pause(rt, &backoff, idle, &self.outs.waiting);
             round = u64::saturating_add(round, 1);
         }
         unreachable!()

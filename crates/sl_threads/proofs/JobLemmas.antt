@@ -1,9 +1,13 @@
 -- Actors paired with their plans.
-use Rattle.std.proofs.Common.{◌≡◌, ℕ, suc, ◌<◌, List, [], ◌∷◌, ◌++◌, length, map, get_or, refl, ap, sym, ◌∙◌, subst, arith, append_assoc}
+use Rattle.std.proofs.Common.{◌≡◌, ℕ, suc, ◌+◌, ◌<◌, ◌≤◌, List, [], ◌∷◌, ◌++◌, length, map, refl, ap, sym, ◌∙◌, subst, arith, append_assoc}
+use Rattle.std.specs.Prelude.{Result, Ok, Err, OnOk}
 use Rattle.std.specs.List.{All}
 use Rattle.std.proofs.lemmas.List.{map-append, append-nil, length-map, nil_from_length}
 use Rattle.std.proofs.lemmas.List.Elements.{All-cons}
+use Rattle.sl_machine.specs.declared.machine.Memory.{Memory}
 use Rattle.sl_machine.specs.Machine.{Counts, IsChoice}
+use Rattle.sl_actor.specs.declared.run.Rest.{Rest}
+use Rattle.sl_actor.specs.declared.run.Rest.TheVariants.{Rested, Spent}
 use Rattle.sl_threads.specs.Threads.{ArePlans}
 
 -- the first of what is left goes to the end of what is done
@@ -37,3 +41,9 @@ at_end f g xs ys all h none = sym (append-nil (map f xs)) ∙ ap (λ l. map f xs
 -- what holds of a list of which a part is left, where it holds of that part
 pub all_on : {X : Type 0} (P : X → Type 0) (Q : Type 0) (x : X) (rest rest' : List X) → rest ≡ x ∷ rest' → P x → (All P rest → Q) → All P rest' → Q
 all_on P Q x rest rest' first here h all = h (subst (All P) (sym first) (All-cons P x rest' here all))
+
+-- however a run ended, it made no more steps than it was told
+pub at_most : (answer : Result Rest Memory) (old new steps : ℕ) → (answer ≡ Ok Spent → new ≡ old + steps) → (answer ≡ Ok Rested → new < old + steps) → OnOk answer (new ≤ old + steps)
+at_most (Ok Rested) old new steps spent rested = omega (arith, rested refl)
+at_most (Ok Spent) old new steps spent rested = omega (arith, spent refl)
+at_most (Err e) old new steps spent rested = tt

@@ -1,5 +1,5 @@
 -- What the actors come to that ran by their plans.
-use Rattle.std.proofs.Common.{◌≡◌, ℕ, zero, suc, ◌+◌, ◌*◌, ◌^◌, ◌<◌, ◌≤◌, List, [], ◌∷◌, ◌++◌, length, map, get_or, Option, None, refl, ap, sym, ◌∙◌, subst, arith, inl, inr}
+use Rattle.std.proofs.Common.{◌≡◌, ℕ, zero, suc, ◌+◌, ◌*◌, ◌^◌, ◌<◌, ◌≤◌, List, [], ◌++◌, length, map, get_or, Option, refl, ap, sym, ◌∙◌, subst, arith, inl, inr}
 use Rattle.std.specs.Prelude.{Result, Ok, Err, IsOk, OnOk, IfOk, slice_index}
 use Rattle.std.specs.List.{All, Contains}
 use Rattle.std.proofs.lemmas.Bool.{cases_eq}
@@ -12,8 +12,8 @@ use Rattle.sl_machine.specs.Machine.{Rules, Counts}
 use Rattle.sl_machine.specs.Plan.{Plan}
 use Rattle.sl_machine.specs.Fit.{HasCounts}
 use Rattle.sl_loss.specs.Loss.{Loss}
-use Rattle.sl_actor.specs.Follows.{ActorView, Follows}
-use Rattle.sl_actor.specs.Runs.{LogGoesOn, Settled}
+use Rattle.sl_actor.specs.Follows.{ActorView}
+use Rattle.sl_actor.specs.Runs.{Settled}
 use Rattle.sl_actor.specs.Made.{EachFollows}
 use Rattle.sl_actor.specs.declared.run.Rest.{Rest}
 use Rattle.sl_actor.specs.declared.run.Rest.TheVariants.{Rested, Spent}

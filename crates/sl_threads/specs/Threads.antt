@@ -1,5 +1,5 @@
 -- Actors that ran, each in a thread of its own.
-use Rattle.std.specs.Prelude.{◌≡◌, ◌+◌, ◌<◌, ◌≤◌, ℕ, List, [], length, Option, None, Result, Ok, OnOk, slice_index, slice_index_or}
+use Rattle.std.specs.Prelude.{◌≡◌, ◌+◌, ◌<◌, ◌≤◌, ℕ, List, [], length, None, Result, Ok, OnOk, slice_index, slice_index_or}
 use Rattle.std.specs.List.{All, Contains}
 use Rattle.sl_machine.specs.declared.machine.Memory.{Memory}
 use Rattle.sl_machine.specs.Machine.{Rules, Counts, IsChoice}

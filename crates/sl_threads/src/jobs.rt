@@ -52,7 +52,14 @@ where
     ensures each { IfOk result (λ v. (i : ℕ) (d : _) (e : _) → i < length jobs.items
         → HasRun A.rules (slice_index_or jobs.items i d).plan.items STEPS (held (slice_index_or jobs.items i d).actor) (held (slice_index_or v.items i e).0) (slice_index_or v.items i e).1) }
 {
-    Ok(thread::map_vec(rt, jobs, &|job| run_job(rt, job, gate))?)
+    let ran = thread::map_vec(
+        rt,
+        jobs,
+        &|job: Job<A>| -> (Actor<A>, Result<Rest, Memory>)
+            ensures { HasRun A.rules job.plan.items STEPS (held job.actor) (held result.0) result.1 }
+        { run_job(rt, job, gate) },
+    )?;
+    Ok(ran)
 }
 
 /// Pairs an actor with its plan.

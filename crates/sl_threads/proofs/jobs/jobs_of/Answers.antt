@@ -1,12 +1,9 @@
-use Rattle.std.proofs.Common.{◌≡◌, ◌∙◌, ℕ, List, Vec, Global, [], ◌++◌, ◌∷◌, map, rules, length, refl, arith}
-use Rattle.sl_actor.specs.declared.actor.Actor.{Actor}
+use Rattle.std.proofs.Common.{◌≡◌, ℕ, Vec, Global, [], ◌++◌, ◌∷◌, map, rules, arith}
 use Rattle.sl_actor.specs.Follows.{ActorView}
 use Rattle.sl_actor.specs.Held.{held}
-use Rattle.sl_machine.specs.Machine.{Counts}
 use Rattle.sl_threads.specs.declared.jobs.Job.{Job}
-use Rattle.sl_threads.specs.Threads.{ArePlans}
 use Rattle.std.proofs.lemmas.Grind.{common_steps}
-use Rattle.sl_threads.proofs.JobLemmas.{moved_by, first_plan, other_plans, opened, some_left, none_left, at_end}
+use Rattle.sl_threads.proofs.JobLemmas.{moved_by, first_plan, other_plans, opened, none_left, at_end}
 use Rattle.sl_threads.proofs.jobs.jobs_of.Goals as goal
 
 pub make_job-job-requires : goal.make_job-job-requires

@@ -1,0 +1,320 @@
+// How actors sleep: one at which nothing moves sleeps until a neighbour has put something on one of
+// its links, or has emptied one on which it waits. No clause speaks of it.
+use crossbeam_utils::Backoff;
+use sl_machine::{Memory, Wiring};
+use std::alloc::Global;
+use std::collections::VecDeque;
+use std::marker::Model;
+use std::sync::atomic::Ordering::SeqCst;
+use std::sync::atomic::{AtomicBool, AtomicU64};
+use std::sync::{Arc, Wait};
+use std::time::Duration;
+
+/// The state of an actor that is awake.
+const AWAKE: u64 = 0;
+/// The state of one that sleeps or is about to.
+const ASLEEP: u64 = 1;
+
+/// After how many rounds in a row without any move an actor makes ready to sleep.
+const IDLE_ROUNDS: u64 = 2;
+
+/// For how many milliseconds a run that begins waits for a further one to begin.
+const PATIENCE: u64 = 200;
+
+/// For how many seconds an actor sleeps at most.
+const LONGEST: u64 = 2;
+
+/// What the actors of a wiring share beside their links: which of them sleep.
+#[derive(Drop)]
+pub struct Roster {
+    states: Vec<AtomicU64>,
+    // by link, whether its sender sleeps until the link is empty
+    awaited: Vec<AtomicBool>,
+    // how many runs have begun
+    begun: AtomicU64,
+    // whether a run that begins waits for no others
+    is_open: AtomicBool,
+    // how many actors are awake in a run, with those that are just being woken
+    awake: AtomicU64,
+    // whether at some moment none was awake; nobody sleeps from then on
+    is_over: AtomicBool,
+}
+
+impl Roster {
+    /// The roster of the actors of a wiring.
+    pub fn shared(alloc: Global, wiring: &Wiring) -> Result<Arc<Roster, Global>, Memory> {
+        let mut states = Vec::new(alloc);
+        for _ in 0..wiring.in_counts.len() {
+            states.push(AtomicU64::new(AWAKE))?;
+        }
+        let roster = Roster {
+            states,
+            awaited: none_awaited(alloc, wiring.links.len())?,
+            begun: AtomicU64::new(0),
+            is_open: AtomicBool::new(false),
+            awake: AtomicU64::new(0),
+            is_over: AtomicBool::new(false),
+        };
+        Ok(Arc::new(alloc, roster)?)
+    }
+
+    /// Counts a run that begins, and waits until as many have begun as there are actors. Where for
+    /// some time none begins, as where they run one after another, nobody waits any longer.
+    fn begin<R: Wait>(&self, rt: &R) {
+        self.awake.fetch_add(1, SeqCst);
+        self.begun.fetch_add(1, SeqCst);
+        for _ in 0..self.states.len() {
+            let seen = self.begun.load(SeqCst);
+            if seen >= self.states.len() as u64 || self.is_open.load(SeqCst) {
+                break;
+            }
+            let low = (seen % (1 << 32)) as u32;
+            self.begun
+                .park_timeout(rt, low, Duration::from_millis(PATIENCE));
+            if self.begun.load(SeqCst) == seen {
+                break;
+            }
+        }
+        if !self.is_open.swap(true, SeqCst) {
+            self.begun.wake_all();
+        }
+    }
+
+    /// Wakes an actor.
+    fn wake(&self, actor: u32) {
+        if let Some(state) = self.states.get(actor as usize)
+            && state.load(SeqCst) != AWAKE
+        {
+            self.awake.fetch_add(1, SeqCst);
+            if state.swap(AWAKE, SeqCst) == AWAKE {
+                // another has woken it, and has counted it
+                self.leave();
+            } else {
+                state.wake_one();
+            }
+        }
+    }
+
+    /// One less is awake. Where it was the last, nothing moves any more, and all are woken.
+    fn leave(&self) {
+        if self.awake.fetch_sub(1, SeqCst) == 1 {
+            self.is_over.store(true, SeqCst);
+            for state in &self.states {
+                state.store(AWAKE, SeqCst);
+                state.wake_one();
+            }
+        }
+    }
+}
+
+fn none_awaited(alloc: Global, count: usize) -> Result<Vec<AtomicBool>, Memory> {
+    let mut awaited = Vec::new(alloc);
+    for _ in 0..count {
+        awaited.push(AtomicBool::new(false))?;
+    }
+    Ok(awaited)
+}
+
+/// The other end of a link.
+#[derive(Clone, Copy)]
+struct Neighbour {
+    actor: u32,
+    link: usize,
+}
+
+/// The neighbours of the actors of a wiring.
+#[derive(Drop)]
+pub struct Neighbours {
+    // by actor, the sender of each of its incoming links
+    senders: Vec<Vec<Neighbour>>,
+    // by actor, the receiver of each of its outgoing links
+    receivers: Vec<Vec<Neighbour>>,
+}
+
+impl Neighbours {
+    /// The neighbours of the actors of a wiring.
+    pub fn in_wiring(alloc: Global, wiring: &Wiring) -> Result<Neighbours, Memory> {
+        let mut senders = rows(alloc, wiring.in_counts.as_slice())?;
+        let mut receivers = rows(alloc, wiring.out_counts.as_slice())?;
+        for (number, link) in wiring.links.iter().enumerate() {
+            write(&mut senders, link.to, link.choice, number, link.from);
+            write(&mut receivers, link.from, link.out, number, link.to);
+        }
+        Ok(Neighbours { senders, receivers })
+    }
+}
+
+/// Rows of these lengths.
+fn rows(alloc: Global, counts: &[u32]) -> Result<Vec<Vec<Neighbour>>, Memory> {
+    let none = Neighbour { actor: 0, link: 0 };
+    let mut rows = Vec::new(alloc);
+    for count in counts {
+        rows.push(vec![in alloc; none; *count as usize]?)?;
+    }
+    Ok(rows)
+}
+
+/// Writes at a place of a row.
+fn write(rows: &mut Vec<Vec<Neighbour>>, row: u32, place: u32, link: usize, actor: u32) {
+    if let Some(row) = rows.get_mut(row as usize)
+        && let Some(at) = row.get_mut(place as usize)
+    {
+        *at = Neighbour { actor, link };
+    }
+}
+
+/// The row at a place, or none.
+fn row_at(
+    alloc: Global,
+    rows: &Vec<Vec<Neighbour>>,
+    place: usize,
+) -> Result<Vec<Neighbour>, Memory> {
+    match rows.get(place) {
+        Some(row) => Ok(row.clone()?),
+        None => Ok(Vec::new(alloc)),
+    }
+}
+
+/// An actor's own part of a roster.
+#[derive(Drop)]
+pub struct Sleeper {
+    roster: Arc<Roster, Global>,
+    place: u32,
+    senders: Vec<Neighbour>,
+    receivers: Vec<Neighbour>,
+    // the outgoing links on which something may have been put in this turn
+    offered: VecDeque<u32>,
+    // whether it is about to sleep
+    is_ready: bool,
+}
+
+// Contracts see nothing of it.
+impl Model for Sleeper {
+    ghost Value = { Unit {0} };
+
+    ghost view = { λ _. tt };
+}
+
+impl Sleeper {
+    /// The part of the actor of this place.
+    pub fn of(
+        alloc: Global,
+        roster: &Arc<Roster, Global>,
+        neighbours: &Neighbours,
+        place: u32,
+    ) -> Result<Sleeper, Memory> {
+        let senders = row_at(alloc, &neighbours.senders, place as usize)?;
+        let receivers = row_at(alloc, &neighbours.receivers, place as usize)?;
+        let offered = VecDeque::with_capacity(alloc, receivers.len().saturating_mul(2))?;
+        Ok(Sleeper {
+            roster: Arc::try_clone(roster)?,
+            place,
+            senders,
+            receivers,
+            offered,
+            is_ready: false,
+        })
+    }
+
+    /// A run begins.
+    pub fn begin<R: Wait>(&self, rt: &R) {
+        self.roster.begin(rt);
+    }
+
+    /// The run ends.
+    pub fn end(&mut self) {
+        self.stay_awake();
+        self.roster.leave();
+    }
+
+    /// Notes that on these links something is offered next.
+    pub fn note(&mut self, waiting: &VecDeque<u32>) {
+        for i in 0..waiting.len() {
+            if self.offered.len() < self.offered.capacity() {
+                self.offered.push_back_reserved(waiting[i]);
+            }
+        }
+    }
+
+    /// Wakes the receivers of what was offered.
+    pub fn wake_receivers(&mut self) {
+        for _ in 0..self.offered.len() {
+            if let Some(out) = self.offered.pop_front()
+                && let Some(receiver) = self.receivers.get(out as usize)
+            {
+                self.roster.wake(receiver.actor);
+            }
+        }
+    }
+
+    /// An incoming link was found empty. Wakes its sender where that waits for it.
+    pub fn emptied(&self, choice: u32) {
+        if let Some(sender) = self.senders.get(choice as usize)
+            && let Some(is_awaited) = self.roster.awaited.get(sender.link)
+            && is_awaited.load(SeqCst)
+        {
+            is_awaited.store(false, SeqCst);
+            self.roster.wake(sender.actor);
+        }
+    }
+
+    /// Between two rounds, where nothing moved in so many.
+    pub fn pause<R: Wait>(
+        &mut self,
+        rt: &R,
+        backoff: &Backoff,
+        idle: u64,
+        waiting: &VecDeque<u32>,
+    ) {
+        if idle == 0 {
+            self.stay_awake();
+            return;
+        }
+        backoff.snooze();
+        if idle < IDLE_ROUNDS || self.roster.is_over.load(SeqCst) {
+            self.stay_awake();
+        } else if self.is_ready {
+            self.sleep(rt);
+        } else {
+            self.make_ready(waiting);
+        }
+    }
+
+    /// Something moved.
+    fn stay_awake(&mut self) {
+        if self.is_ready {
+            self.is_ready = false;
+            if let Some(state) = self.roster.states.get(self.place as usize)
+                && state.swap(AWAKE, SeqCst) == AWAKE
+            {
+                // a neighbour has counted this one once more
+                self.roster.leave();
+            }
+        }
+    }
+
+    /// Tells that the actor is about to sleep. It has to see a whole round without any move after it.
+    fn make_ready(&mut self, waiting: &VecDeque<u32>) {
+        self.is_ready = true;
+        if let Some(state) = self.roster.states.get(self.place as usize) {
+            state.store(ASLEEP, SeqCst);
+        }
+        for i in 0..waiting.len() {
+            if let Some(receiver) = self.receivers.get(waiting[i] as usize)
+                && let Some(is_awaited) = self.roster.awaited.get(receiver.link)
+            {
+                is_awaited.store(true, SeqCst);
+            }
+        }
+    }
+
+    /// Sleeps until it is woken, and no longer than the longest time.
+    fn sleep<R: Wait>(&mut self, rt: &R) {
+        self.is_ready = false;
+        self.roster.leave();
+        if let Some(state) = self.roster.states.get(self.place as usize) {
+            state.park_timeout(rt, ASLEEP as u32, Duration::from_secs(LONGEST));
+        }
+        self.roster.wake(self.place);
+    }
+}

@@ -1,11 +1,14 @@
 -- What the sums of units are: for each unit the steps that come before it is read.
-use Rattle.std.proofs.Common.{◌≡◌, ℕ, ◌+◌, ◌<◌, ◌≤◌, ◌⊎◌, List, [], ◌∷◌, ◌++◌, length, get_or, set, refl, sym, ap, subst, ◌∙◌, arith, inl, inr}
-use Rattle.std.specs.Prelude.{Bool, true, false, cond, nat_eq, nat_le, ◌==◌, if◌then◌else◌}
+use Rattle.std.proofs.Common.{◌≡◌, ℕ, ◌+◌, ◌<◌, ◌≤◌, ◌⊎◌, List, [], ◌∷◌, ◌++◌, length, get_or, set, take, map, refl, sym, ap, subst, ◌∙◌, arith, inl, inr}
+use Rattle.std.specs.Prelude.{Bool, true, false, cond, filter, ◌&&◌, nat_eq, nat_le, ◌==◌, if◌then◌else◌}
 use Rattle.std.proofs.lemmas.Bool.Decides.{eqb_tells, leb_tells}
-use Rattle.std.proofs.lemmas.List.{get_or-set_same, get_or-set_other, length-set}
+use Rattle.std.proofs.lemmas.List.{get_or-set_same, get_or-set_other, length-set, take_more, take_all}
+use Rattle.sl_parts.specs.Parts.{below}
+use Rattle.sl_parts.proofs.Lists.{at_below, length_below}
+use Rattle.sl_layout.proofs.Grouping.{map_same}
 use Rattle.sl_poll.specs.declared.trail.Counted.{Counted}
 use Rattle.sl_poll.specs.declared.sums.Sum.{Sum}
-use Rattle.sl_poll.specs.Sums.{no_sum, with_one, add_one, add_all}
+use Rattle.sl_poll.specs.Sums.{is_read, read_in, bytes_in, read_by, no_sum, sum_at, with_one, add_one, read_of_sum}
 
 -- what a step counts for the unit at a place, up to an entry
 abbrev pub here : ℕ → (Counted → ℕ) → ℕ → Counted → ℕ
@@ -53,9 +56,65 @@ module _ (value : Counted → ℕ) (part : Sum → ℕ) (law : (c : Counted) (su
       go (inr x) (inl y) = let e = adds true false y.0 (subst (λ k. nat_le c.entry (at k) ≡ false) y.1 x.0) in if_read false x.0 ∙ omega (arith, e)
       go (inr x) (inr y) = let e = none true y.0 in if_read false x.0 ∙ omega (arith, e)
 
-  pub all-added : (cs : List Counted) (sums : List Sum) (i : ℕ) → i < length sums → part (get_or (add_all at cs sums) i no_sum) ≡ part (get_or sums i no_sum) + counted_for (at i) value i cs
-  all-added [] sums i h = omega arith
-  all-added (c ∷ cs) sums i h =
-      let rest = all-added cs (add_one at c sums) i (omega (arith, h, sizes c sums)) in
-      let one = one-added c sums i h in
-      omega (arith, rest, one)
+-- counting by steps is counting those that pass
+
+pub counted-length : (t i : ℕ) (cs : List Counted) → counted_for t (λ c. 1) i cs ≡ length (filter (is_read t i) cs)
+counted-length t i [] = refl
+counted-length t i (c ∷ cs) = by_tests (c.unit == i) (nat_le c.entry t) (counted-length t i cs)
+  where
+    by_tests : (b d : Bool) → counted_for t (λ c. 1) i cs ≡ length (filter (is_read t i) cs)
+        → cond b (cond d 1 0) 0 + counted_for t (λ c. 1) i cs ≡ length (cond (b && d) (c ∷ filter (is_read t i) cs) (filter (is_read t i) cs))
+    by_tests true true ih = omega (arith, ih)
+    by_tests true false ih = omega (arith, ih)
+    by_tests false d ih = omega (arith, ih)
+
+pub counted-bytes : (t i : ℕ) (cs : List Counted) → counted_for t (λ c. c.bytes) i cs ≡ bytes_in (filter (is_read t i) cs)
+counted-bytes t i [] = refl
+counted-bytes t i (c ∷ cs) = by_tests (c.unit == i) (nat_le c.entry t) (counted-bytes t i cs)
+  where
+    by_tests : (b d : Bool) → counted_for t (λ c. c.bytes) i cs ≡ bytes_in (filter (is_read t i) cs)
+        → cond b (cond d c.bytes 0) 0 + counted_for t (λ c. c.bytes) i cs ≡ bytes_in (cond (b && d) (c ∷ filter (is_read t i) cs) (filter (is_read t i) cs))
+    by_tests true true ih = omega (arith, ih)
+    by_tests true false ih = omega (arith, ih)
+    by_tests false d ih = omega (arith, ih)
+
+-- The loop over all steps.
+
+-- after the first steps, the sums of so many units
+pub record Summed (at : ℕ → ℕ) (cs : List Counted) (count : ℕ) (sums : List Sum) : Type 0 where
+  pub each : length sums ≡ count
+  pub packets : (i : ℕ) → i < count → (sum_at sums i).packets ≡ counted_for (at i) (λ c. 1) i cs
+  pub bytes : (i : ℕ) → i < count → (sum_at sums i).bytes ≡ counted_for (at i) (λ c. c.bytes) i cs
+
+pub summed_none : (at : ℕ → ℕ) (count : ℕ) (sums : List Sum) → sums ≡ map (λ (i : ℕ). no_sum) (below count) → Summed at [] count sums
+summed_none at count sums q = record {
+  each = ap length q ∙ length_below (λ (i : ℕ). no_sum) count;
+  packets = λ i h. ap (λ (s : Sum). s.packets) (ap (λ xs. sum_at xs i) q ∙ at_below (λ (i : ℕ). no_sum) count i no_sum h);
+  bytes = λ i h. ap (λ (s : Sum). s.bytes) (ap (λ xs. sum_at xs i) q ∙ at_below (λ (i : ℕ). no_sum) count i no_sum h);
+}
+
+pub summed_more : (at : ℕ → ℕ) (cs : List Counted) (count k : ℕ) (d : Counted) (sums new : List Sum) → k < length cs → Summed at (take k cs) count sums → new ≡ add_one at (get_or cs k d) sums → Summed at (take (k + 1) cs) count new
+summed_more at cs count k d sums new low s q = let c = get_or cs k d in record {
+  each = ap length q ∙ sizes (λ c. 1) (λ (x : Sum). x.packets) (λ c x. refl) at c sums ∙ s.each;
+  packets = λ i h. (let one = one-added (λ c. 1) (λ (x : Sum). x.packets) (λ c x. refl) at c sums i (omega (arith, h, s.each)) in
+      let more = ap (counted_for (at i) (λ c. 1) i) (take_more cs k d low) ∙ counted-append (at i) (λ c. 1) i (take k cs) (c ∷ []) in
+      omega (arith, ap (λ xs. (sum_at xs i).packets) q, one, s.packets i h, more));
+  bytes = λ i h. (let one = one-added (λ c. c.bytes) (λ (x : Sum). x.bytes) (λ c x. refl) at c sums i (omega (arith, h, s.each)) in
+      let more = ap (counted_for (at i) (λ c. c.bytes) i) (take_more cs k d low) ∙ counted-append (at i) (λ c. c.bytes) i (take k cs) (c ∷ []) in
+      omega (arith, ap (λ xs. (sum_at xs i).bytes) q, one, s.bytes i h, more));
+}
+
+pub record Sums (at : ℕ → ℕ) (cs : List Counted) (count : ℕ) (sums : List Sum) : Type 0 where
+  pub packets : (i : ℕ) → i < count → (sum_at sums i).packets ≡ length (read_in at cs i)
+  pub bytes : (i : ℕ) → i < count → (sum_at sums i).bytes ≡ bytes_in (read_in at cs i)
+
+pub summed_all : (at : ℕ → ℕ) (cs : List Counted) (count k : ℕ) (sums : List Sum) → length cs ≤ k → Summed at (take k cs) count sums → Sums at cs count sums
+summed_all at cs count k sums h s = record {
+  packets = λ i l. s.packets i l ∙ ap (counted_for (at i) (λ c. 1) i) (take_all k cs h) ∙ counted-length (at i) i cs;
+  bytes = λ i l. s.bytes i l ∙ ap (counted_for (at i) (λ c. c.bytes) i) (take_all k cs h) ∙ counted-bytes (at i) i cs;
+}
+
+-- what is read of the sums is what is read of the steps
+pub reads_same : (at : ℕ → ℕ) (cs : List Counted) (count : ℕ) (sums : List Sum) → Sums at cs count sums → map (read_of_sum at sums) (below count) ≡ map (read_by at cs) (below count)
+reads_same at cs count sums s = map_same (read_of_sum at sums) (read_by at cs) count
+    (λ i h. (let p = s.packets i h in let b = s.bytes i h in λ j. record { unit = i; at = at i; packets = p j; bytes = b j }))

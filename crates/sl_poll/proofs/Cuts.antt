@@ -13,7 +13,8 @@ use Rattle.sl_model.specs.World.{Entry, start, world}
 use Rattle.sl_model.proofs.Turns.{start-empty}
 use Rattle.sl_model.proofs.Prefixes.{first-all}
 use Rattle.sl_poll.specs.declared.trail.Pair.{Pair}
-use Rattle.sl_poll.specs.Trail.{no_putters, packet_in, pairs}
+use Rattle.sl_model.specs.Putting.{no_putters}
+use Rattle.sl_poll.specs.Trail.{packet_in, pairs}
 use Rattle.sl_poll.specs.Reading.{read_after, breaks, broken_by}
 use Rattle.sl_poll.specs.DataCut.{IsDataCut, steps_read}
 use Rattle.sl_poll.proofs.Moves.{sized-start, reach, reach-is, took, bore}

@@ -4,3 +4,9 @@ pub mod Cuts
 pub mod Added
 pub mod Told
 pub mod Texts
+pub mod Feeds
+pub mod Puts
+pub mod Shown
+pub mod Marks
+pub mod Follows
+pub mod Traced

@@ -17,7 +17,8 @@ use Rattle.sl_model.specs.Matching.{is_data}
 use Rattle.sl_model.specs.Setup.{Setup}
 use Rattle.sl_model.specs.World.{Entry, next_step, turn, run}
 use Rattle.sl_poll.specs.declared.trail.Pair.{Pair}
-use Rattle.sl_poll.specs.Trail.{Putters, putters_after, packet_in, pair_from, pair_by, pairs_from}
+use Rattle.sl_model.specs.Putting.{Putters, putters_after}
+use Rattle.sl_poll.specs.Trail.{packet_in, pair_from, pair_by, pairs_from}
 use Rattle.sl_poll.proofs.Moves.{Sized, sized-turn, reach, took, bore, Next, Other, moved, took-reach, bore-rises, bore-run}
 
 -- the entries that put what a link carried in the end

@@ -4,7 +4,7 @@ use Rattle.std.specs.Prelude.{Bool, true, false, cond, map, nat_eq, nat_le, unwr
 use Rattle.std.proofs.lemmas.Bool.Decides.{eqb_tells, leb_tells}
 use Rattle.sl_parts.specs.Lists.{Member, Distinct}
 use Rattle.sl_parts.specs.Parts.{below}
-use Rattle.sl_parts.proofs.Lists.{at_below, length_below, inside, distinct-filter, distinct-from, each-passes, each-index}
+use Rattle.sl_parts.proofs.Lists.{inside, distinct-filter, distinct-from, each-passes, each-index}
 use Rattle.sl_layout.proofs.Grouping.{map_same}
 use Rattle.sl_net.specs.declared.input.Packet.{Packet}
 use Rattle.sl_layout.specs.declared.actor.ActorId.{ActorId}
@@ -20,13 +20,12 @@ use Rattle.sl_model.specs.Turns.{GrowsAt}
 use Rattle.sl_model.proofs.Turns.{start-empty, grows-after, next-within}
 use Rattle.sl_poll.specs.declared.trail.Counted.{Counted}
 use Rattle.sl_poll.specs.declared.reading.Read1.{Read1}
-use Rattle.sl_poll.specs.declared.sums.Sum.{Sum}
 use Rattle.sl_poll.specs.declared.trail.Pair.{Pair}
 use Rattle.sl_poll.specs.Trail.{pairs, count_of, count_by, counted_from, all_counted}
 use Rattle.sl_poll.specs.Reading.{read_after, read, reads, breaks, broken_by}
-use Rattle.sl_poll.specs.Sums.{no_sum, add_all, read_by}
+use Rattle.sl_poll.specs.Sums.{read_in, bytes_in, read_by}
 use Rattle.sl_poll.proofs.Moves.{Sized, sized-start, sized-turn}
-use Rattle.sl_poll.proofs.Added.{here, counted_for, counted-append, all-added}
+use Rattle.sl_poll.proofs.Added.{here, counted_for, counted-append, counted-length, counted-bytes}
 
 -- total adds up what steps gain, and this is what is told of them
 module _ (value : Counted → ℕ) (total : History → ℕ) (gain : Option Packet → ℕ) (nothing : total [] ≡ 0) (none : gain None ≡ 0)
@@ -148,48 +147,35 @@ one-place net ways a x unit q = go (actor_of net a) refl unit
     go (OfHost d) k h = absurd cc
 
 pub reads-are : (s : Setup) (lost : Losses) (es : List Entry) (begin gap : ℕ) → HasWays s.net
-    → map (read_by (read_after (length es) begin gap) (add_all (read_after (length es) begin gap) (all_counted s lost es) (map (λ (i : ℕ). no_sum) (below (length (units s.net))))))
-    (below (length (units s.net))) ≡ reads s lost es begin gap
-reads-are s lost es begin gap ways = map_same (read_by at sums) (read s lost es begin gap) (length (units s.net)) each
+    → map (read_by (read_after (length es) begin gap) (all_counted s lost es)) (below (length (units s.net))) ≡ reads s lost es begin gap
+reads-are s lost es begin gap ways = map_same (read_by at (all_counted s lost es)) (read s lost es begin gap) (length (units s.net)) each
   where
     at : ℕ → ℕ
     at = read_after (length es) begin gap
 
-    zeros : List Sum
-    zeros = map (λ (i : ℕ). no_sum) (below (length (units s.net)))
-
-    sums : List Sum
-    sums = add_all at (all_counted s lost es) zeros
-
-    each : (i : ℕ) → i < length (units s.net) → read_by at sums i ≡ read s lost es begin gap i
+    each : (i : ℕ) → i < length (units s.net) → read_by at (all_counted s lost es) i ≡ read s lost es begin gap i
     each i h =
         let a = get_or (units s.net) i 0 in
         let place = place-of s.net i h in
         let unit = is-unit s.net i h in
         let one : (x : ℕ) → unit_place s.net x ≡ unit_place s.net a → x ≡ a = λ x q. one-place s.net ways a x unit q in
-        let within : i < length zeros = omega (arith, h, length_below (λ (i : ℕ). no_sum) (length (units s.net))) in
-        let zero_at = at_below (λ (i : ℕ). no_sum) (length (units s.net)) i no_sum h in
-        let p : (get_or sums i no_sum).packets ≡ packets (history (world s lost (take (at i) es)) a) =
-        (let e = all-added (λ c. 1) (λ (sum : Sum). sum.packets) (λ c sum. refl) at (all_counted s lost es) zeros i within in
-        let k = counts-are (λ c. 1) packets (λ o. unwrap_or (option_map (λ p. 1) o) 0) refl refl (λ step h. refl) (λ place n p. refl) s lost a one unit (at i) es in
-        let m = ap (λ j. counted_for (at i) (λ c. 1) j (all_counted s lost es)) place in
-        omega (arith, e, k, m, ap (λ (sum : Sum). sum.packets) zero_at)) in
-        let b : (get_or sums i no_sum).bytes ≡ bytes (history (world s lost (take (at i) es)) a) =
-        (let e = all-added (λ c. c.bytes) (λ (sum : Sum). sum.bytes) (λ c sum. refl) at (all_counted s lost es) zeros i within in
-        let k = counts-are (λ c. c.bytes) bytes (λ o. unwrap_or (option_map (λ p. p.len) o) 0) refl refl (λ step h. refl) (λ place n p. refl) s lost a one unit (at i) es in
-        let m = ap (λ j. counted_for (at i) (λ c. c.bytes) j (all_counted s lost es)) place in
-        omega (arith, e, k, m, ap (λ (sum : Sum). sum.bytes) zero_at)) in
+        let p : length (read_in at (all_counted s lost es) i) ≡ packets (history (world s lost (take (at i) es)) a) =
+        sym (counted-length (at i) i (all_counted s lost es)) ∙ sym (ap (λ j. counted_for (at i) (λ c. 1) j (all_counted s lost es)) place)
+        ∙ counts-are (λ c. 1) packets (λ o. unwrap_or (option_map (λ p. 1) o) 0) refl refl (λ step h. refl) (λ place n p. refl) s lost a one unit (at i) es in
+        let b : bytes_in (read_in at (all_counted s lost es) i) ≡ bytes (history (world s lost (take (at i) es)) a) =
+        sym (counted-bytes (at i) i (all_counted s lost es)) ∙ sym (ap (λ j. counted_for (at i) (λ c. c.bytes) j (all_counted s lost es)) place)
+        ∙ counts-are (λ c. c.bytes) bytes (λ o. unwrap_or (option_map (λ p. p.len) o) 0) refl refl (λ step h. refl) (λ place n p. refl) s lost a one unit (at i) es in
         λ j. record { unit = i; at = at i; packets = p j; bytes = b j }
 
 -- The same of a net and a list that are the run's.
 
-abbrev by_sums : ℕ → ℕ → ℕ → Net → List Counted → List Read1
-by_sums begin gap count net cs = map (read_by (read_after count begin gap) (add_all (read_after count begin gap) cs (map (λ (i : ℕ). no_sum) (below (length (units net)))))) (below (length (units net)))
+abbrev by_steps : ℕ → ℕ → ℕ → Net → List Counted → List Read1
+by_steps begin gap count net cs = map (read_by (read_after count begin gap) cs) (below (length (units net)))
 
 pub reads-from : (s : Setup) (lost : Losses) (es : List Entry) (begin gap count : ℕ) (net : Net) (cs : List Counted) (rs : List Read1) → HasWays net → s.net ≡ net → length es ≡ count → cs ≡ all_counted s lost es
-    → rs ≡ map (read_by (read_after count begin gap) (add_all (read_after count begin gap) cs (map (λ (i : ℕ). no_sum) (below (length (units net)))))) (below (length (units net))) → rs ≡ reads s lost es begin gap
-reads-from s lost es begin gap count net cs rs ways n k q e = e ∙ ap (λ j. by_sums begin gap j net cs) (sym k) ∙ ap (λ j. by_sums begin gap (length es) j cs) (sym n)
-    ∙ ap (by_sums begin gap (length es) s.net) q ∙ reads-are s lost es begin gap (subst HasWays (sym n) ways)
+    → rs ≡ map (read_by (read_after count begin gap) cs) (below (length (units net))) → rs ≡ reads s lost es begin gap
+reads-from s lost es begin gap count net cs rs ways n k q e = e ∙ ap (λ j. by_steps begin gap j net cs) (sym k) ∙ ap (λ j. by_steps begin gap (length es) j cs) (sym n)
+    ∙ ap (by_steps begin gap (length es) s.net) q ∙ reads-are s lost es begin gap (subst HasWays (sym n) ways)
 
 pub broken-from : (s : Setup) (lost : Losses) (es : List Entry) (begin gap count : ℕ) (net : Net) (ps : List Pair) (o : Option Pair) → s.net ≡ net → length es ≡ count → ps ≡ pairs s lost es
     → o ≡ find (breaks net count begin gap) ps → o ≡ broken_by s lost es begin gap

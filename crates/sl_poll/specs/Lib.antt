@@ -1,5 +1,7 @@
 pub mod Trail
 pub mod Reading
 pub mod DataCut
+pub mod Lanes
+pub mod Ways
 pub mod Sums
 pub mod PollText

@@ -1,32 +1,23 @@
 -- What a schedule does with data packets, by the numbers of its entries from 1.
 --     pairs s lost es      the data packets taken on data channels, in the order of the taking entries, each with the entries that put and took it
 --     counted s lost es    the steps of units that count a data packet, each with its entry and the bytes
-use Rattle.std.specs.Prelude.{ℕ, suc, ◌-◌, List, [], ◌∷◌, ◌++◌, length, replicate, cond, Option, Some, None, slice_index, slice_get}
+use Rattle.std.specs.Prelude.{ℕ, suc, List, [], ◌∷◌, ◌++◌, cond, Option, Some, None, slice_index, slice_get, option_and_then}
 use Rattle.sl_layout.specs.Net.{Net, is_unit, actor_of, link_of, links_into, unit_place}
 use Rattle.sl_net.specs.declared.input.Packet.{Packet}
 use Rattle.sl_model.specs.declared.message.Message.{Message}
-use Rattle.sl_model.specs.declared.message.Message.TheVariants.{Data}
 use Rattle.sl_model.specs.declared.message.Step.{Step}
 use Rattle.sl_model.specs.Matching.{is_data}
 use Rattle.sl_model.specs.History.{World, Losses, history, taken}
-use Rattle.sl_model.specs.Counting.{counted}
+use Rattle.sl_model.specs.Counting.{counted_in, counted}
+use Rattle.sl_model.specs.Putting.{Putters, no_putters, putters_after}
 use Rattle.sl_model.specs.Setup.{Setup}
-use Rattle.sl_model.specs.World.{Entry, start, carried, next_step, turn}
+use Rattle.sl_model.specs.World.{Entry, start, next_step, turn}
 use Rattle.sl_poll.specs.declared.trail.Pair.{Pair}
 use Rattle.sl_poll.specs.declared.trail.Counted.{Counted}
 
--- for each link the entries that put the messages which it carried so far, in order
-abbrev pub Putters : Type 0
-Putters = ℕ → List ℕ
-
--- the same after the entry n, which leads from the world w to the world v
-abbrev pub putters_after : Net → Losses → World → World → ℕ → Putters → Putters
-putters_after net lost w v n putters l = putters l ++ replicate (length (carried net lost v l) - length (carried net lost w l)) n
-
--- the data packet of a message that has a stamp
+-- the data packet of a message that may be there
 abbrev pub packet_in : Option Message → Option Packet
-packet_in (Some (Data s p)) = Some p
-packet_in _ = None
+packet_in m = option_and_then counted_in m
 
 -- what the entry n took from the link l, whose messages so far were put by these entries
 abbrev pub pair_from : Net → ℕ → List ℕ → ℕ → ℕ → Option Packet → List Pair
@@ -41,9 +32,6 @@ abbrev pub pairs_from : Setup → Losses → World → ℕ → Putters → List 
 pairs_from s lost w n putters [] = []
 pairs_from s lost w n putters (e ∷ es) = pair_by s.net w n putters e (slice_get (links_into s.net e.0) e.1) (next_step s lost w e)
     ++ pairs_from s lost (turn s lost w e) (suc n) (putters_after s.net lost w (turn s lost w e) n putters) es
-
-abbrev pub no_putters : Putters
-no_putters l = []
 
 abbrev pub pairs : Setup → Losses → List Entry → List Pair
 pairs s lost es = pairs_from s lost (start s.net) 1 no_putters es

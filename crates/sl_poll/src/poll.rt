@@ -7,7 +7,7 @@ ghost use Rattle.sl_model.specs.World.{Entry};
 ghost use Rattle.sl_poll.specs.Trail.{pairs, all_counted};
 ghost use Rattle.sl_poll.specs.Reading.{breaks, reads, broken_by};
 
-use crate::reading::Polled;
+use crate::reading::{Polled, Reads};
 use crate::sums::{Pace, read_after, reads_of};
 use crate::trail::{Pair, Trail};
 use sl_machine::Memory;
@@ -48,16 +48,17 @@ pub fn reading_of(
     start: u64,
     gap: u64,
 ) -> Result<Polled, Memory>
-    requires { All (λ p. p.link < length net.now.links) trail.now.pairs.items }
+    requires { All (λ p. p.link < length net.now.links) trail.now.pairs }
     ensures reads { IfOk result (λ polled. (s : Setup) (lost : Losses) (es : List Entry) → s.net ≡ net.now → length es ≡ count
-        → trail.now.counted.items ≡ all_counted s lost es → polled.reads.items ≡ reads s lost es start gap) }
+        → trail.now.counted ≡ all_counted s lost es → polled.reads ≡ reads s lost es start gap) }
     ensures broken { IfOk result (λ polled. (s : Setup) (lost : Losses) (es : List Entry) → s.net ≡ net.now → length es ≡ count
-        → trail.now.pairs.items ≡ pairs s lost es → polled.broken ≡ broken_by s lost es start gap) }
+        → trail.now.pairs ≡ pairs s lost es → polled.broken ≡ broken_by s lost es start gap) }
     ensures link { IfOk result (λ polled. IfSome polled.broken (λ p. p.link < length net.now.links)) }
 {
     nets_have_ways();
     let pace = Pace { count, start, gap };
-    let reads = reads_of(alloc, net, pace, trail.counted.as_slice())?;
+    let items = reads_of(alloc, net, pace, trail.counted.as_slice())?;
+    let reads = Reads { items };
     let broken = first_broken(net, pace, trail.pairs.as_slice());
     Ok(Polled { reads, broken })
 }

@@ -1,5 +1,6 @@
 // Readings of units.
 use crate::trail::Pair;
+use std::marker::Model;
 
 /// What was read of a unit, by its place among the units: after how many entries, and the data
 /// packets and bytes that it had counted.
@@ -11,9 +12,24 @@ pub struct Read1 {
     pub bytes: u64,
 }
 
+/// What was read of units, in order.
+#[derive(Debug, Drop)]
+pub struct Reads {
+    pub items: Vec<Read1>,
+}
+
+impl Model for Reads {
+    ghost use Rattle.std.specs.Prelude.{List};
+    ghost use Rattle.sl_poll.specs.declared.reading.Read1.{Read1};
+
+    ghost Value = { List Read1 };
+
+    ghost view = { λ r. r.items.items };
+}
+
 /// A reading of all units in order, and the first packet that breaks it, where one does.
 #[derive(Debug, Drop)]
 pub struct Polled {
-    pub reads: Vec<Read1>,
+    pub reads: Reads,
     pub broken: Option<Pair>,
 }

@@ -1,9 +1,9 @@
 // What units counted until they were read.
-ghost use Rattle.std.specs.Prelude.{ℕ, ◌≡◌, ◌≤◌, IfOk, OnOk, length, map};
+ghost use Rattle.std.specs.Prelude.{ℕ, ◌≡◌, ◌≤◌, ◌<◌, IfOk, OnOk, length, map};
 ghost use Rattle.sl_parts.specs.Parts.{below};
 ghost use Rattle.sl_layout.specs.Net.{units};
 ghost use Rattle.sl_poll.specs.Reading.{read_after};
-ghost use Rattle.sl_poll.specs.Sums.{no_sum, with_one, add_one, add_all, read_by};
+ghost use Rattle.sl_poll.specs.Sums.{no_sum, sum_at, with_one, add_one, read_in, bytes_in, read_by, read_of_sum};
 
 use crate::reading::Read1;
 use crate::trail::Counted;
@@ -71,17 +71,22 @@ fn no_sums(alloc: Global, count: u32) -> Result<Vec<Sum>, AllocError>
     Ok(sums)
 }
 
-fn add_all(sums: &mut Vec<Sum>, pace: Pace, counted: &[Counted]) -> Result<(), Memory>
-    ensures { OnOk result (sums.new.items ≡ add_all (read_after pace.count pace.start pace.gap) counted.now sums.old.items) }
+/// The sums of all units.
+fn add_all(alloc: Global, pace: Pace, counted: &[Counted], count: u32) -> Result<Vec<Sum>, Memory>
+    ensures packets { let at = read_after pace.count pace.start pace.gap in
+        IfOk result (λ sums. (i : ℕ) → i < count → (sum_at sums.items i).packets ≡ length (read_in at counted.now i)) }
+    ensures bytes { let at = read_after pace.count pace.start pace.gap in
+        IfOk result (λ sums. (i : ℕ) → i < count → (sum_at sums.items i).bytes ≡ bytes_in (read_in at counted.now i)) }
 {
+    let mut sums = no_sums(alloc, count)?;
     for one in counted {
-        add_one(sums, pace, *one)?;
+        add_one(&mut sums, pace, *one)?;
     }
-    Ok(())
+    Ok(sums)
 }
 
-fn read_by(pace: Pace, sums: &[Sum], place: u32) -> Read1
-    ensures { result ≡ read_by (read_after pace.count pace.start pace.gap) sums.now place }
+fn read_of_sum(pace: Pace, sums: &[Sum], place: u32) -> Read1
+    ensures { result ≡ read_of_sum (read_after pace.count pace.start pace.gap) sums.now place }
 {
     let at = read_after(pace, place);
     match sums.get(place as usize) {
@@ -101,11 +106,11 @@ fn read_by(pace: Pace, sums: &[Sum], place: u32) -> Read1
 }
 
 fn list_reads(alloc: Global, pace: Pace, sums: &[Sum], count: u32) -> Result<Vec<Read1>, AllocError>
-    ensures { IfOk result (λ reads. reads.items ≡ map (read_by (read_after pace.count pace.start pace.gap) sums.now) (below count)) }
+    ensures { IfOk result (λ reads. reads.items ≡ map (read_of_sum (read_after pace.count pace.start pace.gap) sums.now) (below count)) }
 {
     let mut reads = Vec::new(alloc);
     for place in 0..count {
-        reads.push(read_by(pace, sums, place))?;
+        reads.push(read_of_sum(pace, sums, place))?;
     }
     Ok(reads)
 }
@@ -124,11 +129,9 @@ pub fn reads_of(
     pace: Pace,
     counted: &[Counted],
 ) -> Result<Vec<Read1>, Memory>
-    ensures { let at = read_after pace.count pace.start pace.gap in let places = below (length (units net.now)) in
-        IfOk result (λ reads. reads.items ≡ map (read_by at (add_all at counted.now (map (λ (i : ℕ). no_sum) places))) places) }
+    ensures { IfOk result (λ reads. reads.items ≡ map (read_by (read_after pace.count pace.start pace.gap) counted.now) (below (length (units net.now)))) }
 {
     let count = unit_count(net);
-    let mut sums = no_sums(alloc, count)?;
-    add_all(&mut sums, pace, counted)?;
+    let sums = add_all(alloc, pace, counted, count)?;
     Ok(list_reads(alloc, pace, sums.as_slice(), count)?)
 }

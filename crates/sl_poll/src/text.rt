@@ -1,48 +1,15 @@
 // The text of a reading.
 ghost use Rattle.std.specs.Prelude.{◌≡◌, ◌<◌, ◌++◌, Some, IfOk, OnOk, IfSome, length, flat_map, codes, string_bytes};
-ghost use Rattle.sl_net.specs.Spelling.{side_text};
-ghost use Rattle.sl_poll.specs.PollText.{port_text, unit_or_none, unit_at, unit_text, link_text, counts_text, read_line, times_text, broken_line, poll_text};
-ghost use Rattle.sl_layout.specs.Net.{actor_of};
+ghost use Rattle.sl_poll.specs.PollText.{link_text, counts_text, read_line, times_text, broken_line, poll_text};
 ghost use Rattle.sl_layout.specs.Wiring.{wired_link};
+ghost use Rattle.sl_report.specs.Report.{unit_at};
 
 use crate::reading::{Polled, Read1};
 use crate::trail::Pair;
 use sl_machine::{Link, Memory};
-use sl_net::{ActorId, Line, Net, Parts, Side, UnitId, choice_text, nets_have_ways};
+use sl_net::{Line, Net, choice_text, nets_have_ways};
+use sl_report::push_unit;
 use std::alloc::{AllocError, Global};
-
-fn side_text(side: Side) -> &'static str
-    ensures { result.now ≡ side_text side }
-{
-    match side {
-        Side::Ingress => "in",
-        Side::Egress => "out",
-    }
-}
-
-#[tactic(auto, unfolding(crate::specs::PollText::port_text))]
-fn push_port(out: &mut String, parts: &Parts, unit: UnitId) -> Result<(), AllocError>
-    ensures { OnOk result (string_bytes out.new ≡ string_bytes out.old ++ port_text parts.now unit) }
-{
-    let side = side_text(unit.side);
-    let port = unit.port;
-    match parts.devices.get(unit.device as usize) {
-        Some(part) => {
-            let name = &part.name;
-            write!(out, "{side} {name}.{port}")
-        }
-        None => write!(out, "{side} .{port}"),
-    }
-}
-
-fn push_actor(out: &mut String, net: &Net, actor: u32) -> Result<(), AllocError>
-    ensures { OnOk result (string_bytes out.new ≡ string_bytes out.old ++ unit_or_none net.now.parts (actor_of net.now actor)) }
-{
-    match net.actors().get(actor as usize) {
-        Some(ActorId::Unit(unit)) => push_port(out, net.parts(), *unit),
-        _ => Ok(()),
-    }
-}
 
 fn unit_at(net: &Net, place: u32) -> u32
     ensures { result ≡ unit_at net.now place }
@@ -51,13 +18,6 @@ fn unit_at(net: &Net, place: u32) -> u32
         Some(actor) => *actor,
         None => 0,
     }
-}
-
-/// Writes the unit at a place among the units, or nothing where there is none.
-fn push_unit(out: &mut String, net: &Net, place: u32) -> Result<(), AllocError>
-    ensures { OnOk result (string_bytes out.new ≡ string_bytes out.old ++ unit_text net.now place) }
-{
-    push_actor(out, net, unit_at(net, place))
 }
 
 /// Writes what was read of a unit.
@@ -69,7 +29,7 @@ fn push_read(out: &mut String, net: &Net, read: &Read1) -> Result<(), AllocError
     let packets = read.packets;
     let bytes = read.bytes;
     write!(out, "read ")?;
-    push_unit(out, net, read.unit)?;
+    push_unit(out, net, unit_at(net, read.unit))?;
     write!(out, " {at} {packets} {bytes}\n")
 }
 
@@ -151,9 +111,9 @@ fn push_broken(
 /// whole.
 pub fn polled_bytes(alloc: Global, net: &Net, polled: &Polled) -> Result<Vec<u8>, Memory>
     requires { IfSome polled.now.broken (λ p. p.link < length net.now.links) }
-    ensures { IfOk result (λ bytes. bytes.items ≡ poll_text net.now polled.now.reads.items polled.now.broken) }
+    ensures { IfOk result (λ bytes. bytes.items ≡ poll_text net.now polled.now.reads polled.now.broken) }
 {
-    let mut out = reads_bytes(alloc, net, polled.reads.as_slice())?;
+    let mut out = reads_bytes(alloc, net, polled.reads.items.as_slice())?;
     push_broken(alloc, &mut out, net, polled.broken)?;
     out.extend_from_slice(b"end\n")?;
     Ok(out)

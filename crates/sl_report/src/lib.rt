@@ -18,3 +18,4 @@ pub use report::report_bytes;
 pub use routes::routes_bytes;
 pub use summary::summary_bytes;
 pub use trace::{add_trace, trace_bytes};
+pub use units::push_unit;

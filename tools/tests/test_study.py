@@ -27,7 +27,7 @@ up = "window"
 PROGRAM = """#!/bin/bash
 echo "$1" >> {folder}/calls
 input=$(cat)
-[ -e {folder}/broken ] && {{ echo "speedlight: not built" >&2; exit 3; }}
+[ -e {folder}/broken ] && {{ echo "speedlight: out of memory" >&2; exit 6; }}
 echo "speedlight 1"; echo "network devices 1 units 0 hosts 0"; echo "observer count 2 issued 2 collected 2 resent 0"
 [[ "$input" == *"window = 1"* ]] && echo "snapshot 1 consistent" || echo "snapshot 1 inconsistent in a.0 skipped to 2"
 echo "snapshot 2 consistent"
@@ -174,7 +174,7 @@ class Studies(Folder):
         status, out, err = self.study()
         self.assertEqual((status, out), (1, ""))
         self.assertIn("6 of 6 runs failed", err)
-        self.assertIn("speedlight: not built", err)
+        self.assertIn("speedlight: out of memory", err)
         (self.folder / "broken").unlink()
         self.assertEqual(self.study()[0], 0)
 

@@ -4,7 +4,8 @@ ghost use Rattle.std.specs.List.{All};
 ghost use Rattle.sl_flow.specs.Flow.{HasAddresses};
 
 use crate::rows;
-use sl_app::speedlight;
+use sl_actor::FreeGate;
+use sl_app::{one_thread, speedlight};
 use sl_cut::findings_of;
 use sl_flow::{sample_input, sample_parts};
 use sl_io::{MemorySink, MemorySource};
@@ -12,7 +13,9 @@ use sl_net::{Flow, Input, LossSpec, Net, Parts, RawPart, Script1, Snapshot, find
 use sl_read::read_input;
 use sl_report::report_bytes;
 use std::alloc::{AllocError, Global};
+use std::sync::Wait;
 use std::test::Fail;
+use std::thread::Threads;
 
 const THREE_PACKETS: &str =
     "device = [{name = \"a\", ports = 2}]\nhost = [{name = \"h0\", at = \"a.0\"}, {name = \"h1\", at = \"a.1\"}]\nflow = [{from = \"h0\", to = \"h1\", count = 3, bytes = 100, hops = 8}]\nsnapshot = {bits = 2, window = 3, ring = 3, count = 1, retries = 0}\n";
@@ -49,7 +52,13 @@ fn split_words<'a>(alloc: Global, line: &'a str) -> Result<Vec<&'a str>, AllocEr
 }
 
 /// Calls with these words and this input, where the calls of these numbers fail.
-fn call(alloc: Global, words: &[&str], text: &str, fail: (u64, u64, u64)) -> Result<Left, Fail> {
+fn call<R: Threads + Wait + Sync>(
+    rt: &R,
+    alloc: Global,
+    words: &[&str],
+    text: &str,
+    fail: (u64, u64, u64),
+) -> Result<Left, Fail> {
     let bytes = Vec::from_slice(alloc, text.as_bytes())?;
     let mut input = MemorySource::new(bytes, Vec::from_slice(alloc, &[fail.0])?);
     let mut out = MemorySink::new(alloc, 4096, Vec::from_slice(alloc, &[fail.1])?)
@@ -59,7 +68,15 @@ fn call(alloc: Global, words: &[&str], text: &str, fail: (u64, u64, u64)) -> Res
         .ok()
         .ok_or("memory")?;
     let words = words_of(alloc, words)?;
-    let ended = speedlight(alloc, words.as_slice(), &mut input, &mut out, &mut err);
+    let ended = speedlight(
+        rt,
+        alloc,
+        words.as_slice(),
+        &mut input,
+        &mut out,
+        &mut err,
+        &FreeGate,
+    );
     Ok(Left {
         status: ended.status,
         out: Vec::from_slice(alloc, out.bytes())?,
@@ -69,10 +86,16 @@ fn call(alloc: Global, words: &[&str], text: &str, fail: (u64, u64, u64)) -> Res
 }
 
 /// Whether a row is what its call does: the words of its first line, its input, and what it writes.
-fn is_done(alloc: Global, head: &str, input: &str, told: &str) -> Result<bool, Fail> {
+fn is_done<R: Threads + Wait + Sync>(
+    rt: &R,
+    alloc: Global,
+    head: &str,
+    input: &str,
+    told: &str,
+) -> Result<bool, Fail> {
     let (words, _) = head.rsplit_once(" ").ok_or("no word")?;
     let words = split_words(alloc, words)?;
-    let left = call(alloc, words.as_slice(), input, (0, 0, 0))?;
+    let left = call(rt, alloc, words.as_slice(), input, (0, 0, 0))?;
     let refused = told.starts_with("speedlight: ");
     if refused {
         return Ok(
@@ -84,11 +107,15 @@ fn is_done(alloc: Global, head: &str, input: &str, told: &str) -> Result<bool, F
 }
 
 /// The first line of a row of a table that is not what its call does.
-fn wrong_row<'a>(alloc: Global, table: &'a str) -> Result<Option<&'a str>, Fail> {
+fn wrong_row<'a, R: Threads + Wait + Sync>(
+    rt: &R,
+    alloc: Global,
+    table: &'a str,
+) -> Result<Option<&'a str>, Fail> {
     for row in table.split("==\n") {
         let (head, rest) = row.split_once("\n").ok_or("no input")?;
         let (input, told) = rest.split_once("--\n").ok_or("no end")?;
-        if !is_done(alloc, head, input, told)? {
+        if !is_done(rt, alloc, head, input, told)? {
             return Ok(Some(head));
         }
     }
@@ -99,12 +126,12 @@ fn wrong_row<'a>(alloc: Global, table: &'a str) -> Result<Option<&'a str>, Fail>
 #[test]
 fn worked_rows(rt: HostRuntime) -> Result<(), Fail> {
     let alloc = rt.alloc();
-    assert_eq!(rt; wrong_row(alloc, rows::reports())?, None);
-    assert_eq!(rt; wrong_row(alloc, rows::verdicts())?, None);
-    assert_eq!(rt; wrong_row(alloc, rows::refusals())?, None);
-    assert_eq!(rt; wrong_row(alloc, rows::routes())?, None);
-    assert_eq!(rt; wrong_row(alloc, rows::traces_and_samples())?, None);
-    assert_eq!(rt; wrong_row(alloc, rows::balances())?, None);
+    assert_eq!(rt; wrong_row(&rt, alloc, rows::reports())?, None);
+    assert_eq!(rt; wrong_row(&rt, alloc, rows::verdicts())?, None);
+    assert_eq!(rt; wrong_row(&rt, alloc, rows::refusals())?, None);
+    assert_eq!(rt; wrong_row(&rt, alloc, rows::routes())?, None);
+    assert_eq!(rt; wrong_row(&rt, alloc, rows::traces_and_samples())?, None);
+    assert_eq!(rt; wrong_row(&rt, alloc, rows::balances())?, None);
     Ok(())
 }
 
@@ -119,9 +146,13 @@ fn padded(alloc: Global, length: usize) -> Result<String, AllocError> {
 }
 
 /// The status of an input of so many bytes, and whether it is refused as too long.
-fn status_of_length(alloc: Global, length: usize) -> Result<(u8, bool), Fail> {
+fn status_of_length<R: Threads + Wait + Sync>(
+    rt: &R,
+    alloc: Global,
+    length: usize,
+) -> Result<(u8, bool), Fail> {
     let text = padded(alloc, length)?;
-    let left = call(alloc, &["step"], text.as_str(), (0, 0, 0))?;
+    let left = call(rt, alloc, &["step"], text.as_str(), (0, 0, 0))?;
     Ok((
         left.status,
         left.err.as_slice() == b"speedlight: I1\n".as_slice(),
@@ -132,15 +163,21 @@ fn status_of_length(alloc: Global, length: usize) -> Result<(u8, bool), Fail> {
 #[test]
 fn longest_input(rt: HostRuntime) -> Result<(), Fail> {
     let alloc = rt.alloc();
-    assert_eq!(rt; status_of_length(alloc, 1_048_576)?, (0, false));
-    assert_eq!(rt; status_of_length(alloc, 1_048_577)?, (3, true));
+    assert_eq!(rt; status_of_length(&rt, alloc, 1_048_576)?, (0, false));
+    assert_eq!(rt; status_of_length(&rt, alloc, 1_048_577)?, (3, true));
     Ok(())
 }
 
 /// Whether the input with a part changed is refused with this line.
-fn is_refused(alloc: Global, old: &str, new: &str, refusal: &str) -> Result<bool, Fail> {
+fn is_refused<R: Threads + Wait + Sync>(
+    rt: &R,
+    alloc: Global,
+    old: &str,
+    new: &str,
+    refusal: &str,
+) -> Result<bool, Fail> {
     let text = THREE_PACKETS.replace(alloc, old, new)?;
-    let left = call(alloc, &["step"], text.as_str(), (0, 0, 0))?;
+    let left = call(rt, alloc, &["step"], text.as_str(), (0, 0, 0))?;
     let line = format!(in alloc; "speedlight: {refusal}\n")?;
     let silent = left.out.is_empty() && !left.has_book;
     Ok(silent && left.status == 3 && left.err.as_slice() == line.as_bytes())
@@ -168,7 +205,7 @@ fn refusals(rt: HostRuntime) -> Result<(), Fail> {
         ("name = \"h1\"", "name = \"h0\"", "I9 N8 host.1"),
     ];
     for (old, new, refusal) in changes {
-        assert!(rt; is_refused(alloc, old, new, refusal)?, "{new}");
+        assert!(rt; is_refused(&rt, alloc, old, new, refusal)?, "{new}");
     }
     Ok(())
 }
@@ -176,21 +213,22 @@ fn refusals(rt: HostRuntime) -> Result<(), Fail> {
 /// Whether these words ask for what has a book.
 fn has_book(words: &[&str]) -> bool {
     match words.first() {
-        Some(word) => *word == "step" || *word == "balance",
+        Some(word) => *word == "step" || *word == "run" || *word == "balance",
         None => false,
     }
 }
 
 /// Whether a call with these words, where these calls fail, ends with this status and this text on
 /// the error sink, and nothing on the other.
-fn is_answered(
+fn is_answered<R: Threads + Wait + Sync>(
+    rt: &R,
     alloc: Global,
     words: &[&str],
     fail: (u64, u64, u64),
     status: u8,
     text: &str,
 ) -> Result<bool, Fail> {
-    let left = call(alloc, words, THREE_PACKETS, fail)?;
+    let left = call(rt, alloc, words, THREE_PACKETS, fail)?;
     let book = left.has_book == (fail.1 != 0 && has_book(words));
     let silent = left.out.is_empty();
     Ok(book && silent && left.status == status && left.err.as_slice() == text.as_bytes())
@@ -199,7 +237,6 @@ fn is_answered(
 #[test]
 fn words_and_faults(rt: HostRuntime) -> Result<(), Fail> {
     let alloc = rt.alloc();
-    let not_built = "speedlight: not built\n";
     let read_fault = "speedlight: read fault\n";
     let write_fault = "speedlight: write fault\n";
     // The words, the calls that fail, the status, and what is on the error sink. A source of one
@@ -208,8 +245,8 @@ fn words_and_faults(rt: HostRuntime) -> Result<(), Fail> {
         (&[], (1, 0, 0), 2, USAGE),
         (&["walk"], (1, 0, 0), 2, USAGE),
         (&["-h"], (1, 0, 0), 2, USAGE),
-        (&["run"], (1, 0, 0), 3, not_built),
-        (&["run", "--trace"], (1, 0, 0), 3, not_built),
+        (&["run", "--trace"], (1, 0, 0), 4, read_fault),
+        (&["run"], (0, 1, 0), 5, write_fault),
         (&["sample", "65"], (1, 0, 0), 2, USAGE),
         (&["routes", "x"], (1, 0, 0), 2, USAGE),
         (&["balance", "--trace"], (1, 0, 0), 2, USAGE),
@@ -230,9 +267,25 @@ fn words_and_faults(rt: HostRuntime) -> Result<(), Fail> {
     ];
     for (words, fail, status, text) in rows {
         let count = words.len();
-        let answered = is_answered(alloc, words, fail, status, text)?;
+        let answered = is_answered(&rt, alloc, words, fail, status, text)?;
         assert!(rt; answered, "{count} words, {fail:?}");
     }
+    Ok(())
+}
+
+/// Without a word the call that takes no handle tells how the program is used.
+#[test]
+fn no_words(rt: HostRuntime) -> Result<(), Fail> {
+    let alloc = rt.alloc();
+    let mut input = MemorySource::new(Vec::new(alloc), Vec::new(alloc));
+    let mut out = MemorySink::new(alloc, 4096, Vec::new(alloc))
+        .ok()
+        .ok_or("memory")?;
+    let mut err = MemorySink::new(alloc, 4096, Vec::new(alloc))
+        .ok()
+        .ok_or("memory")?;
+    let ended = one_thread(alloc, &[], &mut input, &mut out, &mut err);
+    assert_eq!(rt; (ended.status, err.bytes() == USAGE.as_bytes()), (2, true));
     Ok(())
 }
 
@@ -245,9 +298,13 @@ fn is_whole(alloc: Global, summary: &str, number: u64) -> Result<bool, Fail> {
     Ok(summary.contains(sent.as_str()) && summary.ends_with(verdicts))
 }
 
-fn summary_of(alloc: Global, number: u64) -> Result<String, Fail> {
+fn summary_of<R: Threads + Wait + Sync>(
+    rt: &R,
+    alloc: Global,
+    number: u64,
+) -> Result<String, Fail> {
     let word = format!(in alloc; "{number}")?;
-    let left = call(alloc, &["sample", word.as_str()], "", (0, 0, 0))?;
+    let left = call(rt, alloc, &["sample", word.as_str()], "", (0, 0, 0))?;
     Ok(String::from_utf8(left.out).ok().ok_or("no text")?)
 }
 
@@ -256,7 +313,7 @@ fn summary_of(alloc: Global, number: u64) -> Result<String, Fail> {
 fn even_samples(rt: HostRuntime) -> Result<(), Fail> {
     let alloc = rt.alloc();
     for half in 1..33 {
-        let summary = summary_of(alloc, 2 * half)?;
+        let summary = summary_of(&rt, alloc, 2 * half)?;
         assert!(rt; is_whole(alloc, summary.as_str(), 2 * half)?, "{summary}");
     }
     Ok(())
@@ -381,8 +438,8 @@ fn written_schedules(rt: HostRuntime) -> Result<(), Fail> {
 }
 
 /// The output of `step --trace`.
-fn traced(alloc: Global, text: &str) -> Result<String, Fail> {
-    let left = call(alloc, &["step", "--trace"], text, (0, 0, 0))?;
+fn traced<R: Threads + Wait + Sync>(rt: &R, alloc: Global, text: &str) -> Result<String, Fail> {
+    let left = call(rt, alloc, &["step", "--trace"], text, (0, 0, 0))?;
     Ok(String::from_utf8(left.out).ok().ok_or("no text")?)
 }
 
@@ -399,11 +456,15 @@ fn with_script(alloc: Global, text: &str, trace: &str) -> Result<String, Fail> {
 }
 
 /// The output for an input, and that for it with its trace as the script.
-fn retaken(alloc: Global, text: &str) -> Result<(String, String), Fail> {
-    let first = traced(alloc, text)?;
+fn retaken<R: Threads + Wait + Sync>(
+    rt: &R,
+    alloc: Global,
+    text: &str,
+) -> Result<(String, String), Fail> {
+    let first = traced(rt, alloc, text)?;
     let (_, trace) = first.split_once("end\n").ok_or("no trace")?;
     let again = with_script(alloc, text, trace)?;
-    let second = traced(alloc, again.as_str())?;
+    let second = traced(rt, alloc, again.as_str())?;
     Ok((first, second))
 }
 
@@ -412,9 +473,9 @@ fn retaken(alloc: Global, text: &str) -> Result<(String, String), Fail> {
 #[test]
 fn traces_are_retaken(rt: HostRuntime) -> Result<(), Fail> {
     let alloc = rt.alloc();
-    let (first, second) = retaken(alloc, THREE_PACKETS)?;
+    let (first, second) = retaken(&rt, alloc, THREE_PACKETS)?;
     assert_eq!(rt; second.as_str(), first.as_str());
-    let (first, second) = retaken(alloc, DEAD_CABLE)?;
+    let (first, second) = retaken(&rt, alloc, DEAD_CABLE)?;
     let (report, lines) = first.split_once("trace 89\n").ok_or("another trace")?;
     assert!(rt; second.starts_with(report));
     let (_, more) = second.split_once("trace ").ok_or("no trace")?;

@@ -1,6 +1,6 @@
 -- An accepted input can be run within the bound, and so can a sample's; what is served for a run.
-use Rattle.std.proofs.Common.{◌≡◌, ℕ, suc, ◌+◌, ◌<◌, ◌≤◌, ◌^◌, Bool, List, [], ◌∷◌, length, map, Option, Some, None, arith, sym, subst}
-use Rattle.std.specs.Prelude.{sum}
+use Rattle.std.proofs.Common.{◌≡◌, ℕ, suc, ◌+◌, ◌<◌, ◌≤◌, ◌^◌, Bool, List, [], ◌∷◌, length, map, Option, Some, None, inl, inr, arith, sym, subst}
+use Rattle.std.specs.Prelude.{sum, Result, Ok, Err, IfOk}
 use Rattle.std.specs.List.{All}
 use Rattle.sl_net.specs.declared.input.Flow.{Flow}
 use Rattle.sl_net.specs.declared.input.RawPart.{RawPart}
@@ -25,18 +25,20 @@ use Rattle.std.proofs.lemmas.List.{length-map}
 use Rattle.sl_model.specs.declared.findings.Findings.{Findings}
 use Rattle.sl_model.specs.History.{Losses}
 use Rattle.sl_model.specs.Setup.{Setup, setup_of}
-use Rattle.sl_model.specs.World.{Entry as Turn}
+use Rattle.sl_model.specs.World.{Entry as Turn, world}
 use Rattle.sl_model.specs.Books.{schedule_of}
 use Rattle.sl_model.specs.Findings.{findings}
 use Rattle.sl_model.specs.Losses.{losses}
-use Rattle.sl_model.specs.Bound.{input_bound}
+use Rattle.sl_model.specs.Bound.{bound_of, input_bound}
 use Rattle.sl_proto.specs.Nodes.{NodeState}
 use Rattle.sl_proto.specs.Script.{IsScriptEntry}
-use Rattle.sl_emul.specs.Run.{CanRun}
+use Rattle.sl_emul.specs.Run.{CanRun, IsRunBook, AreNodesOf}
+use Rattle.sl_emul.specs.Threaded.{IsThreadedBook}
 use Rattle.sl_balance.specs.Balance.{AreFew}
-use Rattle.sl_words.specs.declared.command.Command.TheVariants.{Step, Balance}
+use Rattle.sl_words.specs.declared.command.Command.TheVariants.{Step, Run, Balance}
 use Rattle.sl_words.specs.Words.{words_of}
-use Rattle.sl_app.specs.Served.{IsReport, IsTable}
+use Rattle.sl_app.specs.declared.run.Served.{Served}
+use Rattle.sl_app.specs.Served.{run_text, IsReport, IsTable, states_of}
 use Rattle.sl_app.specs.Ends.{Reading, WasRead, IsServed}
 
 each-of : {A : Type 0} (P : A → Type 0) (xs : List A) → All P xs → Each P xs
@@ -65,7 +67,7 @@ addressed i a = λ k d h. let f = a.flows k d h in record { from = omega (arith,
 pub runnable : Spelled → (i : Input) → IsAccepted i → CanRun i
 runnable spelled i a = record {
   net = record { made = a.net; right = a.right };
-  snapshot = record { some_bits = a.snapshot.some_bits; few_bits = a.snapshot.few_bits; some_window = a.snapshot.some_window; some_ring = a.snapshot.some_ring };
+  snapshot = record { some_bits = a.snapshot.some_bits; few_bits = a.snapshot.few_bits; some_window = a.snapshot.some_window; few_window = a.snapshot.few_window; some_ring = a.snapshot.some_ring };
   addresses = addressed i a;
   short = record {
     flows = each-of (λ (f : Flow). f.bytes < 2 ^ 16) i.flows (λ k d h. (a.flows k d h).bytes);
@@ -77,7 +79,7 @@ runnable spelled i a = record {
 pub sample_runs : (n : ℕ) → IsSample (sample_parts n) → CanRun (sample_parts n)
 sample_runs n s = record {
   net = record { made = s.net; right = s.right };
-  snapshot = record { some_bits = omega (arith, s.bits); few_bits = omega (arith, s.bits); some_window = s.some_window; some_ring = omega (arith, s.ring) };
+  snapshot = record { some_bits = omega (arith, s.bits); few_bits = omega (arith, s.bits); some_window = s.some_window; few_window = subst (λ bits. (sample_parts n).snapshot.window < 2 ^ bits) (sym s.bits) s.few_window; some_ring = omega (arith, s.ring) };
   addresses = λ k d h. let f = s.flows k d h in record { from = omega (arith, f.from, s.hosts); to = omega (arith, f.to, s.hosts) };
   short = record { flows = each-map (λ (f : Flow). f.bytes < 2 ^ 16) (flow n) (below (host_count n)) (λ h. omega arith); raws = tt };
   script = λ k d h. absurd (omega (arith, h));
@@ -91,12 +93,34 @@ Small = (i : Input) → IsNet i.net → i.snapshot.count ≤ 1000 → i.snapshot
 pub small : Small → (i : Input) → IsAccepted i → input_bound i < 2 ^ 27
 small law i a = law i (record { made = a.net; right = a.right }) a.snapshot.count a.snapshot.retries a.few_packets a.few_entries
 
--- a report that was made of an input that was read
+-- a run in threads sweeps as little as a run with no script
+pub small_threads : Small → (i : Input) → IsAccepted i → bound_of (setup_of i) 0 < 2 ^ 27
+small_threads law i a = law (record i { script = [] }) (record { made = a.net; right = a.right }) a.snapshot.count a.snapshot.retries a.few_packets (omega arith)
+
+-- what is served for a run with this book
+pub report-of : (IsBook : Input → Losses → List Entry → ℕ → Type 0) (i : Input) (lost : Losses) (trace : Bool) (book : Book) (front : ℕ) (nodes : List NodeState)
+    → IsBook i lost book.entries front → AreNodesOf i (world (setup_of i) lost (schedule_of book.entries)) nodes
+    → {E : Type 0} (r : Result Served E) → IfOk r (λ s. s.book ≡ Some book) → IfOk r (λ s. s.front ≡ front) → IfOk r (λ s. states_of s.nodes ≡ Some nodes)
+    → IfOk r (λ s. s.text.items ≡ run_text i lost book.entries trace) → IfOk r (λ s. IsReport IsBook i lost s.book s.front (states_of s.nodes) trace s.text.items)
+report-of IsBook i lost trace book front nodes run stand (Ok s) b f n t =
+    subst (λ (x : Option Book). IsReport IsBook i lost x s.front (states_of s.nodes) trace s.text.items) (sym b)
+    (subst (λ (x : Option (List NodeState)). IsReport IsBook i lost (Some book) s.front x trace s.text.items) (sym n)
+    (record { run = subst (IsBook i lost book.entries) (sym f) run; stand = stand; text_is = t }))
+report-of IsBook i lost trace book front nodes run stand (Err e) b f n t = tt
+
+-- a report that was made of an input that was read, of a run of the script and of one in threads
 pub stepped : (r : Reading) (i : Input) (trace : Bool) → words_of r.words ≡ Some (Step trace) → WasRead r i → input_bound i < 2 ^ 27
-    → (book : Option Book) (front : ℕ) (nodes : Option (List NodeState)) (text : List ℕ) → IsReport i (losses i) book front nodes trace text → IsServed r book front nodes text
-stepped r i trace words read few (Some book) front (Some nodes) text told = record { trace = trace; words = words; input = i; accepted = read; small = few; run = told }
+    → (book : Option Book) (front : ℕ) (nodes : Option (List NodeState)) (text : List ℕ) → IsReport IsRunBook i (losses i) book front nodes trace text → IsServed r book front nodes text
+stepped r i trace words read few (Some book) front (Some nodes) text told = inl (record { trace = trace; words = words; input = i; accepted = read; small = few; run = told })
 stepped r i trace words read few (Some book) front None text told = absurd told
 stepped r i trace words read few None front nodes text told = absurd told
+
+pub threaded : (r : Reading) (i : Input) (trace : Bool) → words_of r.words ≡ Some (Run trace) → WasRead r i → bound_of (setup_of i) 0 < 2 ^ 27 → length i.net.actors ≤ 256
+    → (book : Option Book) (front : ℕ) (nodes : Option (List NodeState)) (text : List ℕ) → IsReport IsThreadedBook i (losses i) book front nodes trace text → IsServed r book front nodes text
+threaded r i trace words read small few (Some book) front (Some nodes) text told =
+    inr (record { trace = trace; words = words; input = i; accepted = read; few = few; small = small; rested = told.run.rested small; run = told })
+threaded r i trace words read small few (Some book) front None text told = absurd told
+threaded r i trace words read small few None front nodes text told = absurd told
 
 -- a table that was made of an input that was read
 pub tabled : (r : Reading) (i : Input) → words_of r.words ≡ Some Balance → WasRead r i → input_bound i < 2 ^ 27

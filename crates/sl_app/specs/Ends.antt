@@ -1,5 +1,5 @@
 -- How a call of the program ends, and the cause of each ending.
-use Rattle.std.specs.Prelude.{◌≡◌, ℕ, ◌<◌, ◌^◌, Bool, ◌⊎◌, List, map, take, Option, Some, None, Result, Ok, Err, string_bytes}
+use Rattle.std.specs.Prelude.{◌≡◌, ℕ, ◌<◌, ◌≤◌, ◌^◌, Bool, ◌⊎◌, List, length, map, take, Option, Some, None, Result, Ok, Err, string_bytes}
 use Rattle.std.specs.declared.string.String.{String}
 use Rattle.std.specs.Global.{Global}
 use Rattle.std.specs.Io.KnownBytes.{Appends, Keeps}
@@ -13,20 +13,25 @@ use Rattle.sl_words.specs.declared.command.Command.{Command}
 use Rattle.sl_words.specs.declared.command.Command.TheVariants as command
 use Rattle.sl_words.specs.Words.{words_of}
 use Rattle.sl_app.specs.declared.ended.Refusal.{Refusal}
-use Rattle.sl_app.specs.declared.ended.Refusal.TheVariants.{Usage, NotBuilt, Input as InputRefused, ReadFault, Memory}
+use Rattle.sl_app.specs.declared.ended.Refusal.TheVariants.{Usage, Input as InputRefused, ReadFault, TooMany, Memory}
 use Rattle.sl_app.specs.declared.ended.Ended.{Ended}
 use Rattle.sl_app.specs.declared.run.Served.{Served}
-use Rattle.sl_app.specs.Texts.{status_of, refusal_text, write_fault_text}
+use Rattle.sl_app.specs.Texts.{status_of, refusal_text, write_fault_text, many_text}
 use Rattle.sl_net.specs.Input.{Input}
 use Rattle.sl_read.specs.declared.fault.InputFault.{InputFault}
 use Rattle.sl_read.specs.Inputs.{input_of}
 use Rattle.sl_read.specs.Accepted.{IsAccepted}
-use Rattle.sl_model.specs.Bound.{input_bound}
+use Rattle.sl_model.specs.Bound.{bound_of, input_bound}
 use Rattle.sl_model.specs.Losses.{losses}
+use Rattle.sl_model.specs.Setup.{setup_of}
+use Rattle.sl_model.specs.World.{world}
+use Rattle.sl_model.specs.Books.{schedule_of}
 use Rattle.sl_report.specs.FaultText.{fault_text}
 use Rattle.sl_report.specs.RoutesText.{routes_text}
 use Rattle.sl_proto.specs.Nodes.{NodeState}
-use Rattle.sl_app.specs.Served.{IsPrintedRun, IsTabledRun, IsSampleText, states_of}
+use Rattle.sl_emul.specs.Run.{IsRunBook}
+use Rattle.sl_emul.specs.Threaded.{HasRested, IsThreadedBook}
+use Rattle.sl_app.specs.Served.{IsPrinted, IsTabledRun, IsSampleText, states_of}
 
 -- the words, and the source before and after: the bytes left, where it tells them, and its count of faults
 pub record Reading : Type 0 where
@@ -95,21 +100,36 @@ TellsFault fault _ = ⊥
 -- the words are such that an input is read
 abbrev pub reads : Option Command → Type 0
 reads (Some (command.Step trace)) = Unit {0}
+reads (Some (command.Run trace)) = Unit {0}
 reads (Some command.Routes) = Unit {0}
 reads (Some command.Balance) = Unit {0}
 reads _ = ⊥
 
--- the words ask for a run on threads, which is not built
+-- the words ask for a run in threads
 abbrev pub asks_for_run : Option Command → Type 0
 asks_for_run (Some (command.Run trace)) = Unit {0}
 asks_for_run _ = ⊥
 
+-- an input was read whose net has more actors than run in threads, and this line says how many
+pub record IsTooMany (r : Reading) (line : List ℕ) : Type 0 where
+  pub words : asks_for_run (words_of r.words)
+  pub input : Input
+  pub accepted : WasRead r input
+  pub many : 256 < length input.net.actors
+  pub line_is : line ≡ many_text (length input.net.actors)
+
+-- the refusal of a net of so many actors, or want of memory
+abbrev pub TellsTooMany : ℕ → Refusal → Type 0
+TellsTooMany actors (TooMany line) = line.items ≡ many_text actors
+TellsTooMany actors Memory = Unit {0}
+TellsTooMany actors _ = ⊥
+
 -- the cause of a refusal; want of memory has none, but where the words ask for no input, nothing was read then either
 abbrev pub HasCause : Reading → Refusal → Type 0
 HasCause r Usage = (words_of r.words ≡ None) × IsUnread r
-HasCause r NotBuilt = asks_for_run (words_of r.words) × IsUnread r
 HasCause r (InputRefused line) = reads (words_of r.words) × IsRefusedInput r line.items
 HasCause r ReadFault = reads (words_of r.words) × Rose r.faults_before r.faults_after
+HasCause r (TooMany line) = IsTooMany r line.items
 HasCause r Memory = ¬ reads (words_of r.words) → IsUnread r
 
 -- an input was run, with this book, these nodes and this text: its report, and where it was asked for, the trace of the book; no input has a bound on
@@ -120,7 +140,19 @@ pub record IsStepped (r : Reading) (book : List Entry) (front : ℕ) (nodes : Li
   pub input : Input
   pub accepted : WasRead r input
   pub small : input_bound input < 2 ^ 27
-  pub run : IsPrintedRun input (losses input) book front nodes trace text
+  pub run : IsPrinted IsRunBook input (losses input) book front nodes trace text
+
+-- an input was run with a thread for each actor, with this book, these nodes and this text: its report, and where it was asked for, the trace; the net
+-- has few actors, no input has a bound on the turns of such a run of 2^27 or more, and when the threads ended nothing was left to send or to issue
+pub record IsThreaded (r : Reading) (book : List Entry) (front : ℕ) (nodes : List NodeState) (text : List ℕ) : Type 0 where
+  pub trace : Bool
+  pub words : words_of r.words ≡ Some (command.Run trace)
+  pub input : Input
+  pub accepted : WasRead r input
+  pub few : length input.net.actors ≤ 256
+  pub small : bound_of (setup_of input) 0 < 2 ^ 27
+  pub rested : HasRested (setup_of input) (world (setup_of input) (losses input) (take front (schedule_of book)))
+  pub run : IsPrinted IsThreadedBook input (losses input) book front nodes trace text
 
 -- an input was run, with this book, and the text is the table of balance of its findings
 pub record IsBalanced (r : Reading) (book : List Entry) (front : ℕ) (text : List ℕ) : Type 0 where
@@ -145,9 +177,9 @@ pub record IsSampled (r : Reading) (text : List ℕ) : Type 0 where
   pub unread : IsUnread r
   pub sample : IsSampleText number input text
 
--- what is served: a run, the table of one, for which there is no node, or a text for which there is no book either
+-- what is served: a run, the table of one of the script, for which there is no node, or a text for which there is no book either
 abbrev pub IsServed : Reading → Option Book → ℕ → Option (List NodeState) → List ℕ → Type 0
-IsServed r (Some book) front (Some nodes) text = IsStepped r book.entries front nodes text
+IsServed r (Some book) front (Some nodes) text = IsStepped r book.entries front nodes text ⊎ IsThreaded r book.entries front nodes text
 IsServed r (Some book) front None text = IsBalanced r book.entries front text
 IsServed r None front None text = (IsRouted r text ⊎ IsSampled r text) × (front ≡ 0)
 IsServed r _ front _ text = ⊥

@@ -1,5 +1,5 @@
 -- What is served: for an input the book and the nodes of its run, and the text; for a sample the text.
-use Rattle.std.specs.Prelude.{◌≡◌, ℕ, Bool, true, false, if◌then◌else◌, List, [], ◌++◌, map, Option, Some, None, option_map, Vec}
+use Rattle.std.specs.Prelude.{◌≡◌, ℕ, ◌<◌, ◌≤◌, Bool, true, false, if◌then◌else◌, List, [], ◌++◌, length, map, Option, Some, None, option_map, Result, Ok, Err, Vec}
 use Rattle.std.specs.Global.{Global}
 use Rattle.sl_machine.specs.Book.{Book}
 use Rattle.sl_machine.specs.declared.wiring.Entry.{Entry}
@@ -14,7 +14,11 @@ use Rattle.sl_model.specs.Books.{schedule_of}
 use Rattle.sl_model.specs.Findings.{findings}
 use Rattle.sl_proto.specs.declared.node.Node.{Node}
 use Rattle.sl_proto.specs.Nodes.{NodeState, node_state}
+use Rattle.sl_emul.specs.declared.fault.EmulFault.{EmulFault}
+use Rattle.sl_emul.specs.declared.fault.EmulFault.TheVariants.{TooMany, Memory as OutOfMemory}
 use Rattle.sl_emul.specs.Run.{IsRunBook, AreNodesOf}
+use Rattle.sl_emul.specs.Threaded.{IsThreadedBook}
+use Rattle.sl_app.specs.declared.run.Served.{Served}
 use Rattle.sl_balance.specs.Balance.{balance}
 use Rattle.sl_balance.specs.BalanceText.{balance_text}
 use Rattle.sl_report.specs.Report.{report_text}
@@ -25,9 +29,10 @@ use Rattle.sl_report.specs.SummaryText.{summary_text}
 abbrev pub run_text : Input → Losses → List Entry → Bool → List ℕ
 run_text i lost book trace = report_text i.net i.snapshot.count (findings (setup_of i) lost (schedule_of book)) ++ (if trace then trace_text i.net book else [])
 
--- the book of a run under a loss table, the nodes that it leads to, and the text
-pub record IsPrintedRun (i : Input) (lost : Losses) (book : List Entry) (front : ℕ) (nodes : List NodeState) (trace : Bool) (text : List ℕ) : Type 0 where
-  pub run : IsRunBook i lost book front
+-- a run with such a book: the book, the nodes that it leads to under a loss table, and the text
+pub record IsPrinted (IsBook : Input → Losses → List Entry → ℕ → Type 0) (i : Input) (lost : Losses)
+    (book : List Entry) (front : ℕ) (nodes : List NodeState) (trace : Bool) (text : List ℕ) : Type 0 where
+  pub run : IsBook i lost book front
   pub stand : AreNodesOf i (world (setup_of i) lost (schedule_of book)) nodes
   pub text_is : text ≡ run_text i lost book trace
 
@@ -35,10 +40,16 @@ pub record IsPrintedRun (i : Input) (lost : Losses) (book : List Entry) (front :
 abbrev pub states_of : Option (Vec Node Global) → Option (List NodeState)
 states_of nodes = option_map (λ ns. map node_state ns.items) nodes
 
--- a run, with its book and its nodes
-abbrev pub IsReport : Input → Losses → Option Book → ℕ → Option (List NodeState) → Bool → List ℕ → Type 0
-IsReport i lost (Some book) front (Some nodes) trace text = IsPrintedRun i lost book.entries front nodes trace text
-IsReport i lost _ front _ trace text = ⊥
+-- such a run, with its book and its nodes
+abbrev pub IsReport : (Input → Losses → List Entry → ℕ → Type 0) → Input → Losses → Option Book → ℕ → Option (List NodeState) → Bool → List ℕ → Type 0
+IsReport IsBook i lost (Some book) front (Some nodes) trace text = IsPrinted IsBook i lost book.entries front nodes trace text
+IsReport IsBook i lost _ front _ trace text = ⊥
+
+-- a run with a thread for each actor, or how many actors there are, where they are too many for it
+abbrev pub ServesThreads : Input → Bool → Result Served EmulFault → Type 0
+ServesThreads i trace (Ok s) = (length i.net.actors ≤ 256) × IsReport IsThreadedBook i (losses i) s.book s.front (states_of s.nodes) trace s.text.items
+ServesThreads i trace (Err (TooMany actors)) = (256 < length i.net.actors) × (actors ≡ length i.net.actors)
+ServesThreads i trace (Err OutOfMemory) = Unit {0}
 
 -- the table of balance of a run
 abbrev pub table_text : Input → Losses → List Entry → List ℕ

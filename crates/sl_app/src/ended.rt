@@ -10,12 +10,12 @@ use sl_proto::Node;
 pub enum Refusal {
     /// The words are no command.
     Usage,
-    /// The command is not built yet.
-    NotBuilt,
     /// The input is refused, with the line that says why.
     Input(Vec<u8>),
     /// A read of the source failed.
     ReadFault,
+    /// The net has more actors than run in threads, with the line that says how many.
+    TooMany(Vec<u8>),
     /// Want of memory.
     Memory,
 }
@@ -27,9 +27,9 @@ impl Refusal {
     {
         match self {
             Refusal::Usage => 2,
-            Refusal::NotBuilt => 3,
             Refusal::Input(_) => 3,
             Refusal::ReadFault => 4,
+            Refusal::TooMany(_) => 7,
             Refusal::Memory => 6,
         }
     }
@@ -43,9 +43,9 @@ impl Refusal {
             Refusal::Usage => {
                 b"speedlight: usage: speedlight step [--trace] | run [--trace] | routes | sample N [--input] | balance\n"
             }
-            Refusal::NotBuilt => b"speedlight: not built\n",
             Refusal::Input(line) => line.as_slice(),
             Refusal::ReadFault => b"speedlight: read fault\n",
+            Refusal::TooMany(line) => line.as_slice(),
             Refusal::Memory => b"speedlight: out of memory\n",
         }
     }

@@ -8,4 +8,4 @@ mod table;
 mod top;
 
 pub use ended::{Ended, Refusal};
-pub use top::{refuse, speedlight};
+pub use top::{one_thread, refuse, speedlight};

@@ -1,19 +1,27 @@
-// What is served for an input: the report of a run with its trace, and routes.
-ghost use Rattle.std.specs.Prelude.{◌≡◌, None, IfOk, OnOk, if◌then◌else◌, [], ◌++◌};
+// What is served for an input: the report of a run with its trace, stepped or in threads, and routes.
+ghost use Rattle.std.specs.Prelude.{◌≡◌, Some, None, IfOk, OnOk, map, if◌then◌else◌, [], ◌++◌};
 ghost use Rattle.std.specs.List.{All};
+ghost use Rattle.sl_model.specs.Setup.{setup_of};
+ghost use Rattle.sl_model.specs.World.{IsLegal};
 ghost use Rattle.sl_model.specs.Losses.{losses};
+ghost use Rattle.sl_model.specs.Books.{schedule_of};
+ghost use Rattle.sl_model.specs.Findings.{findings};
 ghost use Rattle.sl_report.specs.RoutesText.{routes_text};
 ghost use Rattle.sl_report.specs.TraceText.{IsEntryOf, trace_text};
-ghost use Rattle.sl_emul.specs.Run.{CanRun};
-ghost use Rattle.sl_app.specs.Served.{IsReport, states_of};
+ghost use Rattle.sl_proto.specs.Nodes.{node_state};
+ghost use Rattle.sl_emul.specs.Run.{CanRun, IsRunBook};
+ghost use Rattle.sl_app.specs.Served.{run_text, IsReport, ServesThreads, states_of};
 
-use sl_emul::run_stepped;
+use sl_actor::Gate;
+use sl_emul::{EmulFault, Run, run_stepped, run_threaded};
 use sl_machine::{Book, Memory};
 use sl_net::{Input, Net};
 use sl_proto::Node;
 use sl_report::{add_trace, legal_books_are_choices, report_bytes, routes_bytes};
 use sl_route::Routes;
 use std::alloc::Global;
+use std::sync::Wait;
+use std::thread::Threads;
 
 /// What is served: a text, and where it is that of a run of an input, the book of the run, how many
 /// of its entries come before finishing, and the nodes that it ended with.
@@ -58,13 +66,16 @@ fn add_trace_if(
     }
 }
 
-/// Runs an input, and reports it, with its trace where that is asked for.
-pub fn serve_run(alloc: Global, input: &Input, trace: bool) -> Result<Served, Memory>
-    requires { CanRun input.now }
-    ensures { IfOk result (λ s. IsReport input.now (losses input.now) s.book s.front (states_of s.nodes) trace s.text.items) }
+/// What is served for a run: its report, with its trace where that is asked for.
+fn report_run(alloc: Global, input: &Input, run: Run, trace: bool) -> Result<Served, Memory>
+    requires legal { IsLegal (setup_of input.now) (losses input.now) (schedule_of run.book.entries) }
+    requires tells { run.findings ≡ findings (setup_of input.now) (losses input.now) (schedule_of run.book.entries) }
+    ensures book { IfOk result (λ s. s.book ≡ Some run.book) }
+    ensures front { IfOk result (λ s. s.front ≡ run.front) }
+    ensures nodes { IfOk result (λ s. states_of s.nodes ≡ Some (map node_state run.nodes.items)) }
+    ensures text { IfOk result (λ s. s.text.items ≡ run_text input.now (losses input.now) run.book.entries trace) }
 {
     legal_books_are_choices();
-    let run = run_stepped(alloc, input)?;
     let mut text = report_bytes(alloc, input, &run.findings)?;
     add_trace_if(alloc, &mut text, &input.net, &run.book, trace)?;
     Ok(Served {
@@ -73,6 +84,30 @@ pub fn serve_run(alloc: Global, input: &Input, trace: bool) -> Result<Served, Me
         nodes: Some(run.nodes),
         text,
     })
+}
+
+/// Runs an input by its script, and reports it.
+pub fn serve_run(alloc: Global, input: &Input, trace: bool) -> Result<Served, Memory>
+    requires { CanRun input.now }
+    ensures { IfOk result (λ s. IsReport IsRunBook input.now (losses input.now) s.book s.front (states_of s.nodes) trace s.text.items) }
+{
+    let run = run_stepped(alloc, input)?;
+    report_run(alloc, input, run, trace)
+}
+
+/// Runs an input with a thread for each actor, and reports it.
+pub fn serve_threads<R: Threads + Wait + Sync, G: Gate + Sync>(
+    rt: &R,
+    alloc: Global,
+    input: &Input,
+    trace: bool,
+    gate: &G,
+) -> Result<Served, EmulFault>
+    requires { CanRun input.now }
+    ensures { ServesThreads input.now trace result }
+{
+    let run = run_threaded(rt, alloc, input, gate)?;
+    Ok(report_run(alloc, input, run, trace)?)
 }
 
 /// The routes of an input's net.

@@ -1,14 +1,17 @@
 // The top call.
-ghost use Rattle.std.specs.Prelude.{◌≡◌, ◌≤◌, Some, None};
+ghost use Rattle.std.specs.Prelude.{◌≡◌, ◌≤◌, Some, None, IfOk};
 ghost use Rattle.sl_flow.specs.Sample.{IsSampleNumber};
 ghost use Rattle.sl_words.specs.Words.{words_of};
 ghost use Rattle.sl_words.specs.declared.command.Command.TheVariants as command;
-ghost use Rattle.sl_app.specs.Ends.{reading, writing, texts_of, reads, TellsFault, Accepts, Serves, ServesSample, TellsWriteFault, Refuses, ReportsServed, Ends};
+ghost use Rattle.sl_app.specs.Texts.{many_text};
+ghost use Rattle.sl_app.specs.Ends.{reading, writing, texts_of, reads, asks_for_run, TellsFault, TellsTooMany, Accepts, Serves, ServesSample, TellsWriteFault, Refuses, ReportsServed, Ends};
 
 use crate::ended::{Ended, Refusal};
-use crate::run::{Served, only_text, serve_routes, serve_run};
+use crate::run::{Served, only_text, serve_routes, serve_run, serve_threads};
 use crate::sample::sample_bytes;
 use crate::table::serve_balance;
+use sl_actor::Gate;
+use sl_emul::EmulFault;
 use sl_io::{ReadFault, Sink, Source, read_all, write_all};
 use sl_model::input_bounds_are_small;
 use sl_net::Input;
@@ -16,7 +19,9 @@ use sl_proto::passes_are_choices;
 use sl_read::{InputFault, read_input};
 use sl_report::fault_bytes;
 use sl_words::{Command, words_of};
-use std::alloc::Global;
+use std::alloc::{AllocError, Global};
+use std::sync::Wait;
+use std::thread::Threads;
 
 /// The most bytes of an input, and one more.
 const LIMIT: usize = 1_048_577;
@@ -69,6 +74,48 @@ fn step<I: Source>(
     }
 }
 
+/// The line for a net of so many actors.
+#[tactic(auto, unfolding(crate::specs::Texts::many_text))]
+fn many_text(alloc: Global, actors: u32) -> Result<Vec<u8>, AllocError>
+    ensures { IfOk result (λ line. line.items ≡ many_text actors) }
+{
+    Ok(format!(in alloc; "speedlight: {actors} actors, at most 256\n")?.into_bytes())
+}
+
+/// The refusal of a net of so many actors.
+fn too_many(alloc: Global, actors: u32) -> Refusal
+    ensures { TellsTooMany actors result }
+{
+    match many_text(alloc, actors) {
+        Ok(line) => Refusal::TooMany(line),
+        Err(_) => Refusal::Memory,
+    }
+}
+
+fn run<R: Threads + Wait + Sync, I: Source, G: Gate + Sync>(
+    rt: &R,
+    alloc: Global,
+    words: &[String],
+    trace: bool,
+    input: &mut I,
+    gate: &G,
+) -> Result<Served, Refusal>
+    requires { words_of (texts_of words.now) ≡ Some (command.Run trace) }
+    ensures { Serves (reading I.Source (texts_of words.now) input.old input.new) result }
+{
+    passes_are_choices();
+    input_bounds_are_small();
+    let accepted = match accept(alloc, words, input) {
+        Ok(accepted) => accepted,
+        Err(refusal) => return Err(refusal),
+    };
+    match serve_threads(rt, alloc, &accepted, trace, gate) {
+        Ok(served) => Ok(served),
+        Err(EmulFault::TooMany(actors)) => Err(too_many(alloc, actors)),
+        Err(EmulFault::Memory) => Err(Refusal::Memory),
+    }
+}
+
 fn balance<I: Source>(alloc: Global, words: &[String], input: &mut I) -> Result<Served, Refusal>
     requires { words_of (texts_of words.now) ≡ Some command.Balance }
     ensures { Serves (reading I.Source (texts_of words.now) input.old input.new) result }
@@ -109,7 +156,9 @@ fn sample(alloc: Global, number: u8, text: bool) -> Result<Served, Refusal>
     }
 }
 
+/// Serves each command but `run`.
 fn serve<I: Source>(alloc: Global, words: &[String], input: &mut I) -> Result<Served, Refusal>
+    requires { ¬ asks_for_run (words_of (texts_of words.now)) }
     ensures { Serves (reading I.Source (texts_of words.now) input.old input.new) result }
 {
     match words_of(alloc, words) {
@@ -117,7 +166,7 @@ fn serve<I: Source>(alloc: Global, words: &[String], input: &mut I) -> Result<Se
         Ok(Some(Command::Balance)) => balance(alloc, words, input),
         Ok(Some(Command::Routes)) => routes(alloc, words, input),
         Ok(Some(Command::Sample(number, text))) => sample(alloc, number, text),
-        Ok(Some(Command::Run(_))) => Err(Refusal::NotBuilt),
+        Ok(Some(Command::Run(_))) => unreachable!(),
         Ok(None) => Err(Refusal::Usage),
         Err(_) => Err(Refusal::Memory),
     }
@@ -176,19 +225,46 @@ fn report<O: Sink, E: Sink>(served: Served, out: &mut O, err: &mut E) -> Ended
     }
 }
 
-/// The top call: does what the words ask for, reads the input from `input` and writes the report
-/// to `out`, and refusals to `err`.
-pub fn speedlight<I: Source, O: Sink, E: Sink>(
+/// The top call for all words but those of `run`: does what they ask for, reads the input from
+/// `input` and writes the report to `out`, and refusals to `err`. It takes no handle, so it returns.
+pub fn one_thread<I: Source, O: Sink, E: Sink>(
     alloc: Global,
     words: &[String],
     input: &mut I,
     out: &mut O,
     err: &mut E,
 ) -> Ended
+    requires { ¬ asks_for_run (words_of (texts_of words.now)) }
     ensures { Ends (reading I.Source (texts_of words.now) input.old input.new) (writing O.Sink out.old out.new) (writing E.Sink err.old err.new) result }
 {
     match serve(alloc, words, input) {
         Ok(served) => report(served, out, err),
         Err(refusal) => refuse(&refusal, err),
+    }
+}
+
+/// The top call: does what the words ask for, reads the input from `input` and writes the report
+/// to `out`, and refusals to `err`. For `run` each actor has a thread of its own, and passes the
+/// gate before each of its rounds.
+pub fn speedlight<R: Threads + Wait + Sync, I: Source, O: Sink, E: Sink, G: Gate + Sync>(
+    rt: &R,
+    alloc: Global,
+    words: &[String],
+    input: &mut I,
+    out: &mut O,
+    err: &mut E,
+    gate: &G,
+) -> Ended
+    ensures { Ends (reading I.Source (texts_of words.now) input.old input.new) (writing O.Sink out.old out.new) (writing E.Sink err.old err.new) result }
+{
+    match words_of(alloc, words) {
+        Ok(Some(Command::Run(trace))) => {
+            match run(rt, alloc, words, trace, input, gate) {
+                Ok(served) => report(served, out, err),
+                Err(refusal) => refuse(&refusal, err),
+            }
+        }
+        Ok(_) => one_thread(alloc, words, input, out, err),
+        Err(_) => refuse(&Refusal::Memory, err),
     }
 }

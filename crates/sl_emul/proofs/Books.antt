@@ -18,7 +18,6 @@ use Rattle.sl_model.specs.Books.{schedule_of, numbers_of}
 use Rattle.sl_model.specs.Finished.{IsBookOfRun}
 use Rattle.sl_model.specs.Bound.{input_bound}
 use Rattle.sl_model.specs.declared.findings.Findings.{Findings}
-use Rattle.sl_model.specs.Findings.{findings}
 use Rattle.sl_model.specs.Cut.{cuts}
 use Rattle.sl_model.specs.Matching.{IsConsistentCut}
 use Rattle.sl_model.specs.Turns.{TakesTurns}
@@ -28,6 +27,7 @@ use Rattle.sl_proto.specs.Meaning.{IsRunnable}
 use Rattle.sl_proto.specs.Runs.{grown, Follows, IsBookOfTurns}
 use Rattle.sl_proto.specs.Standing.{case_of, world_of, run_at, StandsFor, FinishesTo}
 use Rattle.sl_emul.specs.Run.{CanRun, IsRunBook, AreNodesOf, IsOutcome}
+use Rattle.sl_emul.specs.Finishing.{IsFinishedFrom}
 
 -- What the laws of lower crates say.
 
@@ -45,7 +45,7 @@ runnable i lost can sound table = record {
   sound = sound;
   losses = table;
   short = can.short;
-  is_table = record { window = refl; count = refl; retries = refl; room = can.snapshot.some_ring };
+  is_table = record { window = refl; count = refl; retries = refl; few_bits = can.snapshot.few_bits; apart = can.snapshot.few_window; room = can.snapshot.some_ring };
 }
 
 -- the laws of books that grow by turns
@@ -54,6 +54,12 @@ Grows = (book : List BookEntry) (es fs : List Entry) → grown (grown book es) f
 
 abbrev pub Numbers : Type 0
 Numbers = (es : List Entry) → IsBookOfTurns (record { entries = grown [] es }) es
+
+-- the nodes that are kept are those of the last scene
+pub nodes-of : (i : Input) (lost : Losses) (u : Scene NodeState Msg) (book : List BookEntry) (front : ℕ) (found : Findings) (nodes : List NodeState)
+    → (done : IsFinishedFrom i lost u book front found nodes) → AreNodesOf i (world_of (case_of i lost) done.last) nodes
+nodes-of i lost u book front found nodes done =
+    subst (AreNodesOf i (world_of (case_of i lost) done.last)) (sym done.nodes_are) (record { each = done.stands.image.states_each; stand = done.stands.image.states })
 
 -- from the first scene v, whose book is empty, by the script to u and by finishing to t
 module _ (turns : TakesTurns) (i : Input) (lost : Losses) (v u t : Scene NodeState Msg) (grows : Grows) (numbers : Numbers) (empty : v.book ≡ [])
@@ -83,7 +89,7 @@ module _ (turns : TakesTurns) (i : Input) (lost : Losses) (v u t : Scene NodeSta
   rest-is : drop (length u.book) (schedule_of t.book) ≡ ends.turns
   rest-is = ap (λ n. drop n (schedule_of t.book)) count ∙ ap (drop (length first)) whole ∙ drop-append_seam first ends.turns
 
-  pub is-book : StandsFor i.net (case_of i lost) t → IsBookOfRun i lost t.book (length u.book)
+  is-book : StandsFor i.net (case_of i lost) t → IsBookOfRun i lost t.book (length u.book)
   is-book stands = record {
     count = count;
     script = front-is;
@@ -96,7 +102,7 @@ module _ (turns : TakesTurns) (i : Input) (lost : Losses) (v u t : Scene NodeSta
   reached : world_of (case_of i lost) u ≡ world (setup_of i) lost (expand i.net i.script)
   reached = ap (world (setup_of i) lost) script-book ∙ turns.kept (setup_of i) lost (start i.net) (expand i.net i.script)
 
-  pub is-run : Bounded → Consistent → IsNet i.net → StandsFor i.net (case_of i lost) t → IsRunBook i lost t.book (length u.book)
+  is-run : Bounded → Consistent → IsNet i.net → StandsFor i.net (case_of i lost) t → IsRunBook i lost t.book (length u.book)
   is-run bounded consistent net stands = record {
     run = is-book stands;
     within = subst (λ n. n ≤ input_bound i) (sym (ap length whole) ∙ length-map t.book (λ (e : BookEntry). (e.actor, e.choice)))
@@ -104,12 +110,13 @@ module _ (turns : TakesTurns) (i : Input) (lost : Losses) (v u t : Scene NodeSta
     ended = record { finished = ends.finished; cuts_consistent = λ k. consistent (setup_of i) lost (schedule_of t.book) k net };
   }
 
-  -- what is kept of the last scene
-  pub is-run-of : Bounded → Consistent → IsNet i.net → StandsFor i.net (case_of i lost) t → (book : List BookEntry) (front : ℕ) (found : Findings) (nodes : List NodeState)
-      → book ≡ t.book → front ≡ length u.book → found ≡ findings (setup_of i) lost (schedule_of t.book) → nodes ≡ t.states → IsOutcome i lost book front found nodes
-  is-run-of bounded consistent net stands book front found nodes book-is front-at told states =
-      subst (λ b. IsOutcome i lost b front found nodes) (sym book-is) (subst (λ n. IsOutcome i lost t.book n found nodes) (sym front-at) (record {
-        run = is-run bounded consistent net stands;
-        tells = told;
-        stand = subst (AreNodesOf i (world_of (case_of i lost) t)) (sym states) (record { each = stands.image.states_each; stand = stands.image.states });
-      }))
+-- what is kept of a run that came to u by the script
+pub is-run-of : TakesTurns → (i : Input) (lost : Losses) (v u : Scene NodeState Msg) → Grows → Numbers → v.book ≡ []
+    → Follows (setup_of i) lost (run_at (case_of i lost) v) (expand i.net i.script) (run_at (case_of i lost) u) → Bounded → Consistent → IsNet i.net
+    → (book : List BookEntry) (front : ℕ) (found : Findings) (nodes : List NodeState) → IsFinishedFrom i lost u book front found nodes → IsOutcome i lost book front found nodes
+is-run-of turns i lost v u grows numbers empty script bounded consistent net book front found nodes done =
+    subst (λ b. IsOutcome i lost b front found nodes) (sym done.book_is) (subst (λ n. IsOutcome i lost done.last.book n found nodes) (sym done.front_is) (record {
+      run = is-run turns i lost v u done.last grows numbers empty script done.finishing bounded consistent net done.stands;
+      tells = done.tells;
+      stand = nodes-of i lost u book front found nodes done;
+    }))

@@ -9,6 +9,7 @@ use Rattle.sl_layout.specs.Wiring.{plan_of}
 use Rattle.sl_net.specs.Input.{Input}
 use Rattle.sl_wire.specs.declared.message.Msg.{Msg}
 use Rattle.sl_model.specs.Losses.{loss_on}
+use Rattle.sl_model.specs.World.{Entry}
 use Rattle.sl_model.specs.Books.{schedule_of, numbers_of}
 use Rattle.sl_world.specs.Scene.{Scene}
 use Rattle.sl_merge.specs.Lamport.{lamport_numbers}
@@ -17,14 +18,19 @@ use Rattle.sl_merge.specs.Ended.{StandsAsRun}
 use Rattle.sl_threads.specs.Threads.{ArePlanned, AreAtRest}
 use Rattle.sl_proto.specs.Nodes.{NodeState, node_rules}
 use Rattle.sl_proto.specs.Built.{first_states}
-use Rattle.sl_emul.specs.Threaded.{plans_of, clock_of, IsThreadedFront}
-use Rattle.sl_emul.proofs.Plans.{no-sweeps, no-resends}
+use Rattle.sl_emul.specs.Threaded.{plans_of}
+
+-- the numbers that clocks beside the input's nodes show
+abbrev clock_of : Input → List Entry → List ℕ
+clock_of i es = lamport_numbers node_rules (plan_of i.net) (first_states i) (map (loss_on i) (link_numbers i.net)) es
 
 pub record HasCome (i : Input) (v : Scene NodeState Msg) : Type 0 where
   pub run : StandsAsRun node_rules (plan_of i.net) (first_states i) (map (loss_on i) (link_numbers i.net)) v
   pub plan : v.plan ≡ plan_of i.net
   pub short : length v.book < 2 ^ 39
-  pub front : IsThreadedFront i v.book
+  pub planned : ArePlanned (plans_of i.net) v.book
+  pub order : IsAscending v.book
+  pub numbers : numbers_of v.book ≡ clock_of i (schedule_of v.book)
   pub rest : length v.book < 2 ^ 27 → AreAtRest node_rules (plan_of i.net).ins (plans_of i.net) v.states
 
 module _ (i : Input) (plan : Plan) (states : List NodeState) (ls : List (Option Loss)) (plans : List (List ℕ))
@@ -39,11 +45,6 @@ module _ (i : Input) (plan : Plan) (states : List NodeState) (ls : List (Option 
       ∙ ap (λ (s : List NodeState). lamport_numbers node_rules (plan_of i.net) s ls (schedule_of book)) states-are
       ∙ ap (λ (l : List (Option Loss)). lamport_numbers node_rules (plan_of i.net) (first_states i) l (schedule_of book)) losses-are
 
-  front-in-words : (book : List BookEntry) → ArePlanned plans book → IsAscending book → lamport_numbers node_rules plan states ls (schedule_of book) ≡ numbers_of book → IsThreadedFront i book
-  front-in-words book planned ascending numbered =
-      let by_plans : ArePlanned (plans_of i.net) book = subst (λ (p : List (List ℕ)). ArePlanned p book) plans-are planned in
-      record { no_sweep = no-sweeps i.net book by_plans; no_resend = no-resends i.net book by_plans; order = ascending; numbers = clock-in-words book numbered }
-
   rest-in-words : (v : Scene NodeState Msg) → (length v.book < 2 ^ 27 → AreAtRest node_rules plan.ins plans v.states) → length v.book < 2 ^ 27 → AreAtRest node_rules (plan_of i.net).ins (plans_of i.net) v.states
   rest-in-words v h few = subst (λ (p : Plan). AreAtRest node_rules p.ins (plans_of i.net) v.states) plan-is (subst (λ (p : List (List ℕ)). AreAtRest node_rules plan.ins p v.states) plans-are (h few))
 
@@ -55,7 +56,9 @@ module _ (i : Input) (plan : Plan) (states : List NodeState) (ls : List (Option 
     run = run-in-words (scene w) stood;
     plan = same ∙ plan-is;
     short = few;
-    front = front-in-words (scene w).book planned ascending numbered;
+    planned = subst (λ (p : List (List ℕ)). ArePlanned p (scene w).book) plans-are planned;
+    order = ascending;
+    numbers = clock-in-words (scene w).book numbered;
     rest = rest-in-words (scene w) at_rest;
   }
   has-come (Err e) scene stood numbered ascending same few planned at_rest = tt

@@ -11,6 +11,7 @@ use Rattle.sl_layout.specs.declared.actor.Sort.TheVariants.{FromHost}
 use Rattle.sl_layout.specs.Net.{Net, actor_of, links_into, links_out, action_choice, nobody}
 use Rattle.sl_layout.specs.Wiring.{plan_of}
 use Rattle.sl_wire.specs.declared.message.Msg.{Msg}
+use Rattle.sl_wire.specs.Sizes.{sizes_of}
 use Rattle.sl_model.specs.declared.message.Message.TheVariants.{Host as HostMsg}
 use Rattle.sl_model.specs.declared.message.Step.{Step}
 use Rattle.sl_model.specs.History.{history, taken}
@@ -35,7 +36,7 @@ none-some : {A : Type 0} (x : A) → None ≡ Some x → ⊥
 none-some x e = absurd cc
 
 module _ (x : Case) (v : Scene NodeState Msg) (stands : StandsFor x.setup.net x v) (few : length v.book < 2 ^ 40)
-    (follow : FollowHistories x.setup x.lost x.table.ring (NodeStands x.setup x.table) node_rules)
+    (follow : FollowHistories x.setup x.lost (sizes_of x.table) (NodeStands x.setup x.table) node_rules)
     (rest : AreAtRest node_rules (plan_of x.setup.net).ins (plans_of x.setup.net) v.states) where
   abbrev net : Net
   net = x.setup.net

@@ -14,16 +14,15 @@ use Rattle.sl_model.specs.End.{IsFin}
 use Rattle.sl_model.specs.Books.{schedule_of}
 use Rattle.sl_model.specs.Bound.{bound_of}
 use Rattle.sl_model.specs.Sweeps.{sweeps_in}
-use Rattle.sl_model.specs.Findings.{findings}
 use Rattle.sl_world.specs.Scene.{Scene, last_number}
 use Rattle.sl_world.specs.Legal.{numbered_from}
 use Rattle.sl_world.proofs.BookLaws.{schedule_of-numbered_from}
 use Rattle.sl_proto.specs.Nodes.{NodeState}
 use Rattle.sl_proto.specs.Runs.{grown}
 use Rattle.sl_proto.specs.Standing.{case_of, world_of, StandsFor, FinishesTo}
-use Rattle.sl_emul.specs.Run.{AreNodesOf}
+use Rattle.sl_emul.specs.Finishing.{IsFinishedFrom}
 use Rattle.sl_emul.specs.Threaded.{HasRested, IsThreadedFront, IsThreadedBook, IsThreadedOutcome}
-use Rattle.sl_emul.proofs.Books.{Consistent}
+use Rattle.sl_emul.proofs.Books.{Consistent, nodes-of}
 
 -- what the law of bounded runs says
 abbrev pub RunsBounded : Type 0
@@ -64,7 +63,7 @@ module _ (i : Input) (lost : Losses) (u t : Scene NodeState Msg) (ends : Finishe
       let n : length t.book ≡ length (u.book ++ numbered_from (last_number u.book) ends.turns) = ap (λ (b : List BookEntry). length b) whole-book in
       omega (arith, n, length-append u.book (numbered_from (last_number u.book) ends.turns))
 
-  bounded : RunsBounded → IsNet i.net → StandsFor i.net (case_of i lost) u → IsThreadedFront i u.book → length t.book ≤ bound_of (setup_of i) 0
+  bounded : RunsBounded → IsNet i.net → StandsFor i.net (case_of i lost) u → IsThreadedFront i lost u.book → length t.book ≤ bound_of (setup_of i) 0
   bounded bound net stands front =
       let all : length (kept (setup_of i) lost (schedule_of u.book) ++ ends.turns) ≤ bound_of (setup_of i) (sweeps_in i.net (schedule_of u.book)) = bound (setup_of i) lost (schedule_of u.book) ends.turns net ends.finishes in
       let same : kept (setup_of i) lost (schedule_of u.book) ++ ends.turns ≡ schedule_of t.book = ap (λ (es : List Entry). es ++ ends.turns) (kept-legal (setup_of i) lost (start i.net) (schedule_of u.book) stands.legal) ∙ sym whole in
@@ -72,11 +71,11 @@ module _ (i : Input) (lost : Losses) (u t : Scene NodeState Msg) (ends : Finishe
       (subst (λ n. length (kept (setup_of i) lost (schedule_of u.book) ++ ends.turns) ≤ bound_of (setup_of i) n) front.no_sweep all)
 
   module _ (bound : RunsBounded) (consistent : Consistent) (net : IsNet i.net) (first : StandsFor i.net (case_of i lost) u) (stands : StandsFor i.net (case_of i lost) t)
-      (front : IsThreadedFront i u.book) (rest : length u.book < 2 ^ 27 → HasRested (setup_of i) (world_of (case_of i lost) u)) where
-    pub is-book : IsThreadedBook i lost t.book (length u.book)
+      (front : IsThreadedFront i lost u.book) (rest : length u.book < 2 ^ 27 → HasRested (setup_of i) (world_of (case_of i lost) u)) where
+    is-book : IsThreadedBook i lost t.book (length u.book)
     is-book = record {
       within_book = part;
-      threads = subst (IsThreadedFront i) (sym front-book) front;
+      threads = subst (IsThreadedFront i lost) (sym front-book) front;
       rested = λ small. subst (λ (es : List Entry). HasRested (setup_of i) (world (setup_of i) lost es)) (sym front-is)
           (rest (between (length u.book) (length t.book) (bound_of (setup_of i) 0) (2 ^ 27) part (bounded bound net first front) small));
       finishing = subst (λ (es : List Entry). IsFin (setup_of i) lost (world (setup_of i) lost es) (drop (length u.book) (schedule_of t.book))) (sym front-is)
@@ -87,12 +86,13 @@ module _ (i : Input) (lost : Losses) (u t : Scene NodeState Msg) (ends : Finishe
       ended = record { finished = ends.finished; cuts_consistent = λ k. consistent (setup_of i) lost (schedule_of t.book) k net };
     }
 
-    -- what is kept of the last scene
-    pub is-outcome : (book : List BookEntry) (n : ℕ) (found : Findings) (nodes : List NodeState) → book ≡ t.book → n ≡ length u.book
-        → found ≡ findings (setup_of i) lost (schedule_of t.book) → nodes ≡ t.states → IsThreadedOutcome i lost book n found nodes
-    is-outcome book n found nodes book-is front-at told states =
-        subst (λ b. IsThreadedOutcome i lost b n found nodes) (sym book-is) (subst (λ k. IsThreadedOutcome i lost t.book k found nodes) (sym front-at) (record {
-          run = is-book;
-          tells = told;
-          stand = subst (AreNodesOf i (world_of (case_of i lost) t)) (sym states) (record { each = stands.image.states_each; stand = stands.image.states });
-        }))
+-- what is kept of a run that came to u in threads
+pub is-outcome : (i : Input) (lost : Losses) (u : Scene NodeState Msg) (book : List BookEntry) (front : ℕ) (found : Findings) (nodes : List NodeState)
+    → IsFinishedFrom i lost u book front found nodes → RunsBounded → Consistent → IsNet i.net → StandsFor i.net (case_of i lost) u → IsThreadedFront i lost u.book
+    → (length u.book < 2 ^ 27 → HasRested (setup_of i) (world_of (case_of i lost) u)) → IsThreadedOutcome i lost book front found nodes
+is-outcome i lost u book front found nodes done bound consistent net first threads rest =
+    subst (λ b. IsThreadedOutcome i lost b front found nodes) (sym done.book_is) (subst (λ n. IsThreadedOutcome i lost done.last.book n found nodes) (sym done.front_is) (record {
+      run = is-book i lost u done.last done.finishing bound consistent net first done.stands threads rest;
+      tells = done.tells;
+      stand = nodes-of i lost u book front found nodes done;
+    }))

@@ -2,9 +2,11 @@
 #![tactic(auto)]
 
 mod fault;
+mod run;
 mod stepped;
 mod threaded;
 
 pub use fault::EmulFault;
-pub use stepped::{Run, first_world, run_stepped};
-pub use threaded::{run_threaded, threaded_world};
+pub use run::Run;
+pub use stepped::{first_world, run_stepped};
+pub use threaded::{plans_of, run_threaded, threaded_world};

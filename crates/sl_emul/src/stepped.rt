@@ -7,28 +7,17 @@ ghost use Rattle.sl_proto.specs.Nodes.{node_state};
 ghost use Rattle.sl_proto.specs.Standing.{case_of, StandsFor, HasObserver};
 ghost use Rattle.sl_emul.specs.Run.{CanRun, IsOutcome};
 
-use sl_machine::{Book, Memory};
+use crate::run::{Run, finish_run};
+use sl_machine::Memory;
 use sl_model::{
-    Findings, cuts_are_consistent, inputs_are_bounded, inputs_spare_reliable_links,
-    worlds_take_turns,
+    cuts_are_consistent, inputs_are_bounded, inputs_spare_reliable_links, worlds_take_turns,
 };
 use sl_net::Input;
 use sl_proto::{
-    Node, Taker, books_grow_by_turns, build_world, drive_script, findings, finish, make_losses,
-    nodes_stand_at_first,
+    Node, books_grow_by_turns, build_world, drive_script, make_losses, nodes_stand_at_first,
 };
 use sl_world::World;
 use std::alloc::Global;
-
-/// What a run leaves: its book, how many of its entries come before finishing, the findings, and
-/// the nodes, one per actor in order.
-#[derive(Drop)]
-pub struct Run {
-    pub book: Book,
-    pub front: u64,
-    pub findings: Findings,
-    pub nodes: Vec<Node>,
-}
 
 /// The world of an input's nodes before the first turn. It stands for that of the empty book.
 pub fn first_world(alloc: Global, input: &Input) -> Result<World<Node>, Memory>
@@ -56,18 +45,5 @@ pub fn run_stepped(alloc: Global, input: &Input) -> Result<Run, Memory>
     books_grow_by_turns();
     let mut world = first_world(alloc, input)?;
     drive_script(alloc, &input.net, &mut world, input.script.as_slice())?;
-    let front = world.entries();
-    finish(alloc, &input.net, &mut world)?;
-    // A book of 2^40 entries would fill any memory.
-    if world.entries() >= 1 << 40 {
-        return Err(Memory);
-    }
-    let findings = findings(alloc, input, &world)?;
-    let (nodes, book) = world.into_book();
-    Ok(Run {
-        book,
-        front,
-        findings,
-        nodes,
-    })
+    finish_run(alloc, input, world)
 }

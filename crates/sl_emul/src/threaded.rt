@@ -11,14 +11,16 @@ ghost use Rattle.sl_emul.specs.Run.{CanRun};
 ghost use Rattle.sl_emul.specs.Threaded.{tried_actions, tried_by, plans_of, HasRested, IsThreadedFront, IsThreadedOutcome};
 
 use crate::fault::EmulFault;
-use crate::stepped::Run;
+use crate::run::{Run, finish_run};
 use sl_actor::Gate;
 use sl_machine::Memory;
-use sl_model::{cuts_are_consistent, inputs_spare_reliable_links, runs_are_bounded};
-use sl_net::{ActorId, Input, Net};
+use sl_model::{
+    cuts_are_consistent, inputs_spare_reliable_links, runs_are_bounded, worlds_take_turns,
+};
+use sl_net::{ActorId, Input, Net, nets_have_ways};
 use sl_proto::{
-    Node, Taker, build_nodes, findings, finish, make_losses, nodes_follow,
-    nodes_follow_their_books, nodes_stand_at_first, nodes_stand_for_histories, nodes_start,
+    Node, build_nodes, make_losses, nodes_follow, nodes_follow_their_books, nodes_stand_at_first,
+    nodes_stand_for_histories, nodes_start,
 };
 use sl_threads::run_machines;
 use sl_world::{World, every_schedule};
@@ -59,8 +61,8 @@ fn tried_by(alloc: Global, net: &Net, actor: u32) -> Result<Vec<u32>, Memory>
     Ok(plan)
 }
 
-/// What each actor tries in each round.
-fn plans_of(alloc: Global, net: &Net) -> Result<Vec<Vec<u32>>, Memory>
+/// What each actor tries in each round of a run in threads, one plan per actor in order.
+pub fn plans_of(alloc: Global, net: &Net) -> Result<Vec<Vec<u32>>, Memory>
     ensures { IfOk result (λ plans. map (λ p. p.items) plans.items ≡ plans_of net.now) }
 {
     let mut plans = Vec::new(alloc);
@@ -84,11 +86,13 @@ pub fn threaded_world<R: Threads + Wait + Sync, G: Gate + Sync>(
     ensures stands { IfOk result (λ w. StandsFor input.now.net (case_of input.now (losses input.now)) (scene w)) }
     ensures observer { IfOk result (λ w. HasObserver (scene w)) }
     ensures plan { IfOk result (λ w. (scene w).plan ≡ plan_of input.now.net) }
-    ensures front { IfOk result (λ w. IsThreadedFront input.now (scene w).book) }
+    ensures front { IfOk result (λ w. IsThreadedFront input.now (losses input.now) (scene w).book) }
     ensures rest { IfOk result (λ w. length (scene w).book < 2 ^ 27
         → HasRested (setup_of input.now) (world_of (case_of input.now (losses input.now)) (scene w))) }
 {
     inputs_spare_reliable_links();
+    nets_have_ways();
+    worlds_take_turns();
     nodes_start();
     nodes_follow();
     nodes_stand_at_first();
@@ -125,21 +129,8 @@ fn run_few<R: Threads + Wait + Sync, G: Gate + Sync>(
 {
     runs_are_bounded();
     cuts_are_consistent();
-    let mut world = threaded_world(rt, alloc, input, gate)?;
-    let front = world.entries();
-    finish(alloc, &input.net, &mut world)?;
-    // A book of 2^40 entries would fill any memory.
-    if world.entries() >= 1 << 40 {
-        return Err(Memory);
-    }
-    let findings = findings(alloc, input, &world)?;
-    let (nodes, book) = world.into_book();
-    Ok(Run {
-        book,
-        front,
-        findings,
-        nodes,
-    })
+    let world = threaded_world(rt, alloc, input, gate)?;
+    finish_run(alloc, input, world)
 }
 
 /// Runs an input on the nodes of its net, each in a thread of its own until none moves any more,

@@ -1,10 +1,11 @@
-mod GetLemmas
+-- Others use GetLemmas (places of lists), ForgettingLemmas (what stands without the clocks runs as before) and NumberLemmas (machines with clocks).
+pub mod GetLemmas
 mod LineLemmas
 mod WeavingLemmas
 mod PartLemmas
-mod ForgettingLemmas
+pub mod ForgettingLemmas
 mod BoundLemmas
-mod NumberLemmas
+pub mod NumberLemmas
 mod RunLemmas
 mod BookLemmas
 mod CountLemmas

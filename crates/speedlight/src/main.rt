@@ -1,6 +1,7 @@
 // The program: the top call over standard input, output and error.
 #![tactic(auto)]
 
+use sl_actor::FreeGate;
 use sl_app::{Refusal, refuse, speedlight};
 use sl_io::{StdSink, StdSource};
 use std::alloc::{AllocError, Global};
@@ -32,7 +33,15 @@ fn main(rt: HostRuntime) -> ExitCode {
     let mut out = StdSink::new(rt.stdout());
     let mut err = StdSink::new(rt.stderr());
     let ended = match read_words(rt.alloc(), env::args(&rt)) {
-        Ok(words) => speedlight(rt.alloc(), &words, &mut input, &mut out, &mut err),
+        Ok(words) => speedlight(
+            &rt,
+            rt.alloc(),
+            &words,
+            &mut input,
+            &mut out,
+            &mut err,
+            &FreeGate,
+        ),
         Err(_) => refuse(&Refusal::Memory, &mut err),
     };
     ExitCode::from(ended.status)

@@ -4,7 +4,7 @@ ghost use Rattle.sl_actor.specs.Held.{held};
 ghost use Rattle.world_tests.specs.Plans.{in_line};
 
 use crate::relay::{Relay, link};
-use sl_actor::{Actor, FreeGate, Moved, Rest, make_actors};
+use sl_actor::{Actor, FreeGate, Gate, Moved, Rest, make_actors};
 use sl_loss::Loss;
 use sl_machine::{Memory, Wiring};
 use std::alloc::{AllocError, Global};
@@ -12,7 +12,7 @@ use std::sync::Wait;
 use std::test::Fail;
 use std::thread;
 
-fn line_wiring(alloc: Global) -> Result<Wiring, AllocError>
+pub fn line_wiring(alloc: Global) -> Result<Wiring, AllocError>
     ensures { IfOk result (λ w. w ≡ in_line) }
 {
     Ok(Wiring {
@@ -24,7 +24,7 @@ fn line_wiring(alloc: Global) -> Result<Wiring, AllocError>
 }
 
 /// The first host has three tokens, and the relays' link loses these puts.
-fn actors_in_line(alloc: Global, drops: &[u64]) -> Result<Vec<Actor<Relay>>, Memory> {
+pub fn actors_in_line(alloc: Global, drops: &[u64]) -> Result<Vec<Actor<Relay>>, Memory> {
     let loss = Loss::new(alloc, 1, 1, 0, drops)?;
     let wiring = line_wiring(alloc)?;
     let machines = vec![in alloc;
@@ -45,7 +45,7 @@ fn choices_of(actor: &Actor<Relay>) -> u32
 }
 
 /// One turn by each choice of an actor. Whether anything moved.
-fn turns_of<R: Wait>(rt: &R, actor: &mut Actor<Relay>) -> Result<bool, Memory> {
+pub fn turns_of<R: Wait>(rt: &R, actor: &mut Actor<Relay>) -> Result<bool, Memory> {
     let mut moved = false;
     let choices = choices_of(actor);
     for choice in 0..choices {
@@ -110,18 +110,22 @@ fn lost_by(actors: Vec<Actor<Relay>>) -> (u64, bool) {
 }
 
 /// Runs an actor over all its choices.
-fn run_all<R: Wait>(
+pub fn run_all<R: Wait, G: Gate>(
     rt: &R,
     alloc: Global,
     actor: &mut Actor<Relay>,
     steps: u64,
-) -> Result<Rest, Memory> {
+    quiet: u64,
+    gate: &G,
+) -> Result<Rest, Memory>
+    requires { 1 ≤ quiet }
+{
     let mut plan = Vec::new(alloc);
     let choices = choices_of(actor);
     for choice in 0..choices {
         plan.push(choice)?;
     }
-    actor.run(rt, plan.as_slice(), steps, 2, &FreeGate)
+    actor.run(rt, plan.as_slice(), steps, quiet, gate)
 }
 
 /// Runs of the first host: their steps, and how they end.
@@ -140,7 +144,7 @@ fn first_wrong<R: Wait>(
 ) -> Result<Option<usize>, Memory> {
     for i in 0..runs.len() {
         let (steps, rest) = runs[i];
-        if run_all(rt, alloc, actor, steps)? != rest {
+        if run_all(rt, alloc, actor, steps, 2, &FreeGate)? != rest {
             return Ok(Some(i));
         }
     }
@@ -161,7 +165,7 @@ fn an_actor_rests(rt: HostRuntime) -> Result<(), Fail> {
 }
 
 fn run_one<R: Wait>(rt: &R, alloc: Global, mut actor: Actor<Relay>) -> Actor<Relay> {
-    let _ = run_all(rt, alloc, &mut actor, 1000);
+    let _ = run_all(rt, alloc, &mut actor, 1000, 2, &FreeGate);
     actor
 }
 

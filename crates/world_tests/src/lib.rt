@@ -10,4 +10,6 @@ mod merge;
 #[cfg(test)]
 mod relay;
 #[cfg(test)]
+mod rounds;
+#[cfg(test)]
 mod world;

@@ -10,7 +10,7 @@ use sl_world::{Turn, World, every_schedule};
 use std::alloc::{AllocError, Global};
 use std::test::Fail;
 
-fn ring_wiring(alloc: Global) -> Result<Wiring, AllocError>
+pub fn ring_wiring(alloc: Global) -> Result<Wiring, AllocError>
     ensures { IfOk result (λ w. w ≡ ring) }
 {
     Ok(Wiring {

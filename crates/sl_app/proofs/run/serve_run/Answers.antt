@@ -1,19 +1,11 @@
-use Rattle.std.proofs.Common.{sym, subst, ap, rules}
-use Rattle.std.specs.List.{All}
-use Rattle.sl_net.specs.Input.{Input}
-use Rattle.sl_layout.specs.Net.{Net}
 use Rattle.sl_model.specs.Losses.{losses}
-use Rattle.sl_model.specs.Setup.{setup_of}
-use Rattle.sl_report.specs.TraceText.{IsEntryOf}
-use borrow.Author.Tests.{tests}
+use Rattle.sl_emul.specs.Run.{IsRunBook}
+use Rattle.sl_app.proofs.RunLemmas.{report-of}
 use Rattle.sl_app.proofs.run.serve_run.Goals as goal
 
-pub add_trace_if-requires : goal.add_trace_if-requires
-add_trace_if-requires c =
-    let i = c.args.input.now in
-    let book = c.in_ok-run.run'.book.entries in
-    subst (λ (net : Net). All (IsEntryOf net) book) (sym (ap (λ (i : Input). i.net) c.input.view_is))
-    (c.legal_books_are_choices.ensures (setup_of i) (losses i) book c.in_ok-run.ensures.run.run.legal)
-
 pub returns : goal.returns
-returns c = search (tests, rules)
+returns c =
+    let i = c.args.input.now in
+    let run = c.in_ok-run.ensures in
+    let told = c.report_run.ensures in
+    report-of IsRunBook i (losses i) c.args.trace _ _ _ run.run run.stand c.report_run.result told.book told.front told.nodes told.text

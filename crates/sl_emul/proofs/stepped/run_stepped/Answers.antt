@@ -10,6 +10,7 @@ use Rattle.sl_world.specs.World.{scene}
 use Rattle.sl_proto.specs.Script.{IsScriptEntry}
 use Rattle.sl_proto.specs.Runs.{Follows}
 use Rattle.sl_proto.specs.Standing.{case_of, run_at, StandsFor}
+use Rattle.std.proofs.lemmas.Result.{IfOk-weaker}
 use Rattle.sl_emul.proofs.Books.{is-run-of}
 use Rattle.sl_emul.proofs.stepped.run_stepped.Goals as goal
 
@@ -21,13 +22,13 @@ drive_script-requires-clause-entries c =
     subst (All (IsScriptEntry c.input.inside.net)) (sym script)
     (subst (λ (net : Net). All (IsScriptEntry net) i.script) (sym net) c.requires.script)
 
-pub findings-requires-clause-stands : goal.findings-requires-clause-stands
-findings-requires-clause-stands c =
+pub finish_run-requires-clause-stands : goal.finish_run-requires-clause-stands
+finish_run-requires-clause-stands c =
     let i = c.args.input.now in
     let x = case_of i (losses i) in
     let net : c.input.inside.net ≡ i.net = ap (λ (i : Input). i.net) c.input.view_is in
     let first : StandsFor c.input.inside.net x (scene c.in_ok-world.world) = subst (λ (net : Net). StandsFor net x (scene c.in_ok-world.world)) (sym net) c.in_ok-world.ensures.stands in
-    (losses i, subst (λ (net : Net). StandsFor net x (scene c.finish.new.taker)) net (c.finish.ensures.stands x (c.drive_script.ensures.stands x first)))
+    subst (λ (net : Net). StandsFor net x (scene c.drive_script.new.taker)) net (c.drive_script.ensures.stands x first)
 
 pub returns : goal.returns
 returns c =
@@ -35,15 +36,13 @@ returns c =
     let x = case_of i (losses i) in
     let v = scene c.in_ok-world.world in
     let u = scene c.drive_script.new.taker in
-    let t = scene c.finish.new.taker in
     let net : c.input.inside.net ≡ i.net = ap (λ (i : Input). i.net) c.input.view_is in
     let script : c.as_slice.result.now ≡ i.script = c.as_slice.ensures.value ∙ ap (λ (i : Input). i.script) c.input.view_is in
     let first : StandsFor c.input.inside.net x v = subst (λ (net : Net). StandsFor net x v) (sym net) c.in_ok-world.ensures.stands in
-    let then = c.drive_script.ensures.stands x first in
-    let last : StandsFor i.net x t = subst (λ (net : Net). StandsFor net x t) net (c.finish.ensures.stands x then) in
     let follows : Follows (setup_of i) (losses i) (run_at x v) (expand i.net i.script) (run_at x u) =
     subst (λ (s : List Script1). Follows (setup_of i) (losses i) (run_at x v) (expand i.net s) (run_at x u)) script
     (subst (λ (net : Net). Follows (setup_of i) (losses i) (run_at x v) (expand net c.as_slice.result.now) (run_at x u)) net (c.in_ok-drive_script.ensures.follows x first)) in
-    let ends = c.in_ok-finish.ensures.finishes x c.requires.snapshot.some_window then in
-    is-run-of c.worlds_take_turns.ensures i (losses i) v u t c.books_grow_by_turns.ensures.append c.books_grow_by_turns.ensures.numbers c.in_ok-world.ensures.book follows ends c.inputs_are_bounded.ensures c.cuts_are_consistent.ensures c.requires.net last
-    c.into_book-nodes.result.1.entries c.entries-front.result c.in_ok-findings.findings _ c.into_book-nodes.ensures.book c.entries-front.ensures (c.in_ok-findings.ensures (losses i) last ends.finished) c.into_book-nodes.ensures.machines
+    IfOk-weaker c.finish_run.result _ _
+    (λ r done. is-run-of c.worlds_take_turns.ensures i (losses i) v u c.books_grow_by_turns.ensures.append c.books_grow_by_turns.ensures.numbers c.in_ok-world.ensures.book follows
+    c.inputs_are_bounded.ensures c.cuts_are_consistent.ensures c.requires.net _ _ _ _ done)
+    c.finish_run.ensures

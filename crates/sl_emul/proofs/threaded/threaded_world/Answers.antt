@@ -1,4 +1,4 @@
-use Rattle.std.proofs.Common.{◌≡◌, ℕ, Vec, Global, length, map, sym, subst, ap, ◌∙◌, arith, rules}
+use Rattle.std.proofs.Common.{◌≡◌, ℕ, ◌^◌, ◌<◌, Vec, Global, length, map, sym, subst, ap, ◌∙◌, arith, rules}
 use Rattle.std.proofs.lemmas.List.{length-map}
 use Rattle.std.proofs.lemmas.Result.{IfOk-weaker}
 use Rattle.sl_machine.specs.Plan.{Plan, IsSound}
@@ -16,7 +16,8 @@ use Rattle.sl_proto.specs.Nodes.{node_state, node_counts}
 use Rattle.sl_proto.specs.Standing.{case_of, scene_of, AreNewLosses}
 use Rattle.sl_emul.specs.Threaded.{plans_of}
 use Rattle.sl_emul.proofs.Books.{runnable}
-use Rattle.sl_emul.proofs.Plans.{plans-fit}
+use Rattle.sl_emul.proofs.Plans.{plans-fit, no-sweeps, no-resends}
+use Rattle.sl_emul.proofs.Clocks.{clocks-are}
 use Rattle.sl_emul.proofs.Come.{has-come}
 use Rattle.sl_emul.proofs.Standing.{below40, first-nodes, stands-by-run, has-observer}
 use Rattle.sl_emul.proofs.Rested.{rested}
@@ -69,7 +70,13 @@ returns g c =
       observer = IfOk-weaker c.run_machines.result _ _ (λ w h. has-observer x f (scene w) only h.run
           (c.nodes_follow_their_books.ensures.observer (scene_of f) (schedule_of (scene w).book) (c.nodes_stand_at_first.ensures.observer i ls c.requires.can.net))) come;
       plan = IfOk-weaker c.run_machines.result _ _ (λ w h. h.plan) come;
-      front = IfOk-weaker c.run_machines.result _ _ (λ w h. h.front) come;
+      front = IfOk-weaker c.run_machines.result _ _ (λ w h. record {
+        no_sweep = no-sweeps i.net (scene w).book h.planned;
+        no_resend = no-resends i.net (scene w).book h.planned;
+        order = h.order;
+        numbers = h.numbers ∙ clocks-are x f (c.nets_have_ways.ensures i.net) c.worlds_take_turns.ensures law.image (schedule_of (scene w).book) h.run.world
+            (subst (λ (n : ℕ). n < 2 ^ 40) (sym (length-map (scene w).book _)) (below40 _ h.short)) (stands-by-run x f (scene w) only h.run law.image law.only (below40 _ h.short)).legal h.run.run;
+      }) come;
       rest = IfOk-weaker c.run_machines.result _ _ (λ w h few. rested x (scene w) (stands-by-run x f (scene w) only h.run law.image law.only (below40 _ h.short)) (below40 _ h.short)
           (c.nodes_follow.ensures (setup_of i) i.snapshot (losses i) can) (h.rest few)) come;
     }

@@ -1,0 +1,9 @@
+// Tests of the command run, with a thread for each actor.
+#![tactic(auto)]
+
+#[cfg(test)]
+mod call;
+#[cfg(test)]
+mod meeting;
+#[cfg(test)]
+mod runs;

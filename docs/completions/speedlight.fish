@@ -5,6 +5,7 @@ complete -c speedlight -n __fish_use_subcommand -a run -d 'run an input with a t
 complete -c speedlight -n __fish_use_subcommand -a routes -d 'print the routes of an input'
 complete -c speedlight -n __fish_use_subcommand -a sample -d 'run a sample input'
 complete -c speedlight -n __fish_use_subcommand -a balance -d 'show how evenly cables are used at consistent cuts'
+complete -c speedlight -n __fish_use_subcommand -a poll -d 'show what reading one unit after the other would show'
 complete -c speedlight -n '__fish_seen_subcommand_from step run' -l trace -d 'print the turns after the report'
 complete -c speedlight -n '__fish_seen_subcommand_from sample' -l input -d 'print the text of the input'
 complete -c speedlight -n '__fish_seen_subcommand_from sample' -a '(seq 1 64)'

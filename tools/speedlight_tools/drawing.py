@@ -9,6 +9,7 @@ from html import escape
 ROW, TOP = 17, 104
 INK, FAINT, GREY, PAPER = "#222222", "#c4c4c4", "#8a8a8a", "#ffffff"
 DATA, FLIGHT, SPREAD, COLLECT, FAULT = "#1f5fbf", "#7a2ec2", "#e08a00", "#b9b9b9", "#d01c1c"
+POLL = "#00727d"
 COLOURS = {"data": DATA, "frame": DATA, "begin": SPREAD, "init": SPREAD, "probe": SPREAD}
 # The colour of the cut and the shade above it, by the verdict.
 LOOKS = {
@@ -23,10 +24,11 @@ MONO = "DejaVu Sans Mono, Consolas, monospace"
 class Drawing:
     """The picture of a world's turns with the cut of one snapshot.
 
-    `actors` are those that have a column, `turns` the first and the last place that has a row.
+    `actors` are those that have a column, `turns` the first and the last place that has a row. `pace` is where the
+    units are polled: the first after so many turns, each further one after so many more.
     """
 
-    def __init__(self, world, verdict, actors, turns):
+    def __init__(self, world, verdict, actors, turns, pace=None):
         self.world, self.verdict, self.snapshot = world, verdict, verdict.number
         net = world.net
         self.first, self.last = turns
@@ -37,6 +39,8 @@ class Drawing:
         self.cut_colour = self.colour if verdict.verdict == "consistent" else "#6a6a6a"
         self.cuts = {u: world.crossing(u, self.snapshot) for u in net.units}
         self.skips, self.late = world.skips(self.snapshot), world.late(self.snapshot)
+        self.pace, self.reads = pace, polled(world, pace) if pace else {}
+        self.broken = breaking(world, self.reads) if pace else None
         names = [f"{world.turns[p].actor} {world.turns[p].choice}" for p in self.shown]
         left = 52 + 7 * max(map(len, names), default=0)
         # Room for the name of the cut beside the first unit.
@@ -59,6 +63,13 @@ class Drawing:
             return self.bottom
         y = self.y(turn.place)
         return y - ROW / 2 if turn.place in self.shown else y
+
+    def read_y(self, unit):
+        """Where the unit is read: before the turn that follows."""
+        if self.reads[unit] >= len(self.world.turns):
+            return self.bottom
+        y = self.y(self.reads[unit])
+        return y - ROW / 2 if self.reads[unit] in self.shown else y
 
     def is_before(self, turn):
         cut = self.cuts[turn.actor]
@@ -127,6 +138,8 @@ class Drawing:
             self.message(message)
         if self.units:
             self.cut_line(messages)
+        if self.units and self.pace:
+            self.reading_line()
         for place in self.shown:
             self.dot(self.world.turns[place])
         self.marks()
@@ -211,7 +224,7 @@ class Drawing:
 
     def weight(self, message):
         """What is drawn later lies above."""
-        if self.is_late(message) or self.is_missed(message):
+        if self.is_late(message) or self.is_missed(message) or message is self.broken:
             return 4
         if self.in_flight(message):
             return 3
@@ -221,6 +234,8 @@ class Drawing:
         colour, width = COLOURS.get(message.kind, COLLECT), 1.5 if message.kind in COLOURS else 1
         if self.is_late(message) or self.is_missed(message):
             colour, width = self.colour, 2.8
+        elif message is self.broken:
+            colour, width = FAULT, 2.8
         elif self.in_flight(message):
             colour, width = FLIGHT, 2.6
         x1, y1 = self.xs[message.put.actor], self.y(message.put.place)
@@ -247,6 +262,15 @@ class Drawing:
         for message in messages:
             if self.in_flight(message) and not self.is_late(message):
                 self.crossing(message)
+
+    def reading_line(self):
+        """The polled reading as a line through the columns of the units, with its name at the last one."""
+        points = []
+        for unit in self.units:
+            points += [(self.xs[unit] - 18, self.read_y(unit)), (self.xs[unit] + 18, self.read_y(unit))]
+        self.add("polyline", points=points_text(points), fill="none", stroke=POLL, stroke_width=2.2, stroke_dasharray="2 3")
+        x, y = points[-1]
+        self.text("whole reading" if self.broken is None else "broken reading", x + 8, y + 4, POLL, 12, font_weight="bold")
 
     def crossing(self, message):
         """A ring where the packet crosses the cut."""
@@ -321,6 +345,8 @@ class Drawing:
         if any(self.is_late(m) for m in messages):
             words = f"a packet from before {k} that a unit above {k} takes"
             entries.append((arrow(self.colour, 2.8), words))
+        if self.broken in messages:
+            entries.append((arrow(FAULT, 2.8), "a packet sent after its sender was read, received before its receiver was"))
         if kinds & {"begin", "init", "probe"}:
             entries.append((arrow(SPREAD, 1.5), "a Begin, an initiation or a probe"))
         if kinds & {"notice", "poll", "dump", "done"}:
@@ -342,6 +368,9 @@ class Drawing:
                 (lambda x, y: self.box(x + 13, y - 8, "n"), "n: the packets that the unit counted before the cut")
             )
         entries.append((lambda x, y: self.sample_dot(x, y, True), f"a unit's turn before it reaches {k}"))
+        if self.pace:
+            start, gap = self.pace
+            entries.append((self.reading_sample, f"where polling reads each unit: after {start} turns, then {gap} more for each"))
         stops = [t for t in self.cuts.values() if t is not None and t not in self.skips]
         if stops:
             entries.append(
@@ -364,6 +393,9 @@ class Drawing:
         self.add("rect", x=x, y=y - 9, width=44, height=9, fill=self.shade_colour)
         self.line(x, y, x + 44, y, stroke=self.cut_colour, stroke_width=2.4, stroke_dasharray="7 4")
 
+    def reading_sample(self, x, y):
+        self.line(x, y, x + 44, y, stroke=POLL, stroke_width=2.2, stroke_dasharray="2 3")
+
     def diamond_sample(self, x, y, colour):
         self.add("polygon", points=diamond(x + 22, y), fill=colour)
 
@@ -382,6 +414,24 @@ def ordered(world):
     units = [u for i in range(0, len(net.units), 2) for u in (net.units[i + 1], net.units[i])]
     others = [h for h in hosts if h not in putting]
     return [*senders, *units, *others, *(f"control {d}" for d in net.devices), "observer"]
+
+
+def polled(world, pace):
+    """After how many turns each unit is read."""
+    start, gap = pace
+    return {unit: min(start + place * gap, len(world.turns)) for place, unit in enumerate(world.net.units)}
+
+
+def breaking(world, reads):
+    """The data packet between units, the first to be received, that was received before its receiver was read and sent
+    after its sender was; or None."""
+    for turn in world.turns:
+        message = turn.took
+        if message is None or message.kind != "data" or message.link.sort not in ("cable", "crossbar"):
+            continue
+        if turn.place < reads[turn.actor] and message.put.place >= reads[message.put.actor]:
+            return message
+    return None
 
 
 def number(value):

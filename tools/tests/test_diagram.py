@@ -67,6 +67,15 @@ class Diagram(unittest.TestCase):
                 self.assertIn(word, words, name)
             self.assertEqual("n" in words, name == "two_in_flight")
 
+    def test_a_polled_reading(self):
+        drawn = draw("two_in_flight", "--no-control", "--turns", "1-20", "--poll", "3", "3")[1]
+        self.assertEqual(drawn, (TOP / "docs" / "two_in_flight_polled.svg").read_text())
+        self.assertIn("](two_in_flight_polled.svg)", (TOP / "docs" / "TOUR.md").read_text())
+        self.assertIn("broken reading", self.words(drawn))
+        self.assertIn("whole reading", self.words(draw("two_in_flight", "--poll", "3", "2")[1]))
+        self.assertIn("whole reading", self.words(draw("two_in_flight", "--poll", "0", "0")[1]))
+        self.assertEqual(draw("two_in_flight", "--poll", "3", "-1")[0], 1)
+
     def test_the_other_snapshot_of_a_run(self):
         words = self.words(draw("too_late_packet", "--snapshot", "2")[1])
         self.assertIn("snapshot 2 consistent", words)

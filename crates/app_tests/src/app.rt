@@ -24,7 +24,7 @@ const DEAD_CABLE: &str =
     "device = [{name = \"a\", ports = 2}, {name = \"b\", ports = 2}]\ncable = [{a = \"a.1\", b = \"b.0\"}]\nhost = [{name = \"h0\", at = \"a.0\"}, {name = \"h1\", at = \"b.1\"}]\nsnapshot = {bits = 2, window = 1, ring = 1, count = 2, retries = 0}\nloss = {cable = 1000}\n";
 
 const USAGE: &str =
-    "speedlight: usage: speedlight step [--trace] | run [--trace] | routes | sample N [--input] | balance\n";
+    "speedlight: usage: speedlight step [--trace] | run [--trace] | routes | sample N [--input] | balance | poll S G\n";
 
 /// What a call left: its status, what it wrote, whether there is a book, and the bytes left.
 #[derive(Drop)]
@@ -132,6 +132,7 @@ fn worked_rows(rt: HostRuntime) -> Result<(), Fail> {
     assert_eq!(rt; wrong_row(&rt, alloc, rows::routes())?, None);
     assert_eq!(rt; wrong_row(&rt, alloc, rows::traces_and_samples())?, None);
     assert_eq!(rt; wrong_row(&rt, alloc, rows::balances())?, None);
+    assert_eq!(rt; wrong_row(&rt, alloc, rows::readings())?, None);
     Ok(())
 }
 
@@ -213,7 +214,7 @@ fn refusals(rt: HostRuntime) -> Result<(), Fail> {
 /// Whether these words ask for what has a book.
 fn has_book(words: &[&str]) -> bool {
     match words.first() {
-        Some(word) => *word == "step" || *word == "run" || *word == "balance",
+        Some(word) => ["step", "run", "balance", "poll"].contains(word),
         None => false,
     }
 }
@@ -241,7 +242,7 @@ fn words_and_faults(rt: HostRuntime) -> Result<(), Fail> {
     let write_fault = "speedlight: write fault\n";
     // The words, the calls that fail, the status, and what is on the error sink. A source of one
     // piece is read twice. A read that fails is told, whatever the words of the input.
-    let rows: [(&[&str], (u64, u64, u64), u8, &str); 22] = [
+    let rows: [(&[&str], (u64, u64, u64), u8, &str); 26] = [
         (&[], (1, 0, 0), 2, USAGE),
         (&["walk"], (1, 0, 0), 2, USAGE),
         (&["-h"], (1, 0, 0), 2, USAGE),
@@ -250,6 +251,8 @@ fn words_and_faults(rt: HostRuntime) -> Result<(), Fail> {
         (&["sample", "65"], (1, 0, 0), 2, USAGE),
         (&["routes", "x"], (1, 0, 0), 2, USAGE),
         (&["balance", "--trace"], (1, 0, 0), 2, USAGE),
+        (&["poll", "03", "2"], (1, 0, 0), 2, USAGE),
+        (&["poll", "3"], (1, 0, 0), 2, USAGE),
         (&["step", "--trace", "--trace"], (1, 0, 0), 2, USAGE),
         (&["step", "--trace"], (1, 0, 0), 4, read_fault),
         (&["step"], (1, 0, 0), 4, read_fault),
@@ -259,6 +262,8 @@ fn words_and_faults(rt: HostRuntime) -> Result<(), Fail> {
         (&["balance"], (2, 0, 0), 4, read_fault),
         (&["balance", "--"], (0, 1, 0), 5, write_fault),
         (&["balance"], (0, 1, 1), 5, ""),
+        (&["poll", "3", "2"], (2, 0, 0), 4, read_fault),
+        (&["poll", "3", "--", "2"], (0, 1, 0), 5, write_fault),
         (&["step"], (0, 1, 0), 5, write_fault),
         (&["sample", "8"], (1, 1, 0), 5, write_fault),
         (&["walk"], (0, 0, 1), 5, write_fault),

@@ -576,6 +576,40 @@ end
 "#
 }
 
+/// Polled readings.
+pub fn readings() -> &'static str {
+    r#"poll 3 3 poll_broken
+device = [{name = "a", ports = 2}]
+host = [{name = "h0", at = "a.0"}, {name = "h1", at = "a.1"}]
+flow = [{from = "h0", to = "h1", count = 3, bytes = 100, hops = 8}]
+snapshot = {bits = 2, window = 3, ring = 3, count = 1, retries = 0}
+script = {entries = ["host h0 inject", "host h0 inject", "in a.0 host", "in a.0 host", "observer issue", "control a begin", "in a.1 init", "out a.1 x1", "out a.1 x0", "out a.1 x0"]}
+--
+poll 1
+read in a.0 3 1 100
+read out a.0 6 0 0
+read in a.1 9 0 0
+read out a.1 12 2 200
+broken out a.1 x0 sent 4 received 10
+end
+==
+poll 3 2 poll_whole
+device = [{name = "a", ports = 2}]
+host = [{name = "h0", at = "a.0"}, {name = "h1", at = "a.1"}]
+flow = [{from = "h0", to = "h1", count = 3, bytes = 100, hops = 8}]
+snapshot = {bits = 2, window = 3, ring = 3, count = 1, retries = 0}
+script = {entries = ["host h0 inject", "host h0 inject", "in a.0 host", "in a.0 host", "observer issue", "control a begin", "in a.1 init", "out a.1 x1", "out a.1 x0", "out a.1 x0"]}
+--
+poll 1
+read in a.0 3 1 100
+read out a.0 5 0 0
+read in a.1 7 0 0
+read out a.1 9 1 100
+whole
+end
+"#
+}
+
 /// Routes.
 pub fn routes() -> &'static str {
     r#"routes routes.1

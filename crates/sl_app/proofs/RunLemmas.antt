@@ -35,10 +35,10 @@ use Rattle.sl_proto.specs.Script.{IsScriptEntry}
 use Rattle.sl_emul.specs.Run.{CanRun, IsRunBook, AreNodesOf}
 use Rattle.sl_emul.specs.Threaded.{IsThreadedBook}
 use Rattle.sl_balance.specs.Balance.{AreFew}
-use Rattle.sl_words.specs.declared.command.Command.TheVariants.{Step, Run, Balance}
+use Rattle.sl_words.specs.declared.command.Command.TheVariants.{Step, Run, Balance, Poll}
 use Rattle.sl_words.specs.Words.{words_of}
 use Rattle.sl_app.specs.declared.run.Served.{Served}
-use Rattle.sl_app.specs.Served.{run_text, IsReport, IsTable, states_of}
+use Rattle.sl_app.specs.Served.{run_text, IsReport, IsTable, IsReading, states_of}
 use Rattle.sl_app.specs.Ends.{Reading, WasRead, IsServed}
 
 each-of : {A : Type 0} (P : A → Type 0) (xs : List A) → All P xs → Each P xs
@@ -125,9 +125,16 @@ threaded r i trace words read small few None front nodes text told = absurd told
 -- a table that was made of an input that was read
 pub tabled : (r : Reading) (i : Input) → words_of r.words ≡ Some Balance → WasRead r i → input_bound i < 2 ^ 27
     → (book : Option Book) (front : ℕ) (nodes : Option (List NodeState)) (text : List ℕ) → IsTable i (losses i) book front nodes text → IsServed r book front nodes text
-tabled r i words read few (Some book) front None text told = record { words = words; input = i; accepted = read; small = few; run = told }
+tabled r i words read few (Some book) front None text told = inl (record { words = words; input = i; accepted = read; small = few; run = told })
 tabled r i words read few (Some book) front (Some nodes) text told = absurd told
 tabled r i words read few None front nodes text told = absurd told
+
+-- a reading that was made of an input that was read
+pub polled : (r : Reading) (i : Input) (start gap : ℕ) → words_of r.words ≡ Some (Poll start gap) → WasRead r i → input_bound i < 2 ^ 27
+    → (book : Option Book) (front : ℕ) (nodes : Option (List NodeState)) (text : List ℕ) → IsReading i (losses i) book front nodes start gap text → IsServed r book front nodes text
+polled r i start gap words read few (Some book) front None text told = inr (record { start = start; gap = gap; words = words; input = i; accepted = read; small = few; run = told })
+polled r i start gap words read few (Some book) front (Some nodes) text told = absurd told
+polled r i start gap words read few None front nodes text told = absurd told
 
 -- the counts of a run within its bound are few
 abbrev pub FewCounts : Type 0

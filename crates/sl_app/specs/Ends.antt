@@ -31,7 +31,7 @@ use Rattle.sl_report.specs.RoutesText.{routes_text}
 use Rattle.sl_proto.specs.Nodes.{NodeState}
 use Rattle.sl_emul.specs.Run.{IsRunBook}
 use Rattle.sl_emul.specs.Threaded.{HasRested, IsThreadedBook}
-use Rattle.sl_app.specs.Served.{IsPrinted, IsTabledRun, IsSampleText, states_of}
+use Rattle.sl_app.specs.Served.{IsPrinted, IsTabledRun, IsPolledRun, IsSampleText, states_of}
 
 -- the words, and the source before and after: the bytes left, where it tells them, and its count of faults
 pub record Reading : Type 0 where
@@ -103,6 +103,7 @@ reads (Some (command.Step trace)) = Unit {0}
 reads (Some (command.Run trace)) = Unit {0}
 reads (Some command.Routes) = Unit {0}
 reads (Some command.Balance) = Unit {0}
+reads (Some (command.Poll start gap)) = Unit {0}
 reads _ = ⊥
 
 -- the words ask for a run in threads
@@ -162,6 +163,16 @@ pub record IsBalanced (r : Reading) (book : List Entry) (front : ℕ) (text : Li
   pub small : input_bound input < 2 ^ 27
   pub run : IsTabledRun input (losses input) book front text
 
+-- an input was run, with this book, and the text is that of the reading of its units
+pub record IsPolled (r : Reading) (book : List Entry) (front : ℕ) (text : List ℕ) : Type 0 where
+  pub start : ℕ
+  pub gap : ℕ
+  pub words : words_of r.words ≡ Some (command.Poll start gap)
+  pub input : Input
+  pub accepted : WasRead r input
+  pub small : input_bound input < 2 ^ 27
+  pub run : IsPolledRun input (losses input) book front start gap text
+
 -- the text of the routes of an input's net
 pub record IsRouted (r : Reading) (text : List ℕ) : Type 0 where
   pub words : words_of r.words ≡ Some command.Routes
@@ -177,10 +188,10 @@ pub record IsSampled (r : Reading) (text : List ℕ) : Type 0 where
   pub unread : IsUnread r
   pub sample : IsSampleText number input text
 
--- what is served: a run, the table of one of the script, for which there is no node, or a text for which there is no book either
+-- what is served: a run, the table or the reading of one of the script, for which there is no node, or a text for which there is no book either
 abbrev pub IsServed : Reading → Option Book → ℕ → Option (List NodeState) → List ℕ → Type 0
 IsServed r (Some book) front (Some nodes) text = IsStepped r book.entries front nodes text ⊎ IsThreaded r book.entries front nodes text
-IsServed r (Some book) front None text = IsBalanced r book.entries front text
+IsServed r (Some book) front None text = IsBalanced r book.entries front text ⊎ IsPolled r book.entries front text
 IsServed r None front None text = (IsRouted r text ⊎ IsSampled r text) × (front ≡ 0)
 IsServed r _ front _ text = ⊥
 

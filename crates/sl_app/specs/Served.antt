@@ -21,6 +21,8 @@ use Rattle.sl_emul.specs.Threaded.{IsThreadedBook}
 use Rattle.sl_app.specs.declared.run.Served.{Served}
 use Rattle.sl_balance.specs.Balance.{balance}
 use Rattle.sl_balance.specs.BalanceText.{balance_text}
+use Rattle.sl_poll.specs.Reading.{reads, broken_by}
+use Rattle.sl_poll.specs.PollText.{poll_text}
 use Rattle.sl_report.specs.Report.{report_text}
 use Rattle.sl_report.specs.TraceText.{trace_text}
 use Rattle.sl_report.specs.SummaryText.{summary_text}
@@ -64,6 +66,20 @@ pub record IsTabledRun (i : Input) (lost : Losses) (book : List Entry) (front : 
 abbrev pub IsTable : Input → Losses → Option Book → ℕ → Option (List NodeState) → List ℕ → Type 0
 IsTable i lost (Some book) front None text = IsTabledRun i lost book.entries front text
 IsTable i lost _ front _ text = ⊥
+
+-- what reading the units of a run one after the other shows, the first after `start` entries and each further one after `gap` more
+abbrev pub reading_text : Input → Losses → List Entry → ℕ → ℕ → List ℕ
+reading_text i lost book start gap = poll_text i.net (reads (setup_of i) lost (schedule_of book) start gap) (broken_by (setup_of i) lost (schedule_of book) start gap)
+
+-- the book of a run under a loss table, and the text of its reading
+pub record IsPolledRun (i : Input) (lost : Losses) (book : List Entry) (front start gap : ℕ) (text : List ℕ) : Type 0 where
+  pub run : IsRunBook i lost book front
+  pub text_is : text ≡ reading_text i lost book start gap
+
+-- a reading, with the book of its run
+abbrev pub IsReading : Input → Losses → Option Book → ℕ → Option (List NodeState) → ℕ → ℕ → List ℕ → Type 0
+IsReading i lost (Some book) front None start gap text = IsPolledRun i lost book.entries front start gap text
+IsReading i lost _ front _ start gap text = ⊥
 
 -- the summary of the findings of a run of a sample's input
 pub record IsSummary (number : ℕ) (i : Input) (text : List ℕ) : Type 0 where

@@ -41,7 +41,7 @@ impl Refusal {
     {
         match self {
             Refusal::Usage => {
-                b"speedlight: usage: speedlight step [--trace] | run [--trace] | routes | sample N [--input] | balance\n"
+                b"speedlight: usage: speedlight step [--trace] | run [--trace] | routes | sample N [--input] | balance | poll S G\n"
             }
             Refusal::Input(line) => line.as_slice(),
             Refusal::ReadFault => b"speedlight: read fault\n",

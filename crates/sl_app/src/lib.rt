@@ -2,6 +2,7 @@
 #![tactic(auto)]
 
 mod ended;
+mod polling;
 mod run;
 mod sample;
 mod table;

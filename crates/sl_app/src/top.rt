@@ -7,6 +7,7 @@ ghost use Rattle.sl_app.specs.Texts.{many_text};
 ghost use Rattle.sl_app.specs.Ends.{reading, writing, texts_of, reads, asks_for_run, TellsFault, TellsTooMany, Accepts, Serves, ServesSample, TellsWriteFault, Refuses, ReportsServed, Ends};
 
 use crate::ended::{Ended, Refusal};
+use crate::polling::serve_poll;
 use crate::run::{Served, only_text, serve_routes, serve_run, serve_threads};
 use crate::sample::sample_bytes;
 use crate::table::serve_balance;
@@ -132,6 +133,28 @@ fn balance<I: Source>(alloc: Global, words: &[String], input: &mut I) -> Result<
     }
 }
 
+fn poll<I: Source>(
+    alloc: Global,
+    words: &[String],
+    start: u64,
+    gap: u64,
+    input: &mut I,
+) -> Result<Served, Refusal>
+    requires { words_of (texts_of words.now) ≡ Some (command.Poll start gap) }
+    ensures { Serves (reading I.Source (texts_of words.now) input.old input.new) result }
+{
+    passes_are_choices();
+    input_bounds_are_small();
+    let accepted = match accept(alloc, words, input) {
+        Ok(accepted) => accepted,
+        Err(refusal) => return Err(refusal),
+    };
+    match serve_poll(alloc, &accepted, start, gap) {
+        Ok(served) => Ok(served),
+        Err(_) => Err(Refusal::Memory),
+    }
+}
+
 fn routes<I: Source>(alloc: Global, words: &[String], input: &mut I) -> Result<Served, Refusal>
     requires { words_of (texts_of words.now) ≡ Some command.Routes }
     ensures { Serves (reading I.Source (texts_of words.now) input.old input.new) result }
@@ -164,6 +187,7 @@ fn serve<I: Source>(alloc: Global, words: &[String], input: &mut I) -> Result<Se
     match words_of(alloc, words) {
         Ok(Some(Command::Step(trace))) => step(alloc, words, trace, input),
         Ok(Some(Command::Balance)) => balance(alloc, words, input),
+        Ok(Some(Command::Poll(start, gap))) => poll(alloc, words, start, gap, input),
         Ok(Some(Command::Routes)) => routes(alloc, words, input),
         Ok(Some(Command::Sample(number, text))) => sample(alloc, number, text),
         Ok(Some(Command::Run(_))) => unreachable!(),

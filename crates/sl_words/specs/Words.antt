@@ -3,12 +3,13 @@
 -- One word -- may stand among the words after the first, and after it no option.
 use Rattle.std.specs.Prelude.{ℕ, ◌≤◌, ◌+◌, ◌-◌, ◌*◌, ◌==◌, ◌&&◌, nat_le, option_map, option_and_then, codes, Bool, true, false, if◌then◌else◌, List, [], ◌∷◌, Option, Some, None}
 use Rattle.std.specs.Str.{bytes_eq}
+use Rattle.sl_parts.specs.Number.{plain_number}
 use Rattle.clap.specs.Simple.{App, new_rule, new_shape, with_rule}
 use Rattle.clap.specs.Walk.{Rule}
 use Rattle.sl_words.specs.declared.flags.Flag.{Flag}
 use Rattle.sl_words.specs.declared.flags.Flag.TheVariants.{Trace, Input}
 use Rattle.sl_words.specs.declared.command.Command.{Command}
-use Rattle.sl_words.specs.declared.command.Command.TheVariants.{Step, Run, Routes, Sample, Balance}
+use Rattle.sl_words.specs.declared.command.Command.TheVariants.{Step, Run, Routes, Sample, Balance, Poll}
 use Rattle.clap.specs.declared.builder.action.ArgAction.TheVariants.{SetTrue}
 
 abbrev pub dashes : List ℕ
@@ -65,6 +66,24 @@ take_number (w ∷ rest) = number_or w rest (sample_number w) (take_number rest)
 abbrev pub sample_words : List (List ℕ) → Option (ℕ × Bool)
 sample_words ws = option_and_then (λ p. option_map (λ asked. (p.0, asked)) (flag_words (flag_word Input) p.1)) (take_number ws)
 
+-- the words without the first that is --
+abbrev pub without_dashes : List (List ℕ) → List (List ℕ)
+without_dashes [] = []
+without_dashes (w ∷ ws) = if bytes_eq w dashes then ws else w ∷ without_dashes ws
+
+-- a number from 0 to 1,000,000, with no sign and no leading zero
+abbrev pub pace_number : List ℕ → Option ℕ
+pace_number w = plain_number 1000000 w
+
+-- two such numbers and nothing else
+abbrev pub two_numbers : List (List ℕ) → Option (ℕ × ℕ)
+two_numbers (s ∷ g ∷ []) = option_and_then (λ start. option_map (λ gap. (start, gap)) (pace_number g)) (pace_number s)
+two_numbers _ = None
+
+-- the same, and one word -- among them
+abbrev pub poll_words : List (List ℕ) → Option (ℕ × ℕ)
+poll_words ws = two_numbers (without_dashes ws)
+
 -- The commands.
 
 abbrev pub step_of : List (List ℕ) → Option Command
@@ -82,6 +101,9 @@ sample_of ws = option_map (λ p. Sample p.0 p.1) (sample_words ws)
 abbrev pub balance_of : List (List ℕ) → Option Command
 balance_of ws = option_map (λ asked. Balance) (ends false ws)
 
+abbrev pub poll_of : List (List ℕ) → Option Command
+poll_of ws = option_map (λ p. Poll p.0 p.1) (poll_words ws)
+
 -- the first word is the command's name
 abbrev pub command_of : List ℕ → List (List ℕ) → Option Command
 command_of w ws =
@@ -90,6 +112,7 @@ command_of w ws =
     else if bytes_eq w (codes "routes") then routes_of ws
     else if bytes_eq w (codes "sample") then sample_of ws
     else if bytes_eq w (codes "balance") then balance_of ws
+    else if bytes_eq w (codes "poll") then poll_of ws
     else None
 
 abbrev pub words_of : List (List ℕ) → Option Command

@@ -1,8 +1,9 @@
 // The command that words ask for.
 ghost use Rattle.std.specs.Prelude.{◌≡◌, IfOk, IfSome, map, string_bytes, is_some, false};
-ghost use Rattle.sl_words.specs.Words.{ends, step_of, run_of, routes_of, sample_of, balance_of, command_of, words_of, HasNumber};
+ghost use Rattle.sl_words.specs.Words.{ends, step_of, run_of, routes_of, sample_of, balance_of, poll_of, command_of, words_of, HasNumber};
 
 use crate::flags::{Flag, flag_words};
+use crate::poll::poll_words;
 use crate::sample::sample_words;
 use sl_machine::Memory;
 use std::alloc::Global;
@@ -20,6 +21,9 @@ pub enum Command {
     Sample(u8, bool),
     /// `balance`.
     Balance,
+    /// `poll` with its two numbers, each up to 1,000,000: after how many entries the first unit is
+    /// read, and after how many more each further one.
+    Poll(u64, u64),
 }
 
 fn step_words(alloc: Global, words: &[String]) -> Result<Option<Command>, Memory>
@@ -85,6 +89,16 @@ fn balance_words(alloc: Global, words: &[String]) -> Result<Option<Command>, Mem
     }
 }
 
+fn poll_command(words: &[String]) -> Option<Command>
+    ensures command { result ≡ poll_of (map string_bytes words.now) }
+    ensures number { IfSome result HasNumber }
+{
+    match poll_words(words) {
+        Some((start, gap)) => Some(Command::Poll(start, gap)),
+        None => None,
+    }
+}
+
 fn command_of(alloc: Global, name: &str, words: &[String]) -> Result<Option<Command>, Memory>
     ensures command { IfOk result (λ c. c ≡ command_of name.now (map string_bytes words.now)) }
     ensures number { IfOk result (λ c. IfSome c HasNumber) }
@@ -99,6 +113,8 @@ fn command_of(alloc: Global, name: &str, words: &[String]) -> Result<Option<Comm
         sample_command(alloc, words)
     } else if name == "balance" {
         balance_words(alloc, words)
+    } else if name == "poll" {
+        Ok(poll_command(words))
     } else {
         Ok(None)
     }

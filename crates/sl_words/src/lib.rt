@@ -3,6 +3,7 @@
 
 mod command;
 mod flags;
+mod poll;
 mod sample;
 
 pub use command::{Command, words_of};

@@ -1,10 +1,9 @@
 -- What the sums of units are: for each unit the steps that come before it is read.
-use Rattle.std.proofs.Common.{◌≡◌, ℕ, ◌+◌, ◌<◌, ◌≤◌, ◌⊎◌, List, [], ◌∷◌, ◌++◌, length, get_or, set, take, map, refl, sym, ap, subst, ◌∙◌, arith, inl, inr}
+use Rattle.std.proofs.Common.{◌≡◌, ℕ, ◌+◌, ◌<◌, ◌≤◌, ◌⊎◌, List, [], ◌∷◌, ◌++◌, length, get_or, set, take, map, replicate, refl, sym, ap, subst, ◌∙◌, arith, inl, inr}
 use Rattle.std.specs.Prelude.{Bool, true, false, cond, filter, ◌&&◌, nat_eq, nat_le, ◌==◌, if◌then◌else◌}
 use Rattle.std.proofs.lemmas.Bool.Decides.{eqb_tells, leb_tells}
-use Rattle.std.proofs.lemmas.List.{get_or-set_same, get_or-set_other, length-set, take_more, take_all}
+use Rattle.std.proofs.lemmas.List.{get_or-set_same, get_or-set_other, length-set, take_more, take_all, length-replicate, get_or-replicate}
 use Rattle.sl_parts.specs.Parts.{below}
-use Rattle.sl_parts.proofs.Lists.{at_below, length_below}
 use Rattle.sl_layout.proofs.Grouping.{map_same}
 use Rattle.sl_poll.specs.declared.trail.Counted.{Counted}
 use Rattle.sl_poll.specs.declared.sums.Sum.{Sum}
@@ -86,11 +85,11 @@ pub record Summed (at : ℕ → ℕ) (cs : List Counted) (count : ℕ) (sums : L
   pub packets : (i : ℕ) → i < count → (sum_at sums i).packets ≡ counted_for (at i) (λ c. 1) i cs
   pub bytes : (i : ℕ) → i < count → (sum_at sums i).bytes ≡ counted_for (at i) (λ c. c.bytes) i cs
 
-pub summed_none : (at : ℕ → ℕ) (count : ℕ) (sums : List Sum) → sums ≡ map (λ (i : ℕ). no_sum) (below count) → Summed at [] count sums
+pub summed_none : (at : ℕ → ℕ) (count : ℕ) (sums : List Sum) → sums ≡ replicate count no_sum → Summed at [] count sums
 summed_none at count sums q = record {
-  each = ap length q ∙ length_below (λ (i : ℕ). no_sum) count;
-  packets = λ i h. ap (λ (s : Sum). s.packets) (ap (λ xs. sum_at xs i) q ∙ at_below (λ (i : ℕ). no_sum) count i no_sum h);
-  bytes = λ i h. ap (λ (s : Sum). s.bytes) (ap (λ xs. sum_at xs i) q ∙ at_below (λ (i : ℕ). no_sum) count i no_sum h);
+  each = ap length q ∙ length-replicate count no_sum;
+  packets = λ i h. ap (λ (s : Sum). s.packets) (ap (λ xs. sum_at xs i) q ∙ get_or-replicate count i no_sum no_sum h);
+  bytes = λ i h. ap (λ (s : Sum). s.bytes) (ap (λ xs. sum_at xs i) q ∙ get_or-replicate count i no_sum no_sum h);
 }
 
 pub summed_more : (at : ℕ → ℕ) (cs : List Counted) (count k : ℕ) (d : Counted) (sums new : List Sum) → k < length cs → Summed at (take k cs) count sums → new ≡ add_one at (get_or cs k d) sums → Summed at (take (k + 1) cs) count new

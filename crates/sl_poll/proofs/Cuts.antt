@@ -10,7 +10,7 @@ use Rattle.sl_model.specs.declared.message.Message.{Message}
 use Rattle.sl_model.specs.History.{Losses, history, first, taken, carried_by}
 use Rattle.sl_model.specs.Setup.{Setup}
 use Rattle.sl_model.specs.World.{Entry, start, world}
-use Rattle.sl_model.proofs.Turns.{start-empty}
+use Rattle.sl_model.specs.Turns.{TakesTurns}
 use Rattle.sl_model.proofs.Prefixes.{first-all}
 use Rattle.sl_poll.specs.declared.trail.Pair.{Pair}
 use Rattle.sl_model.specs.Putting.{no_putters}
@@ -24,7 +24,7 @@ abbrev pub OnlyGrow : Type 0
 OnlyGrow = (s : Setup) (lost : Losses) (es fs : List Entry) (a n : ℕ) → n ≤ length (history (world s lost es) a)
     → first n (history (world s lost (es ++ fs)) a) ≡ first n (history (world s lost es) a)
 
-module _ (law : OnlyGrow) (s : Setup) (lost : Losses) (es : List Entry) (begin gap : ℕ) where
+module _ (law : OnlyGrow) (turns : TakesTurns) (s : Setup) (lost : Losses) (es : List Entry) (begin gap : ℕ) where
   abbrev at : ℕ → ℕ
   at a = read_after (length es) begin gap (unit_place s.net a)
 
@@ -48,10 +48,10 @@ module _ (law : OnlyGrow) (s : Setup) (lost : Losses) (es : List Entry) (begin g
       ap (λ h. length (carried_by lost l h)) (read-first u) ∙ ap (λ w. length (carried_by lost l (history w u))) (sym (reach-is s lost (start s.net) (at u) es))
 
   fits-start : (l : ℕ) (link : l < length s.net.links) → Fits s lost l link (start s.net) 1 no_putters
-  fits-start l link = record { size = sym (ap (λ h. length (carried_by lost l h)) (start-empty s.net (link_of s.net l).from)); early = λ j h. absurd (omega (arith, h)) }
+  fits-start l link = record { size = sym (ap (λ h. length (carried_by lost l h)) (turns.starts s.net (link_of s.net l).from)); early = λ j h. absurd (omega (arith, h)) }
 
   none-took : (l : ℕ) (link : l < length s.net.links) → took s lost l link (start s.net) ≡ 0
-  none-took l link = ap (taken (choice_of s.net l)) (start-empty s.net (link_of s.net l).to)
+  none-took l link = ap (taken (choice_of s.net l)) (turns.starts s.net (link_of s.net l).to)
 
   -- a packet has a place among the messages
   within : (ms : List Message) (n : ℕ) → IsSome (packet_in (slice_get ms n)) → n < length ms

@@ -2,7 +2,7 @@
 use Rattle.std.proofs.Common.{◌≡◌, ℕ, ◌+◌, ◌*◌, ◌/◌, ◌%◌, ◌<◌, List, [], ◌∷◌, ◌++◌, length, refl, ap, ◌∙◌, take, get_or, map, Some, arith}
 use Rattle.std.specs.Prelude.{filter, ◌==◌, true, false, cond}
 use Rattle.std.proofs.lemmas.List.{map-append, take_more}
-use Rattle.sl_parts.proofs.Lists.{filter-push}
+use Rattle.std.proofs.lemmas.List.Elements.{filter-append}
 use Rattle.sl_net.specs.declared.input.Packet.{Packet}
 use Rattle.sl_net.specs.declared.input.RawPart.{RawPart}
 use Rattle.sl_flow.specs.Flow.{packets_of}
@@ -13,7 +13,7 @@ use Rattle.sl_poll.specs.Ways.{packets_in, raws_in}
 pub raws_more : (rs : List RawPart) (h i : ℕ) (none : RawPart) → i < length rs
     → raws_in (take (i + 1) rs) h ≡ raws_in (take i rs) h ++ cond ((get_or rs i none).from == h) (packet_of (get_or rs i none).bytes ∷ []) []
 raws_more rs h i none l = let r = get_or rs i none in
-    ap (λ gs. raws_in gs h) (take_more rs i none l) ∙ ap (map (λ (r : RawPart). packet_of r.bytes)) (filter-push (λ (g : RawPart). g.from == h) (take i rs) r)
+    ap (λ gs. raws_in gs h) (take_more rs i none l) ∙ ap (map (λ (r : RawPart). packet_of r.bytes)) (filter-append (λ (g : RawPart). g.from == h) (take i rs) (r ∷ []))
     ∙ map-append (λ (r : RawPart). packet_of r.bytes) (filter (λ g. g.from == h) (take i rs)) (cond (r.from == h) (r ∷ []) [])
     ∙ ap (λ t. raws_in (take i rs) h ++ t) (elim (r.from == h) as (λ b. map (λ (r : RawPart). packet_of r.bytes) (cond b (r ∷ []) []) ≡ cond b (packet_of r.bytes ∷ []) []) [ true ↦ refl | false ↦ refl ])
 

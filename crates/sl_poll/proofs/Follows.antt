@@ -19,7 +19,6 @@ use Rattle.sl_layout.specs.Net.{Net, actor_of, link_of, links_into, links_from, 
 use Rattle.sl_net.specs.declared.input.Packet.{Packet}
 use Rattle.sl_net.specs.Input.{Input}
 use Rattle.sl_net.specs.Wired.{unit_receives, receives, IsWired}
-use Rattle.sl_net.proofs.Sorts.{is-into, choice-is, choice-takes}
 use Rattle.sl_parts.specs.Lists.{Each}
 use Rattle.sl_parts.proofs.Lists.{each-passes, each-filter, each-imp}
 use Rattle.sl_model.specs.declared.message.Message.{Message}
@@ -36,8 +35,8 @@ use Rattle.sl_model.specs.Matching.{is_data}
 use Rattle.sl_model.specs.Puts.{send_all, action}
 use Rattle.sl_model.specs.Setup.{Setup, setup_of, frames_of}
 use Rattle.sl_model.specs.Turns.{GrowsAt, TakesTurns, Takes, Acts}
+use Rattle.sl_input.specs.Answers.{AnswerInOrder}
 use Rattle.sl_model.specs.World.{Entry, carried, sender, next_step, turn, after}
-use Rattle.sl_model.proofs.Turns.{grows-after, next-within, taken-this, taken-other}
 use Rattle.sl_poll.specs.declared.lane.Mark.{Mark}
 use Rattle.sl_poll.specs.declared.trail.Counted.{Counted}
 use Rattle.sl_poll.specs.declared.way.Sends.{Sends}
@@ -46,7 +45,7 @@ use Rattle.sl_model.specs.Putting.{Putters, putters_after}
 use Rattle.sl_poll.specs.Trail.{packet_in, pair_from, pair_by, count_of, count_by}
 use Rattle.sl_poll.specs.Ways.{Feed, no_feed, feed_at, next_of, more_sent, after_next, frames_for, bears, leads, links_by, sends_of, send_by, first_mark, rest_of, packet_on, pair_for, paired, counts, injected, lanes_after, feeds_after, pairs_told, counts_told}
 use Rattle.sl_poll.proofs.Marks.{mark, marks, length-marks, marks-append, marks-new, mark-at, without-append, with_marks, puts-count, all-put, send-lane}
-use Rattle.sl_poll.proofs.Moves.{sized-turn, Next, Other, moved}
+use Rattle.sl_poll.proofs.Moves.{sized-turn, step-grows, Next, Other, moved}
 use Rattle.sl_poll.proofs.Shown.{sent_on, sent_by, shown, taken-shown, acted-shown}
 
 pub record LaneIs (i : Input) (w : World) (putters : Putters) (l : ℕ) (lane : Lane) : Type 0 where
@@ -116,7 +115,7 @@ no-data _ b = refl
 
 -- One entry. w is the world before it, v the world after.
 
-module _ (i : Input) (wired : IsWired i.net) (turns : TakesTurns) (w : World) (e : Entry) (step : Step) (next : next_step (setup_of i) (losses i) w e ≡ Some step) (n : ℕ) (putters : Putters) where
+module _ (i : Input) (wired : IsWired i.net) (turns : TakesTurns) (answer : AnswerInOrder) (w : World) (e : Entry) (step : Step) (next : next_step (setup_of i) (losses i) w e ≡ Some step) (n : ℕ) (putters : Putters) where
   abbrev s : Setup
   s = setup_of i
 
@@ -135,7 +134,7 @@ module _ (i : Input) (wired : IsWired i.net) (turns : TakesTurns) (w : World) (e
     pub puts : lane.puts ≡ length (put l (sender i.net w l))
 
   grows : length w ≡ length i.net.actors → GrowsAt w v e.0 step
-  grows z = subst (λ x. GrowsAt w x e.0 step) (sym (ap (after w e.0) next)) (grows-after w e.0 step (subst (λ k. e.0 < k) (sym z) (next-within (setup_of i) (losses i) w e step next)))
+  grows z = subst (λ x. GrowsAt w x e.0 step) (sym (ap (after w e.0) next)) (step-grows (setup_of i) (losses i) w e step z next)
 
   module _ (z : length w ≡ length i.net.actors) (sends : Option Sends) (shows : (o : ℕ) → bears (link_of i.net o).sort ≡ true → shown o step.puts ≡ sent_by i.net e.0 o sends) where
     put-grows : (l : ℕ) → bears (link_of i.net l).sort ≡ true → put l (sender i.net v l) ≡ put l (sender i.net w l) ++ on_link l step.puts
@@ -153,7 +152,7 @@ module _ (i : Input) (wired : IsWired i.net) (turns : TakesTurns) (w : World) (e
         let new-is : new ≡ with_marks n (map counted_in ms) lane = send-lane i.net n e.0 sends lanes l low ∙ ap (λ qs. with_marks n qs lane) (sym (shows l b)) in
         let shorts : length (map counted_in ms) ≡ length ms = simp length-map in
         let room : length base + length ms < 2 ^ 64 = omega (arith, few, ap (λ (x : Lane). x.puts) new-is, puts-count n (map counted_in ms) lane, half.puts, shorts) in
-        let put-all = all-put i l n (length base) ms lane half.loss half.puts room in
+        let put-all = all-put answer i l n (length base) ms lane half.loss half.puts room in
         let grown : carried i.net (losses i) v l ≡ carried i.net (losses i) w l ++ extra =
         ap (without_lost (losses i l) 0) (put-grows l b) ∙ without-append (losses i l) 0 base ms ∙ (let k : 0 + length base ≡ length base = omega arith in ap (λ k. carried i.net (losses i) w l ++ without_lost (losses i l) k ms) k) in
         let count : length (carried i.net (losses i) v l) - length (carried i.net (losses i) w l) ≡ length extra = omega (arith, ap length grown, length-append (carried i.net (losses i) w l) extra) in
@@ -189,7 +188,7 @@ module _ (i : Input) (wired : IsWired i.net) (turns : TakesTurns) (w : World) (e
   -- Lanes after the take.
 
   held : (f : Ran (setup_of i) (losses i) w) (l : ℕ) → l < length i.net.links → took-in w l ≤ length (carried i.net (losses i) w l)
-  held f l low = let x = f.fifo (link_of i.net l).to (choice_of i.net l) l (choice-takes i.net l low) in
+  held f l low = let x = f.fifo (link_of i.net l).to (choice_of i.net l) l (wired.ways.taken l low) in
       omega (arith, ap length x.split, x.count, length-append (takes (choice_of i.net l) (history w (link_of i.net l).to)) x.rest)
 
   half-same : (f : Ran (setup_of i) (losses i) w) (l : ℕ) (lane : Lane) → l < length i.net.links → LaneIs i w putters l lane → took-in v l ≡ took-in w l → Half l lane
@@ -232,13 +231,13 @@ module _ (i : Input) (wired : IsWired i.net) (turns : TakesTurns) (w : World) (e
     into = subst (λ c. slice_get (links_into i.net e.0) c ≡ Some k) chosen t.took.into
 
     to : (link_of i.net k).to ≡ e.0
-    to = (is-into i.net e.0 e.1 k into).to
+    to = (wired.ways.into e.0 e.1 k into).to
 
     low : k < length i.net.links
-    low = (is-into i.net e.0 e.1 k into).is_link
+    low = (wired.ways.into e.0 e.1 k into).is_link
 
     place : taken e.1 (history w e.0) ≡ took-in w k
-    place = ap (λ c. taken c (history w e.0)) (sym (choice-is i.net e.0 e.1 k into)) ∙ ap (λ a. taken (choice_of i.net k) (history w a)) (sym to)
+    place = ap (λ c. taken c (history w e.0)) (sym (wired.ways.choice e.0 e.1 k into)) ∙ ap (λ a. taken (choice_of i.net k) (history w a)) (sym to)
 
     found : slice_get (carried i.net (losses i) w k) (took-in w k) ≡ Some m
     found = ap (slice_get (carried i.net (losses i) w k)) (sym place ∙ ap (λ c. taken c (history w e.0)) (sym chosen)) ∙ t.found
@@ -303,7 +302,7 @@ module _ (i : Input) (wired : IsWired i.net) (turns : TakesTurns) (w : World) (e
         ne q = let p = slice_get_within (links_into i.net e.0) step.choice k t.took.into in omega (arith, p, q)
 
         by_tells : ((nat_eq a e.0 ≡ true) × (a ≡ e.0)) ⊎ ((nat_eq a e.0 ≡ false) × (a ≡ e.0 → ⊥)) → taken (action_choice i.net a) (history w a) ≡ taken (action_choice i.net a) (history v a)
-        by_tells (inl x) = ap (λ a. taken (action_choice i.net a) (history w a)) x.1 ∙ sym (taken-other (action_choice i.net e.0) step (history w e.0) ne)
+        by_tells (inl x) = ap (λ a. taken (action_choice i.net a) (history w a)) x.1 ∙ sym (turns.uncounted (action_choice i.net e.0) step (history w e.0) ne)
             ∙ sym (ap (taken (action_choice i.net e.0)) (grows f.sized).same) ∙ ap (λ a. taken (action_choice i.net a) (history v a)) (sym x.1)
         by_tells (inr x) = ap (taken (action_choice i.net a)) (sym ((grows f.sized).other a x.1))
 
@@ -359,7 +358,7 @@ module _ (i : Input) (wired : IsWired i.net) (turns : TakesTurns) (w : World) (e
     injects = injected (next_of (feed_at feeds e.0))
 
     here : e.0 < length i.net.actors
-    here = next-within (setup_of i) (losses i) w e step next
+    here = turns.within (setup_of i) (losses i) w e step next
 
     past : slice_get (links_into i.net e.0) e.1 ≡ None
     past = subst (λ c. slice_get (links_into i.net e.0) c ≡ None) (turns.choice (setup_of i) (losses i) w e step next) x.acted.past
@@ -407,7 +406,7 @@ module _ (i : Input) (wired : IsWired i.net) (turns : TakesTurns) (w : World) (e
             let one : step.choice ≡ ac = omega (arith, least, a.0) in
             let some : next_of feed ≡ Some (packet_of a.1.0) = next-is ∙ ap (λ y. option_map packet_of (slice_get (frames_for (setup_of i) y) (taken ac (history w e.0)))) q ∙ ap (option_map packet_of) a.1.1 in
             let more : more_sent feed.sent (next_of feed) ≡ feed.sent + 1 = ap (more_sent feed.sent) some in
-            omega (arith, more, (f.feed e.0 here).sent h q, ap (taken ac) (grows f.sized).same, taken-this ac step (history w e.0) one)
+            omega (arith, more, (f.feed e.0 here).sent h q, ap (taken ac) (grows f.sized).same, turns.counted ac step (history w e.0) one)
 
     act-feed : (a : ℕ) → a < length i.net.actors → FeedIs (setup_of i) v a (feed_at after-feeds a)
     act-feed a h = by_tells (eqb_tells a e.0)

@@ -12,7 +12,7 @@ use Rattle.sl_model.specs.declared.message.Message.{Message}
 use Rattle.sl_model.specs.Counting.{counted_in}
 use Rattle.sl_model.specs.History.{without_lost}
 use Rattle.sl_model.specs.Losses.{loss_after, losses}
-use Rattle.sl_replay.proofs.ForwardLosses.{next_lost, next_after}
+use Rattle.sl_input.specs.Answers.{AnswerInOrder}
 use Rattle.sl_poll.specs.declared.lane.Mark.{Mark}
 use Rattle.sl_poll.specs.declared.way.Sends.{Sends}
 use Rattle.sl_poll.specs.Lanes.{Lane, new_lane, lane_at, with_mark, put_each}
@@ -80,15 +80,15 @@ pub record IsPut (i : Input) (l n k : ℕ) (ms : List Message) (lane new : Lane)
   pub loss : new.loss ≡ loss_after i l (k + length ms)
   pub puts : new.puts ≡ k + length ms
 
-pub all-put : (i : Input) (l n k : ℕ) (ms : List Message) (lane : Lane) → lane.loss ≡ loss_after i l k → lane.puts ≡ k → k + length ms < 2 ^ 64 → IsPut i l n k ms lane (with_marks n (map counted_in ms) lane)
-all-put i l n k [] lane p q f = let e : k ≡ k + 0 = omega arith in record { queue = sym (append-nil lane.queue); loss = p ∙ ap (loss_after i l) e; puts = omega (arith, q) }
-all-put i l n k (m ∷ ms) lane p q f =
+pub all-put : AnswerInOrder → (i : Input) (l n k : ℕ) (ms : List Message) (lane : Lane) → lane.loss ≡ loss_after i l k → lane.puts ≡ k → k + length ms < 2 ^ 64 → IsPut i l n k ms lane (with_marks n (map counted_in ms) lane)
+all-put answer i l n k [] lane p q f = let e : k ≡ k + 0 = omega arith in record { queue = sym (append-nil lane.queue); loss = p ∙ ap (loss_after i l) e; puts = omega (arith, q) }
+all-put answer i l n k (m ∷ ms) lane p q f =
     let one : k + 1 ≡ suc k = omega arith in
     let few : k + 1 < 2 ^ 64 = omega (arith, f) in
-    let rest = all-put i l n (suc k) ms next (ap after_put p ∙ next_after i l k few ∙ ap (loss_after i l) one) (omega (arith, q)) (omega (arith, f)) in
+    let rest = all-put answer i l n (suc k) ms next (ap after_put p ∙ answer.after i l k few ∙ ap (loss_after i l) one) (omega (arith, q)) (omega (arith, f)) in
     let e : suc k + length ms ≡ k + suc (length ms) = omega arith in
     record {
-      queue = rest.queue ∙ ap (λ b. (if b then lane.queue else lane.queue ++ mark n m ∷ []) ++ map (mark n) kept) (ap loses_next p ∙ next_lost i l k ∙ ap (losses i l) one) ∙ by_bool (losses i l (suc k));
+      queue = rest.queue ∙ ap (λ b. (if b then lane.queue else lane.queue ++ mark n m ∷ []) ++ map (mark n) kept) (ap loses_next p ∙ answer.next i l k ∙ ap (losses i l) one) ∙ by_bool (losses i l (suc k));
       loss = rest.loss ∙ ap (loss_after i l) e;
       puts = omega (arith, rest.puts);
     }

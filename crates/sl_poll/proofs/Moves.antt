@@ -31,6 +31,10 @@ sized-turn s lost w e z = by_next (next_step s lost w e)
     by_next None = z
     by_next (Some step) = length-set w e.0 (step ∷ history w e.0) ∙ z
 
+-- a step is added to the history of its actor
+pub step-grows : (s : Setup) (lost : Losses) (w : World) (e : Entry) (step : Step) → Sized s w → next_step s lost w e ≡ Some step → GrowsAt w (after w e.0 (Some step)) e.0 step
+step-grows s lost w e step z q = grows-after w e.0 step (subst (λ n. e.0 < n) (sym z) (next-within s lost w e step q))
+
 -- What a step took.
 
 pub record TookFrom (s : Setup) (lost : Losses) (w : World) (e : Entry) (step : Step) : Type 0 where
@@ -106,7 +110,7 @@ module _ (s : Setup) (lost : Losses) (l : ℕ) (link : l < length s.net.links) w
           is = ap (after w e.0) q
 
           grows : GrowsAt w (after w e.0 (Some step)) e.0 step
-          grows = grows-after w e.0 step (subst (λ n. e.0 < n) (sym z) (next-within s lost w e step q))
+          grows = step-grows s lost w e step z q
 
           -- the link's own actor and choice
           stays : (slice_get (links_into s.net e.0) e.1 ≡ Some l → ⊥) → step.choice ≡ e.1 → took (after w e.0 (Some step)) ≡ took w
@@ -158,7 +162,7 @@ module _ (s : Setup) (lost : Losses) (l : ℕ) (link : l < length s.net.links) w
     where
       by_next : (o : Option Step) → next_step s lost w e ≡ o → (more : List Message) × (bore (after w e.0 o) ≡ bore w ++ more)
       by_next None q = ([], sym (append-nil (bore w)))
-      by_next (Some step) q = carried-more s.net lost w (after w e.0 (Some step)) e.0 step l (grows-after w e.0 step (subst (λ n. e.0 < n) (sym z) (next-within s lost w e step q)))
+      by_next (Some step) q = carried-more s.net lost w (after w e.0 (Some step)) e.0 step l (step-grows s lost w e step z q)
 
   pub took-rises : (w : World) (e : Entry) → Sized s w → took w ≤ took (turn s lost w e)
   took-rises w e z = go (moved w e z)

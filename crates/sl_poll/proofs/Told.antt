@@ -16,15 +16,14 @@ use Rattle.sl_model.specs.History.{History, World, Losses, history}
 use Rattle.sl_model.specs.Counting.{counted, packets, bytes}
 use Rattle.sl_model.specs.Setup.{Setup}
 use Rattle.sl_model.specs.World.{Entry, start, next_step, after, turn, run, world}
-use Rattle.sl_model.specs.Turns.{GrowsAt}
-use Rattle.sl_model.proofs.Turns.{start-empty, grows-after, next-within}
+use Rattle.sl_model.specs.Turns.{GrowsAt, TakesTurns}
 use Rattle.sl_poll.specs.declared.trail.Counted.{Counted}
 use Rattle.sl_poll.specs.declared.reading.Read1.{Read1}
 use Rattle.sl_poll.specs.declared.trail.Pair.{Pair}
 use Rattle.sl_poll.specs.Trail.{pairs, count_of, count_by, counted_from, all_counted}
 use Rattle.sl_poll.specs.Reading.{read_after, read, reads, breaks, broken_by}
 use Rattle.sl_poll.specs.Sums.{read_in, bytes_in, read_by}
-use Rattle.sl_poll.proofs.Moves.{Sized, sized-start, sized-turn}
+use Rattle.sl_poll.proofs.Moves.{Sized, sized-start, sized-turn, step-grows}
 use Rattle.sl_poll.proofs.Added.{here, counted_for, counted-append, counted-length, counted-bytes}
 
 -- total adds up what steps gain, and this is what is told of them
@@ -93,7 +92,7 @@ module _ (value : Counted → ℕ) (total : History → ℕ) (gain : Option Pack
       go (Some step) q = by_actor (eqb_tells e.0 a)
         where
           grows : GrowsAt w (after w e.0 (Some step)) e.0 step
-          grows = grows-after w e.0 step (subst (λ n. e.0 < n) (sym z) (next-within s lost w e step q))
+          grows = step-grows s lost w e step z q
 
           by_actor : ((nat_eq e.0 a ≡ true) × (e.0 ≡ a)) ⊎ ((nat_eq e.0 a ≡ false) × (e.0 ≡ a → ⊥))
               → total (history (after w e.0 (Some step)) a) ≡ total (history w a) + told t (count_by s.net n e.0 (Some step))
@@ -116,9 +115,9 @@ module _ (value : Counted → ℕ) (total : History → ℕ) (gain : Option Pack
       let this = this-step t n w e z (omega (arith, h)) in
       omega (arith, rest, this, counted-append t value (unit_place s.net a) (count_by s.net n e.0 (next_step s lost w e)) (counted_from s lost (turn s lost w e) (suc n) es))
 
-  pub counts-are : (t : ℕ) (es : List Entry) → counted_for t value (unit_place s.net a) (all_counted s lost es) ≡ total (history (world s lost (take t es)) a)
-  counts-are t es = let e = early t 1 t (start s.net) es (sized-start s) (omega arith) in
-      omega (arith, e, ap total (start-empty s.net a), nothing)
+  pub counts-are : TakesTurns → (t : ℕ) (es : List Entry) → counted_for t value (unit_place s.net a) (all_counted s lost es) ≡ total (history (world s lost (take t es)) a)
+  counts-are turns t es = let e = early t 1 t (start s.net) es (sized-start s) (omega arith) in
+      omega (arith, e, ap total (turns.starts s.net a), nothing)
 
 -- Units by their places.
 
@@ -146,9 +145,9 @@ one-place net ways a x unit q = go (actor_of net a) refl unit
     go (OfUnit i) k h = ways.one_unit a x i k q
     go (OfHost d) k h = absurd cc
 
-pub reads-are : (s : Setup) (lost : Losses) (es : List Entry) (begin gap : ℕ) → HasWays s.net
+pub reads-are : (s : Setup) (lost : Losses) (es : List Entry) (begin gap : ℕ) → TakesTurns → HasWays s.net
     → map (read_by (read_after (length es) begin gap) (all_counted s lost es)) (below (length (units s.net))) ≡ reads s lost es begin gap
-reads-are s lost es begin gap ways = map_same (read_by at (all_counted s lost es)) (read s lost es begin gap) (length (units s.net)) each
+reads-are s lost es begin gap turns ways = map_same (read_by at (all_counted s lost es)) (read s lost es begin gap) (length (units s.net)) each
   where
     at : ℕ → ℕ
     at = read_after (length es) begin gap
@@ -161,10 +160,10 @@ reads-are s lost es begin gap ways = map_same (read_by at (all_counted s lost es
         let one : (x : ℕ) → unit_place s.net x ≡ unit_place s.net a → x ≡ a = λ x q. one-place s.net ways a x unit q in
         let p : length (read_in at (all_counted s lost es) i) ≡ packets (history (world s lost (take (at i) es)) a) =
         sym (counted-length (at i) i (all_counted s lost es)) ∙ sym (ap (λ j. counted_for (at i) (λ c. 1) j (all_counted s lost es)) place)
-        ∙ counts-are (λ c. 1) packets (λ o. unwrap_or (option_map (λ p. 1) o) 0) refl refl (λ step h. refl) (λ place n p. refl) s lost a one unit (at i) es in
+        ∙ counts-are (λ c. 1) packets (λ o. unwrap_or (option_map (λ p. 1) o) 0) refl refl (λ step h. refl) (λ place n p. refl) s lost a one unit turns (at i) es in
         let b : bytes_in (read_in at (all_counted s lost es) i) ≡ bytes (history (world s lost (take (at i) es)) a) =
         sym (counted-bytes (at i) i (all_counted s lost es)) ∙ sym (ap (λ j. counted_for (at i) (λ c. c.bytes) j (all_counted s lost es)) place)
-        ∙ counts-are (λ c. c.bytes) bytes (λ o. unwrap_or (option_map (λ p. p.len) o) 0) refl refl (λ step h. refl) (λ place n p. refl) s lost a one unit (at i) es in
+        ∙ counts-are (λ c. c.bytes) bytes (λ o. unwrap_or (option_map (λ p. p.len) o) 0) refl refl (λ step h. refl) (λ place n p. refl) s lost a one unit turns (at i) es in
         λ j. record { unit = i; at = at i; packets = p j; bytes = b j }
 
 -- The same of a net and a list that are the run's.
@@ -172,10 +171,10 @@ reads-are s lost es begin gap ways = map_same (read_by at (all_counted s lost es
 abbrev by_steps : ℕ → ℕ → ℕ → Net → List Counted → List Read1
 by_steps begin gap count net cs = map (read_by (read_after count begin gap) cs) (below (length (units net)))
 
-pub reads-from : (s : Setup) (lost : Losses) (es : List Entry) (begin gap count : ℕ) (net : Net) (cs : List Counted) (rs : List Read1) → HasWays net → s.net ≡ net → length es ≡ count → cs ≡ all_counted s lost es
+pub reads-from : (s : Setup) (lost : Losses) (es : List Entry) (begin gap count : ℕ) (net : Net) (cs : List Counted) (rs : List Read1) → TakesTurns → HasWays net → s.net ≡ net → length es ≡ count → cs ≡ all_counted s lost es
     → rs ≡ map (read_by (read_after count begin gap) cs) (below (length (units net))) → rs ≡ reads s lost es begin gap
-reads-from s lost es begin gap count net cs rs ways n k q e = e ∙ ap (λ j. by_steps begin gap j net cs) (sym k) ∙ ap (λ j. by_steps begin gap (length es) j cs) (sym n)
-    ∙ ap (by_steps begin gap (length es) s.net) q ∙ reads-are s lost es begin gap (subst HasWays (sym n) ways)
+reads-from s lost es begin gap count net cs rs turns ways n k q e = e ∙ ap (λ j. by_steps begin gap j net cs) (sym k) ∙ ap (λ j. by_steps begin gap (length es) j cs) (sym n)
+    ∙ ap (by_steps begin gap (length es) s.net) q ∙ reads-are s lost es begin gap turns (subst HasWays (sym n) ways)
 
 pub broken-from : (s : Setup) (lost : Losses) (es : List Entry) (begin gap count : ℕ) (net : Net) (ps : List Pair) (o : Option Pair) → s.net ≡ net → length es ≡ count → ps ≡ pairs s lost es
     → o ≡ find (breaks net count begin gap) ps → o ≡ broken_by s lost es begin gap

@@ -16,7 +16,7 @@ use Rattle.sl_model.specs.Losses.{loss_after, losses}
 use Rattle.sl_model.specs.Setup.{Setup, setup_of}
 use Rattle.sl_model.specs.Turns.{TakesTurns}
 use Rattle.sl_model.specs.World.{Entry, start, next_step, turn, IsLegalFrom, IsLegal}
-use Rattle.sl_model.proofs.Turns.{start-empty, next-within}
+use Rattle.sl_input.specs.Answers.{AnswerInOrder}
 use Rattle.sl_poll.specs.declared.trail.Pair.{Pair}
 use Rattle.sl_poll.specs.declared.trail.Counted.{Counted}
 use Rattle.sl_poll.specs.Lanes.{Lane, new_lane, AreFew}
@@ -30,16 +30,16 @@ use Rattle.sl_poll.proofs.Follows.{LaneIs, FeedIs, Follows, kept}
 drop-none : {A : Type 0} (k : ℕ) → ◌≡◌ {A = List A} (drop k []) []
 drop-none k = drop_of_length-le [] (omega arith)
 
-first-lane : (i : Input) (l : ℕ) → LaneIs i (start i.net) no_putters l (first_lane i l)
-first-lane i l = let e = start-empty i.net (link_of i.net l).from in record {
+first-lane : TakesTurns → (i : Input) (l : ℕ) → LaneIs i (start i.net) no_putters l (first_lane i l)
+first-lane turns i l = let e = turns.starts i.net (link_of i.net l).from in record {
   size = sym (ap (λ h. length (carried_by (losses i) l h)) e);
   queue = sym (drop-none _);
   loss = sym (ap (λ h. loss_after i l (length (put l h))) e);
   puts = sym (ap (λ h. length (put l h)) e);
 }
 
-first-feed : (s : Setup) (a : ℕ) → FeedIs s (start s.net) a (first_feed s a)
-first-feed s a = record { frames = refl; sent = λ h q. sym (ap (taken (action_choice s.net a)) (start-empty s.net a)) }
+first-feed : TakesTurns → (s : Setup) (a : ℕ) → FeedIs s (start s.net) a (first_feed s a)
+first-feed turns s a = record { frames = refl; sent = λ h q. sym (ap (taken (action_choice s.net a)) (turns.starts s.net a)) }
 
 pub first-follows : (i : Input) → TakesTurns → Follows i (start i.net) no_putters (map (first_lane i) (below (length i.net.links))) (map (first_feed (setup_of i)) (below (length i.net.actors)))
 first-follows i turns = record {
@@ -47,8 +47,8 @@ first-follows i turns = record {
   sized = sized-start (setup_of i);
   lanes_each = length_below (first_lane i) (length i.net.links);
   feeds_each = length_below (first_feed (setup_of i)) (length i.net.actors);
-  lane = λ l low b. subst (LaneIs i (start i.net) no_putters l) (sym (at_below (first_lane i) (length i.net.links) l (new_lane None) low)) (first-lane i l);
-  feed = λ a low. subst (FeedIs (setup_of i) (start i.net) a) (sym (at_below (first_feed (setup_of i)) (length i.net.actors) a no_feed low)) (first-feed (setup_of i) a);
+  lane = λ l low b. subst (LaneIs i (start i.net) no_putters l) (sym (at_below (first_lane i) (length i.net.links) l (new_lane None) low)) (first-lane turns i l);
+  feed = λ a low. subst (FeedIs (setup_of i) (start i.net) a) (sym (at_below (first_feed (setup_of i)) (length i.net.actors) a no_feed low)) (first-feed turns (setup_of i) a);
 }
 
 pub few-first : (i : Input) (ls : List ℕ) → AreFew (map (first_lane i) ls)
@@ -94,15 +94,15 @@ module _ (i : Input) (es : List Entry) (k : ℕ) (lanes : List Lane) (feeds : Li
   made : (step : Step) × (next_step (setup_of i) (losses i) t.world e ≡ Some step)
   made = step-of (next_step (setup_of i) (losses i) t.world e) legal-here.0
 
-  pub traced_actor : e.0 < length i.net.actors
-  traced_actor = next-within (setup_of i) (losses i) t.world e made.0 made.1
+  pub traced_actor : TakesTurns → e.0 < length i.net.actors
+  traced_actor turns = turns.within (setup_of i) (losses i) t.world e made.0 made.1
 
-  more-here : IsWired i.net → TakesTurns → (lanes' : List Lane) (feeds' : List Feed) (ps' : List Pair) (cs' : List Counted)
+  more-here : IsWired i.net → TakesTurns → AnswerInOrder → (lanes' : List Lane) (feeds' : List Feed) (ps' : List Pair) (cs' : List Counted)
       → lanes' ≡ lanes_after i.net (k + 1) e.0 (slice_get (links_into i.net e.0) e.1) lanes feeds → feeds' ≡ feeds_after e.0 (slice_get (links_into i.net e.0) e.1) feeds
       → ps' ≡ ps ++ pairs_told i.net (k + 1) (slice_get (links_into i.net e.0) e.1) lanes → cs' ≡ cs ++ counts_told i.net (k + 1) e.0 (slice_get (links_into i.net e.0) e.1) lanes
       → AreFew lanes' → length lanes' ≡ length i.net.links → Traced i es (k + 1) lanes' feeds' ps' cs'
-  more-here wired turns lanes' feeds' ps' cs' l f p c few each =
-      let x = kept i wired turns t.world e made.0 made.1 (k + 1) t.putters lanes feeds t.follows (subst AreFew l few) (sym (ap length l) ∙ each) in
+  more-here wired turns answer lanes' feeds' ps' cs' l f p c few each =
+      let x = kept i wired turns answer t.world e made.0 made.1 (k + 1) t.putters lanes feeds t.follows (subst AreFew l few) (sym (ap length l) ∙ each) in
       let one : suc (k + 1) ≡ k + 1 + 1 = omega arith in
       record {
         world = turn (setup_of i) (losses i) t.world e;
@@ -125,11 +125,11 @@ module _ (i : Input) (es : List Entry) (k : ℕ) (lanes : List Lane) (feeds : Li
       more-counts j = counted_from (setup_of i) (losses i) (turn (setup_of i) (losses i) t.world e) j (drop (k + 1) es)
 
   -- the same, of a net and a number that are the same
-  pub traced_more : IsWired i.net → TakesTurns → (net : Net) → net ≡ i.net → (n : ℕ) → n ≡ k + 1 → (lanes' : List Lane) (feeds' : List Feed) (ps' : List Pair) (cs' : List Counted)
+  pub traced_more : IsWired i.net → TakesTurns → AnswerInOrder → (net : Net) → net ≡ i.net → (n : ℕ) → n ≡ k + 1 → (lanes' : List Lane) (feeds' : List Feed) (ps' : List Pair) (cs' : List Counted)
       → lanes' ≡ lanes_after net n e.0 (slice_get (links_into net e.0) e.1) lanes feeds → feeds' ≡ feeds_after e.0 (slice_get (links_into net e.0) e.1) feeds
       → ps' ≡ ps ++ pairs_told net n (slice_get (links_into net e.0) e.1) lanes → cs' ≡ cs ++ counts_told net n e.0 (slice_get (links_into net e.0) e.1) lanes
       → AreFew lanes' → length lanes' ≡ length net.links → Traced i es (k + 1) lanes' feeds' ps' cs'
-  traced_more wired turns net q n r lanes' feeds' ps' cs' l f p c few each = more-here wired turns lanes' feeds' ps' cs'
+  traced_more wired turns answer net q n r lanes' feeds' ps' cs' l f p c few each = more-here wired turns answer lanes' feeds' ps' cs'
       (l ∙ ap (λ j. lanes_after net j e.0 (slice_get (links_into net e.0) e.1) lanes feeds) r ∙ ap (λ (m : Net). lanes_after m (k + 1) e.0 (slice_get (links_into m e.0) e.1) lanes feeds) q)
       (f ∙ ap (λ (m : Net). feeds_after e.0 (slice_get (links_into m e.0) e.1) feeds) q)
       (p ∙ ap (λ j. ps ++ pairs_told net j (slice_get (links_into net e.0) e.1) lanes) r ∙ ap (λ (m : Net). ps ++ pairs_told m (k + 1) (slice_get (links_into m e.0) e.1) lanes) q)

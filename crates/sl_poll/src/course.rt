@@ -1,23 +1,25 @@
 // A run followed link by link, as far as data packets go by.
-ghost use Rattle.std.specs.Prelude.{◌≡◌, ℕ, ◌<◌, ◌∷◌, ◌++◌, [], Bool, IfOk, OnOk, Some, cond, map, length, slice_get};
+ghost use Rattle.std.specs.Prelude.{◌≡◌, ◌<◌, ◌∷◌, ◌++◌, [], IfOk, OnOk, Some, cond, map, length, slice_get};
 ghost use Rattle.std.specs.List.{All};
 ghost use Rattle.sl_parts.specs.Parts.{below};
 ghost use Rattle.sl_flow.specs.Flow.{HasAddresses};
-ghost use Rattle.sl_layout.specs.Net.{actor_of, link_of, links_into, is_unit, unit_place};
+ghost use Rattle.sl_layout.specs.Net.{links_into, is_unit};
 ghost use Rattle.sl_route.specs.Routes.{IsRoutesOf};
 ghost use Rattle.sl_model.specs.Losses.{loss_on};
 ghost use Rattle.sl_model.specs.Setup.{setup_of};
-ghost use Rattle.sl_poll.specs.Lanes.{new_lane, put_each, AreFew};
+ghost use Rattle.sl_poll.specs.Lanes.{put_each, AreFew};
 ghost use Rattle.sl_poll.specs.Trail.{count_of};
-ghost use Rattle.sl_poll.specs.Ways.{leads, links_by, send_by, first_mark, rest_of, packet_on, paired, pair_for, counts, injected, next_of, first_lane, first_feed, feed_at, lanes_after, feeds_after, pairs_told, counts_told};
+ghost use Rattle.sl_poll.specs.Ways.{leads, links_by, send_by, first_mark, rest_of, packet_on, paired, counts, injected};
+ghost use Rattle.sl_poll.specs.Ways.{next_of, first_lane, first_feed, feed_at};
+ghost use Rattle.sl_poll.specs.Ways.{lanes_after, feeds_after, pairs_told, counts_told};
 
 use crate::feed::{Feed, list_feeds};
 use crate::lane::{Lane, Mark};
 use crate::trail::{Counted, Pair, Trail};
 use crate::way::{Sends, Way, bears, is_data, leads, sends_of};
+use sl_input::loss_on;
 use sl_machine::Memory;
 use sl_net::{ActorId, Input, Net, Packet, Sort};
-use sl_replay::loss_on;
 use sl_route::Routes;
 use std::alloc::Global;
 
@@ -246,7 +248,8 @@ fn follow_action(course: &mut Course, net: &Net, entry: u64, actor: u32) -> Resu
     requires each { length course.old.lanes.items ≡ length net.now.links }
     requires few { AreFew course.old.lanes.items }
     requires feeds { length course.old.feeds.items ≡ length net.now.actors }
-    ensures lanes { OnOk result (course.new.lanes.items ≡ send_by net.now entry actor (injected (next_of (feed_at course.old.feeds.items actor))) course.old.lanes.items) }
+    ensures lanes { let frame = next_of (feed_at course.old.feeds.items actor) in
+        OnOk result (course.new.lanes.items ≡ send_by net.now entry actor (injected frame) course.old.lanes.items) }
     ensures feeds { OnOk result (course.new.feeds.items ≡ feeds_after actor None course.old.feeds.items) }
     ensures few { OnOk result (AreFew course.new.lanes.items) }
     ensures each { OnOk result (length course.new.lanes.items ≡ length net.now.links) }
@@ -270,12 +273,16 @@ pub fn follow(
     requires each { length course.old.lanes.items ≡ length net.now.links }
     requires few { AreFew course.old.lanes.items }
     requires feeds { length course.old.feeds.items ≡ length net.now.actors }
-    ensures lanes { let link = slice_get (links_into net.now actor) choice in OnOk result (course.new.lanes.items ≡ lanes_after net.now entry actor link course.old.lanes.items course.old.feeds.items) }
-    ensures feeds { let link = slice_get (links_into net.now actor) choice in OnOk result (course.new.feeds.items ≡ feeds_after actor link course.old.feeds.items) }
+    ensures lanes { let link = slice_get (links_into net.now actor) choice in
+        OnOk result (course.new.lanes.items ≡ lanes_after net.now entry actor link course.old.lanes.items course.old.feeds.items) }
+    ensures feeds { let link = slice_get (links_into net.now actor) choice in
+        OnOk result (course.new.feeds.items ≡ feeds_after actor link course.old.feeds.items) }
     ensures few { OnOk result (AreFew course.new.lanes.items) }
     ensures each { OnOk result (length course.new.lanes.items ≡ length net.now.links) }
-    ensures pairs { let link = slice_get (links_into net.now actor) choice in OnOk result (trail.new.pairs ≡ trail.old.pairs ++ pairs_told net.now entry link course.old.lanes.items) }
-    ensures counted { let link = slice_get (links_into net.now actor) choice in OnOk result (trail.new.counted ≡ trail.old.counted ++ counts_told net.now entry actor link course.old.lanes.items) }
+    ensures pairs { let link = slice_get (links_into net.now actor) choice in
+        OnOk result (trail.new.pairs ≡ trail.old.pairs ++ pairs_told net.now entry link course.old.lanes.items) }
+    ensures counted { let link = slice_get (links_into net.now actor) choice in
+        OnOk result (trail.new.counted ≡ trail.old.counted ++ counts_told net.now entry actor link course.old.lanes.items) }
 {
     match net.links_into(actor).get(choice as usize) {
         Some(link) => follow_take(course, trail, net, routes, entry, actor, *link),

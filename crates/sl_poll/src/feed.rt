@@ -1,17 +1,16 @@
 // The packets of the frames that hosts send.
-ghost use Rattle.std.specs.Prelude.{◌≡◌, ℕ, ◌<◌, ◌∷◌, ◌++◌, [], ◌==◌, IfOk, OnOk, cond, map, filter, length};
+ghost use Rattle.std.specs.Prelude.{◌≡◌, ◌<◌, ◌∷◌, ◌++◌, [], ◌==◌, IfOk, OnOk, cond, map, length};
 ghost use Rattle.std.specs.List.{All};
 ghost use Rattle.sl_parts.specs.Parts.{below};
-ghost use Rattle.sl_layout.specs.Net.{actor_of};
 ghost use Rattle.sl_flow.specs.Flow.{HasAddresses, packets_of};
 ghost use Rattle.sl_model.specs.Frame.{packet_of};
 ghost use Rattle.sl_model.specs.Setup.{setup_of, frames_of};
 ghost use Rattle.sl_poll.specs.Ways.{next_of, after_next, frames_for, packets_in, raws_in, first_feed};
 
 use sl_flow::packets_of;
+use sl_input::packet_of;
 use sl_machine::Memory;
 use sl_net::{ActorId, Input, Packet, RawPart};
-use sl_replay::packet_of;
 use std::alloc::Global;
 use std::marker::Model;
 

@@ -1,8 +1,8 @@
 // What is on its way on a link, of data packets alone.
 ghost use Rattle.std.specs.Prelude.{◌≡◌, ◌<◌, ◌^◌, ◌∷◌, ◌++◌, [], OnOk, if◌then◌else◌, slice_get};
-ghost use Rattle.sl_loss.specs.Loss.{loses_next, after_put};
 ghost use Rattle.sl_poll.specs.Lanes.{new_lane, with_mark, without_first};
 
+use sl_input::loses_next;
 use sl_loss::Loss;
 use sl_machine::Memory;
 use sl_net::Packet;
@@ -31,17 +31,6 @@ impl Model for Lane {
     ghost Value = { Lane };
 
     ghost view = { λ a. record { queue = a.queue.items; loss = a.loss; puts = a.puts } };
-}
-
-/// Whether the next put on a link with this loss is lost.
-fn loses_next(loss: &mut Option<Loss>) -> bool
-    ensures lost { result ≡ loses_next loss.old }
-    ensures after { loss.new ≡ after_put loss.old }
-{
-    match loss {
-        Some(loss) => loss.next(),
-        None => false,
-    }
 }
 
 fn push_unless(queue: &mut VecDeque<Mark>, lost: bool, mark: Mark) -> Result<(), Memory>

@@ -8,7 +8,7 @@ ghost use Rattle.sl_poll.specs.declared.trail.Pair.{Pair};
 ghost use Rattle.sl_poll.specs.Reading.{broken_by};
 ghost use Rattle.sl_poll.specs.DataCut.{IsDataCut, steps_read};
 
-use sl_model::histories_only_grow;
+use sl_model::{histories_only_grow, worlds_take_turns};
 
 /// A reading that no packet breaks is a consistent cut of data packets (Chandy, Lamport 1985),
 /// whenever the units were read.
@@ -16,6 +16,7 @@ pub fn whole_readings_are_cuts()
     ensures { (s : Setup) (lost : Losses) (es : List Entry) (begin gap : ℕ) → broken_by s lost es begin gap ≡ None
         → IsDataCut s.net lost (world s lost es) (steps_read s lost es begin gap) }
 {
+    worlds_take_turns();
     histories_only_grow()
 }
 
@@ -24,5 +25,6 @@ pub fn broken_readings_are_no_cut()
     ensures { (s : Setup) (lost : Losses) (es : List Entry) (begin gap : ℕ) (p : Pair)
         → broken_by s lost es begin gap ≡ Some p → IsDataCut s.net lost (world s lost es) (steps_read s lost es begin gap) → ⊥ }
 {
+    worlds_take_turns();
     histories_only_grow()
 }

@@ -6,6 +6,7 @@ mod course;
 mod feed;
 mod lane;
 mod laws;
+mod listed;
 mod poll;
 mod reading;
 mod run;
@@ -15,6 +16,7 @@ mod trail;
 mod way;
 
 pub use laws::{broken_readings_are_no_cut, whole_readings_are_cuts};
+pub use listed::Listed;
 pub use poll::reading_of;
 pub use reading::{Polled, Read1, Reads};
 pub use run::{poll_of, trail_of};

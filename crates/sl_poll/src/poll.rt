@@ -1,5 +1,5 @@
 // The reading of a run, from its trail.
-ghost use Rattle.std.specs.Prelude.{◌≡◌, ◌<◌, ℕ, List, IfOk, IfSome, length, find};
+ghost use Rattle.std.specs.Prelude.{◌≡◌, ◌<◌, List, IfOk, IfSome, length, find};
 ghost use Rattle.std.specs.List.{All};
 ghost use Rattle.sl_model.specs.History.{Losses};
 ghost use Rattle.sl_model.specs.Setup.{Setup};
@@ -7,10 +7,12 @@ ghost use Rattle.sl_model.specs.World.{Entry};
 ghost use Rattle.sl_poll.specs.Trail.{pairs, all_counted};
 ghost use Rattle.sl_poll.specs.Reading.{breaks, reads, broken_by};
 
-use crate::reading::{Polled, Reads};
+use crate::listed::Listed;
+use crate::reading::Polled;
 use crate::sums::{Pace, read_after, reads_of};
 use crate::trail::{Pair, Trail};
 use sl_machine::Memory;
+use sl_model::worlds_take_turns;
 use sl_net::{Net, nets_have_ways};
 use std::alloc::Global;
 
@@ -55,10 +57,11 @@ pub fn reading_of(
         → trail.now.pairs ≡ pairs s lost es → polled.broken ≡ broken_by s lost es start gap) }
     ensures link { IfOk result (λ polled. IfSome polled.broken (λ p. p.link < length net.now.links)) }
 {
+    worlds_take_turns();
     nets_have_ways();
     let pace = Pace { count, start, gap };
     let items = reads_of(alloc, net, pace, trail.counted.as_slice())?;
-    let reads = Reads { items };
+    let reads = Listed { items };
     let broken = first_broken(net, pace, trail.pairs.as_slice());
     Ok(Polled { reads, broken })
 }

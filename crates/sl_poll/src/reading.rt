@@ -1,6 +1,6 @@
 // Readings of units.
+use crate::listed::Listed;
 use crate::trail::Pair;
-use std::marker::Model;
 
 /// What was read of a unit, by its place among the units: after how many entries, and the data
 /// packets and bytes that it had counted.
@@ -13,19 +13,7 @@ pub struct Read1 {
 }
 
 /// What was read of units, in order.
-#[derive(Debug, Drop)]
-pub struct Reads {
-    pub items: Vec<Read1>,
-}
-
-impl Model for Reads {
-    ghost use Rattle.std.specs.Prelude.{List};
-    ghost use Rattle.sl_poll.specs.declared.reading.Read1.{Read1};
-
-    ghost Value = { List Read1 };
-
-    ghost view = { λ r. r.items.items };
-}
+pub type Reads = Listed<Read1>;
 
 /// A reading of all units in order, and the first packet that breaks it, where one does.
 #[derive(Debug, Drop)]

@@ -9,9 +9,11 @@ ghost use Rattle.sl_poll.specs.Trail.{pairs, all_counted};
 ghost use Rattle.sl_poll.specs.Reading.{reads, broken_by};
 
 use crate::course::{first_course, follow};
+use crate::listed::Listed;
 use crate::poll::reading_of;
 use crate::reading::Polled;
-use crate::trail::{CountedList, PairList, Trail};
+use crate::trail::Trail;
+use sl_input::losses_answer_in_order;
 use sl_machine::Memory;
 use sl_model::worlds_take_turns;
 use sl_net::{Input, nets_are_wired};
@@ -22,10 +24,10 @@ fn no_trail(alloc: Global) -> Trail
     ensures pairs { result.pairs ≡ [] }
     ensures counted { result.counted ≡ [] }
 {
-    let pairs = PairList {
+    let pairs = Listed {
         items: Vec::new(alloc),
     };
-    let counted = CountedList {
+    let counted = Listed {
         items: Vec::new(alloc),
     };
     Trail { pairs, counted }
@@ -40,6 +42,7 @@ pub fn trail_of(alloc: Global, input: &Input, schedule: &[(u32, u32)]) -> Result
     ensures counted { IfOk result (λ t. t.counted ≡ all_counted (setup_of input.now) (losses input.now) schedule.now) }
 {
     worlds_take_turns();
+    losses_answer_in_order();
     nets_are_wired();
     let net = &input.net;
     let _parts = net.parts();

@@ -1,9 +1,9 @@
 // What units counted until they were read.
-ghost use Rattle.std.specs.Prelude.{ℕ, ◌≡◌, ◌≤◌, ◌<◌, IfOk, OnOk, length, map};
+ghost use Rattle.std.specs.Prelude.{ℕ, ◌≡◌, ◌<◌, IfOk, OnOk, length, map};
 ghost use Rattle.sl_parts.specs.Parts.{below};
 ghost use Rattle.sl_layout.specs.Net.{units};
 ghost use Rattle.sl_poll.specs.Reading.{read_after};
-ghost use Rattle.sl_poll.specs.Sums.{no_sum, sum_at, with_one, add_one, read_in, bytes_in, read_by, read_of_sum};
+ghost use Rattle.sl_poll.specs.Sums.{sum_at, with_one, add_one, read_in, bytes_in, read_by, read_of_sum};
 
 use crate::reading::Read1;
 use crate::trail::Counted;
@@ -58,19 +58,6 @@ fn add_one(sums: &mut Vec<Sum>, pace: Pace, counted: Counted) -> Result<(), Memo
     Ok(())
 }
 
-fn no_sums(alloc: Global, count: u32) -> Result<Vec<Sum>, AllocError>
-    ensures { IfOk result (λ sums. sums.items ≡ map (λ (i : ℕ). no_sum) (below count)) }
-{
-    let mut sums = Vec::new(alloc);
-    for _i in 0..count {
-        sums.push(Sum {
-            packets: 0,
-            bytes: 0,
-        })?;
-    }
-    Ok(sums)
-}
-
 /// The sums of all units.
 fn add_all(alloc: Global, pace: Pace, counted: &[Counted], count: u32) -> Result<Vec<Sum>, Memory>
     ensures packets { let at = read_after pace.count pace.start pace.gap in
@@ -78,7 +65,11 @@ fn add_all(alloc: Global, pace: Pace, counted: &[Counted], count: u32) -> Result
     ensures bytes { let at = read_after pace.count pace.start pace.gap in
         IfOk result (λ sums. (i : ℕ) → i < count → (sum_at sums.items i).bytes ≡ bytes_in (read_in at counted.now i)) }
 {
-    let mut sums = no_sums(alloc, count)?;
+    let none = Sum {
+        packets: 0,
+        bytes: 0,
+    };
+    let mut sums = vec![in alloc; none; count as usize]?;
     for one in counted {
         add_one(&mut sums, pace, *one)?;
     }

@@ -1,5 +1,5 @@
 // What a run did with data packets.
-use std::marker::Model;
+use crate::listed::Listed;
 
 /// A data packet that was taken on a data channel: its link, and the entries that put and took it,
 /// from 1.
@@ -20,56 +20,10 @@ pub struct Counted {
 }
 
 /// Pairs in order.
-#[derive(Debug, Drop)]
-pub struct PairList {
-    pub items: Vec<Pair>,
-}
-
-impl Model for PairList {
-    ghost use Rattle.std.specs.Prelude.{List};
-    ghost use Rattle.sl_poll.specs.declared.trail.Pair.{Pair};
-
-    ghost Value = { List Pair };
-
-    ghost view = { λ p. p.items.items };
-}
-
-impl PairList {
-    ghost use Rattle.std.specs.Prelude.{◌≡◌};
-
-    /// The pairs.
-    pub fn as_slice(&self) -> &[Pair]
-        ensures { result.now ≡ self.now }
-    {
-        self.items.as_slice()
-    }
-}
+pub type PairList = Listed<Pair>;
 
 /// Steps that count a data packet, in order.
-#[derive(Debug, Drop)]
-pub struct CountedList {
-    pub items: Vec<Counted>,
-}
-
-impl Model for CountedList {
-    ghost use Rattle.std.specs.Prelude.{List};
-    ghost use Rattle.sl_poll.specs.declared.trail.Counted.{Counted};
-
-    ghost Value = { List Counted };
-
-    ghost view = { λ c. c.items.items };
-}
-
-impl CountedList {
-    ghost use Rattle.std.specs.Prelude.{◌≡◌};
-
-    /// The steps.
-    pub fn as_slice(&self) -> &[Counted]
-        ensures { result.now ≡ self.now }
-    {
-        self.items.as_slice()
-    }
-}
+pub type CountedList = Listed<Counted>;
 
 /// What a run did with data packets: those that were taken on data channels, in the order of the
 /// taking entries, and the steps that count one.

@@ -1,6 +1,6 @@
 // What units put on the links that data packets go by.
 ghost use Rattle.std.specs.Prelude.{◌≡◌, ◌<◌, length};
-ghost use Rattle.sl_layout.specs.Net.{actor_of, link_of, same_actor};
+ghost use Rattle.sl_layout.specs.Net.{actor_of, same_actor};
 ghost use Rattle.sl_route.specs.Routes.{IsRoutesOf};
 ghost use Rattle.sl_model.specs.Matching.{is_data};
 ghost use Rattle.sl_model.specs.Puts.{is_own_port};

@@ -1,16 +1,11 @@
 -- Loops that leave out what is lost.
-use Rattle.std.proofs.Common.{Some, None, ◌≡◌, ℕ, suc, ◌+◌, ◌<◌, ◌^◌, List, [], ◌∷◌, ◌++◌, length, refl, ap, ◌∙◌, take, get_or, arith, length-take}
+use Rattle.std.proofs.Common.{◌≡◌, ℕ, suc, ◌+◌, ◌<◌, List, [], ◌∷◌, ◌++◌, length, refl, ap, ◌∙◌, take, get_or, arith, length-take}
 use Rattle.std.specs.Prelude.{Bool, true, false, cond, if◌then◌else◌}
 use Rattle.std.proofs.lemmas.List.{take_more}
-use Rattle.sl_machine.specs.Counting.{one_more}
-use Rattle.sl_loss.specs.Loss.{loses_next, after_put}
 use Rattle.sl_parts.specs.Parts.{numbers_from}
-use Rattle.sl_layout.specs.Wiring.{is_lossy}
-use Rattle.sl_net.specs.Input.{Input}
 use Rattle.sl_model.specs.declared.message.Message.{Message}
 use Rattle.sl_model.specs.Words.{tally}
 use Rattle.sl_model.specs.History.{without_lost}
-use Rattle.sl_model.specs.Losses.{kind_at, asked_loss, loss_after, loses, losses}
 
 without-snoc : (lost : ℕ → Bool) (n : ℕ) (xs : List Message) (x : Message) → without_lost lost n (xs ++ x ∷ []) ≡ without_lost lost n xs ++ cond (lost (suc n + length xs)) [] (x ∷ [])
 without-snoc lost n [] x = let e : suc n ≡ suc n + 0 = omega arith in one (lost (suc n)) ∙ ap (λ k. cond (lost k) [] (x ∷ [])) e
@@ -41,22 +36,3 @@ lost_and_kept lost n (x ∷ xs) = by_bool (lost (suc n)) (lost_and_kept lost (su
         → length (if b then without_lost lost (suc n) xs else x ∷ without_lost lost (suc n) xs) + ((if b then 1 else 0) + tally lost (numbers_from (suc (suc n)) (length xs))) ≡ suc (length xs)
     by_bool true q = omega (arith, q)
     by_bool false q = omega (arith, q)
-
--- The answers of a link's loss, one after the other.
-
-pub next_lost : (i : Input) (l n : ℕ) → loses_next (loss_after i l n) ≡ losses i l (n + 1)
-next_lost i l n = by_bool (is_lossy (kind_at i.net l))
-  where
-    by_bool : (b : Bool) → loses_next (if b then Some (asked_loss i.loss (kind_at i.net l) l n) else None) ≡ loses (if b then Some (asked_loss i.loss (kind_at i.net l) l 0) else None) (n + 1)
-    by_bool true = refl
-    by_bool false = refl
-
-pub next_after : (i : Input) (l n : ℕ) → n + 1 < 2 ^ 64 → after_put (loss_after i l n) ≡ loss_after i l (n + 1)
-next_after i l n h = by_bool (is_lossy (kind_at i.net l))
-  where
-    few : one_more n ≡ n + 1
-    few = omega (arith, h)
-
-    by_bool : (b : Bool) → after_put (if b then Some (asked_loss i.loss (kind_at i.net l) l n) else None) ≡ (if b then Some (asked_loss i.loss (kind_at i.net l) l (n + 1)) else None)
-    by_bool true = ap (λ k. Some (asked_loss i.loss (kind_at i.net l) l k)) few
-    by_bool false = refl

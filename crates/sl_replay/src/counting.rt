@@ -4,7 +4,7 @@ ghost use Rattle.sl_layout.specs.Net.{Net};
 ghost use Rattle.sl_route.specs.Routes.{IsRoutesOf};
 ghost use Rattle.sl_model.specs.Counting.{counted_in, counted, packets, bytes, is_bad, is_expired, is_noroute, bad, expired, noroute};
 
-use crate::frames::packet_of;
+use sl_input::packet_of;
 use sl_model::{Message, Step};
 use sl_net::Packet;
 use sl_route::Routes;

@@ -18,10 +18,9 @@ mod units;
 mod wires;
 
 pub use counting::{bad, bytes, expired, noroute, packets};
-pub use frames::packet_of;
 pub use history::{History, World};
 pub use knowledge::{floor, issued, resent, unit_floor};
-pub use losses::{carried, loss_on, without_lost};
+pub use losses::{carried, without_lost};
 pub use schedule::follow;
 pub use tell::{id, last, put, stamp_taken, taken};
 pub use wires::{action_choice, data_channels, hosts};

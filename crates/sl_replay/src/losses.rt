@@ -1,62 +1,15 @@
 // What is lost of the messages that are put on a link.
-ghost use Rattle.std.specs.Prelude.{◌≡◌, [], ◌∷◌, ◌++◌, ◌==◌, ◌<◌, length, cond, reverse, map, filter, IfOk, OnOk};
-ghost use Rattle.sl_loss.specs.Loss.{loses_next, after_put};
+ghost use Rattle.std.specs.Prelude.{◌≡◌, [], ◌∷◌, ◌++◌, ◌<◌, length, cond, reverse, IfOk, OnOk};
 ghost use Rattle.sl_model.specs.History.{carried_by, without_lost};
-ghost use Rattle.sl_model.specs.Losses.{drops_on, loss_on, losses};
+ghost use Rattle.sl_model.specs.Losses.{losses};
 
 use crate::message::copy_message;
 use crate::tell::put;
-use sl_loss::Loss;
+use sl_input::{loses_next, loss_on, losses_answer_in_order};
 use sl_machine::Memory;
 use sl_model::{Message, Step};
-use sl_net::{Drop1, Input, LossSpec};
+use sl_net::Input;
 use std::alloc::Global;
-
-fn add_drop(numbers: &mut Vec<u64>, drop: Drop1, link: u32) -> Result<(), Memory>
-    ensures { OnOk result (numbers.new.items ≡ numbers.old.items ++ map (λ d. d.n) (filter (λ d. d.link == link) (drop ∷ []))) }
-{
-    if drop.link == link {
-        numbers.push(drop.n)?;
-    }
-    Ok(())
-}
-
-/// The numbers of a link's puts that are listed.
-fn drops_on(alloc: Global, loss: &LossSpec, link: u32) -> Result<Vec<u64>, Memory>
-    ensures { IfOk result (λ numbers. numbers.items ≡ drops_on loss.now link) }
-{
-    let mut numbers = Vec::new(alloc);
-    for drop in &loss.drops {
-        add_drop(&mut numbers, *drop, link)?;
-    }
-    Ok(numbers)
-}
-
-/// The loss of a link before any put, or none where it is reliable.
-pub fn loss_on(alloc: Global, input: &Input, link: u32) -> Result<Option<Loss>, Memory>
-    requires { link < length input.now.net.links }
-    ensures { IfOk result (λ loss. loss ≡ loss_on input.now link) }
-{
-    let kind = input.net.kind(link);
-    if !kind.is_lossy() {
-        return Ok(None);
-    }
-    let drops = drops_on(alloc, &input.loss, link)?;
-    let rate = input.loss.rate_of(kind);
-    let loss = Loss::new(alloc, input.loss.seed, link as u64, rate, drops.as_slice())?;
-    Ok(Some(loss))
-}
-
-/// Whether the next put on a link with this loss is lost.
-fn loses_next(loss: &mut Option<Loss>) -> bool
-    ensures lost { result ≡ loses_next loss.old }
-    ensures after { loss.new ≡ after_put loss.old }
-{
-    match loss {
-        Some(loss) => loss.next(),
-        None => false,
-    }
-}
 
 fn add_unless(
     alloc: Global,
@@ -82,6 +35,7 @@ pub fn without_lost(
     requires { link < length input.now.net.links }
     ensures { IfOk result (λ kept. kept.items ≡ without_lost (losses input.now link) 0 messages.now) }
 {
+    losses_answer_in_order();
     let mut loss = loss_on(alloc, input, link)?;
     let mut kept = Vec::new(alloc);
     for message in messages {

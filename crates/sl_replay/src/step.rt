@@ -124,7 +124,8 @@ fn begin_all(alloc: Global, net: &Net, number: u64) -> Result<Puts, Memory>
 }
 
 fn issue(alloc: Global, input: &Input, floor: u64, steps: &[Step]) -> Result<Option<Puts>, Memory>
-    ensures { IfOk result (λ puts. puts ≡ guarded (can_issue (setup_of input.now) floor (reverse steps.now)) (begin_all input.now.net (suc (issued input.now.net (reverse steps.now))))) }
+    ensures { let h = reverse steps.now in
+        IfOk result (λ puts. puts ≡ guarded (can_issue (setup_of input.now) floor h) (begin_all input.now.net (suc (issued input.now.net h)))) }
 {
     if !can_issue(input, floor, steps) {
         return Ok(None);
@@ -134,7 +135,8 @@ fn issue(alloc: Global, input: &Input, floor: u64, steps: &[Step]) -> Result<Opt
 }
 
 fn resend(alloc: Global, input: &Input, floor: u64, steps: &[Step]) -> Result<Option<Puts>, Memory>
-    ensures { IfOk result (λ puts. puts ≡ guarded (can_resend (setup_of input.now) floor (reverse steps.now)) (begin_all input.now.net (issued input.now.net (reverse steps.now)))) }
+    ensures { let h = reverse steps.now in
+        IfOk result (λ puts. puts ≡ guarded (can_resend (setup_of input.now) floor h) (begin_all input.now.net (issued input.now.net h))) }
 {
     if !can_resend(input, floor, steps) {
         return Ok(None);
@@ -145,7 +147,8 @@ fn resend(alloc: Global, input: &Input, floor: u64, steps: &[Step]) -> Result<Op
 
 fn sweep(alloc: Global, net: &Net, actor: u32, steps: &[Step]) -> Result<Option<Puts>, Memory>
     requires { actor < length net.now.actors }
-    ensures { IfOk result (λ puts. puts ≡ guarded (not (is_swept net.now actor (reverse steps.now))) (flat_map (λ v. poll_puts v (reverse steps.now)) (served net.now actor))) }
+    ensures { let h = reverse steps.now in
+        IfOk result (λ puts. puts ≡ guarded (not (is_swept net.now actor h)) (flat_map (λ v. poll_puts v h) (served net.now actor))) }
 {
     if is_swept(alloc, net, actor, steps)? {
         return Ok(None);

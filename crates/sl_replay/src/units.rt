@@ -6,10 +6,11 @@ ghost use Rattle.sl_route.specs.Routes.{IsRoutesOf};
 ghost use Rattle.sl_model.specs.Frame.{plain_frame};
 ghost use Rattle.sl_model.specs.Puts.{send_all, crossbar_to, onward, route, ingress_puts, egress_puts, notice_puts, dump_puts, unit_puts, is_own_port};
 
-use crate::frames::{packet_of, plain_frame};
+use crate::frames::plain_frame;
 use crate::sends::{add_out, add_sends};
 use crate::tell::{id, last, stamp_of};
 use crate::wires::links_out;
+use sl_input::packet_of;
 use sl_machine::Memory;
 use sl_model::{Message, Put, Step};
 use sl_net::{ActorId, Net, Packet, Side, Sort, UnitId, push_if};
@@ -209,7 +210,8 @@ fn add_egress_data(
     packet: Packet,
 ) -> Result<(), Memory>
     requires { unit < length net.now.actors }
-    ensures { OnOk result (puts.new.items ≡ puts.old.items ++ (send_all (Message.Data id packet) (links_out net.now unit Sort.Cable) ++ send_all (Message.Host (plain_frame packet)) (links_out net.now unit Sort.ToHost))) }
+    ensures { OnOk result (puts.new.items ≡ puts.old.items ++ (send_all (Message.Data id packet) (links_out net.now unit Sort.Cable)
+        ++ send_all (Message.Host (plain_frame packet)) (links_out net.now unit Sort.ToHost))) }
 {
     add_to_cable(alloc, net, puts, unit, id, packet)?;
     add_to_host(alloc, net, puts, unit, packet)

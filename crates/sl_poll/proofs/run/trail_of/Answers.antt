@@ -23,7 +23,8 @@ follow-requires c =
       actor = omega (
         arith,
         ap (λ (n : Net). length n.actors) net,
-        traced_actor i c.args.schedule.now x.actor-index x.course.lanes.items x.course.feeds.items x.trail.pairs x.trail.counted x.invariant.traced z c.loop-actor-test.true,
+        traced_actor i c.args.schedule.now x.actor-index x.course.lanes.items x.course.feeds.items x.trail.pairs x.trail.counted x.invariant.traced z c.loop-actor-test.true
+            c.worlds_take_turns.ensures,
       );
       each = x.invariant.traced.follows.lanes_each ∙ ap (λ (n : Net). length n.links) net;
       few = x.invariant.few;
@@ -36,7 +37,7 @@ loop-actor-preserved c =
     let net : c.input.inside.net ≡ i.net = ap (λ (j : Input). j.net) c.input.view_is in
     let wired : IsWired i.net = subst IsWired net (c.nets_are_wired.ensures c.input.inside.net (record { made = c.parts-parts.ensures.net; right = c.parts-parts.ensures.right })) in record {
       traced = traced_more i c.args.schedule.now x.actor-index x.course.lanes.items x.course.feeds.items x.trail.pairs x.trail.counted x.invariant.traced z c.loop-actor-test.true
-          wired c.worlds_take_turns.ensures c.input.inside.net net (x.entry + 1) (ap (λ j. j + 1) x.invariant.entry) y.course.lanes.items y.course.feeds.items y.trail.pairs y.trail.counted
+          wired c.worlds_take_turns.ensures c.losses_answer_in_order.ensures c.input.inside.net net (x.entry + 1) (ap (λ j. j + 1) x.invariant.entry) y.course.lanes.items y.course.feeds.items y.trail.pairs y.trail.counted
           c.in_ok-follow.ensures.lanes c.in_ok-follow.ensures.feeds c.in_ok-follow.ensures.pairs c.in_ok-follow.ensures.counted c.in_ok-follow.ensures.few c.in_ok-follow.ensures.each;
       few = c.in_ok-follow.ensures.few;
       entry = ap (λ j. j + 1) x.invariant.entry;

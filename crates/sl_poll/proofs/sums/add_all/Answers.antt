@@ -5,7 +5,7 @@ use Rattle.sl_poll.proofs.Added.{summed_none, summed_more, summed_all}
 use Rattle.sl_poll.proofs.sums.add_all.Goals as goal
 
 pub loop-one-init : goal.loop-one-init
-loop-one-init c = summed_none (read_after c.args.pace.count c.args.pace.start c.args.pace.gap) c.args.count c.in_ok-sums.sums.items c.in_ok-sums.ensures
+loop-one-init c = summed_none (read_after c.args.pace.count c.args.pace.start c.args.pace.gap) c.args.count c.in_ok-sums.sums.items (c.in_ok-sums.ensures.items_if_clones_equal (λ y same. same))
 
 pub loop-one-preserved : goal.loop-one-preserved
 loop-one-preserved c = let d : Counted = record { unit = 0; entry = 0; bytes = 0 } in

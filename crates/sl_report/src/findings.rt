@@ -2,7 +2,8 @@
 ghost use Rattle.std.specs.Prelude.{◌≡◌, ◌++◌, OnOk, string_bytes, flat_map, codes, decimal, length, ◌<◌};
 ghost use Rattle.std.specs.List.{All};
 ghost use Rattle.sl_model.specs.Findings.{channel_links};
-ghost use Rattle.sl_report.specs.Report.{unit_text, unit_at, channel_text, channel_at, cause_text, lag_text, verdict_text, verdict_line, totals_text, row_line, rows_text, finding_text};
+ghost use Rattle.sl_report.specs.Report.{unit_text, unit_at, channel_text, channel_at, cause_text, lag_text};
+ghost use Rattle.sl_report.specs.Report.{verdict_text, verdict_line, totals_text, row_line, rows_text, finding_text};
 
 use crate::channels::channel_links;
 use crate::units::{push_channel, push_unit};
@@ -56,7 +57,8 @@ fn push_lag(
 }
 
 fn push_inconsistent(out: &mut String, net: &Net, unit: u32, cause: Cause) -> Result<(), AllocError>
-    ensures { OnOk result (string_bytes out.new ≡ string_bytes out.old ++ (codes "inconsistent " ++ (unit_text net.now unit ++ (codes " " ++ cause_text cause)))) }
+    ensures { OnOk result (string_bytes out.new ≡ string_bytes out.old
+        ++ (codes "inconsistent " ++ (unit_text net.now unit ++ (codes " " ++ cause_text cause)))) }
 {
     write!(out, "inconsistent ")?;
     push_unit(out, net, unit)?;
@@ -72,7 +74,8 @@ fn push_pending(
     lag: Lag,
 ) -> Result<(), AllocError>
     requires { unit < length net.now.actors }
-    ensures { OnOk result (string_bytes out.new ≡ string_bytes out.old ++ (codes "pending " ++ (unit_text net.now unit ++ (codes " " ++ lag_text net.now unit lag)))) }
+    ensures { OnOk result (string_bytes out.new ≡ string_bytes out.old
+        ++ (codes "pending " ++ (unit_text net.now unit ++ (codes " " ++ lag_text net.now unit lag)))) }
 {
     write!(out, "pending ")?;
     push_unit(out, net, unit)?;
@@ -138,7 +141,8 @@ fn push_verdict_line(
 }
 
 fn push_total(out: &mut String, net: &Net, link: u32, total: Total) -> Result<(), AllocError>
-    ensures { OnOk result (string_bytes out.new ≡ string_bytes out.old ++ (codes " " ++ (channel_text net.now link ++ (codes " " ++ (decimal total.packets ++ (codes " " ++ decimal total.bytes)))))) }
+    ensures { OnOk result (string_bytes out.new ≡ string_bytes out.old
+        ++ (codes " " ++ (channel_text net.now link ++ (codes " " ++ (decimal total.packets ++ (codes " " ++ decimal total.bytes)))))) }
 {
     write!(out, " ")?;
     push_channel(out, net, link)?;

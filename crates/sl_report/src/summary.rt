@@ -1,7 +1,8 @@
 // The summary of a sample.
 ghost use Rattle.std.specs.Prelude.{◌≡◌, ◌++◌, IfOk, OnOk, length, sum, string_bytes};
 ghost use Rattle.sl_layout.specs.Net.{units};
-ghost use Rattle.sl_report.specs.SummaryText.{is_consistent, is_inconsistent, is_pending, is_not_issued, count_verdicts, sample_line, sizes_line, traffic_line, verdicts_line, verdicts_text, lost_in_all, total_lost_line, summary_text};
+ghost use Rattle.sl_report.specs.SummaryText.{is_consistent, is_inconsistent, is_pending, is_not_issued, count_verdicts};
+ghost use Rattle.sl_report.specs.SummaryText.{sample_line, sizes_line, traffic_line, verdicts_line, verdicts_text, lost_in_all, total_lost_line, summary_text};
 
 use crate::lines::{device_count, host_count};
 use sl_machine::Memory;
@@ -156,7 +157,8 @@ fn push_total_lost(out: &mut String, lost: u128) -> Result<(), AllocError>
 }
 
 fn push_net(out: &mut String, net: &Net) -> Result<(), AllocError>
-    ensures { OnOk result (string_bytes out.new ≡ string_bytes out.old ++ sizes_line (length net.now.parts.devices) (length (units net.now)) (length net.now.parts.hosts)) }
+    ensures { OnOk result (string_bytes out.new ≡ string_bytes out.old
+        ++ sizes_line (length net.now.parts.devices) (length (units net.now)) (length net.now.parts.hosts)) }
 {
     let parts = net.parts();
     push_sizes(

@@ -4,7 +4,7 @@ ghost use Rattle.sl_parts.specs.Parts.{below, ports_of};
 ghost use Rattle.sl_route.specs.Graph.{is_at};
 ghost use Rattle.sl_route.specs.Route.{hops};
 ghost use Rattle.sl_route.specs.Routes.{IsRoutesOf};
-ghost use Rattle.sl_balance.specs.Equal.{leads_on, begins_by, ports_at, equal_ports};
+ghost use Rattle.sl_balance.specs.Equal.{leads_on, begins_by, equal_ports};
 
 use crate::cabled::same_port;
 use sl_net::{CablePart, Net, PortRef};

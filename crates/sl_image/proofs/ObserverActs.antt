@@ -24,7 +24,7 @@ use Rattle.sl_model.specs.declared.message.Put.{Put}
 use Rattle.sl_model.specs.declared.message.Step.{Step}
 use Rattle.sl_model.specs.History.{History, World, Losses, history, done_of}
 use Rattle.sl_model.specs.Setup.{Setup}
-use Rattle.sl_model.specs.Knowledge.{observer, issued, resent, collected, floors, floor, can_issue, can_resend}
+use Rattle.sl_model.specs.Knowledge.{observer, issued, resent, collected, floor, can_issue, can_resend}
 use Rattle.sl_model.specs.Puts.{send_all, begin_all, guarded, action}
 use Rattle.sl_model.specs.World.{Entry, next_step, step_by, acting, floor_for, turn, world}
 use Rattle.sl_model.specs.Turns.{Takes, Acts, Begins, TakesTurns}

@@ -1,6 +1,6 @@
 -- Places, numbers and least numbers in lists, as the observer uses them.
-use Rattle.std.proofs.Common.{◌≡◌, ℕ, zero, suc, ◌+◌, ◌<◌, ◌≤◌, List, [], ◌∷◌, ◌++◌, length, refl, sym, ap, subst, ◌∙◌, Some, arith, inl, inr, eq-eqb, get_or}
-use Rattle.std.specs.Prelude.{◌⊎◌, ◌&&◌, true, false, nat_eq, min, map, take, replicate, if◌then◌else◌, slice_set}
+use Rattle.std.proofs.Common.{◌≡◌, ℕ, zero, suc, ◌+◌, ◌<◌, ◌≤◌, List, [], ◌∷◌, ◌++◌, length, refl, sym, ap, subst, ◌∙◌, arith, inl, inr, eq-eqb, get_or}
+use Rattle.std.specs.Prelude.{◌⊎◌, ◌&&◌, true, false, nat_eq, map, take, replicate, if◌then◌else◌, slice_set}
 use Rattle.std.proofs.lemmas.Bool.Decides.{eqb_tells}
 use Rattle.sl_parts.specs.Parts.{numbers_from}
 use Rattle.sl_layout.specs.Net.{place_in}

@@ -35,7 +35,6 @@ use Rattle.sl_model.proofs.Weighed.{weigh_more, weigh_take, weigh_below_more}
 use Rattle.sl_model.specs.Accounts.{finding_by}
 use Rattle.sl_model.specs.Turns.{TakesTurns}
 use Rattle.sl_image.specs.ObserverImage.{unit_of, observer_of, IsObserverOf}
-use Rattle.sl_image.specs.Messages.{lasts}
 use Rattle.sl_model.specs.Rows.{row}
 use Rattle.sl_image.specs.UnitImage.{dropped}
 use Rattle.sl_image.proofs.ObserverUnits.{channels-are}

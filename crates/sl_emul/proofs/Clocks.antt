@@ -4,7 +4,7 @@ use Rattle.std.specs.Prelude.{◌⊎◌, true, false, Bool, nat_eq, if◌then◌
 use Rattle.std.specs.Option.{option_map, option_and_then}
 use Rattle.std.proofs.Math.ListN.{get_or-map}
 use Rattle.std.proofs.lemmas.Bool.Decides.{eqb_tells}
-use Rattle.std.proofs.lemmas.List.{length-map, length-drop, length-replicate, map-append, replicate-append-replicate}
+use Rattle.std.proofs.lemmas.List.{length-map, length-drop, drop-append-le, length-replicate, map-append, replicate-append-replicate}
 use Rattle.std.proofs.lemmas.Option.{same_Some, get_or_from_slice_get, slice_get_within}
 use Rattle.sl_machine.specs.Machine.{After}
 use Rattle.sl_machine.specs.Plan.{IsSound, link_in, link_out}
@@ -36,7 +36,6 @@ use Rattle.sl_proto.specs.Nodes.{NodeState, node_rules}
 use Rattle.sl_proto.specs.Image.{tell, AreQueued, IsImage}
 use Rattle.sl_proto.specs.Standing.{Case, IsImageOf, FirstNodes, scene_of}
 use Rattle.sl_proto.proofs.Images.{drop-more, drop-longer, drop-get, link-in-is, link-in-none, wires-each}
-use Rattle.sl_proto.proofs.Lines.{drop-front}
 use Rattle.sl_proto.specs.Meaning.{NodeStands}
 use Rattle.sl_emul.proofs.Standing.{Image}
 
@@ -207,7 +206,7 @@ module _ (s : Setup) (lost : Losses) (sizes : Sizes) (Stands : World → ℕ →
             let k = t.marks l m in let g = carries l in let i = from.1 in
             let count : added.0 ≡ length (carried net lost x l) - length (carried net lost w l) = omega (arith, all, old, more, k, g, i) in
             queue ∙ ap (λ ks. ks ++ replicate added.0 n) from.0 ∙ ap (λ j. drop (took_from x l) (c.putters l) ++ replicate j n) count
-            ∙ sym (drop-front (took_from x l) (c.putters l) (replicate (length (carried net lost x l) - length (carried net lost w l)) n) from.1)
+            ∙ sym (drop-append-le (took_from x l) (c.putters l) (replicate (length (carried net lost x l) - length (carried net lost w l)) n) from.1)
 
     -- it takes a message or acts
     pub ticks : turn_of (numbered node_rules) v e.0 e.1 ≡ Some u → (time_in time (slice_get u.states e.0) ≡ number_of s w c e) × Ticks x (clocks_after net lost w x e (number_of s w c e) c) u

@@ -6,7 +6,7 @@ use sl_net::Packet;
 use sl_saves::{Slots, View};
 use sl_wire::{
     Boxed, Done, Dump, Header, Kind, Msg, Rows, WireFault, are_wids, decode, encode, has_room,
-    have_room, is_wid, plain_frame, reached, unwrap_each, wrap_each,
+    have_room, is_wid, plain_frame, reached, unwrap_each,
 };
 use std::test::Fail;
 
@@ -174,7 +174,16 @@ fn eight_ids(rt: HostRuntime) -> Result<(), Fail> {
     let width = Width::new(2).ok_or("two bits")?;
     let known = [0, 0, 1, 3, 4, 5, 100, 1001];
     let numbers = [0, 3, 4, 3, 7, 5, 103, 1002];
-    let wids = wrap_each(width, &numbers);
+    let wids = [
+        Wid { raw: 0 },
+        Wid { raw: 3 },
+        Wid { raw: 0 },
+        Wid { raw: 3 },
+        Wid { raw: 3 },
+        Wid { raw: 1 },
+        Wid { raw: 3 },
+        Wid { raw: 2 },
+    ];
     if !are_wids(width, &wids) || !have_room(width, &known) {
         return Err("eight ids".into());
     }

@@ -11,8 +11,9 @@ use sl_net::{Net, Snapshot};
 use std::alloc::Global;
 use std::test::Fail;
 
-static TURNS: [Turn; 20] = [
+static TURNS: [Turn; 21] = [
     (0, Begin(1), 10101_40101),
+    (0, Begin(6), 10102_40102),
     (3, Begin(1), 0),
     (4, Dump(1, 1, 1), 0),
     (1, Notice, 20001),

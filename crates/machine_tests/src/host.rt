@@ -6,8 +6,8 @@ ghost use Rattle.sl_flow.specs.Flow.{HasAddresses};
 use crate::bench::Bench;
 use crate::nets::{net, sent};
 use sl_host::Host;
-use sl_net::{Bytes, Flow, Input, LossSpec, RawPart, Snapshot};
-use sl_wire::Msg;
+use sl_net::{Bytes, Flow, Input, LossSpec, Packet, RawPart, Snapshot};
+use sl_wire::{Msg, plain_frame};
 use std::alloc::{AllocError, Global};
 use std::test::Fail;
 
@@ -82,14 +82,22 @@ fn host(alloc: Global) -> Result<Bench<Host>, Fail> {
     host_of(alloc, &input)
 }
 
-/// The frame that the host sends next, where it sends one.
-fn next_frame(alloc: Global, host: &mut Bench<Host>) -> Result<Option<Bytes>, Fail> {
+/// What the host sends next, where it sends something.
+fn next_message(alloc: Global, host: &mut Bench<Host>) -> Result<Option<Msg>, Fail> {
     match host.act(alloc, 1)? {
         None => Ok(None),
         Some(mut out) => match out.take_first() {
-            Some((0, Msg::Host(frame))) => Ok(Some(frame)),
-            _ => Err("no frame".into()),
+            Some((0, message)) => Ok(Some(message)),
+            _ => Err("no message".into()),
         },
+    }
+}
+
+/// Whether a message carries these bytes.
+fn carries(message: &Msg, bytes: &[u8]) -> bool {
+    match message.bytes() {
+        Some(carried) => carried == bytes,
+        None => false,
     }
 }
 
@@ -107,8 +115,8 @@ fn frames() -> &'static [&'static [u8]] {
 /// The place of the first frame that is sent otherwise, or the number of frames.
 fn first_wrong(alloc: Global, host: &mut Bench<Host>, frames: &[&[u8]]) -> Result<usize, Fail> {
     for place in 0..frames.len() {
-        match next_frame(alloc, host)? {
-            Some(frame) if frame.items.as_slice() == frames[place] => {}
+        match next_message(alloc, host)? {
+            Some(message) if carries(&message, frames[place]) => {}
             _ => return Ok(place),
         }
     }
@@ -119,7 +127,7 @@ fn first_wrong(alloc: Global, host: &mut Bench<Host>, frames: &[&[u8]]) -> Resul
 fn packets_then_raw_frames(rt: HostRuntime) -> Result<(), Fail> {
     let mut host = host(rt.alloc())?;
     assert_eq!(rt; first_wrong(rt.alloc(), &mut host, frames())?, 4);
-    assert!(rt; next_frame(rt.alloc(), &mut host)?.is_none());
+    assert!(rt; next_message(rt.alloc(), &mut host)?.is_none());
     assert_eq!(rt; host.machine.sent(), 4);
     Ok(())
 }
@@ -133,9 +141,17 @@ fn taken(alloc: Global, host: &mut Bench<Host>, m: Msg) -> Result<u64, Fail> {
 #[test]
 fn frames_are_counted(rt: HostRuntime) -> Result<(), Fail> {
     let mut host = host(rt.alloc())?;
-    let frame = raw(rt.alloc(), 0, 5)?.bytes;
-    let first = taken(rt.alloc(), &mut host, Msg::Host(frame))?;
-    let second = taken(rt.alloc(), &mut host, Msg::Poll)?;
-    assert_eq!(rt; (first, second), (1, 1));
+    let packet = Packet {
+        src: 0,
+        dst: 0,
+        seq: 0,
+        len: 100,
+        hops: 1,
+    };
+    let bytes = raw(rt.alloc(), 0, 5)?.bytes;
+    let first = taken(rt.alloc(), &mut host, Msg::Frame(plain_frame(&packet)))?;
+    let second = taken(rt.alloc(), &mut host, Msg::carrying(bytes))?;
+    let third = taken(rt.alloc(), &mut host, Msg::Poll)?;
+    assert_eq!(rt; (first, second, third), (1, 2, 2));
     Ok(())
 }

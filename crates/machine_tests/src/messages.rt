@@ -1,9 +1,9 @@
 // The messages that turns take and put.
-use sl_ids::Wid;
+use sl_ids::{Wid, Width};
 use sl_machine::{Memory, Outputs};
-use sl_net::{Bytes, Packet};
+use sl_net::Packet;
 use sl_saves::{RingSaves, Saved, Saves, View};
-use sl_wire::{Boxed, Done, Dump, Msg, Rows, plain_frame};
+use sl_wire::{Boxed, Done, Dump, Frame, Header, Kind, Msg, Rows, frame_of, plain_frame};
 use std::alloc::{AllocError, Global};
 use std::test::Fail;
 
@@ -15,8 +15,9 @@ pub enum Event {
     Begin(u64),
     Notice,
     Poll,
+    /// A probe from port 0 with this stamp.
     Probe(u64),
-    /// A packet to the host 1 with this stamp.
+    /// A packet from port 0 to the host 1, with this stamp.
     Data(u64),
     /// The plain frame of a packet with this destination and hop limit, its byte at a place
     /// changed by so much.
@@ -38,14 +39,30 @@ fn packet(dst: u16, hops: u8) -> Packet {
     }
 }
 
-fn frame(alloc: Global, packet: &Packet, place: usize, more: u8) -> Result<Bytes, AllocError> {
+fn frame(packet: &Packet, place: usize, more: u8) -> Frame {
     let mut bytes = plain_frame(packet).bytes;
     if place < 24 {
         bytes[place] = bytes[place].wrapping_add(more);
     }
-    Ok(Bytes {
-        items: Vec::from_slice(alloc, &bytes)?,
-    })
+    Frame { bytes }
+}
+
+/// A packet or what a probe has in its place, framed from port 0 with this stamp.
+fn stamped(kind: Kind, stamp: u64, packet: &Packet) -> Msg {
+    let header = Header {
+        kind,
+        id: wid(stamp),
+        channel: 0,
+    };
+    Msg::Frame(frame_of(&header, packet))
+}
+
+/// What a probe has in place of a packet.
+fn no_packet() -> Packet {
+    Packet {
+        len: 0,
+        ..packet(0, 0)
+    }
 }
 
 /// A view of three slots of a unit that went from 0 to a number below 7, by at most 3 in one step.
@@ -109,10 +126,10 @@ pub fn message(alloc: Global, event: Event) -> Result<Option<Msg>, Fail> {
         Event::Begin(number) => Some(Msg::Begin(number)),
         Event::Notice => Some(Msg::Notice),
         Event::Poll => Some(Msg::Poll),
-        Event::Probe(stamp) => Some(Msg::Probe(stamp)),
-        Event::Data(stamp) => Some(Msg::Data(stamp, packet(1, 8))),
+        Event::Probe(stamp) => Some(stamped(Kind::Probe, stamp, &no_packet())),
+        Event::Data(stamp) => Some(stamped(Kind::Carried, stamp, &packet(1, 8))),
         Event::Frame(dst, hops, place, more) => {
-            Some(Msg::Host(frame(alloc, &packet(dst, hops), place, more)?))
+            Some(Msg::Frame(frame(&packet(dst, hops), place, more)))
         }
         Event::Dump(id, cpu, seen) => Some(Msg::Dump(dump(alloc, id, cpu, seen)?)),
         Event::Done(unit, first, reached) => {
@@ -132,17 +149,30 @@ fn coded_report(done: &Done) -> u64 {
         .wrapping_add(done.last[0])
 }
 
-/// A message as a number below 10,000: its number or stamp, after a digit for its kind.
+/// The snapshot header of a frame as a number: a digit for its kind, the sender's port, and the
+/// wrapped id.
+fn coded_header(header: &Header) -> u64 {
+    let id = u64::from(header.id.raw);
+    let port = u64::from(header.channel) * 10;
+    match header.kind {
+        Kind::Plain => 3,
+        Kind::Init => 100 + id,
+        Kind::Probe => 300 + port + id,
+        Kind::Carried => 400 + port + id,
+    }
+}
+
+/// A message as a number below 10,000: a digit for its kind, and what it says.
 fn coded(m: &Msg) -> u64 {
     match m {
+        Msg::Frame(_) | Msg::Wire(_) => match m.frame(Width { bits: 2 }) {
+            Some((header, _)) => coded_header(&header),
+            None => 5,
+        },
         Msg::Poll => 1,
         Msg::Notice => 2,
-        Msg::Host(_) => 3,
         Msg::Dump(_) => 4,
-        Msg::Init(number) => number.wrapping_add(100),
         Msg::Begin(number) => number.wrapping_add(200),
-        Msg::Probe(stamp) => stamp.wrapping_add(300),
-        Msg::Data(stamp, _) => stamp.wrapping_add(400),
         Msg::Done(done) => coded_report(done.get()),
     }
 }

@@ -146,10 +146,10 @@ fn new_registers(rt: HostRuntime) -> Result<(), Fail> {
     Ok(())
 }
 
-/// Turns of `in a.0`, to whose host frames come.
+/// Turns of `in a.1`, from whose host frames come.
 static FRAMES: [Turn; 7] = [
-    (0, Frame(1, 8, 0, 0), 30400),
-    (0, Frame(0, 1, 0, 0), 20400),
+    (0, Frame(1, 8, 0, 0), 30410),
+    (0, Frame(0, 1, 0, 0), 20410),
     (0, Frame(1, 0, 0, 0), 0),
     (0, Frame(9, 8, 0, 0), 0),
     (0, Frame(1, 8, 16, 1), 0),
@@ -164,7 +164,7 @@ fn frames() -> &'static [Turn] {
 #[test]
 fn frames_of_the_host(rt: HostRuntime) -> Result<(), Fail> {
     let alloc = rt.alloc();
-    let mut unit = unit(alloc, 0)?;
+    let mut unit = unit(alloc, 2)?;
     assert_eq!(rt; first_wrong(alloc, &mut unit, frames())?, None);
     let counts = UnitCounts {
         packets: 5,

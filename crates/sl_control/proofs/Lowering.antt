@@ -1,6 +1,6 @@
 -- A dump lowers no number that is known.
 use Rattle.std.proofs.Common.{◌≡◌, ℕ, zero, suc, ◌<◌, ◌≤◌, List, [], ◌∷◌, length, map, refl, ap, ◌∙◌, arith}
-use Rattle.std.specs.Prelude.{Bool, true, false, cond, nat_lt, if◌then◌else◌, slice_index_or}
+use Rattle.std.specs.Prelude.{true, false, cond, nat_lt, if◌then◌else◌, slice_index_or}
 use Rattle.std.proofs.lemmas.Bool.{lt-ltb}
 use Rattle.sl_ids.specs.declared.wid.Wid.{Wid}
 use Rattle.sl_saves.specs.Calls.{channels}

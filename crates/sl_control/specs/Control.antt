@@ -8,10 +8,13 @@ use Rattle.std.specs.List.{list_all}
 use Rattle.sl_machine.specs.Machine.{After, Rules, Counts, send_all}
 use Rattle.sl_saves.specs.declared.entry.Saved.{Saved}
 use Rattle.sl_ids.specs.Ids.{unwrapped}
+use Rattle.sl_ids.specs.Wids.{wid}
 use Rattle.sl_wire.specs.declared.message.Dump.{Dump}
 use Rattle.sl_wire.specs.declared.message.Done.{Done}
 use Rattle.sl_wire.specs.declared.message.Msg.{Msg}
-use Rattle.sl_wire.specs.declared.message.Msg.TheVariants.{Init as InitMsg, Poll as PollMsg, Notice as NoticeMsg, Dump as DumpMsg, Begin as BeginMsg, Done as DoneMsg}
+use Rattle.sl_wire.specs.declared.message.Msg.TheVariants.{Poll as PollMsg, Notice as NoticeMsg, Dump as DumpMsg, Begin as BeginMsg, Done as DoneMsg}
+use Rattle.sl_wire.specs.Carried.{framed}
+use Rattle.sl_wire.specs.Frames.{init_header, no_packet}
 use Rattle.sl_wire.specs.Reach.{reached}
 use Rattle.sl_wire.specs.Sizes.{Sizes}
 use Rattle.sl_wire.specs.Wids.{is_wid, has_room, unwrapped_each}
@@ -134,9 +137,13 @@ with_units s rs = record { wires = s.wires; units = rs }
 abbrev pub asked_all : Option ℕ → ControlState → After ControlState Msg
 asked_all o s = record { state = with_units s (map (ask_by o) s.units); puts = flat_map (ask_puts o) s.units }
 
+-- the initiation of a number, with its wrapped id
+abbrev pub initiation : ℕ → ℕ → Msg
+initiation bits k = framed (init_header (wid bits k)) no_packet
+
 -- a message that its choice doesn't carry, and a dump that isn't taken, change nothing
 abbrev pub control_take : ControlState → ℕ → Msg → After ControlState Msg
-control_take s c (BeginMsg k) = record { state = s; puts = cond (c == s.wires.begin) (send_all (InitMsg k) s.wires.inits) [] }
+control_take s c (BeginMsg k) = record { state = s; puts = cond (c == s.wires.begin) (send_all (initiation s.wires.sizes.bits k) s.wires.inits) [] }
 control_take s c NoticeMsg = asked_all (Some c) s
 control_take s c (DumpMsg d) = record { state = with_units s (map (dump_by s.wires.sizes c d) s.units); puts = flat_map (dump_puts s.wires.sizes s.wires.done c d) s.units }
 control_take s c _ = record { state = s; puts = [] }

@@ -127,7 +127,7 @@ impl Machine for Control {
     fn take(&mut self, link: u32, m: Msg, out: &mut Outputs<Msg>) {
         self.prepared = None;
         match m {
-            Msg::Begin(number) => put_inits(&self.inits, link == BEGIN, number, out),
+            Msg::Begin(number) => put_inits(&self.inits, link == BEGIN, self.width, number, out),
             Msg::Notice => ask_all(&mut self.units, Some(link), out),
             Msg::Dump(dump) => {
                 answer_all(

@@ -4,15 +4,16 @@ ghost use Rattle.std.specs.Vec.{vec_capacity};
 ghost use Rattle.std.specs.List.{AllByRecursion};
 ghost use Rattle.sl_control.specs.declared.known.Known.{Known};
 ghost use Rattle.sl_machine.specs.Machine.{send_all};
-ghost use Rattle.sl_control.specs.Control.{ask_by, ask_puts, dump_by, dump_puts, numbers_told, answered, answer_by, is_read, is_taken, is_swept};
+ghost use Rattle.sl_control.specs.Control.{ask_by, ask_puts, dump_by, dump_puts, initiation, numbers_told, answered, answer_by, is_read, is_taken, is_swept};
 ghost use Rattle.sl_control.specs.Joined.{AreApart, dumps_of, HasDumpChoice};
 
 use crate::blanks::Blanks;
 use crate::known::{Known, Numbers, has_wids};
-use sl_ids::Width;
+use sl_ids::{Width, wrap};
 use sl_machine::Outputs;
+use sl_net::Packet;
 use sl_saves::View;
-use sl_wire::{Dump, Msg};
+use sl_wire::{Dump, Frame, Header, Kind, Msg, encode};
 
 /// What notices by this choice, or without one a sweep, do to the units.
 pub fn ask_all(units: &mut Vec<Known>, notice: Option<u32>, out: &mut Outputs<Msg>)
@@ -33,15 +34,35 @@ pub fn is_swept(units: &[Known]) -> bool
     units.iter().all(|known| known.waits && known.again)
 }
 
-/// Puts a message on each of these links where it passes.
-pub fn put_inits(outs: &[u32], passes: bool, number: u64, out: &mut Outputs<Msg>)
+/// The frame of the initiation of a number.
+fn initiation(width: Width, number: u64) -> Frame
+    ensures { Msg.Frame result ≡ initiation width.bits number }
+{
+    let header = Header {
+        kind: Kind::Init,
+        id: wrap(width, number),
+        channel: 255,
+    };
+    let packet = Packet {
+        src: 0,
+        dst: 0,
+        seq: 0,
+        len: 0,
+        hops: 0,
+    };
+    encode(width, &header, &packet)
+}
+
+/// Puts the initiation of a number on each of these links where it passes.
+pub fn put_inits(outs: &[u32], passes: bool, width: Width, number: u64, out: &mut Outputs<Msg>)
     requires { length out.old.items + length outs.now ≤ out.old.room }
-    ensures puts { out.new.items ≡ out.old.items ++ cond passes (send_all (Msg.Init number) outs.now) [] }
+    ensures puts { out.new.items ≡ out.old.items ++ cond passes (send_all (initiation width.bits number) outs.now) [] }
     ensures room { out.new.room ≡ out.old.room }
 {
     if passes {
+        let frame = initiation(width, number);
         for link in outs {
-            out.put(*link, Msg::Init(number));
+            out.put(*link, Msg::Frame(frame));
         }
     }
 }

@@ -1,12 +1,12 @@
 -- A host's frames over any turns.
 use Rattle.std.proofs.Common.{◌≡◌, ℕ, zero, suc, ◌+◌, ◌-◌, ◌^◌, List, [], ◌∷◌, ◌++◌, refl, sym, ap, ◌∙◌, take, append-nil, append_assoc, arith}
-use Rattle.std.specs.Prelude.{Option, Some, None, slice_get, option_map, unwrap_or, min}
+use Rattle.std.specs.Prelude.{Option, Some, None, is_some, true, false, slice_get, option_map, unwrap_or, min, if◌then◌else◌}
 use Rattle.std.proofs.lemmas.List.{map-append}
 use Rattle.sl_machine.specs.Machine.{After}
 use Rattle.sl_machine.specs.Turns.{Turn, Took, Acted, after_turn, after}
 use Rattle.sl_wire.specs.declared.message.Msg.{Msg}
-use Rattle.sl_wire.specs.declared.message.Msg.TheVariants.{Host as HostMsg, Data, Probe, Init, Poll, Notice, Dump, Begin, Done}
-use Rattle.sl_host.specs.Host.{HostState, sending, host_rules}
+use Rattle.sl_wire.specs.Carried.{bytes_on, carrying}
+use Rattle.sl_host.specs.Host.{HostState, counted, sending, host_rules}
 use Rattle.sl_host.specs.Turns.{sendings, frames_taken}
 
 -- an injection, by the frame that is next
@@ -14,15 +14,7 @@ abbrev injected : HostState → Option (List ℕ) → After HostState Msg
 injected s o = unwrap_or (option_map (sending s) o) (record { state = s; puts = [] })
 
 messages_stay : (s : HostState) (t : Turn Msg) → (after_turn host_rules s t).state.messages ≡ s.messages
-messages_stay s (Took link (HostMsg b)) = refl
-messages_stay s (Took link (Data k p)) = refl
-messages_stay s (Took link (Probe k)) = refl
-messages_stay s (Took link (Init k)) = refl
-messages_stay s (Took link Poll) = refl
-messages_stay s (Took link Notice) = refl
-messages_stay s (Took link (Dump d)) = refl
-messages_stay s (Took link (Begin k)) = refl
-messages_stay s (Took link (Done d)) = refl
+messages_stay s (Took link m) = elim (is_some (bytes_on m)) as (λ b. (if b then counted s else s).messages ≡ s.messages) [ true ↦ refl | false ↦ refl ]
 messages_stay s (Acted action) = elim (slice_get s.messages s.sent) as (λ o. (injected s o).state.messages ≡ s.messages) [ None ↦ refl | Some b ↦ refl ]
 
 pub messages_are : (s : HostState) (ts : List (Turn Msg)) → (after host_rules s ts).state.messages ≡ s.messages
@@ -36,20 +28,13 @@ take_next (y ∷ ys) (suc n) x e = ap (λ zs. y ∷ zs) (take_next ys n x e)
 
 -- what was sent before a turn, and what it puts
 sent_more : (s : HostState) (t : Turn Msg) → sendings (take s.sent s.messages) ++ (after_turn host_rules s t).puts ≡ sendings (take (after_turn host_rules s t).state.sent s.messages)
-sent_more s (Took link (HostMsg b)) = append-nil (sendings (take s.sent s.messages))
-sent_more s (Took link (Data k p)) = append-nil (sendings (take s.sent s.messages))
-sent_more s (Took link (Probe k)) = append-nil (sendings (take s.sent s.messages))
-sent_more s (Took link (Init k)) = append-nil (sendings (take s.sent s.messages))
-sent_more s (Took link Poll) = append-nil (sendings (take s.sent s.messages))
-sent_more s (Took link Notice) = append-nil (sendings (take s.sent s.messages))
-sent_more s (Took link (Dump d)) = append-nil (sendings (take s.sent s.messages))
-sent_more s (Took link (Begin k)) = append-nil (sendings (take s.sent s.messages))
-sent_more s (Took link (Done d)) = append-nil (sendings (take s.sent s.messages))
+sent_more s (Took link m) = append-nil (sendings (take s.sent s.messages)) ∙ elim (is_some (bytes_on m)) as
+    (λ b. sendings (take s.sent s.messages) ≡ sendings (take (if b then counted s else s).sent s.messages)) [ true ↦ refl | false ↦ refl ]
 sent_more s (Acted action) = by_next (slice_get s.messages s.sent) refl
   where
     by_next : (o : Option (List ℕ)) → slice_get s.messages s.sent ≡ o → sendings (take s.sent s.messages) ++ (injected s o).puts ≡ sendings (take (injected s o).state.sent s.messages)
     by_next None e = append-nil (sendings (take s.sent s.messages))
-    by_next (Some b) e = sym (map-append (λ bytes. (0, HostMsg bytes)) (take s.sent s.messages) (b ∷ [])) ∙ ap sendings (sym (take_next s.messages s.sent b e))
+    by_next (Some b) e = sym (map-append (λ bytes. (0, carrying bytes)) (take s.sent s.messages) (b ∷ [])) ∙ ap sendings (sym (take_next s.messages s.sent b e))
 
 sent_so_far : (s : HostState) (ts : List (Turn Msg)) → sendings (take s.sent s.messages) ++ (after host_rules s ts).puts ≡ sendings (take (after host_rules s ts).state.sent s.messages)
 sent_so_far s [] = append-nil (sendings (take s.sent s.messages))
@@ -63,17 +48,13 @@ sent_is s ts e = ap (λ n. sendings (take n s.messages) ++ (after host_rules s t
 
 delivered_more : (s : HostState) (ts : List (Turn Msg)) (n : ℕ) → s.delivered ≡ min n (2 ^ 64 - 1) → (after host_rules s ts).state.delivered ≡ min (n + frames_taken ts) (2 ^ 64 - 1)
 delivered_more s [] n e = e ∙ ap (λ m. min m (2 ^ 64 - 1)) (omega arith)
-delivered_more s (Took link (HostMsg b) ∷ ts) n e =
-    let more : n + suc (frames_taken ts) ≡ suc n + frames_taken ts = omega arith in
-    delivered_more (after_turn host_rules s (Took link (HostMsg b))).state ts (suc n) (omega (arith, e)) ∙ ap (λ m. min m (2 ^ 64 - 1)) (sym more)
-delivered_more s (Took link (Data k p) ∷ ts) n e = delivered_more s ts n e
-delivered_more s (Took link (Probe k) ∷ ts) n e = delivered_more s ts n e
-delivered_more s (Took link (Init k) ∷ ts) n e = delivered_more s ts n e
-delivered_more s (Took link Poll ∷ ts) n e = delivered_more s ts n e
-delivered_more s (Took link Notice ∷ ts) n e = delivered_more s ts n e
-delivered_more s (Took link (Dump d) ∷ ts) n e = delivered_more s ts n e
-delivered_more s (Took link (Begin k) ∷ ts) n e = delivered_more s ts n e
-delivered_more s (Took link (Done d) ∷ ts) n e = delivered_more s ts n e
+delivered_more s (Took link m ∷ ts) n e = elim (is_some (bytes_on m)) as
+    (λ b. (after host_rules (if b then counted s else s) ts).state.delivered
+    ≡ min (n + (if b then suc (frames_taken ts) else frames_taken ts)) (2 ^ 64 - 1)) [
+      | true ↦ (let more : n + suc (frames_taken ts) ≡ suc n + frames_taken ts = omega arith in
+          delivered_more (counted s) ts (suc n) (omega (arith, e)) ∙ ap (λ m. min m (2 ^ 64 - 1)) (sym more))
+      | false ↦ delivered_more s ts n e
+    ]
 delivered_more s (Acted action ∷ ts) n e = by_next (slice_get s.messages s.sent) (λ t f. delivered_more t ts n f)
   where
     by_next : (o : Option (List ℕ)) → ((t : HostState) → t.delivered ≡ min n (2 ^ 64 - 1) → (after host_rules t ts).state.delivered ≡ min (n + frames_taken ts) (2 ^ 64 - 1))

@@ -1,7 +1,7 @@
 -- What a host sends, and what the turns of its machine do.
 --     messages_of input h          the frames that the host h sends, in order
---     host_take, host_act        a frame that comes is counted; the next frame is sent
-use Rattle.std.specs.Prelude.{ℕ, suc, ◌==◌, List, [], ◌∷◌, ◌++◌, map, filter, Option, slice_get, option_map}
+--     host_take, host_act        bytes that come are counted; the next frame is sent
+use Rattle.std.specs.Prelude.{ℕ, suc, ◌==◌, if◌then◌else◌, List, [], ◌∷◌, ◌++◌, map, filter, Option, is_some, slice_get, option_map}
 use Rattle.sl_machine.specs.Machine.{After, Rules, Counts}
 use Rattle.sl_machine.specs.Counting.{one_more}
 use Rattle.sl_net.specs.declared.input.Packet.{Packet}
@@ -9,7 +9,7 @@ use Rattle.sl_net.specs.declared.input.RawPart.{RawPart}
 use Rattle.sl_net.specs.Input.{Input}
 use Rattle.sl_flow.specs.Flow.{packets_of}
 use Rattle.sl_wire.specs.declared.message.Msg.{Msg}
-use Rattle.sl_wire.specs.declared.message.Msg.TheVariants.{Host as HostMsg}
+use Rattle.sl_wire.specs.Carried.{bytes_on, carrying}
 use Rattle.sl_wire.specs.Frames.{plain_frame}
 
 -- packets as plain frames, then raw frames
@@ -30,13 +30,15 @@ pub record HostState : Type 0 where
   pub sent : ℕ
   pub delivered : ℕ
 
--- a message other than a host's frame changes nothing
+abbrev pub counted : HostState → HostState
+counted s = record { messages = s.messages; sent = s.sent; delivered = one_more s.delivered }
+
+-- a message that carries no bytes changes nothing
 abbrev pub host_take : HostState → ℕ → Msg → After HostState Msg
-host_take s link (HostMsg bytes) = record { state = record { messages = s.messages; sent = s.sent; delivered = one_more s.delivered }; puts = [] }
-host_take s link _ = record { state = s; puts = [] }
+host_take s link m = record { state = if is_some (bytes_on m) then counted s else s; puts = [] }
 
 abbrev pub sending : HostState → List ℕ → After HostState Msg
-sending s bytes = record { state = record { messages = s.messages; sent = suc s.sent; delivered = s.delivered }; puts = (0, HostMsg bytes) ∷ [] }
+sending s bytes = record { state = record { messages = s.messages; sent = suc s.sent; delivered = s.delivered }; puts = (0, carrying bytes) ∷ [] }
 
 -- the next message goes on the link, where one is left
 abbrev pub host_act : HostState → ℕ → Option (After HostState Msg)

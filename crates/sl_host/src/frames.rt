@@ -1,19 +1,11 @@
 // The frames that a host sends.
-ghost use Rattle.std.specs.Prelude.{◌≡◌, ◌++◌, ◌∷◌, [], ◌==◌, IfOk, OnOk, cond, slice_get};
-ghost use Rattle.sl_wire.specs.Frames.{plain_frame};
+ghost use Rattle.std.specs.Prelude.{◌≡◌, ◌++◌, ◌∷◌, [], ◌==◌, IfOk, OnOk, cond, option_map, slice_get};
+ghost use Rattle.sl_wire.specs.Carried.{carrying};
 ghost use Rattle.sl_host.specs.Host.{messages, raws_of};
 
 use sl_net::{Bytes, Packet, RawPart};
-use sl_wire::plain_frame;
+use sl_wire::{Frame, Msg, plain_frame};
 use std::alloc::{AllocError, Global};
-
-/// The bytes of a packet's plain frame.
-fn plain_bytes(alloc: Global, packet: &Packet) -> Result<Bytes, AllocError>
-    ensures { IfOk result (λ bytes. bytes ≡ plain_frame packet.now) }
-{
-    let items = Vec::from_slice(alloc, &plain_frame(packet).bytes)?;
-    Ok(Bytes { items })
-}
 
 /// A copy of a frame.
 fn copy_of(alloc: Global, bytes: &Bytes) -> Result<Bytes, AllocError>
@@ -21,6 +13,18 @@ fn copy_of(alloc: Global, bytes: &Bytes) -> Result<Bytes, AllocError>
 {
     let items = Vec::from_slice(alloc, &bytes.items)?;
     Ok(Bytes { items })
+}
+
+/// The message with a copy of a frame. One of 24 bytes takes no memory.
+fn copied(alloc: Global, bytes: &Bytes) -> Result<Msg, AllocError>
+    ensures { IfOk result (λ message. message ≡ carrying bytes.now) }
+{
+    if bytes.items.len() != 24 {
+        return Ok(Msg::Wire(copy_of(alloc, bytes)?));
+    }
+    let mut frame = Frame { bytes: [0; 24] };
+    frame.bytes.copy_from_slice(bytes.items.as_slice());
+    Ok(Msg::Frame(frame))
 }
 
 /// Adds a copy of a raw frame where it is this host's.
@@ -46,22 +50,23 @@ pub fn raws_of(alloc: Global, raws: &[RawPart], host: u32) -> Result<Vec<Bytes>,
     Ok(frames)
 }
 
-/// The frame at a place, where there is one: the packets come first, then the raw frames.
-pub fn frame_at(
+/// The message with the frame at a place, where there is one: the packets come first, then the raw
+/// frames.
+pub fn message_at(
     alloc: Global,
     packets: &[Packet],
     raws: &[Bytes],
     place: u64,
-) -> Result<Option<Bytes>, AllocError>
-    ensures { IfOk result (λ frame. frame ≡ slice_get (messages packets.now raws.now) place) }
+) -> Result<Option<Msg>, AllocError>
+    ensures { IfOk result (λ message. message ≡ option_map carrying (slice_get (messages packets.now raws.now) place)) }
 {
     let place = place as usize;
     if place < packets.len() {
-        return Ok(Some(plain_bytes(alloc, &packets[place])?));
+        return Ok(Some(Msg::Frame(plain_frame(&packets[place]))));
     }
     let place = place - packets.len();
     if place < raws.len() {
-        return Ok(Some(copy_of(alloc, &raws[place])?));
+        return Ok(Some(copied(alloc, &raws[place])?));
     }
     Ok(None)
 }

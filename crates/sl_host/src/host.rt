@@ -4,7 +4,7 @@ ghost use Rattle.std.specs.List.{All};
 ghost use Rattle.sl_flow.specs.Flow.{HasAddresses};
 ghost use Rattle.sl_host.specs.Host.{HostState, messages_of, host_rules, host_counts};
 
-use crate::frames::{frame_at, raws_of};
+use crate::frames::{message_at, raws_of};
 use sl_flow::packets_of;
 use sl_machine::{Machine, Memory, Outputs};
 use sl_net::{Bytes, Input, Packet};
@@ -23,8 +23,8 @@ pub struct Host {
     raws: Vec<Bytes>,
     sent: u64,
     delivered: u64,
-    /// The next frame, where the host is ready to send it.
-    next: Option<Bytes>,
+    /// The next frame's message, where the host is ready to send it.
+    next: Option<Msg>,
     prepared: Option<u32>,
 }
 
@@ -90,7 +90,7 @@ impl Machine for Host {
         self.prepared = None;
         if choice == INJECT {
             let alloc = *self.packets.allocator();
-            let next = frame_at(
+            let next = message_at(
                 alloc,
                 self.packets.as_slice(),
                 self.raws.as_slice(),
@@ -104,7 +104,7 @@ impl Machine for Host {
 
     fn take(&mut self, _link: u32, m: Msg, _out: &mut Outputs<Msg>) {
         self.prepared = None;
-        if let Msg::Host(_) = m {
+        if let Msg::Frame(_) | Msg::Wire(_) = m {
             self.delivered = self.delivered.saturating_add(1);
         }
     }
@@ -112,9 +112,9 @@ impl Machine for Host {
     fn act(&mut self, _action: u32, out: &mut Outputs<Msg>) -> bool {
         self.prepared = None;
         match self.next.take() {
-            Some(bytes) => {
+            Some(message) => {
                 self.sent += 1;
-                out.put(0, Msg::Host(bytes));
+                out.put(0, message);
                 true
             }
             None => false,

@@ -11,7 +11,7 @@ use Rattle.sl_machine.specs.Machine.{send_all as send_each}
 use Rattle.sl_wire.specs.declared.message.Msg.{Msg}
 use Rattle.sl_wire.specs.Sizes.{Sizes}
 use Rattle.sl_control.specs.declared.known.Numbers.{Numbers}
-use Rattle.sl_control.specs.Control.{poll_by, answer_by, done_of}
+use Rattle.sl_control.specs.Control.{initiation, poll_by, answer_by, done_of}
 use Rattle.sl_control.specs.Wires.{control_wires}
 use Rattle.sl_model.specs.declared.message.Message.TheVariants.{Init as InitMsg, Poll as PollMsg, Done as DoneMsg}
 use Rattle.sl_model.specs.declared.message.Put.{Put}
@@ -44,7 +44,7 @@ sent-if net sizes us a told false ps xs h = tt
 
 -- Initiations.
 
-pub sent-inits : (net : Net) (sizes : Sizes) (us : ℕ → History) (a : ℕ) (told : ℕ → ℕ) (k : ℕ) (ls : List ℕ) → AreSent net sizes us a told (send_all (InitMsg k) ls) (send_each (wire.Init k) (map (out_of net) ls))
+pub sent-inits : (net : Net) (sizes : Sizes) (us : ℕ → History) (a : ℕ) (told : ℕ → ℕ) (k : ℕ) (ls : List ℕ) → AreSent net sizes us a told (send_all (InitMsg k) ls) (send_each (initiation sizes.bits k) (map (out_of net) ls))
 sent-inits net sizes us a told k [] = tt
 sent-inits net sizes us a told k (l ∷ ls) = ((refl, refl), sent-inits net sizes us a told k ls)
 

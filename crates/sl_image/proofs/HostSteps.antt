@@ -1,6 +1,6 @@
 -- The steps of hosts, by their machines.
 use Rattle.std.proofs.Common.{◌≡◌, ◌≢◌, ℕ, zero, suc, ◌-◌, ◌<◌, ◌≤◌, ◌^◌, List, [], ◌∷◌, length, refl, sym, ap, subst, ◌∙◌, Option, Some, None, arith, inl, inr}
-use Rattle.std.specs.Prelude.{◌⊎◌, true, slice_get, option_map, option_and_then}
+use Rattle.std.specs.Prelude.{◌⊎◌, true, false, ◌==◌, if◌then◌else◌, is_some, slice_get, option_map, option_and_then}
 use Rattle.std.proofs.lemmas.Option.{slice_get_within}
 use Rattle.sl_machine.specs.Machine.{After}
 use Rattle.sl_layout.specs.declared.actor.ActorId.TheVariants.{Host as OfHost}
@@ -10,10 +10,11 @@ use Rattle.sl_layout.specs.Net.{actor_of, action_choice, link_of, links_into, li
 use Rattle.sl_net.specs.Wired.{IsWired, receives, HostLinks}
 use Rattle.sl_net.specs.Ways.{IsInto}
 use Rattle.sl_wire.specs.declared.message.Msg.{Msg}
-use Rattle.sl_wire.specs.declared.message.Msg.TheVariants as wire
+use Rattle.sl_wire.specs.declared.message.Msg.TheVariants.{Frame, Wire}
+use Rattle.sl_wire.specs.Carried.{bytes_on, carrying}
 use Rattle.sl_wire.specs.Sizes.{Sizes}
 use Rattle.sl_machine.specs.Counting.{one_more}
-use Rattle.sl_host.specs.Host.{HostState, host_take, host_act, sending}
+use Rattle.sl_host.specs.Host.{HostState, counted, host_take, host_act, sending}
 use Rattle.sl_model.specs.declared.message.Message.{Message}
 use Rattle.sl_model.specs.declared.message.Message.TheVariants.{Host as HostMsg, Data, Probe as ProbeMsg, Init as InitMsg, Poll as PollMsg, Notice as NoticeMsg, Dump as DumpMsg, Begin as BeginMsg, Done as DoneMsg}
 use Rattle.sl_model.specs.declared.message.Step.{Step}
@@ -71,21 +72,25 @@ comes-frame turns s lost w a i step z r q t = frame-fits t.took.message (ap (λ 
     fit : fits_link s.net t.took.link t.took.message ≡ true
     fit = turns.fits s lost w a step r t
 
+counts-bytes : (h : HostState) (link : ℕ) (b : List ℕ) → host_take h link (carrying b) ≡ record { state = counted h; puts = [] }
+counts-bytes h link b = ap (λ y. record { state = if y then counted h else h; puts = [] })
+    (elim (length b == 24) as (λ e. is_some (bytes_on (if e then Frame (record { bytes = b }) else Wire b)) ≡ true) [ true ↦ refl | false ↦ refl ])
+
 module _ (turns : TakesTurns) (s : Setup) (lost : Losses) (es : List Entry) (a c i : ℕ) (sizes : Sizes) (told : ℕ → ℕ) (step : Step) (z : IsWired s.net) (q : actor_of s.net a ≡ OfHost i) (k : HostLinks s.net a) (x : next_step s lost (world s lost es) (a, c) ≡ Some step) where
   abbrev SimulatesIt : After HostState Msg → Type 0
   SimulatesIt y = Simulates (IsHostOf s a i (turn s lost (world s lost es) (a, c))) s.net sizes (λ u. history (turn s lost (world s lost es) (a, c)) u) a told step.puts y
 
-  takes-frame : (b : List ℕ) → step.choice ≡ 0 → step.puts ≡ [] → length es < 2 ^ 40 → SimulatesIt (host_take (host_of s a i (history (world s lost es) a)) c (wire.Host b))
+  takes-frame : (b : List ℕ) → step.choice ≡ 0 → step.puts ≡ [] → length es < 2 ^ 40 → SimulatesIt (host_take (host_of s a i (history (world s lost es) a)) c (carrying b))
   takes-frame b e ps l =
       let w = world s lost es in let h = history w a in let g = turns.grows s lost es (a, c) step x in
       let n = turns.at_most 0 h in let m = turns.few s lost es a in let one = k.one_in in
       let sent : taken (action_choice s.net a) h ≡ taken (action_choice s.net a) (history (turn s lost w (a, c)) a) = sym (ap (taken (action_choice s.net a)) g.same ∙ turns.uncounted (action_choice s.net a) step h (λ p. absurd (omega (arith, p, e, one)))) in
       let more : one_more (taken 0 h) ≡ suc (taken 0 h) = omega (arith, n, m, l) in
       let delivered : one_more (taken 0 h) ≡ taken 0 (history (turn s lost w (a, c)) a) = more ∙ sym (ap (taken 0) g.same ∙ turns.counted 0 step h e) in
-      record {
+      subst SimulatesIt (sym (counts-bytes (host_of s a i h) c b)) (record {
         stands = λ j. record { messages = frames_of s i; sent = sent j; delivered = delivered j };
         sent = subst (λ ps. AreSent s.net sizes (λ u. history (turn s lost w (a, c)) u) a told ps []) (sym ps) tt;
-      }
+      })
 
   pub host-takes : (b : ℕ) (before : ℕ → ℕ) (m : Message) (y : Msg) → step.taken ≡ Some m → length es < 2 ^ 40 → IsMessage s.net sizes (λ u. history (world s lost es) u) b before m y
       → SimulatesIt (host_take (host_of s a i (history (world s lost es) a)) c y)
@@ -95,7 +100,7 @@ module _ (turns : TakesTurns) (s : Setup) (lost : Losses) (es : List Entry) (a c
       by_view (inl t) =
           let f = comes-frame turns s lost (world s lost es) a i step z (turns.ran s lost es) q t in
           let same : m ≡ HostMsg f.0 = (let u : Some m ≡ Some t.took.message = sym e ∙ t.took.taken in let v : m ≡ t.took.message = cc in v ∙ f.1) in
-          let frame : y ≡ wire.Host f.0 = subst (λ m. IsMessage s.net sizes (λ u. history (world s lost es) u) b before m y) same is in
+          let frame : y ≡ carrying f.0 = subst (λ m. IsMessage s.net sizes (λ u. history (world s lost es) u) b before m y) same is in
           let low = slice_get_within (links_into s.net a) step.choice t.took.link t.took.into in let one = k.one_in in
           subst (λ y. SimulatesIt (host_take (host_of s a i (history (world s lost es) a)) c y)) (sym frame)
           (takes-frame f.0 (omega (arith, low, one)) (t.took.puts ∙ ap (λ y. puts_of s a y (history (world s lost es) a) step.choice t.took.link t.took.message) q) l)
@@ -132,7 +137,7 @@ module _ (turns : TakesTurns) (s : Setup) (lost : Losses) (es : List Entry) (a c
             is = ap (option_map (sending (host_of s a i h))) f.found;
             simulates = record {
               stands = λ j. record { messages = frames_of s i; sent = sent j; delivered = delivered j };
-              sent = subst (λ ps. AreSent s.net sizes (λ u. history (turn s lost w (a, c)) u) a told ps ((0, wire.Host f.bytes) ∷ [])) (sym (f.puts ∙ ap (send_all (HostMsg f.bytes)) k.puts_on)) ((sym k.is_out, refl), tt);
+              sent = subst (λ ps. AreSent s.net sizes (λ u. history (turn s lost w (a, c)) u) a told ps ((0, carrying f.bytes) ∷ [])) (sym (f.puts ∙ ap (send_all (HostMsg f.bytes)) k.puts_on)) ((sym k.is_out, refl), tt);
             };
           }
 

@@ -1,5 +1,6 @@
 pub mod UnitLasts
 pub mod UnitFrames
+pub mod UnitReads
 pub mod UnitSent
 pub mod UnitRegisters
 pub mod UnitTurns

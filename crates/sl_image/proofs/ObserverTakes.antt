@@ -1,6 +1,6 @@
 -- What the observer's machine does with a message that comes.
 use Rattle.std.proofs.Common.{◌≡◌, ℕ, suc, ◌<◌, ◌≤◌, List, [], length, refl, sym, ap, subst, ◌∙◌, Some, None, arith, inl, inr, eq-eqb, get_or}
-use Rattle.std.specs.Prelude.{◌⊎◌, ◌==◌, true, false, nat_eq, if◌then◌else◌, map, slice_set, unwrap_or, option_and_then}
+use Rattle.std.specs.Prelude.{◌⊎◌, ◌==◌, true, false, Bool, nat_eq, if◌then◌else◌, map, slice_set, unwrap_or, option_and_then}
 use Rattle.std.proofs.lemmas.Bool.{cases_lt}
 use Rattle.std.proofs.lemmas.Bool.Decides.{eqb_tells}
 use Rattle.std.proofs.lemmas.List.{get_or-map, get_or_past, set_past}
@@ -17,6 +17,7 @@ use Rattle.sl_parts.proofs.Lists.{distinct-filter, distinct-from, each-at, each-
 use Rattle.std.proofs.lemmas.List.{length-map}
 use Rattle.sl_wire.specs.declared.message.Done.{Done}
 use Rattle.sl_wire.specs.declared.message.Msg.{Msg}
+use Rattle.sl_wire.specs.declared.message.Msg.TheVariants.{Frame, Wire}
 use Rattle.sl_wire.specs.Sizes.{Sizes}
 use Rattle.sl_layout.specs.Devices.{device_of}
 use Rattle.sl_observe.specs.Observer.{UnitState, ObserverState, new_unit, unit_at, after_done, units_after, observer_take}
@@ -212,8 +213,14 @@ module _ (turns : TakesTurns) (s : Setup) (lost : Losses) (table : Snapshot) (es
   quiet m e h = leaves m e (map (λ u. unit_of s.net u (collected s.net (world s lost es) u)) (units s.net))
       (same-units turns s table (world s lost es) (turn s lost (world s lost es) (0, c)) step z (turns.grows s lost es (0, c) step x) (λ u i q. ap (option_and_then (done_of (unit_place s.net u))) e ∙ h (unit_place s.net u)))
 
+  -- bytes of a host, in place or not
+  unheard : (b : List ℕ) (in_place : Bool) → SimulatesIt (record { state = observer_of s.net table (world s lost es); puts = [] })
+      → SimulatesIt (observer_take (observer_of s.net table (world s lost es)) c (if in_place then Frame (record { bytes = b }) else Wire b))
+  unheard b true h = h
+  unheard b false h = h
+
   pub takes : (m : Message) (y : Msg) → step.taken ≡ Some m → IsMessage s.net sizes (λ u. history (world s lost es) u) a (known_at (world s lost es)) m y → SimulatesIt (observer_take (observer_of s.net table (world s lost es)) c y)
-  takes (Host b) y e k = subst (λ y. SimulatesIt (observer_take (observer_of s.net table (world s lost es)) c y)) (sym k) (quiet (Host b) e (λ p. refl))
+  takes (Host b) y e k = subst (λ y. SimulatesIt (observer_take (observer_of s.net table (world s lost es)) c y)) (sym k) (unheard b (length b == 24) (quiet (Host b) e (λ p. refl)))
   takes (Data j p) y e k = subst (λ y. SimulatesIt (observer_take (observer_of s.net table (world s lost es)) c y)) (sym k) (quiet (Data j p) e (λ p. refl))
   takes (Probe j) y e k = subst (λ y. SimulatesIt (observer_take (observer_of s.net table (world s lost es)) c y)) (sym k) (quiet (Probe j) e (λ p. refl))
   takes (Init j) y e k = subst (λ y. SimulatesIt (observer_take (observer_of s.net table (world s lost es)) c y)) (sym k) (quiet (Init j) e (λ p. refl))

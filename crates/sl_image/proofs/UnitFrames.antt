@@ -11,7 +11,9 @@ use Rattle.sl_wire.specs.declared.frame.Kind.TheVariants.{Plain, Carried, Probe,
 use Rattle.sl_wire.specs.declared.frame.Header.{Header}
 use Rattle.sl_wire.specs.declared.frame.WireFault.{WireFault}
 use Rattle.sl_wire.specs.declared.frame.WireFault.TheVariants.{E1, E2, E3, E4}
-use Rattle.sl_wire.specs.Frames.{frame, decoded, kind_of, kind_decoded, id_fits, channel_fits, packet_fits, number, packet_of, header_of, all_zero}
+use Rattle.sl_wire.specs.declared.message.Msg.TheVariants.{Frame, Wire}
+use Rattle.sl_wire.specs.Carried.{bytes_on, carrying, framed}
+use Rattle.sl_wire.specs.Frames.{plain_header, frame, decoded, kind_of, kind_decoded, id_fits, channel_fits, packet_fits, number, packet_of, header_of, all_zero}
 use Rattle.sl_unit.specs.Step.{plain_of, plain_packet}
 use Rattle.sl_wire.specs.Frames.{plain_frame as wire_frame}
 use Rattle.sl_model.specs.Frame.{plain_frame, packet_at, number_at}
@@ -20,6 +22,17 @@ use Rattle.sl_model.specs.Frame.{packet_of as cut_packet}
 pub frame-is : (p : Packet) → wire_frame p ≡ plain_frame p
 unfolding frame plain_frame
 frame-is p = refl
+
+pub carried-plain : (p : Packet) → framed plain_header p ≡ carrying (plain_frame p)
+unfolding frame plain_frame
+carried-plain p = refl
+
+pub bytes-carried : (bytes : List ℕ) → bytes_on (carrying bytes) ≡ Some bytes
+bytes-carried bytes = by_bool (length bytes == 24)
+  where
+    by_bool : (b : Bool) → bytes_on (if b then Frame (record { bytes = bytes }) else Wire bytes) ≡ Some bytes
+    by_bool true = refl
+    by_bool false = refl
 
 fields-are : (bytes : List ℕ) → packet_of bytes ≡ packet_at bytes
 unfolding packet_of

@@ -1,9 +1,11 @@
 -- Last-seen numbers of a unit as its machine holds them: eight places, and that of initiations.
-use Rattle.std.proofs.Common.{◌≡◌, ℕ, zero, suc, ◌<◌, ◌≤◌, List, [], ◌∷◌, ◌++◌, length, refl, sym, ap, subst, ◌∙◌, Some, None, arith, inl, inr, get_or}
+use Rattle.std.proofs.Common.{◌≡◌, ℕ, zero, suc, ◌<◌, ◌≤◌, List, [], ◌∷◌, ◌++◌, length, refl, sym, ap, subst, ◌∙◌, Some, None, arith, inl, inr, get_or, length-append}
 use Rattle.std.specs.Prelude.{◌⊎◌, true, false, Bool, nat_eq, ◌==◌, if◌then◌else◌, map, take, replicate, set, slice_get, unwrap_or, option_map, option_and_then}
 use Rattle.std.proofs.lemmas.Bool.{eq-eqb, ne_eqb}
 use Rattle.std.proofs.lemmas.Bool.Decides.{eqb_tells}
-use Rattle.std.proofs.lemmas.List.{set-append_left, get_or_append_left, get_or-take, length-map}
+use Rattle.std.proofs.lemmas.List.{set-append_left, get_or_append_left, get_or-take, length-map, length-take, map-set, get_or-map}
+use Rattle.sl_ids.specs.Wids.{wid}
+use Rattle.sl_wire.specs.Wids.{no_wid}
 use Rattle.sl_layout.specs.Net.{place_in}
 use Rattle.sl_parts.specs.Lists.{Member, Distinct}
 use Rattle.sl_parts.proofs.Lists.{each-of}
@@ -64,6 +66,9 @@ eight-set xs i k p = ap (take 8) (sym (set-append_left xs (replicate 8 0) i k p)
 eight-at : (xs : List ℕ) (i : ℕ) → i < length xs → i < 8 → get_or (eight xs) i 0 ≡ get_or xs i 0
 eight-at xs i p q = get_or-take 8 (xs ++ replicate 8 0) i 0 q ∙ get_or_append_left xs (replicate 8 0) 0 i p
 
+eight-long : (xs : List ℕ) → length (eight xs) ≡ 8
+eight-long xs = omega (arith, length-take 8 (xs ++ replicate 8 0), length-append xs (replicate 8 0))
+
 -- Last-seen numbers after a step.
 
 pub last-here : (c k : ℕ) (step : Step) (h : History) (m : Message) → step.choice ≡ c → step.taken ≡ Some m → stamp_of m ≡ Some k → last c (step ∷ h) ≡ k
@@ -93,6 +98,14 @@ lasts-set xs c k step h d m q e = ap eight (map-set-at (λ c. last c h) (λ c. l
 
 pub lasts-at : (xs : List ℕ) (c : ℕ) (h : History) → Member c xs → length xs ≤ 8 → get_or (eight (lasts_of xs h)) (place_in 0 c xs) 0 ≡ last c h
 lasts-at xs c h m few = let p = place-lt 0 c xs m in eight-at (lasts_of xs h) (place_in 0 c xs) (omega (arith, p, length-map xs (λ c. last c h))) (omega (arith, p, few)) ∙ map-at (λ c. last c h) c xs m
+
+-- as the machine holds them, wrapped
+pub wids-at : (bits : ℕ) (xs : List ℕ) (c : ℕ) (h : History) → Member c xs → length xs ≤ 8 → get_or (map (wid bits) (eight (lasts_of xs h))) (place_in 0 c xs) no_wid ≡ wid bits (last c h)
+wids-at bits xs c h m few = get_or-map (wid bits) (eight (lasts_of xs h)) (place_in 0 c xs) 0 no_wid (let p = place-lt 0 c xs m in let n = eight-long (lasts_of xs h) in omega (arith, p, few, n)) ∙ ap (wid bits) (lasts-at xs c h m few)
+
+pub wids-set : (bits : ℕ) (xs : List ℕ) (c k : ℕ) (step : Step) (h : History) → Distinct xs → Member c xs → step.choice ≡ c → last c (step ∷ h) ≡ k
+    → map (wid bits) (eight (lasts_of xs (step ∷ h))) ≡ set (map (wid bits) (eight (lasts_of xs h))) (place_in 0 c xs) (wid bits k)
+wids-set bits xs c k step h d m q e = ap (map (wid bits)) (lasts-set xs c k step h d m q e) ∙ map-set (wid bits) (eight (lasts_of xs h)) (place_in 0 c xs) k
 
 -- a step by another choice, or without a stamp, changes none of them
 pub lasts-there : (xs : List ℕ) (step : Step) (h : History) → (Member step.choice xs → ⊥) → lasts_of xs (step ∷ h) ≡ lasts_of xs h

@@ -1,5 +1,5 @@
 -- What a step makes of the registers of a unit.
---     regs net u h bad expired noroute saved     the registers that stand for the history h, with these drops and saved entries
+--     regs net bits u h bad expired noroute saved     the registers that stand for the history h, with these drops and saved entries
 --     Moves ..                                   registers are such, and their saved entries keep the calls of h
 use Rattle.std.proofs.Common.{◌≡◌, ℕ, ◌+◌, ◌-◌, ◌^◌, ◌<◌, ◌≤◌, List, [], ◌∷◌, ◌++◌, length, refl, sym, ap, subst, ◌∙◌, Some, None, arith, inl, inr}
 use Rattle.std.specs.Prelude.{◌⊎◌, max, map, if◌then◌else◌, unwrap_or, option_map, slice_index_or}
@@ -15,14 +15,18 @@ use Rattle.sl_saves.specs.declared.entry.View.{View}
 use Rattle.sl_saves.specs.Views.{IsShown, no_slot}
 use Rattle.sl_saves.specs.Keeping.{new_slot, place_above, slot_credited, view_adopted, view_credited}
 use Rattle.sl_saves.proofs.Rings.{ring-adopt, ring-credit}
+use Rattle.sl_ids.specs.declared.wid.Wid.{Wid}
+use Rattle.sl_ids.specs.Wids.{wid}
+use Rattle.sl_wire.specs.Sizes.{Sizes}
 use Rattle.sl_unit.specs.declared.registers.Channel.TheVariants.{Cpu, Upstream}
-use Rattle.sl_unit.specs.Registers.{Registers, more, adopted, credited, seen, counted, after_stamp, after_data}
+use Rattle.sl_unit.specs.declared.registers.Reading.{Reading}
+use Rattle.sl_unit.specs.Registers.{Registers, rise, age, more, adopted, credited, seen, counted, after_stamp, after_data}
 use Rattle.sl_model.specs.declared.message.Message.{Message}
 use Rattle.sl_model.specs.declared.message.Message.TheVariants.{Data, Probe as ProbeMsg, Init as InitMsg}
 use Rattle.sl_model.specs.declared.message.Put.{Put}
 use Rattle.sl_model.specs.declared.message.Step.{Step}
 use Rattle.sl_model.specs.World.{taking}
-use Rattle.sl_model.specs.History.{History, stamp_of, id}
+use Rattle.sl_model.specs.History.{History, stamp_of, id, last}
 use Rattle.sl_model.specs.Counting.{packets, bytes, bad, expired, noroute}
 use Rattle.sl_model.specs.Counting.{counted_in}
 use Rattle.sl_model.specs.Calls.{calls, credit, credits_in}
@@ -30,13 +34,14 @@ use Rattle.sl_image.specs.Messages.{eight, lasts, cpu_last}
 use Rattle.sl_image.specs.UnitImage.{Keeps, HasRegisters, dropped}
 use Rattle.sl_model.proofs.Entries.{calls-rise, calls-stay}
 use Rattle.sl_model.proofs.Settled.{place-lt}
-use Rattle.sl_image.proofs.UnitLasts.{last-here, lasts-set, lasts-there, lasts-same, first-there, first-same, first-only}
+use Rattle.sl_image.proofs.UnitLasts.{last-here, wids-set, lasts-there, lasts-same, first-there, first-same, first-only}
+use Rattle.sl_image.proofs.UnitReads.{reading, rise-is, age-is}
 
-abbrev pub regs : Net → ℕ → History → ℕ → ℕ → ℕ → View → Registers
-regs net u h b e n saved = record {
-  id = id h;
-  cpu = cpu_last net u h;
-  last = eight (lasts net u h);
+abbrev pub regs : Net → ℕ → ℕ → History → ℕ → ℕ → ℕ → View → Registers
+regs net bits u h b e n saved = record {
+  id = wid bits (id h);
+  cpu = wid bits (cpu_last net u h);
+  last = map (wid bits) (eight (lasts net u h));
   packets = packets h;
   bytes = bytes h;
   bad = b;
@@ -45,16 +50,16 @@ regs net u h b e n saved = record {
   saved = saved;
 }
 
-pub record Moves (net : Net) (ring u : ℕ) (h : History) (b e n : ℕ) (r : Registers) : Type 0 where
+pub record Moves (net : Net) (sizes : Sizes) (u : ℕ) (h : History) (b e n : ℕ) (r : Registers) : Type 0 where
   pub saved : View
-  pub is : r ≡ regs net u h b e n saved
-  pub keeps : Keeps ring saved (calls (data_channels net u) h)
+  pub is : r ≡ regs net sizes.bits u h b e n saved
+  pub keeps : Keeps sizes.ring saved (calls (data_channels net u) h)
 
 -- from registers with a history, and back
 
-pub regs-is : (net : Net) (ring u : ℕ) (i : UnitId) (h : History) (r : Registers) → HasRegisters net ring u i h r
-    → r ≡ regs net u h (dropped i.side (bad h)) (dropped i.side (expired h)) (dropped i.side (noroute net.parts i.device h)) r.saved
-regs-is net ring u i h r x = λ j. record {
+pub regs-is : (net : Net) (sizes : Sizes) (u : ℕ) (i : UnitId) (h : History) (r : Registers) → HasRegisters net sizes u i h r
+    → r ≡ regs net sizes.bits u h (dropped i.side (bad h)) (dropped i.side (expired h)) (dropped i.side (noroute net.parts i.device h)) r.saved
+regs-is net sizes u i h r x = λ j. record {
   id = x.id j;
   cpu = x.cpu j;
   last = x.last j;
@@ -66,9 +71,9 @@ regs-is net ring u i h r x = λ j. record {
   saved = r.saved;
 }
 
-pub has-registers : (net : Net) (ring u : ℕ) (i : UnitId) (h : History) (b e n : ℕ) (r : Registers) → Moves net ring u h b e n r
-    → b ≡ dropped i.side (bad h) → e ≡ dropped i.side (expired h) → n ≡ dropped i.side (noroute net.parts i.device h) → HasRegisters net ring u i h r
-has-registers net ring u i h b e n r m x y z = subst (HasRegisters net ring u i h) (sym m.is) (record {
+pub has-registers : (net : Net) (sizes : Sizes) (u : ℕ) (i : UnitId) (h : History) (b e n : ℕ) (r : Registers) → Moves net sizes u h b e n r
+    → b ≡ dropped i.side (bad h) → e ≡ dropped i.side (expired h) → n ≡ dropped i.side (noroute net.parts i.device h) → HasRegisters net sizes u i h r
+has-registers net sizes u i h b e n r m x y z = subst (HasRegisters net sizes u i h) (sym m.is) (record {
   id = refl;
   cpu = refl;
   last = refl;
@@ -82,75 +87,88 @@ has-registers net ring u i h b e n r m x y z = subst (HasRegisters net ring u i 
 
 -- The id and the saved entries after a stamp.
 
--- the registers r with the id k and these entries
-abbrev at_id : Registers → ℕ → View → Registers
-at_id r k saved = record r { id = k; saved = saved }
+-- the registers r with the id w and these entries
+abbrev pub at_id : Registers → Wid → View → Registers
+at_id r w saved = record r { id = w; saved = saved }
 
-record Adopts (net : Net) (ring u : ℕ) (step : Step) (h : History) (r q : Registers) : Type 0 where
+record Adopts (net : Net) (sizes : Sizes) (u : ℕ) (step : Step) (h : History) (r q : Registers) : Type 0 where
   pub saved : View
-  pub is : q ≡ at_id r (id (step ∷ h)) saved
-  pub keeps : Keeps ring saved (calls (data_channels net u) (step ∷ h))
+  pub is : q ≡ at_id r (wid sizes.bits (id (step ∷ h))) saved
+  pub keeps : Keeps sizes.ring saved (calls (data_channels net u) (step ∷ h))
 
-adopts : (net : Net) (ring u k : ℕ) (step : Step) (h : History) (b e n : ℕ) (saved : View) → id (step ∷ h) ≡ max k (id h) → (k ≤ id h → calls (data_channels net u) (step ∷ h) ≡ calls (data_channels net u) h)
-    → Keeps ring saved (calls (data_channels net u) h) → k - id h ≤ ring → Adopts net ring u step h (regs net u h b e n saved) (adopted k (regs net u h b e n saved))
-adopts net ring u k step h b e n saved i s keeps near = by_cases (cases_lt (id h) k)
-  where
-    by_cases : (id h < k) ⊎ (k ≤ id h) → Adopts net ring u step h (regs net u h b e n saved) (adopted k (regs net u h b e n saved))
-    by_cases (inl p) = let z : k ≡ id (step ∷ h) = omega (arith, i, p) in record {
-      saved = view_adopted (k - id h) (packets h) (bytes h) saved;
-      is = ap (λ t. if t then record (regs net u h b e n saved) { id = k; saved = view_adopted (k - id h) (packets h) (bytes h) saved } else regs net u h b e n saved) (lt-ltb (id h) k p)
-          ∙ ap (λ j. at_id (regs net u h b e n saved) j (view_adopted (k - id h) (packets h) (bytes h) saved)) z;
-      keeps = record {
-        shown = subst (IsShown (view_adopted (k - id h) (packets h) (bytes h) saved))
-            (ap (λ j. Adopt (j - id h) (packets h) (bytes h) ∷ calls (data_channels net u) h) z ∙ sym (calls-rise (data_channels net u) step h (omega (arith, i, p))))
-            (ring-adopt saved (k - id h) (packets h) (bytes h) (calls (data_channels net u) h) (omega (arith, p)) (subst (λ m. k - id h ≤ m) (sym keeps.size) near) keeps.shown);
-        size = length-set saved.slots (place_above (length saved.slots) saved.at (k - id h)) (new_slot (k - id h) (packets h) (bytes h)) ∙ keeps.size;
-      };
-    }
-    by_cases (inr p) = let z : id h ≡ id (step ∷ h) = omega (arith, i, p) in record {
-      saved = saved;
-      is = ap (λ t. if t then record (regs net u h b e n saved) { id = k; saved = view_adopted (k - id h) (packets h) (bytes h) saved } else regs net u h b e n saved) (le-ltb (id h) k p)
-          ∙ ap (λ j. at_id (regs net u h b e n saved) j saved) z;
-      keeps = subst (Keeps ring saved) (sym (s p)) keeps;
-    }
+-- the stamp k, where l was last seen
+module _ (net : Net) (sizes : Sizes) (u l k : ℕ) (h : History) (b e n : ℕ) (saved : View) (low : l ≤ k) (behind : l ≤ id h) (keeps : Keeps sizes.ring saved (calls (data_channels net u) h)) (near : k - id h ≤ sizes.ring) where
+  abbrev now : Registers
+  now = regs net sizes.bits u h b e n saved
 
--- a data packet, which is credited where its stamp lies below the id
-credits : (net : Net) (ring u c k : ℕ) (p : Packet) (ps : List Put) (h : History) (b e n : ℕ) (saved : View) → place_in 0 c (data_channels net u) < 8
-    → Keeps ring saved (calls (data_channels net u) h) → k - id h ≤ ring
-    → Adopts net ring u (taking c (Data k p) ps) h (regs net u h b e n saved) (credited (place_in 0 c (data_channels net u)) k p.len (adopted k (regs net u h b e n saved)))
-credits net ring u c k p ps h b e n saved few keeps near = by_cases (cases_lt k (id h))
-  where
-    stays : id h ≤ k → k ≤ id h → calls (data_channels net u) (taking c (Data k p) ps ∷ h) ≡ calls (data_channels net u) h
-    stays q r = calls-stay (data_channels net u) (taking c (Data k p) ps) h (omega (arith, r))
-        ∙ ap (λ t. map Credited (if t then credit (data_channels net u) (id h) c k p ∷ [] else []) ++ calls (data_channels net u) h) (le-ltb k (id h) q)
+  abbrev read : Reading
+  read = reading sizes.bits l (id h) k
 
-    no_credit : (r : Registers) → k ≤ r.id → r.id ≤ k → credited (place_in 0 c (data_channels net u)) k p.len r ≡ r
-    no_credit r x y = ap (λ t. if t then record r { saved = view_credited (record { channel = place_in 0 c (data_channels net u); age = r.id - k; bytes = p.len }) r.saved } else r) (le-ltb k r.id y)
+  abbrev adopting : Registers
+  adopting = record now { id = wid sizes.bits k; saved = view_adopted (rise read) (packets h) (bytes h) saved }
 
-    of_adopted : id h ≤ k → Adopts net ring u (taking c (Data k p) ps) h (regs net u h b e n saved) (adopted k (regs net u h b e n saved))
-        → Adopts net ring u (taking c (Data k p) ps) h (regs net u h b e n saved) (credited (place_in 0 c (data_channels net u)) k p.len (adopted k (regs net u h b e n saved)))
-    of_adopted q a = record {
-      saved = a.saved;
-      is = ap (credited (place_in 0 c (data_channels net u)) k p.len) a.is
-          ∙ no_credit (at_id (regs net u h b e n saved) (id (taking c (Data k p) ps ∷ h)) a.saved) (omega (arith, q)) (omega (arith, q));
-      keeps = a.keeps;
-    }
+  adopts : (step : Step) → id (step ∷ h) ≡ max k (id h) → (k ≤ id h → calls (data_channels net u) (step ∷ h) ≡ calls (data_channels net u) h) → Adopts net sizes u step h now (adopted read now)
+  adopts step i s = by_cases (cases_lt (id h) k)
+    where
+      by_cases : (id h < k) ⊎ (k ≤ id h) → Adopts net sizes u step h now (adopted read now)
+      by_cases (inl p) =
+          let z : k ≡ id (step ∷ h) = omega (arith, i, p) in
+          let x : rise read ≡ k - id h = rise-is sizes.bits l (id h) k behind in
+          let y : rise read ≡ id (step ∷ h) - id h = x ∙ ap (λ j. j - id h) z in record {
+            saved = view_adopted (rise read) (packets h) (bytes h) saved;
+            is = ap (λ t. if t then adopting else now) (lt-ltb 0 (rise read) (omega (arith, x, p)))
+                ∙ ap (λ j. at_id now (wid sizes.bits j) (view_adopted (rise read) (packets h) (bytes h) saved)) z;
+            keeps = record {
+              shown = subst (IsShown (view_adopted (rise read) (packets h) (bytes h) saved))
+                  (ap (λ j. Adopt j (packets h) (bytes h) ∷ calls (data_channels net u) h) y ∙ sym (calls-rise (data_channels net u) step h (omega (arith, i, p))))
+                  (ring-adopt saved (rise read) (packets h) (bytes h) (calls (data_channels net u) h) (omega (arith, x, p)) (subst (λ m. rise read ≤ m) (sym keeps.size) (omega (arith, x, near))) keeps.shown);
+              size = length-set saved.slots (place_above (length saved.slots) saved.at (rise read)) (new_slot (rise read) (packets h) (bytes h)) ∙ keeps.size;
+            };
+          }
+      by_cases (inr p) = let z : id h ≡ id (step ∷ h) = omega (arith, i, p) in record {
+        saved = saved;
+        is = ap (λ t. if t then adopting else now) (le-ltb 0 (rise read) (omega (arith, rise-is sizes.bits l (id h) k behind, p)))
+            ∙ ap (λ j. at_id now (wid sizes.bits j) saved) z;
+        keeps = subst (Keeps sizes.ring saved) (sym (s p)) keeps;
+      }
 
-    by_cases : (k < id h) ⊎ (id h ≤ k)
-        → Adopts net ring u (taking c (Data k p) ps) h (regs net u h b e n saved) (credited (place_in 0 c (data_channels net u)) k p.len (adopted k (regs net u h b e n saved)))
-    by_cases (inl q) = let z : id h ≡ id (taking c (Data k p) ps ∷ h) = omega (arith, q) in record {
-      saved = view_credited (credit (data_channels net u) (id h) c k p) saved;
-      is = ap (λ t. credited (place_in 0 c (data_channels net u)) k p.len (if t then record (regs net u h b e n saved) { id = k; saved = view_adopted (k - id h) (packets h) (bytes h) saved } else regs net u h b e n saved)) (le-ltb (id h) k (omega (arith, q)))
-          ∙ ap (λ t. if t then record (regs net u h b e n saved) { saved = view_credited (credit (data_channels net u) (id h) c k p) saved } else regs net u h b e n saved) (lt-ltb k (id h) q)
-          ∙ ap (λ j. at_id (regs net u h b e n saved) j (view_credited (credit (data_channels net u) (id h) c k p) saved)) z;
-      keeps = record {
-        shown = subst (IsShown (view_credited (credit (data_channels net u) (id h) c k p) saved))
-            (sym (calls-stay (data_channels net u) (taking c (Data k p) ps) h (omega (arith, q)) ∙ ap (λ t. map Credited (if t then credit (data_channels net u) (id h) c k p ∷ [] else []) ++ calls (data_channels net u) h) (lt-ltb k (id h) q)))
-            (ring-credit saved (credit (data_channels net u) (id h) c k p) (calls (data_channels net u) h) few keeps.shown);
-        size = length-set saved.slots saved.at (slot_credited (credit (data_channels net u) (id h) c k p) (slice_index_or saved.slots saved.at no_slot)) ∙ keeps.size;
-      };
-    }
-    by_cases (inr q) = of_adopted q (adopts net ring u k (taking c (Data k p) ps) h b e n saved refl (stays q) keeps near)
+  -- a data packet, which is credited where its stamp lies below the id
+  credits : (c : ℕ) (p : Packet) (ps : List Put) → place_in 0 c (data_channels net u) < 8
+      → Adopts net sizes u (taking c (Data k p) ps) h now (credited (place_in 0 c (data_channels net u)) read p.len (adopted read now))
+  credits c p ps few = by_cases (cases_lt k (id h))
+    where
+      ch : ℕ
+      ch = place_in 0 c (data_channels net u)
+
+      stays : id h ≤ k → k ≤ id h → calls (data_channels net u) (taking c (Data k p) ps ∷ h) ≡ calls (data_channels net u) h
+      stays q r = calls-stay (data_channels net u) (taking c (Data k p) ps) h (omega (arith, r))
+          ∙ ap (λ t. map Credited (if t then credit (data_channels net u) (id h) c k p ∷ [] else []) ++ calls (data_channels net u) h) (le-ltb k (id h) q)
+
+      no_credit : (r : Registers) → id h ≤ k → credited (place_in 0 c (data_channels net u)) read p.len r ≡ r
+      no_credit r q = ap (λ t. if t then record r { saved = view_credited (record { channel = place_in 0 c (data_channels net u); age = age read; bytes = p.len }) r.saved } else r)
+          (le-ltb 0 (age read) (omega (arith, age-is sizes.bits l (id h) k low, q)))
+
+      of_adopted : id h ≤ k → Adopts net sizes u (taking c (Data k p) ps) h now (adopted read now)
+          → Adopts net sizes u (taking c (Data k p) ps) h now (credited (place_in 0 c (data_channels net u)) read p.len (adopted read now))
+      of_adopted q a = record { saved = a.saved; is = no_credit (adopted read now) q ∙ a.is; keeps = a.keeps }
+
+      by_cases : (k < id h) ⊎ (id h ≤ k) → Adopts net sizes u (taking c (Data k p) ps) h now (credited (place_in 0 c (data_channels net u)) read p.len (adopted read now))
+      by_cases (inl q) =
+          let z : id h ≡ id (taking c (Data k p) ps ∷ h) = omega (arith, q) in
+          let x : age read ≡ id h - k = age-is sizes.bits l (id h) k low in record {
+            saved = view_credited (credit (data_channels net u) (id h) c k p) saved;
+            is = ap (λ t. credited (place_in 0 c (data_channels net u)) read p.len (if t then adopting else now)) (le-ltb 0 (rise read) (omega (arith, rise-is sizes.bits l (id h) k behind, q)))
+                ∙ ap (λ t. if t then record now { saved = view_credited (record { channel = place_in 0 c (data_channels net u); age = age read; bytes = p.len }) saved } else now) (lt-ltb 0 (age read) (omega (arith, x, q)))
+                ∙ ap (λ j. record now { saved = view_credited (record { channel = place_in 0 c (data_channels net u); age = j; bytes = p.len }) saved }) x
+                ∙ ap (λ j. at_id now (wid sizes.bits j) (view_credited (credit (data_channels net u) (id h) c k p) saved)) z;
+            keeps = record {
+              shown = subst (IsShown (view_credited (credit (data_channels net u) (id h) c k p) saved))
+                  (sym (calls-stay (data_channels net u) (taking c (Data k p) ps) h (omega (arith, q)) ∙ ap (λ t. map Credited (if t then credit (data_channels net u) (id h) c k p ∷ [] else []) ++ calls (data_channels net u) h) (lt-ltb k (id h) q)))
+                  (ring-credit saved (credit (data_channels net u) (id h) c k p) (calls (data_channels net u) h) few keeps.shown);
+              size = length-set saved.slots saved.at (slot_credited (credit (data_channels net u) (id h) c k p) (slice_index_or saved.slots saved.at no_slot)) ∙ keeps.size;
+            };
+          }
+      by_cases (inr q) = of_adopted q (adopts (taking c (Data k p) ps) refl (stays q))
 
 -- All registers.
 
@@ -168,19 +186,26 @@ pub record HasRoom (h : History) (m : Message) : Type 0 where
 packed : (n by : ℕ) → n + by < 2 ^ 64 → more n by ≡ n + by
 packed n by l = omega (arith, l)
 
-pub data-moves : (net : Net) (ring u c k : ℕ) (p : Packet) (ps : List Put) (h : History) (b e n : ℕ) (saved : View) → HasChannels net u → HasRoom h (Data k p)
-    → Member c (data_channels net u) → (Member c (choices_of net u Init) → ⊥) → Keeps ring saved (calls (data_channels net u) h) → k - id h ≤ ring
-    → Moves net ring u (taking c (Data k p) ps ∷ h) b e n (after_data (place_in 0 c (data_channels net u)) k p (regs net u h b e n saved))
-data-moves net ring u c k p ps h b e n saved chans room m out keeps near = of_adopted (credits net ring u c k p ps h b e n saved (omega (arith, place-lt 0 c (data_channels net u) m, chans.few)) keeps near)
+-- a stamp on the choice c that lies within the window, which is no larger than the ring
+pub record IsRead (sizes : Sizes) (c k : ℕ) (h : History) : Type 0 where
+  pub low : last c h ≤ k
+  pub behind : last c h ≤ id h
+  pub near : k - id h ≤ sizes.ring
+
+pub data-moves : (net : Net) (sizes : Sizes) (u c k : ℕ) (p : Packet) (ps : List Put) (h : History) (b e n : ℕ) (saved : View) → HasChannels net u → HasRoom h (Data k p)
+    → Member c (data_channels net u) → (Member c (choices_of net u Init) → ⊥) → Keeps sizes.ring saved (calls (data_channels net u) h) → IsRead sizes c k h
+    → Moves net sizes u (taking c (Data k p) ps ∷ h) b e n (after_data (place_in 0 c (data_channels net u)) (reading sizes.bits (last c h) (id h) k) p (regs net sizes.bits u h b e n saved))
+data-moves net sizes u c k p ps h b e n saved chans room m out keeps d = of_adopted (credits net sizes u (last c h) k h b e n saved d.low d.behind keeps d.near c p ps (omega (arith, place-lt 0 c (data_channels net u) m, chans.few)))
   where
-    of_adopted : Adopts net ring u (taking c (Data k p) ps) h (regs net u h b e n saved) (credited (place_in 0 c (data_channels net u)) k p.len (adopted k (regs net u h b e n saved)))
-        → Moves net ring u (taking c (Data k p) ps ∷ h) b e n (after_data (place_in 0 c (data_channels net u)) k p (regs net u h b e n saved))
-    of_adopted a = let x = first-there (choices_of net u Init) (taking c (Data k p) ps) h out in
-        let y = lasts-set (data_channels net u) c k (taking c (Data k p) ps) h chans.distinct m refl (last-here c k (taking c (Data k p) ps) h (Data k p) refl refl refl) in
+    of_adopted : Adopts net sizes u (taking c (Data k p) ps) h (regs net sizes.bits u h b e n saved)
+        (credited (place_in 0 c (data_channels net u)) (reading sizes.bits (last c h) (id h) k) p.len (adopted (reading sizes.bits (last c h) (id h) k) (regs net sizes.bits u h b e n saved)))
+        → Moves net sizes u (taking c (Data k p) ps ∷ h) b e n (after_data (place_in 0 c (data_channels net u)) (reading sizes.bits (last c h) (id h) k) p (regs net sizes.bits u h b e n saved))
+    of_adopted a = let x = ap (wid sizes.bits) (first-there (choices_of net u Init) (taking c (Data k p) ps) h out) in
+        let y = wids-set sizes.bits (data_channels net u) c k (taking c (Data k p) ps) h chans.distinct m refl (last-here c k (taking c (Data k p) ps) h (Data k p) refl refl refl) in
         let f = packed (packets h) 1 room.packets in let g = packed (bytes h) p.len room.bytes in record {
           saved = a.saved;
-          is = ap (λ r. counted p.len (seen (Upstream (place_in 0 c (data_channels net u))) k r)) a.is ∙ (λ j. record {
-            id = id (taking c (Data k p) ps ∷ h);
+          is = ap (λ r. counted p.len (seen (Upstream (place_in 0 c (data_channels net u))) (wid sizes.bits k) r)) a.is ∙ (λ j. record {
+            id = wid sizes.bits (id (taking c (Data k p) ps ∷ h));
             cpu = sym x j;
             last = sym y j;
             packets = f j;
@@ -193,19 +218,20 @@ data-moves net ring u c k p ps h b e n saved chans room m out keeps near = of_ad
           keeps = a.keeps;
         }
 
-pub probe-moves : (net : Net) (ring u c k : ℕ) (ps : List Put) (h : History) (b e n : ℕ) (saved : View) → HasChannels net u
-    → Member c (data_channels net u) → (Member c (choices_of net u Init) → ⊥) → Keeps ring saved (calls (data_channels net u) h) → k - id h ≤ ring
-    → Moves net ring u (taking c (ProbeMsg k) ps ∷ h) b e n (after_stamp (Upstream (place_in 0 c (data_channels net u))) k (regs net u h b e n saved))
-probe-moves net ring u c k ps h b e n saved chans m out keeps near = of_adopted (adopts net ring u k (taking c (ProbeMsg k) ps) h b e n saved refl (λ q. calls-stay (data_channels net u) (taking c (ProbeMsg k) ps) h (omega (arith, q))) keeps near)
+pub probe-moves : (net : Net) (sizes : Sizes) (u c k : ℕ) (ps : List Put) (h : History) (b e n : ℕ) (saved : View) → HasChannels net u
+    → Member c (data_channels net u) → (Member c (choices_of net u Init) → ⊥) → Keeps sizes.ring saved (calls (data_channels net u) h) → IsRead sizes c k h
+    → Moves net sizes u (taking c (ProbeMsg k) ps ∷ h) b e n (after_stamp (Upstream (place_in 0 c (data_channels net u))) (reading sizes.bits (last c h) (id h) k) (regs net sizes.bits u h b e n saved))
+probe-moves net sizes u c k ps h b e n saved chans m out keeps d =
+    of_adopted (adopts net sizes u (last c h) k h b e n saved d.low d.behind keeps d.near (taking c (ProbeMsg k) ps) refl (λ q. calls-stay (data_channels net u) (taking c (ProbeMsg k) ps) h (omega (arith, q))))
   where
-    of_adopted : Adopts net ring u (taking c (ProbeMsg k) ps) h (regs net u h b e n saved) (adopted k (regs net u h b e n saved))
-        → Moves net ring u (taking c (ProbeMsg k) ps ∷ h) b e n (after_stamp (Upstream (place_in 0 c (data_channels net u))) k (regs net u h b e n saved))
-    of_adopted a = let x = first-there (choices_of net u Init) (taking c (ProbeMsg k) ps) h out in
-        let y = lasts-set (data_channels net u) c k (taking c (ProbeMsg k) ps) h chans.distinct m refl (last-here c k (taking c (ProbeMsg k) ps) h (ProbeMsg k) refl refl refl) in
+    of_adopted : Adopts net sizes u (taking c (ProbeMsg k) ps) h (regs net sizes.bits u h b e n saved) (adopted (reading sizes.bits (last c h) (id h) k) (regs net sizes.bits u h b e n saved))
+        → Moves net sizes u (taking c (ProbeMsg k) ps ∷ h) b e n (after_stamp (Upstream (place_in 0 c (data_channels net u))) (reading sizes.bits (last c h) (id h) k) (regs net sizes.bits u h b e n saved))
+    of_adopted a = let x = ap (wid sizes.bits) (first-there (choices_of net u Init) (taking c (ProbeMsg k) ps) h out) in
+        let y = wids-set sizes.bits (data_channels net u) c k (taking c (ProbeMsg k) ps) h chans.distinct m refl (last-here c k (taking c (ProbeMsg k) ps) h (ProbeMsg k) refl refl refl) in
         let f : packets h ≡ packets h + 0 = omega arith in let g : bytes h ≡ bytes h + 0 = omega arith in record {
           saved = a.saved;
-          is = ap (λ r. seen (Upstream (place_in 0 c (data_channels net u))) k r) a.is ∙ (λ j. record {
-            id = id (taking c (ProbeMsg k) ps ∷ h);
+          is = ap (λ r. seen (Upstream (place_in 0 c (data_channels net u))) (wid sizes.bits k) r) a.is ∙ (λ j. record {
+            id = wid sizes.bits (id (taking c (ProbeMsg k) ps ∷ h));
             cpu = sym x j;
             last = sym y j;
             packets = f j;
@@ -218,19 +244,20 @@ probe-moves net ring u c k ps h b e n saved chans m out keeps near = of_adopted 
           keeps = a.keeps;
         }
 
-pub init-moves : (net : Net) (ring u c k : ℕ) (ps : List Put) (h : History) (b e n : ℕ) (saved : View) → HasChannels net u
-    → Member c (choices_of net u Init) → (Member c (data_channels net u) → ⊥) → Keeps ring saved (calls (data_channels net u) h) → k - id h ≤ ring
-    → Moves net ring u (taking c (InitMsg k) ps ∷ h) b e n (after_stamp Cpu k (regs net u h b e n saved))
-init-moves net ring u c k ps h b e n saved chans m out keeps near = of_adopted (adopts net ring u k (taking c (InitMsg k) ps) h b e n saved refl (λ q. calls-stay (data_channels net u) (taking c (InitMsg k) ps) h (omega (arith, q))) keeps near)
+pub init-moves : (net : Net) (sizes : Sizes) (u c k : ℕ) (ps : List Put) (h : History) (b e n : ℕ) (saved : View) → HasChannels net u
+    → Member c (choices_of net u Init) → (Member c (data_channels net u) → ⊥) → Keeps sizes.ring saved (calls (data_channels net u) h) → IsRead sizes c k h
+    → Moves net sizes u (taking c (InitMsg k) ps ∷ h) b e n (after_stamp Cpu (reading sizes.bits (last c h) (id h) k) (regs net sizes.bits u h b e n saved))
+init-moves net sizes u c k ps h b e n saved chans m out keeps d =
+    of_adopted (adopts net sizes u (last c h) k h b e n saved d.low d.behind keeps d.near (taking c (InitMsg k) ps) refl (λ q. calls-stay (data_channels net u) (taking c (InitMsg k) ps) h (omega (arith, q))))
   where
-    of_adopted : Adopts net ring u (taking c (InitMsg k) ps) h (regs net u h b e n saved) (adopted k (regs net u h b e n saved))
-        → Moves net ring u (taking c (InitMsg k) ps ∷ h) b e n (after_stamp Cpu k (regs net u h b e n saved))
-    of_adopted a = let x = first-only (choices_of net u Init) c (taking c (InitMsg k) ps ∷ h) m chans.inits ∙ last-here c k (taking c (InitMsg k) ps) h (InitMsg k) refl refl refl in
-        let y = ap eight (lasts-there (data_channels net u) (taking c (InitMsg k) ps) h out) in
+    of_adopted : Adopts net sizes u (taking c (InitMsg k) ps) h (regs net sizes.bits u h b e n saved) (adopted (reading sizes.bits (last c h) (id h) k) (regs net sizes.bits u h b e n saved))
+        → Moves net sizes u (taking c (InitMsg k) ps ∷ h) b e n (after_stamp Cpu (reading sizes.bits (last c h) (id h) k) (regs net sizes.bits u h b e n saved))
+    of_adopted a = let x = ap (wid sizes.bits) (first-only (choices_of net u Init) c (taking c (InitMsg k) ps ∷ h) m chans.inits ∙ last-here c k (taking c (InitMsg k) ps) h (InitMsg k) refl refl refl) in
+        let y = ap (λ ls. map (wid sizes.bits) (eight ls)) (lasts-there (data_channels net u) (taking c (InitMsg k) ps) h out) in
         let f : packets h ≡ packets h + 0 = omega arith in let g : bytes h ≡ bytes h + 0 = omega arith in record {
           saved = a.saved;
-          is = ap (λ r. seen Cpu k r) a.is ∙ (λ j. record {
-            id = id (taking c (InitMsg k) ps ∷ h);
+          is = ap (λ r. seen Cpu (wid sizes.bits k) r) a.is ∙ (λ j. record {
+            id = wid sizes.bits (id (taking c (InitMsg k) ps ∷ h));
             cpu = sym x j;
             last = sym y j;
             packets = f j;
@@ -244,15 +271,16 @@ init-moves net ring u c k ps h b e n saved chans m out keeps near = of_adopted (
         }
 
 -- a message without a stamp, and without data on a channel, changes counters alone
-pub quiet-moves : (net : Net) (ring u c : ℕ) (m : Message) (ps : List Put) (h : History) (b e n x y : ℕ) (saved : View) → stamp_of m ≡ None → credits_in (data_channels net u) (id h) c (Some m) ≡ []
-    → x ≡ packets (taking c m ps ∷ h) → y ≡ bytes (taking c m ps ∷ h) → Keeps ring saved (calls (data_channels net u) h)
-    → Moves net ring u (taking c m ps ∷ h) b e n (record (regs net u h b e n saved) { packets = x; bytes = y })
-quiet-moves net ring u c m ps h b e n x y saved s z f g keeps = let i : id h ≡ id (taking c m ps ∷ h) = (let v : 0 ≡ unwrap_or (stamp_of m) 0 = sym (ap (λ o. unwrap_or o 0) s) in omega (arith, v)) in
-    let a = first-same (choices_of net u Init) (taking c m ps) h m refl s in
-    let l = ap eight (lasts-same (data_channels net u) (taking c m ps) h m refl s) in record {
+pub quiet-moves : (net : Net) (sizes : Sizes) (u c : ℕ) (m : Message) (ps : List Put) (h : History) (b e n x y : ℕ) (saved : View) → stamp_of m ≡ None → credits_in (data_channels net u) (id h) c (Some m) ≡ []
+    → x ≡ packets (taking c m ps ∷ h) → y ≡ bytes (taking c m ps ∷ h) → Keeps sizes.ring saved (calls (data_channels net u) h)
+    → Moves net sizes u (taking c m ps ∷ h) b e n (record (regs net sizes.bits u h b e n saved) { packets = x; bytes = y })
+quiet-moves net sizes u c m ps h b e n x y saved s z f g keeps = let i : id h ≡ id (taking c m ps ∷ h) = (let v : 0 ≡ unwrap_or (stamp_of m) 0 = sym (ap (λ o. unwrap_or o 0) s) in omega (arith, v)) in
+    let w = ap (wid sizes.bits) i in
+    let a = ap (wid sizes.bits) (first-same (choices_of net u Init) (taking c m ps) h m refl s) in
+    let l = ap (λ ls. map (wid sizes.bits) (eight ls)) (lasts-same (data_channels net u) (taking c m ps) h m refl s) in record {
       saved = saved;
       is = λ j. record {
-        id = i j;
+        id = w j;
         cpu = sym a j;
         last = sym l j;
         packets = f j;
@@ -262,5 +290,5 @@ quiet-moves net ring u c m ps h b e n x y saved s z f g keeps = let i : id h ≡
         noroute = n;
         saved = saved;
       };
-      keeps = subst (Keeps ring saved) (sym (calls-stay (data_channels net u) (taking c m ps) h (omega (arith, i)) ∙ ap (λ cs. map Credited cs ++ calls (data_channels net u) h) z)) keeps;
+      keeps = subst (Keeps sizes.ring saved) (sym (calls-stay (data_channels net u) (taking c m ps) h (omega (arith, i)) ∙ ap (λ cs. map Credited cs ++ calls (data_channels net u) h) z)) keeps;
     }

@@ -2,7 +2,7 @@
 --     Ends ..     the state after a message stands for the history after the step, and the puts for its puts
 use Rattle.std.proofs.Common.{◌≡◌, ℕ, ◌+◌, ◌-◌, ◌^◌, ◌<◌, ◌≤◌, List, [], ◌++◌, length, refl, sym, ap, subst, ◌∙◌, Option, Some, None, arith, inl, inr}
 use Rattle.std.specs.Prelude.{◌⊎◌, true, false, Bool, ◌&&◌, not, ◌==◌, if◌then◌else◌, map, is_none, slice_get, option_and_then}
-use Rattle.std.proofs.lemmas.Bool.{le-leb, cases_lt}
+use Rattle.std.proofs.lemmas.Bool.{cases_lt, eq-eqb, ne_eqb}
 use Rattle.std.proofs.lemmas.List.{length-map}
 use Rattle.std.proofs.lemmas.Option.{slice_get-get_or, slice_get_past}
 use Rattle.sl_machine.specs.Machine.{After}
@@ -22,19 +22,21 @@ use Rattle.sl_saves.specs.declared.entry.View.{View}
 use Rattle.sl_wire.specs.declared.message.Msg.{Msg}
 use Rattle.sl_wire.specs.declared.message.Msg.TheVariants as wire
 use Rattle.sl_wire.specs.Sizes.{Sizes, sizes_of}
-use Rattle.sl_unit.specs.declared.registers.Channel.{Channel}
+use Rattle.sl_wire.specs.Frames.{carried_header}
+use Rattle.sl_wire.specs.Carried.{framed}
+use Rattle.sl_ids.specs.Wids.{wid}
+use Rattle.sl_unit.specs.declared.registers.Reading.{Reading}
 use Rattle.sl_unit.specs.Wires.{Wires, port_to}
-use Rattle.sl_unit.specs.Registers.{Registers, more, last_on, is_near}
+use Rattle.sl_unit.specs.Registers.{Registers, more, is_near}
 use Rattle.sl_layout.specs.Devices.{device_of}
-use Rattle.sl_unit.specs.Made.{entrances_of, exits_of, ports_of}
+use Rattle.sl_unit.specs.Made.{port_of, entrances_of, exits_of, ports_of}
 use Rattle.sl_unit.specs.declared.wires.Way.TheVariants.{All}
 use Rattle.sl_unit.specs.Step.{UnitState, onward, routed, stamped, notices, ignored, send}
 use Rattle.sl_model.specs.declared.message.Message.TheVariants.{Data, Notice as NoticeMsg}
 use Rattle.sl_model.specs.declared.message.Put.{Put}
-use Rattle.sl_model.specs.History.{History, id, last}
+use Rattle.sl_model.specs.History.{History, id}
 use Rattle.sl_model.specs.Puts.{send_all, route, notice_puts}
 use Rattle.sl_model.specs.Puts.{onward as puts_onward}
-use Rattle.sl_model.specs.UnitWindow.{IsTakeable}
 use Rattle.sl_image.specs.Messages.{AreSent}
 use Rattle.sl_image.specs.UnitImage.{IsUnitOf, new_state}
 use Rattle.sl_image.proofs.UnitRegisters.{regs}
@@ -48,14 +50,15 @@ ports_by net d Egress = []
 
 -- the links of a unit of the device d
 abbrev pub wires_at : Net → ℕ → ℕ → Side → Snapshot → Wires
-wires_at net u d side n = record { device = d; entrances = entrances_of net u; exits = exits_of net u; ports = ports_by net d side; bits = n.width; actions = 0 }
+wires_at net u d side n =
+    record { device = d; port = port_of (actor_of net u); entrances = entrances_of net u; exits = exits_of net u; ports = ports_by net d side; bits = n.width; actions = 0 }
 
 pub wires-are : (net : Net) (u : ℕ) (i : UnitId) (n : Snapshot) → actor_of net u ≡ OfUnit i → (new_state net u n i.side).wires ≡ wires_at net u i.device i.side n
 wires-are net u i n q = by_side i.side
   where
     by_side : (side : Side) → (new_state net u n side).wires ≡ wires_at net u i.device side n
-    by_side Ingress = λ j. record { device = device_of (q j); entrances = entrances_of net u; exits = exits_of net u; ports = ports_of net (device_of (q j)); bits = n.width; actions = 0 }
-    by_side Egress = λ j. record { device = device_of (q j); entrances = entrances_of net u; exits = exits_of net u; ports = []; bits = n.width; actions = 0 }
+    by_side Ingress = λ j. record { device = device_of (q j); port = port_of (actor_of net u); entrances = entrances_of net u; exits = exits_of net u; ports = ports_of net (device_of (q j)); bits = n.width; actions = 0 }
+    by_side Egress = λ j. record { device = device_of (q j); port = port_of (actor_of net u); entrances = entrances_of net u; exits = exits_of net u; ports = []; bits = n.width; actions = 0 }
 
 -- a host past the last has no port
 no-port : (parts : Parts) (d host : ℕ) → length parts.hosts ≤ host → next_port parts d host ≡ None
@@ -79,63 +82,60 @@ abbrev pub one_if : Bool → ℕ
 one_if b = if b then 1 else 0
 
 pub record Routes (net : Net) (sizes : Sizes) (us : ℕ → History) (told : ℕ → ℕ) (u d : ℕ) (h : History) (b e n : ℕ) (saved : View) (p : Packet) (a : After Registers Msg) : Type 0 where
-  pub state : a.state ≡ regs net u h b (one_if (p.hops == 0) + e) (one_if (not (p.hops == 0) && is_none (next_port net.parts d p.dst)) + n) saved
+  pub state : a.state ≡ regs net sizes.bits u h b (one_if (p.hops == 0) + e) (one_if (not (p.hops == 0) && is_none (next_port net.parts d p.dst)) + n) saved
   pub sent : AreSent net sizes us u told (route net u d (id h) p) a.puts
 
 pub routes : (net : Net) (sizes : Sizes) (us : ℕ → History) (told : ℕ → ℕ) (u d : ℕ) (h : History) (b e n : ℕ) (saved : View) (p : Packet) (t : Snapshot) → e + 1 < 2 ^ 64 → n + 1 < 2 ^ 64
-    → Routes net sizes us told u d h b e n saved p (routed (wires_at net u d Ingress t) p (regs net u h b e n saved))
+    → Routes net sizes us told u d h b e n saved p (routed (wires_at net u d Ingress t) p (regs net sizes.bits u h b e n saved))
 routes net sizes us told u d h b e n saved p t room more_room = of_port (by_hops (p.hops == 0) (next_port net.parts d p.dst))
   where
     by_hops : (z : Bool) (o : Option ℕ)
-        → ((if z then record { state = record (regs net u h b e n saved) { expired = more e 1 }; puts = [] } else onward (wires_at net u d Ingress t) p (regs net u h b e n saved) o).state
-        ≡ regs net u h b (one_if z + e) (one_if (not z && is_none o) + n) saved)
+        → ((if z then record { state = record (regs net sizes.bits u h b e n saved) { expired = more e 1 }; puts = [] } else onward (wires_at net u d Ingress t) p (regs net sizes.bits u h b e n saved) o).state
+        ≡ regs net sizes.bits u h b (one_if z + e) (one_if (not z && is_none o) + n) saved)
         × AreSent net sizes us u told (if z then [] else puts_onward net u d (id h) (record p { hops = p.hops - 1 }) o)
-        (if z then record { state = record (regs net u h b e n saved) { expired = more e 1 }; puts = [] } else onward (wires_at net u d Ingress t) p (regs net u h b e n saved) o).puts
-    by_hops true o = let x : more e 1 ≡ 1 + e = omega (arith, room) in let y : n ≡ 0 + n = omega arith in (λ j. regs net u h b (x j) (y j) saved, tt)
-    by_hops false None = let x : e ≡ 0 + e = omega arith in let y : more n 1 ≡ 1 + n = omega (arith, more_room) in (λ j. regs net u h b (x j) (y j) saved, tt)
+        (if z then record { state = record (regs net sizes.bits u h b e n saved) { expired = more e 1 }; puts = [] } else onward (wires_at net u d Ingress t) p (regs net sizes.bits u h b e n saved) o).puts
+    by_hops true o = let x : more e 1 ≡ 1 + e = omega (arith, room) in let y : n ≡ 0 + n = omega arith in (λ j. regs net sizes.bits u h b (x j) (y j) saved, tt)
+    by_hops false None = let x : e ≡ 0 + e = omega arith in let y : more n 1 ≡ 1 + n = omega (arith, more_room) in (λ j. regs net sizes.bits u h b (x j) (y j) saved, tt)
     by_hops false (Some port) = let x : e ≡ 0 + e = omega arith in let y : n ≡ 0 + n = omega arith in (
-      λ j. regs net u h b (x j) (y j) saved,
-      toward-sent net sizes us u told (Data (id h) (record p { hops = p.hops - 1 })) (wire.Data (id h) (record p { hops = p.hops - 1 })) d port (wires_at net u d Ingress t) refl refl,
+      λ j. regs net sizes.bits u h b (x j) (y j) saved,
+      toward-sent net sizes us u told (Data (id h) (record p { hops = p.hops - 1 })) (framed (carried_header (wid sizes.bits (id h)) (port_of (actor_of net u))) (record p { hops = p.hops - 1 })) d port (wires_at net u d Ingress t) refl refl,
     )
 
-    of_port : ((if p.hops == 0 then record { state = record (regs net u h b e n saved) { expired = more e 1 }; puts = [] } else onward (wires_at net u d Ingress t) p (regs net u h b e n saved) (next_port net.parts d p.dst)).state
-        ≡ regs net u h b (one_if (p.hops == 0) + e) (one_if (not (p.hops == 0) && is_none (next_port net.parts d p.dst)) + n) saved)
+    of_port : ((if p.hops == 0 then record { state = record (regs net sizes.bits u h b e n saved) { expired = more e 1 }; puts = [] } else onward (wires_at net u d Ingress t) p (regs net sizes.bits u h b e n saved) (next_port net.parts d p.dst)).state
+        ≡ regs net sizes.bits u h b (one_if (p.hops == 0) + e) (one_if (not (p.hops == 0) && is_none (next_port net.parts d p.dst)) + n) saved)
         × AreSent net sizes us u told (if p.hops == 0 then [] else puts_onward net u d (id h) (record p { hops = p.hops - 1 }) (next_port net.parts d p.dst))
-        (if p.hops == 0 then record { state = record (regs net u h b e n saved) { expired = more e 1 }; puts = [] } else onward (wires_at net u d Ingress t) p (regs net u h b e n saved) (next_port net.parts d p.dst)).puts
-        → Routes net sizes us told u d h b e n saved p (routed (wires_at net u d Ingress t) p (regs net u h b e n saved))
+        (if p.hops == 0 then record { state = record (regs net sizes.bits u h b e n saved) { expired = more e 1 }; puts = [] } else onward (wires_at net u d Ingress t) p (regs net sizes.bits u h b e n saved) (next_port net.parts d p.dst)).puts
+        → Routes net sizes us told u d h b e n saved p (routed (wires_at net u d Ingress t) p (regs net sizes.bits u h b e n saved))
     of_port x = let q = port-is net u d p.dst t in record {
-      state = ap (λ o. (if p.hops == 0 then record { state = record (regs net u h b e n saved) { expired = more e 1 }; puts = [] } else onward (wires_at net u d Ingress t) p (regs net u h b e n saved) o).state) q ∙ x.0;
-      sent = subst (λ o. AreSent net sizes us u told (route net u d (id h) p) (if p.hops == 0 then record { state = record (regs net u h b e n saved) { expired = more e 1 }; puts = [] } else onward (wires_at net u d Ingress t) p (regs net u h b e n saved) o).puts) (sym q) x.1;
+      state = ap (λ o. (if p.hops == 0 then record { state = record (regs net sizes.bits u h b e n saved) { expired = more e 1 }; puts = [] } else onward (wires_at net u d Ingress t) p (regs net sizes.bits u h b e n saved) o).state) q ∙ x.0;
+      sent = subst (λ o. AreSent net sizes us u told (route net u d (id h) p) (if p.hops == 0 then record { state = record (regs net sizes.bits u h b e n saved) { expired = more e 1 }; puts = [] } else onward (wires_at net u d Ingress t) p (regs net sizes.bits u h b e n saved) o).puts) (sym q) x.1;
     }
 
--- A stamp within the window.
-
-near-is : (w l i k : ℕ) → l ≤ k → k ≤ l + w → k ≤ i + w → i ≤ k + w → is_near w l i k ≡ true
-near-is w l i k a b c d = let p = le-leb l k a in let q = le-leb (k - l) w (omega (arith, b)) in let r = le-leb (k - i) w (omega (arith, c)) in let s = le-leb (i - k) w (omega (arith, d)) in
-    λ j. p j && (q j && (r j && s j))
-
-pub takeable-near : (w c k l : ℕ) (h : History) → l ≡ last c h → IsTakeable w c h k → is_near w l (id h) k ≡ true
-takeable-near w c k l h e t = let a = t.order in let b = t.ahead in let x = t.above in let y = t.below in near-is w l (id h) k (omega (arith, e, a)) (omega (arith, e, b)) (omega (arith, x)) (omega (arith, y))
+-- A stamp.
 
 pub record Ends (net : Net) (table : Snapshot) (u : ℕ) (i : UnitId) (us : ℕ → History) (told : ℕ → ℕ) (h : History) (ps : List Put) (after : After UnitState Msg) : Type 0 where
   pub stands : IsUnitOf net table u i h after.state
   pub sent : AreSent net (sizes_of table) us u told ps after.puts
 
 -- its notice
-pub noticed : (net : Net) (sizes : Sizes) (us : ℕ → History) (told : ℕ → ℕ) (u before k : ℕ) (s : UnitState) (ch : Channel) → s.wires.exits ≡ exits_of net u → last_on ch s.registers ≡ before
-    → AreSent net sizes us u told (notice_puts net u before (Some k)) (notices s ch k)
-noticed net sizes us told u before k s ch e l = subst (λ v. AreSent net sizes us u told (if before == k then [] else send_all NoticeMsg (links_out net u NoticeSort)) (if v == k then [] else send s.wires (All NoticeSort) wire.Notice)) (sym l)
+pub noticed : (net : Net) (sizes : Sizes) (us : ℕ → History) (told : ℕ → ℕ) (u before k : ℕ) (s : UnitState) (x : Reading) → s.wires.exits ≡ exits_of net u → before ≤ k → x.ahead ≡ k - before
+    → AreSent net sizes us u told (notice_puts net u before (Some k)) (notices s x)
+noticed net sizes us told u before k s x e low q = subst (λ t. AreSent net sizes us u told (notice_puts net u before (Some k)) (if t then [] else send s.wires (All NoticeSort) wire.Notice)) (same (cases_lt before k))
     (sent-unless net sizes us u told (before == k) (send_all NoticeMsg (links_out net u NoticeSort)) (send s.wires (All NoticeSort) wire.Notice) (sort-sent net sizes us u told NoticeMsg wire.Notice NoticeSort s.wires e refl))
+  where
+    same : (before < k) ⊎ (k ≤ before) → (before == k) ≡ (x.ahead == 0)
+    same (inl p) = ne_eqb before k (λ z. omega (arith, z, p)) ∙ sym (ne_eqb x.ahead 0 (λ z. omega (arith, z, q, p)))
+    same (inr p) = eq-eqb before k (omega (arith, low, p)) ∙ sym (eq-eqb x.ahead 0 (omega (arith, q, p)))
 
 -- a is what the machine makes of the stamp, ps the puts without the notice
-pub stamped-ends : (net : Net) (table : Snapshot) (u : ℕ) (i : UnitId) (us : ℕ → History) (told : ℕ → ℕ) (h : History) (ps : List Put) (before k : ℕ) (s : UnitState) (ch : Channel) (a : After Registers Msg)
-    → s.wires.exits ≡ exits_of net u → last_on ch s.registers ≡ before → is_near s.window (last_on ch s.registers) s.registers.id k ≡ true
+pub stamped-ends : (net : Net) (table : Snapshot) (u : ℕ) (i : UnitId) (us : ℕ → History) (told : ℕ → ℕ) (h : History) (ps : List Put) (before k : ℕ) (s : UnitState) (x : Reading) (a : After Registers Msg)
+    → s.wires.exits ≡ exits_of net u → before ≤ k → x.ahead ≡ k - before → is_near s.window x ≡ true
     → IsUnitOf net table u i h (record s { registers = a.state }) → AreSent net (sizes_of table) us u told ps a.puts
-    → Ends net table u i us told h (ps ++ (notice_puts net u before (Some k) ++ [])) (stamped s ch k a)
-stamped-ends net table u i us told h ps before k s ch a e l near stands sent =
-    subst (λ t. Ends net table u i us told h (ps ++ (notice_puts net u before (Some k) ++ [])) (if t then record { state = record s { registers = a.state }; puts = a.puts ++ notices s ch k } else ignored s)) (sym near)
+    → Ends net table u i us told h (ps ++ (notice_puts net u before (Some k) ++ [])) (stamped s x a)
+stamped-ends net table u i us told h ps before k s x a e low q near stands sent =
+    subst (λ t. Ends net table u i us told h (ps ++ (notice_puts net u before (Some k) ++ [])) (if t then record { state = record s { registers = a.state }; puts = a.puts ++ notices s x } else ignored s)) (sym near)
     (record {
       stands = stands;
-      sent = sent-append net (sizes_of table) us u told ps (notice_puts net u before (Some k) ++ []) a.puts (notices s ch k) sent
-          (sent-nil net (sizes_of table) us u told (notice_puts net u before (Some k)) (notices s ch k) (noticed net (sizes_of table) us told u before k s ch e l));
+      sent = sent-append net (sizes_of table) us u told ps (notice_puts net u before (Some k) ++ []) a.puts (notices s x) sent
+          (sent-nil net (sizes_of table) us u told (notice_puts net u before (Some k)) (notices s x) (noticed net (sizes_of table) us told u before k s x e low q));
     })

@@ -10,10 +10,14 @@ use Rattle.sl_net.specs.declared.input.Snapshot.{Snapshot}
 use Rattle.sl_layout.specs.Net.{Net, actor_of, link_of, links_into, data_channels, choices_of, action_choice}
 use Rattle.sl_net.specs.Wired.{IsWired, receives, unit_receives}
 use Rattle.std.proofs.lemmas.List.{length-replicate}
+use Rattle.std.proofs.Math.Nat.{mod-le}
 use Rattle.sl_saves.specs.Views.{free_slot}
 use Rattle.sl_saves.proofs.Rings.{ring-first}
 use Rattle.sl_wire.specs.declared.message.Msg.{Msg}
 use Rattle.sl_wire.specs.Sizes.{sizes_of}
+use Rattle.sl_ids.specs.Ids.{modulus}
+use Rattle.sl_ids.specs.Wids.{wid}
+use Rattle.sl_wire.specs.Wids.{no_wid}
 use Rattle.sl_unit.specs.Made.{IsRanged}
 use Rattle.sl_unit.specs.Registers.{first_registers}
 use Rattle.sl_unit.specs.Step.{UnitState, unit_take}
@@ -32,6 +36,7 @@ use Rattle.sl_model.specs.Turns.{Takes, Acts, TakesTurns}
 use Rattle.sl_model.specs.UnitWindow.{IsTakeable}
 use Rattle.sl_image.specs.UnitImage.{IsUnitOf, HasRegisters, UnitSimulates, dropped, new_state}
 use Rattle.sl_model.proofs.Totals.{distinct-channels}
+use Rattle.sl_image.proofs.UnitReads.{Distances, ReadsFrames, port-few}
 use Rattle.sl_image.proofs.UnitRegisters.{regs-is}
 use Rattle.sl_image.proofs.UnitTurns.{wires-are}
 use Rattle.sl_image.proofs.UnitMessages.{IsGiven, state_at}
@@ -54,6 +59,8 @@ pub record Given (s : Setup) (lost : Losses) (es : List Entry) (u : ℕ) (step :
   pub short : (fs : List Entry) → TakesShort (history (world s lost fs) u)
   pub few_packets : (h : History) → packets h ≤ length h
   pub few_bytes : (h : History) → TakesShort h → bytes h ≤ 65535 * length h
+  pub distances : Distances
+  pub frames : ReadsFrames
 
 record IsTurn (s : Setup) (lost : Losses) (es : List Entry) (u c : ℕ) (i : UnitId) (step : Step) (m : Message) : Type 0 where
   pub link : ℕ
@@ -104,13 +111,13 @@ is-given s table lost es u c i step m st given wired t holds few q n e stands = 
     len = subst (λ o. unwrap_or (option_map (λ p. p.len) (option_and_then counted_in o)) 0 < 2 ^ 16) e (subst TakesShort new (given.short (es ++ (u, c) ∷ []))).0
 
 pub takes-follow : (s : Setup) (table : Snapshot) (lost : Losses) (es : List Entry) (u c : ℕ) (i : UnitId) (step : Step) (m : Message) (x : Msg) (st : UnitState) (vs : ℕ → History) (a : ℕ) (was told : ℕ → ℕ)
-    → Given s lost es u step → IsWired s.net → s.window ≡ table.window → table.window ≤ table.ring → length es < 2 ^ 40
+    → Given s lost es u step → IsWired s.net → s.window ≡ table.window → table.window < modulus table.width → table.window ≤ table.ring → length es < 2 ^ 40
     → actor_of s.net u ≡ OfUnit i → next_step s lost (world s lost es) (u, c) ≡ Some step → step.taken ≡ Some m → IsMessage s.net (sizes_of table) vs a was m x → IsUnitOf s.net table u i (history (world s lost es) u) st
     → UnitSimulates s.net table u i (λ b. history (turn s lost (world s lost es) (u, c)) b) told step.puts (unit_take st c x)
-takes-follow s table lost es u c i step m x st vs a was told given wired t holds few q n e y stands = of_turn (is-turn given.turns s lost es u c i step m q n e)
+takes-follow s table lost es u c i step m x st vs a was told given wired t wide holds few q n e y stands = of_turn (is-turn given.turns s lost es u c i step m q n e)
   where
     state : st ≡ state_at s.net table u i.device i.side (history (world s lost es) u) st.registers.saved
-    state = let w = stands.wires ∙ wires-are s.net u i table q in let v = stands.window in let r = regs-is s.net table.ring u i (history (world s lost es) u) st.registers stands.registers in
+    state = let w = stands.wires ∙ wires-are s.net u i table q in let v = stands.window in let r = regs-is s.net (sizes_of table) u i (history (world s lost es) u) st.registers stands.registers in
         λ j. record { wires = w j; window = v j; registers = r j }
 
     receives_it : (l : ℕ) → slice_get (links_into s.net u) c ≡ Some l → unit_receives i.side (link_of s.net l).sort ≡ true
@@ -121,7 +128,7 @@ takes-follow s table lost es u c i step m x st vs a was told given wired t holds
     of_turn z =
         let now : history (turn s lost (world s lost es) (u, c)) u ≡ taking c m (unit_puts s.net u i (history (world s lost es) u) c z.link m) ∷ history (world s lost es) u =
         (given.turns.grows s lost es (u, c) step n).same ∙ ap (λ v. v ∷ history (world s lost es) u) z.step_is in
-        let ends = goes s.net wired.ways table u i.device i.port i.side (λ b. history (turn s lost (world s lost es) (u, c)) b) vs told was a c z.link (history (world s lost es) u) st.registers.saved m x
+        let ends = goes s.net wired.ways table (record { distances = given.distances; frames = given.frames; wide = wide; ports = port-few s.net wired }) u i.device i.port i.side (λ b. history (turn s lost (world s lost es) (u, c)) b) vs told was a c z.link (history (world s lost es) u) st.registers.saved m x
         (is-given s table lost es u c i step m st given wired t holds few q n e stands) z.into (receives_it z.link z.into) z.fits y now in
         subst (λ st. UnitSimulates s.net table u i (λ b. history (turn s lost (world s lost es) (u, c)) b) told step.puts (unit_take st c x)) (sym state)
         (record {
@@ -149,11 +156,11 @@ no-stamp (x ∷ xs) = refl
 pub new-stands : (net : Net) (table : Snapshot) (u : ℕ) (i : UnitId) → IsRanged table → IsUnitOf net table u i [] (new_state net u table i.side)
 new-stands net table u i r = by_side i.side
   where
-    new : (side : Side) → HasRegisters net table.ring u (record { device = i.device; port = i.port; side = side }) [] (first_registers table.ring)
+    new : (side : Side) → HasRegisters net (sizes_of table) u (record { device = i.device; port = i.port; side = side }) [] (first_registers table.ring)
     new side = record {
-      id = refl;
-      cpu = no-stamp (choices_of net u Init);
-      last = sym (no-stamps 8 8 (data_channels net u) (omega arith));
+      id = none-wrapped;
+      cpu = none-wrapped ∙ ap (wid table.width) (no-stamp (choices_of net u Init));
+      last = sym (ap (map (wid table.width)) (no-stamps 8 8 (data_channels net u) (omega arith)) ∙ all-wrapped);
       packets = refl;
       bytes = refl;
       bad = nothing side;
@@ -165,6 +172,12 @@ new-stands net table u i r = by_side i.side
       };
     }
       where
+        none-wrapped : no_wid ≡ wid table.width 0
+        none-wrapped = ap (λ n. record { raw = n }) (let p = mod-le 0 (modulus table.width) in omega (arith, p))
+
+        all-wrapped : map (wid table.width) (replicate 8 0) ≡ replicate 8 no_wid
+        all-wrapped = ap (replicate 8) (sym none-wrapped)
+
         nothing : (side : Side) → 0 ≡ dropped side 0
         nothing Ingress = refl
         nothing Egress = refl

@@ -1,4 +1,4 @@
--- What the messages of machines stand for. us gives the history of each actor, sizes are those of what dumps hold.
+-- What the messages of machines stand for: a stamp is a wrapped id in a frame, with the sender's port. us gives the history of each actor, sizes are those of what dumps hold.
 --     HoldWindow window sizes             what sizes must be for the numbers of a window
 --     numbers_after net u g               the numbers that a unit u has after its history g
 --     IsDumpOf net sizes u g d            d has the registers of the unit u after its history g
@@ -10,15 +10,18 @@ use Rattle.std.specs.Prelude.{◌≡◌, ℕ, ◌<◌, ◌≤◌, List, [], ◌�
 use Rattle.sl_ids.specs.Ids.{most_bits, modulus}
 use Rattle.sl_ids.specs.Wids.{wid}
 use Rattle.sl_layout.specs.declared.actor.Sort.TheVariants.{Init as InitSort}
-use Rattle.sl_layout.specs.Net.{Net, units, unit_place, data_channels, choices_of}
+use Rattle.sl_layout.specs.Net.{Net, actor_of, units, unit_place, data_channels, choices_of}
 use Rattle.sl_layout.specs.Wires.{out_of}
 use Rattle.sl_saves.specs.declared.entry.Saved.{Saved}
 use Rattle.sl_saves.specs.Views.{IsShown, held_saved}
+use Rattle.sl_wire.specs.Frames.{carried_header, probe_header, init_header, no_packet}
+use Rattle.sl_wire.specs.Carried.{framed, carrying}
 use Rattle.sl_wire.specs.declared.message.Dump.{Dump}
 use Rattle.sl_wire.specs.declared.message.Done.{Done}
 use Rattle.sl_wire.specs.declared.message.Msg.{Msg}
 use Rattle.sl_wire.specs.declared.message.Msg.TheVariants as wire
 use Rattle.sl_wire.specs.Sizes.{Sizes}
+use Rattle.sl_unit.specs.Made.{port_of}
 use Rattle.sl_control.specs.declared.known.Numbers.{Numbers}
 use Rattle.sl_control.specs.Rows.{span}
 use Rattle.sl_model.specs.declared.message.Message.{Message}
@@ -80,10 +83,10 @@ pub record SaysDone (net : Net) (u : ℕ) (before now : History) (x : Msg) : Typ
   pub of : IsDoneOf net u before now done
 
 abbrev pub IsMessage : Net → Sizes → (ℕ → History) → ℕ → (ℕ → ℕ) → Message → Msg → Type 0
-IsMessage net sizes us a told (Host bytes) x = x ≡ wire.Host bytes
-IsMessage net sizes us a told (Data s p) x = x ≡ wire.Data s p
-IsMessage net sizes us a told (Probe s) x = x ≡ wire.Probe s
-IsMessage net sizes us a told (Init s) x = x ≡ wire.Init s
+IsMessage net sizes us a told (Host bytes) x = x ≡ carrying bytes
+IsMessage net sizes us a told (Data s p) x = x ≡ framed (carried_header (wid sizes.bits s) (port_of (actor_of net a))) p
+IsMessage net sizes us a told (Probe s) x = x ≡ framed (probe_header (wid sizes.bits s) (port_of (actor_of net a))) no_packet
+IsMessage net sizes us a told (Init s) x = x ≡ framed (init_header (wid sizes.bits s)) no_packet
 IsMessage net sizes us a told Poll x = x ≡ wire.Poll
 IsMessage net sizes us a told Notice x = x ≡ wire.Notice
 IsMessage net sizes us a told (DumpMsg n) x = SaysDump net sizes a (first n (us a)) x

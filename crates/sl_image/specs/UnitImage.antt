@@ -1,8 +1,11 @@
 -- What the machine of a unit stands for. table is the snapshot table, u the unit's number, i the unit, h its history.
+--     IsDistance bits from to        wrapped ids tell how far a number lies above another
 --     Keeps ring saved calls         the ring of a machine keeps what some calls saved
 --     IsUnitOf net table u i h m     the state m stands for the history h
 --     UnitSimulates ..               a turn of the machine simulates a step of the unit
-use Rattle.std.specs.Prelude.{◌≡◌, ℕ, List, length}
+use Rattle.std.specs.Prelude.{◌≡◌, ◌≤◌, ◌<◌, ◌+◌, ◌-◌, ℕ, List, length, map}
+use Rattle.sl_ids.specs.Ids.{modulus, wrapped, distance}
+use Rattle.sl_ids.specs.Wids.{wid}
 use Rattle.sl_machine.specs.Machine.{After}
 use Rattle.sl_layout.specs.declared.actor.Side.{Side}
 use Rattle.sl_layout.specs.declared.actor.Side.TheVariants.{Ingress, Egress}
@@ -13,7 +16,7 @@ use Rattle.sl_saves.specs.Calls.{Call}
 use Rattle.sl_saves.specs.declared.entry.View.{View}
 use Rattle.sl_saves.specs.Views.{IsShown}
 use Rattle.sl_wire.specs.declared.message.Msg.{Msg}
-use Rattle.sl_wire.specs.Sizes.{sizes_of}
+use Rattle.sl_wire.specs.Sizes.{Sizes, sizes_of}
 use Rattle.sl_unit.specs.Registers.{Registers}
 use Rattle.sl_unit.specs.Step.{UnitState}
 use Rattle.sl_unit.specs.Made.{ingress_state, egress_state}
@@ -23,6 +26,12 @@ use Rattle.sl_model.specs.Counting.{packets, bytes, bad, expired, noroute}
 use Rattle.sl_model.specs.Calls.{calls}
 use Rattle.sl_image.specs.Messages.{eight, lasts, cpu_last}
 use Rattle.sl_image.specs.Simulates.{Simulates}
+
+-- a number lies from another to less than the modulus above it, and their wrapped ids tell how far
+pub record IsDistance (bits from to : ℕ) : Type 0 where
+  pub order : from ≤ to
+  pub near : to < from + modulus bits
+  pub told : distance bits (wrapped bits from) (wrapped bits to) ≡ to - from
 
 -- it has so many slots, and shows them
 pub record Keeps (ring : ℕ) (saved : View) (calls : List Call) : Type 0 where
@@ -39,22 +48,23 @@ abbrev pub dropped : Side → ℕ → ℕ
 dropped Ingress n = n
 dropped Egress n = 0
 
-pub record HasRegisters (net : Net) (ring u : ℕ) (i : UnitId) (h : History) (r : Registers) : Type 0 where
-  pub id : r.id ≡ id h
-  pub cpu : r.cpu ≡ cpu_last net u h
-  pub last : r.last ≡ eight (lasts net u h)
+-- the ids are wrapped
+pub record HasRegisters (net : Net) (sizes : Sizes) (u : ℕ) (i : UnitId) (h : History) (r : Registers) : Type 0 where
+  pub id : r.id ≡ wid sizes.bits (id h)
+  pub cpu : r.cpu ≡ wid sizes.bits (cpu_last net u h)
+  pub last : r.last ≡ map (wid sizes.bits) (eight (lasts net u h))
   pub packets : r.packets ≡ packets h
   pub bytes : r.bytes ≡ bytes h
   pub bad : r.bad ≡ dropped i.side (bad h)
   pub expired : r.expired ≡ dropped i.side (expired h)
   pub noroute : r.noroute ≡ dropped i.side (noroute net.parts i.device h)
-  pub saved : Keeps ring r.saved (calls (data_channels net u) h)
+  pub saved : Keeps sizes.ring r.saved (calls (data_channels net u) h)
 
 -- links and window never change
 pub record IsUnitOf (net : Net) (table : Snapshot) (u : ℕ) (i : UnitId) (h : History) (m : UnitState) : Type 0 where
   pub wires : m.wires ≡ (new_state net u table i.side).wires
   pub window : m.window ≡ table.window
-  pub registers : HasRegisters net table.ring u i h m.registers
+  pub registers : HasRegisters net (sizes_of table) u i h m.registers
 
 -- us gives the history of each actor after the step, ps the puts of the step; a unit tells of no other, so told doesn't matter
 abbrev pub UnitSimulates : Net → Snapshot → ℕ → UnitId → (ℕ → History) → (ℕ → ℕ) → List Put → After UnitState Msg → Type 0

@@ -15,4 +15,6 @@ pub use observers::{
     observers_act, observers_give_findings, observers_start, observers_stay, observers_take,
     observers_tell,
 };
-pub use units::{new_units_stand, unit_counts_are_told, units_stay, units_take_messages};
+pub use units::{
+    new_units_stand, stamps_are_read, unit_counts_are_told, units_stay, units_take_messages,
+};

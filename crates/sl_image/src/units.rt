@@ -1,6 +1,7 @@
 // Laws of the machines of units: each stands for its unit's history, whatever the schedule. The
 // functions do nothing: their contracts are the laws, and the proofs are in proofs/.
 ghost use Rattle.std.specs.Prelude.{◌≡◌, ℕ, ◌^◌, ◌<◌, ◌≤◌, List, [], length, slice_get, Some, None, IsSome};
+ghost use Rattle.sl_ids.specs.Ids.{modulus};
 ghost use Rattle.sl_layout.specs.declared.actor.ActorId.TheVariants.{Unit as OfUnit};
 ghost use Rattle.sl_layout.specs.declared.actor.Side.TheVariants.{Ingress, Egress};
 ghost use Rattle.sl_layout.specs.declared.actor.UnitId.{UnitId};
@@ -14,16 +15,18 @@ ghost use Rattle.sl_unit.specs.Step.{UnitState, unit_rules};
 ghost use Rattle.sl_unit.specs.Units.{shown_counts};
 ghost use Rattle.sl_model.specs.declared.message.Message.{Message};
 ghost use Rattle.sl_model.specs.declared.message.Step.{Step};
-ghost use Rattle.sl_model.specs.History.{History, Losses, history};
+ghost use Rattle.sl_model.specs.History.{History, Losses, history, id, last, stamp_taken};
 ghost use Rattle.sl_model.specs.Counting.{packets, bytes, bad, expired, noroute};
 ghost use Rattle.sl_model.specs.Setup.{Setup};
 ghost use Rattle.sl_model.specs.World.{Entry, next_step, turn, world};
 ghost use Rattle.sl_image.specs.Messages.{IsMessage};
 ghost use Rattle.sl_model.specs.Short.{SendsShort};
-ghost use Rattle.sl_image.specs.UnitImage.{IsUnitOf, UnitSimulates, dropped};
+ghost use Rattle.sl_image.specs.UnitImage.{IsDistance, IsUnitOf, UnitSimulates, dropped};
 
+use sl_ids::distances_are_differences;
 use sl_model::{counts_fit, packets_are_short, stamps_are_in_window, worlds_take_turns};
 use sl_net::nets_are_wired;
+use sl_wire::one_frame;
 
 /// The state of a new unit stands for the empty history.
 pub fn new_units_stand()
@@ -33,13 +36,28 @@ pub fn new_units_stand()
         → IsUnitOf net table u i [] (egress_state net u table) }
 {}
 
+/// Of the stamp that a unit's next step takes, and of the unit's id, the wrapped ids tell how far the
+/// numbers lie above the last-seen number of the link, since neither lies the modulus above it.
+pub fn stamps_are_read()
+    ensures stamp { (s : Setup) (bits : ℕ) (lost : Losses) (es : List Entry) (e : Entry) (i : UnitId) (step : Step) (j : ℕ) → IsNet s.net
+        → s.window < modulus bits → actor_of s.net e.0 ≡ OfUnit i → next_step s lost (world s lost es) e ≡ Some step → stamp_taken step ≡ Some j
+        → IsDistance bits (last step.choice (history (world s lost es) e.0)) j }
+    ensures id { (s : Setup) (bits : ℕ) (lost : Losses) (es : List Entry) (e : Entry) (i : UnitId) (step : Step) (j : ℕ) → IsNet s.net
+        → s.window < modulus bits → actor_of s.net e.0 ≡ OfUnit i → next_step s lost (world s lost es) e ≡ Some step → stamp_taken step ≡ Some j
+        → IsDistance bits (last step.choice (history (world s lost es) e.0)) (id (history (world s lost es) e.0)) }
+{
+    stamps_are_in_window();
+    distances_are_differences()
+}
+
 /// Where the state of a unit stands for its history, and a message stands for the one that its next
 /// step takes, the state after the machine takes it stands for the history after the step, and
 /// what the machine puts stands for the step's puts. Each step of a unit takes a message, from
 /// the link of its entry's choice, and its machine has no actions.
 pub fn units_take_messages()
     ensures follows { (s : Setup) (table : Snapshot) (lost : Losses) (es : List Entry) (u c a : ℕ) (i : UnitId) (step : Step) (m : Message)
-        (x : Msg) (state : UnitState) (us : ℕ → History) (was told : ℕ → ℕ) → IsNet s.net → s.window ≡ table.window → table.window ≤ table.ring → SendsShort s
+        (x : Msg) (state : UnitState) (us : ℕ → History) (was told : ℕ → ℕ) → IsNet s.net → s.window ≡ table.window → table.window < modulus table.width
+        → table.window ≤ table.ring → SendsShort s
         → length es < 2 ^ 40 → actor_of s.net u ≡ OfUnit i → next_step s lost (world s lost es) (u, c) ≡ Some step → step.taken ≡ Some m
         → IsMessage s.net (sizes_of table) us a was m x → IsUnitOf s.net table u i (history (world s lost es) u) state
         → UnitSimulates s.net table u i (λ b. history (turn s lost (world s lost es) (u, c)) b) told step.puts (unit_rules.take state c x) }
@@ -55,7 +73,9 @@ pub fn units_take_messages()
     worlds_take_turns();
     stamps_are_in_window();
     packets_are_short();
-    counts_fit()
+    counts_fit();
+    distances_are_differences();
+    one_frame()
 }
 
 /// In the turn of another actor the state of a unit stands for its history as before.

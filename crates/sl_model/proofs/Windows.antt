@@ -182,7 +182,7 @@ next-within s lost es e i step n few q x = next-calls s lost (world s lost es) e
 
 takeable : (s : Setup) (u : ℕ) (step : Step) (h : History) (m : Message) (j : ℕ) → IsNext s u step h m → stamp_of m ≡ Some j → IsTakeable s.window step.choice h j
 takeable s u step h m j x e = let a = x.order j e in let b = x.stamp_near j e in let c = x.id_near j e in
-    record { order = a; ahead = b; above = omega (arith, b, last-le step.choice h); below = omega (arith, a, c) }
+    record { order = a; ahead = b; above = omega (arith, b, last-le step.choice h); below = omega (arith, a, c); behind = last-le step.choice h; lag = c }
 
 pub next-takeable : (s : Setup) (lost : Losses) (w : World) (u : ℕ) (i : UnitId) (step : Step) (j : ℕ) → IsWired s.net → Ran s lost w → IsInWindow s lost w → actor_of s.net u ≡ OfUnit i → Takes s lost w u step ⊎ Acts s w u step → stamp_taken step ≡ Some j
     → IsTakeable s.window step.choice (history w u) j

@@ -8,9 +8,11 @@ abbrev pub IsWithin : ℕ → Call → Type 0
 IsWithin window (Adopt by packets bytes) = (1 ≤ by) × (by ≤ window)
 IsWithin window (Credited c) = (c.channel < 8) × (1 ≤ c.age) × (c.age ≤ window)
 
--- a stamp j by the choice c lies from the last-seen number there to the window above it, and at most the window from the id
+-- a stamp j by the choice c lies from the last-seen number there to the window above it, and at most the window from the id; so does the id
 pub record IsTakeable (window c : ℕ) (h : History) (j : ℕ) : Type 0 where
   pub order : last c h ≤ j
   pub ahead : j ≤ last c h + window
   pub above : j ≤ id h + window
   pub below : id h ≤ j + window
+  pub behind : last c h ≤ id h
+  pub lag : id h ≤ last c h + window

@@ -43,7 +43,7 @@ pub fn calls_are_in_window()
 }
 
 /// The stamp that a unit's next step takes lies from the last-seen number of its link to W above
-/// it, and at most W from the id.
+/// it, and at most W from the id. The id too lies from that number to W above it.
 pub fn stamps_are_in_window()
     ensures { (s : Setup) (lost : Losses) (es : List Entry) (e : Entry) (i : UnitId) (step : Step) (j : ℕ) → IsNet s.net
         → actor_of s.net e.0 ≡ OfUnit i → next_step s lost (world s lost es) e ≡ Some step → stamp_taken step ≡ Some j

@@ -7,7 +7,7 @@ use Rattle.sl_machine.specs.Turns.{Turn, Took, Acted, after_turn, after}
 use Rattle.sl_saves.specs.declared.entry.Saved.{Saved}
 use Rattle.sl_wire.specs.declared.message.Done.{Done as Report}
 use Rattle.sl_wire.specs.declared.message.Msg.{Msg}
-use Rattle.sl_wire.specs.declared.message.Msg.TheVariants.{Host, Data, Probe, Init, Poll, Notice, Dump, Begin, Done}
+use Rattle.sl_wire.specs.declared.message.Msg.TheVariants.{Frame, Wire, Poll, Notice, Dump, Begin, Done}
 use Rattle.sl_observe.specs.Observer.{UnitState, ObserverState, new_unit, unit_at, saved_of, reached, is_after, is_next, told, after_done, units_after, observer_act, observer_rules}
 use Rattle.sl_observe.specs.Turns.{Reports, IsReported}
 use Rattle.sl_observe.proofs.Runs.{units_stay}
@@ -77,10 +77,8 @@ units_from ring link d us u k r e =
     ]
 
 turn_from : (s : ObserverState) (t : Turn Msg) (u k : ℕ) (r : Saved) → saved_of (unit_at (after_turn observer_rules s t).state.units u) k ≡ Some r → (saved_of (unit_at s.units u) k ≡ Some r) ⊎ Reports t u k r
-turn_from s (Took link (Host b)) u k r e = inl e
-turn_from s (Took link (Data n p)) u k r e = inl e
-turn_from s (Took link (Probe n)) u k r e = inl e
-turn_from s (Took link (Init n)) u k r e = inl e
+turn_from s (Took link (Wire b)) u k r e = inl e
+turn_from s (Took link (Frame f)) u k r e = inl e
 turn_from s (Took link Poll) u k r e = inl e
 turn_from s (Took link Notice) u k r e = inl e
 turn_from s (Took link (Dump d)) u k r e = inl e

@@ -11,7 +11,7 @@ use Rattle.sl_parts.specs.Parts.{numbers_from}
 use Rattle.sl_saves.specs.declared.entry.Saved.{Saved}
 use Rattle.sl_wire.specs.declared.message.Done.{Done as Report}
 use Rattle.sl_wire.specs.declared.message.Msg.{Msg}
-use Rattle.sl_wire.specs.declared.message.Msg.TheVariants.{Host, Data, Probe, Init, Poll, Notice, Dump, Begin, Done}
+use Rattle.sl_wire.specs.declared.message.Msg.TheVariants.{Frame, Wire, Poll, Notice, Dump, Begin, Done}
 use Rattle.sl_observe.specs.Observer.{UnitState, ObserverState, new_unit, unit_at, saved_of, register_floor, told, after_done, is_next, units_after, registers_can_issue, registers_can_resend, begins_out, observer_act, observer_rules}
 
 -- Rows.
@@ -77,10 +77,8 @@ units_stay s action None e = refl
 units_stay s action (Some next) e = elim (did s action next e) [ Issued g f ↦ ap (λ a. a.state.units) f | Resent f ↦ ap (λ a. a.state.units) f ]
 
 turn_keeps : (s : ObserverState) (t : Turn Msg) (u k : ℕ) (r : Saved) → saved_of (unit_at s.units u) k ≡ Some r → saved_of (unit_at (after_turn observer_rules s t).state.units u) k ≡ Some r
-turn_keeps s (Took link (Host b)) u k r e = e
-turn_keeps s (Took link (Data n p)) u k r e = e
-turn_keeps s (Took link (Probe n)) u k r e = e
-turn_keeps s (Took link (Init n)) u k r e = e
+turn_keeps s (Took link (Wire b)) u k r e = e
+turn_keeps s (Took link (Frame f)) u k r e = e
 turn_keeps s (Took link Poll) u k r e = e
 turn_keeps s (Took link Notice) u k r e = e
 turn_keeps s (Took link (Dump d)) u k r e = e
@@ -126,10 +124,8 @@ act_counts s action (Some next) e =
     ]
 
 turn_counts : (s : ObserverState) (t : Turn Msg) → Counts s (after_turn observer_rules s t).state
-turn_counts s (Took link (Host b)) = record { same = refl; few = λ h. h }
-turn_counts s (Took link (Data n p)) = record { same = refl; few = λ h. h }
-turn_counts s (Took link (Probe n)) = record { same = refl; few = λ h. h }
-turn_counts s (Took link (Init n)) = record { same = refl; few = λ h. h }
+turn_counts s (Took link (Wire b)) = record { same = refl; few = λ h. h }
+turn_counts s (Took link (Frame f)) = record { same = refl; few = λ h. h }
 turn_counts s (Took link Poll) = record { same = refl; few = λ h. h }
 turn_counts s (Took link Notice) = record { same = refl; few = λ h. h }
 turn_counts s (Took link (Dump d)) = record { same = refl; few = λ h. h }

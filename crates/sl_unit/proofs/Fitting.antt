@@ -9,14 +9,22 @@ use Rattle.sl_layout.specs.declared.actor.Sort.TheVariants as sort
 use Rattle.sl_net.specs.declared.input.Packet.{Packet}
 use Rattle.sl_layout.specs.Net.{same_sort}
 use Rattle.sl_wire.specs.declared.message.Msg.{Msg}
-use Rattle.sl_wire.specs.declared.message.Msg.TheVariants.{Host, Data, Probe, Notice}
+use Rattle.sl_ids.specs.declared.wid.Wid.{Wid}
+use Rattle.sl_wire.specs.declared.frame.Header.{Header}
+use Rattle.sl_wire.specs.declared.frame.Kind.{Kind}
+use Rattle.sl_wire.specs.declared.frame.Kind.TheVariants.{Plain, Carried, Probe, Init as InitKind}
+use Rattle.sl_wire.specs.declared.message.Msg.TheVariants.{Poll as PollMsg, Notice, Dump}
+use Rattle.sl_wire.specs.Frames.{plain_header}
+use Rattle.sl_wire.specs.Carried.{bytes_on, frame_on, framed}
+use Rattle.sl_unit.specs.declared.wires.Entrance.{Entrance}
+use Rattle.sl_unit.specs.declared.wires.Entrance.TheVariants.{Host, Cable, Crossbar, Init, Poll, Other}
 use Rattle.sl_unit.specs.declared.wires.Way.{Way}
 use Rattle.sl_unit.specs.declared.wires.Way.TheVariants.{All, Toward}
-use Rattle.sl_unit.specs.declared.registers.Channel.{Channel}
+use Rattle.sl_unit.specs.declared.registers.Channel.TheVariants.{Cpu, Upstream}
+use Rattle.sl_unit.specs.declared.registers.Reading.{Reading}
 use Rattle.sl_unit.specs.Wires.{Wires, is_out, no_exit, port_to}
-use Rattle.sl_unit.specs.Registers.{Registers, more, counted, last_on, is_near}
-use Rattle.sl_wire.specs.Frames.{plain_frame}
-use Rattle.sl_unit.specs.Step.{UnitState, send, onward, routed, passed, probed, initiated, absorbed, stamped, framed}
+use Rattle.sl_unit.specs.Registers.{Registers, more, counted, is_near, after_stamp, after_data, dump_of}
+use Rattle.sl_unit.specs.Step.{UnitState, send, data_frame, probe_frame, onward, routed, passed, probed, initiated, absorbed, stamped, read, plain_packet, from_host, of_host, by_cable, by_crossbar, by_init, of_frame, take_at}
 use Rattle.sl_unit.proofs.Ways.{sort_of, ways_apart}
 
 -- a number below the first is on none of the links
@@ -95,7 +103,7 @@ routed_fit w p r = by_hops (p.hops == 0) (by_port (port_to w p.dst))
   where
     by_port : (o : Option ℕ) → IsFit w (onward w p r o).puts
     by_port None = none_fit w
-    by_port (Some port) = way_fits w (Toward w.device port) (Data r.id (record p { hops = p.hops - 1 })) refl
+    by_port (Some port) = way_fits w (Toward w.device port) (data_frame w r (record p { hops = p.hops - 1 })) refl
 
     by_hops : (b : Bool) → IsFit w (onward w p r (port_to w p.dst)).puts
         → IsFit w (if b then record { state = record r { expired = more r.expired 1 }; puts = [] } else onward w p r (port_to w p.dst)).puts
@@ -104,21 +112,21 @@ routed_fit w p r = by_hops (p.hops == 0) (by_port (port_to w p.dst))
 
 passed_fit : (w : Wires) (p : Packet) (r : Registers) → IsFit w (passed w p r).puts
 passed_fit w p r =
-    let packets = send w (All sort.Cable) (Data r.id p) in
-    let frames = send w (All sort.ToHost) (Host (plain_frame p)) in
+    let packets = send w (All sort.Cable) (data_frame w r p) in
+    let frames = send w (All sort.ToHost) (framed plain_header p) in
     let notes = send w (All sort.Notice) Notice in record {
-      alone = two_fit w (All sort.Cable) (All sort.ToHost) (Data r.id p) (Host (plain_frame p)) refl;
+      alone = two_fit w (All sort.Cable) (All sort.ToHost) (data_frame w r p) (framed plain_header p) refl;
       noticed = subst (λ ps. is_fitting (length w.exits) ps ≡ true) (sym (append_assoc packets frames notes))
-          (way_first w (All sort.Cable) (Data r.id p) (frames ++ notes) (two_fit w (All sort.ToHost) (All sort.Notice) (Host (plain_frame p)) Notice refl)
-          (λ o t. on_append o frames notes (way_absent w (All sort.Cable) (All sort.ToHost) (Host (plain_frame p)) refl o t) (way_absent w (All sort.Cable) (All sort.Notice) Notice refl o t)));
+          (way_first w (All sort.Cable) (data_frame w r p) (frames ++ notes) (two_fit w (All sort.ToHost) (All sort.Notice) (framed plain_header p) Notice refl)
+          (λ o t. on_append o frames notes (way_absent w (All sort.Cable) (All sort.ToHost) (framed plain_header p) refl o t) (way_absent w (All sort.Cable) (All sort.Notice) Notice refl o t)));
     }
 
 probed_fit : (w : Wires) (own : Bool) (r : Registers) → IsFit w (probed w own r).puts
-probed_fit w true r = way_fits w (All sort.Cable) (Probe r.id) refl
+probed_fit w true r = way_fits w (All sort.Cable) (probe_frame w r) refl
 probed_fit w false r = none_fit w
 
-stamped_fits : (s : UnitState) (channel : Channel) (stamp : ℕ) (a : After Registers Msg) → IsFit s.wires a.puts → is_fitting (length s.wires.exits) (stamped s channel stamp a).puts ≡ true
-stamped_fits s channel stamp a h = by_bools (is_near s.window (last_on channel s.registers) s.registers.id stamp) (last_on channel s.registers == stamp)
+stamped_fits : (s : UnitState) (x : Reading) (a : After Registers Msg) → IsFit s.wires a.puts → is_fitting (length s.wires.exits) (stamped s x a).puts ≡ true
+stamped_fits s x a h = by_bools (is_near s.window x) (x.ahead == 0)
   where
     puts_by : Bool → Bool → After UnitState Msg
     puts_by near same = if near then record { state = record s { registers = a.state }; puts = a.puts ++ (if same then [] else send s.wires (All sort.Notice) Notice) } else record { state = s; puts = [] }
@@ -128,23 +136,44 @@ stamped_fits s channel stamp a h = by_bools (is_near s.window (last_on channel s
     by_bools true true = subst (λ ps. is_fitting (length s.wires.exits) ps ≡ true) (sym (append-nil a.puts)) h.alone
     by_bools true false = h.noticed
 
--- What a unit puts.
+-- What a unit puts, by what it takes.
 
-pub routed_stamp_fits : (s : UnitState) (channel : Channel) (stamp : ℕ) (p : Packet) (r : Registers) → is_fitting (length s.wires.exits) (stamped s channel stamp (routed s.wires p r)).puts ≡ true
-routed_stamp_fits s channel stamp p r = stamped_fits s channel stamp (routed s.wires p r) (routed_fit s.wires p r)
+host_fits : (s : UnitState) (o : Option (List ℕ)) → is_fitting (length s.wires.exits) (of_host s o).puts ≡ true
+host_fits s None = refl
+host_fits s (Some bytes) = by_packet (plain_packet s.wires.bits bytes)
+  where
+    by_packet : (o : Option Packet) → is_fitting (length s.wires.exits) (from_host s o).puts ≡ true
+    by_packet None = refl
+    by_packet (Some p) = (routed_fit s.wires p (counted p.len s.registers)).alone
 
-pub absorbed_stamp_fits : (s : UnitState) (channel : Channel) (stamp : ℕ) (r : Registers) → is_fitting (length s.wires.exits) (stamped s channel stamp (absorbed r)).puts ≡ true
-absorbed_stamp_fits s channel stamp r = stamped_fits s channel stamp (absorbed r) (none_fit s.wires)
+frame_fits : (s : UnitState) (taken : Kind → Wid → Packet → After UnitState Msg) (o : Option (Header × Packet))
+    → ((k : Kind) (stamp : Wid) (p : Packet) → is_fitting (length s.wires.exits) (taken k stamp p).puts ≡ true) → is_fitting (length s.wires.exits) (of_frame s taken o).puts ≡ true
+frame_fits s taken None h = refl
+frame_fits s taken (Some f) h = h f.0.kind f.0.id f.1
 
-pub passed_stamp_fits : (s : UnitState) (channel : Channel) (stamp : ℕ) (p : Packet) (r : Registers) → is_fitting (length s.wires.exits) (stamped s channel stamp (passed s.wires p r)).puts ≡ true
-passed_stamp_fits s channel stamp p r = stamped_fits s channel stamp (passed s.wires p r) (passed_fit s.wires p r)
+cable_fits : (i : ℕ) (s : UnitState) (k : Kind) (stamp : Wid) (p : Packet) → is_fitting (length s.wires.exits) (by_cable i s k stamp p).puts ≡ true
+cable_fits i s Carried stamp p = let x = read s (Upstream i) stamp in let r = after_data i x p s.registers in stamped_fits s x (routed s.wires p r) (routed_fit s.wires p r)
+cable_fits i s Probe stamp p = let x = read s (Upstream i) stamp in stamped_fits s x (absorbed (after_stamp (Upstream i) x s.registers)) (none_fit s.wires)
+cable_fits i s Plain stamp p = refl
+cable_fits i s InitKind stamp p = refl
 
-pub probed_stamp_fits : (s : UnitState) (channel : Channel) (stamp : ℕ) (own : Bool) (r : Registers) → is_fitting (length s.wires.exits) (stamped s channel stamp (probed s.wires own r)).puts ≡ true
-probed_stamp_fits s channel stamp own r = stamped_fits s channel stamp (probed s.wires own r) (probed_fit s.wires own r)
+crossbar_fits : (i : ℕ) (own : Bool) (s : UnitState) (k : Kind) (stamp : Wid) (p : Packet) → is_fitting (length s.wires.exits) (by_crossbar i own s k stamp p).puts ≡ true
+crossbar_fits i own s Carried stamp p = let x = read s (Upstream i) stamp in let r = after_data i x p s.registers in stamped_fits s x (passed s.wires p r) (passed_fit s.wires p r)
+crossbar_fits i own s Probe stamp p = let x = read s (Upstream i) stamp in let r = after_stamp (Upstream i) x s.registers in stamped_fits s x (probed s.wires own r) (probed_fit s.wires own r)
+crossbar_fits i own s Plain stamp p = refl
+crossbar_fits i own s InitKind stamp p = refl
 
-pub initiated_stamp_fits : (s : UnitState) (channel : Channel) (stamp : ℕ) (r : Registers) → is_fitting (length s.wires.exits) (stamped s channel stamp (initiated s.wires r)).puts ≡ true
-initiated_stamp_fits s channel stamp r = stamped_fits s channel stamp (initiated s.wires r) (way_fits s.wires (All sort.Crossbar) (Probe r.id) refl)
+init_fits : (s : UnitState) (k : Kind) (stamp : Wid) (p : Packet) → is_fitting (length s.wires.exits) (by_init s k stamp p).puts ≡ true
+init_fits s InitKind stamp p = let x = read s Cpu stamp in let r = after_stamp Cpu x s.registers in stamped_fits s x (initiated s.wires r) (way_fits s.wires (All sort.Crossbar) (probe_frame s.wires r) refl)
+init_fits s Plain stamp p = refl
+init_fits s Carried stamp p = refl
+init_fits s Probe stamp p = refl
 
-pub framed_fits : (s : UnitState) (o : Option Packet) → is_fitting (length s.wires.exits) (framed s o).puts ≡ true
-framed_fits s None = refl
-framed_fits s (Some p) = (routed_fit s.wires p (counted p.len s.registers)).alone
+pub take_fits : (e : Entrance) (s : UnitState) (m : Msg) → is_fitting (length s.wires.exits) (take_at e s m).puts ≡ true
+take_fits Host s m = host_fits s (bytes_on m)
+take_fits (Cable i) s m = frame_fits s (by_cable i s) (frame_on s.wires.bits m) (cable_fits i s)
+take_fits (Crossbar i own) s m = frame_fits s (by_crossbar i own s) (frame_on s.wires.bits m) (crossbar_fits i own s)
+take_fits Init s m = frame_fits s (by_init s) (frame_on s.wires.bits m) (init_fits s)
+take_fits Poll s PollMsg = one_fits s.wires (All sort.Dump) (Dump (dump_of s.registers))
+take_fits Poll s _ = refl
+take_fits Other s m = refl

@@ -11,12 +11,12 @@ use Rattle.sl_parts.proofs.Lists.{length_numbers, length_filter_le}
 use Rattle.sl_unit.specs.declared.wires.Exit.{Exit}
 use Rattle.sl_unit.specs.declared.wires.Way.{Way}
 use Rattle.sl_unit.specs.declared.wires.Way.TheVariants.{All, Toward}
-use Rattle.sl_wire.specs.declared.message.Msg.TheVariants.{Host, Data, Probe}
+use Rattle.sl_wire.specs.Carried.{framed}
 use Rattle.sl_unit.specs.Wires.{Wires, leads, is_out, outs, no_exit, port_to}
 use Rattle.sl_unit.specs.Registers.{Registers, more}
-use Rattle.sl_wire.specs.Frames.{plain_frame}
+use Rattle.sl_wire.specs.Frames.{plain_header}
 use Rattle.sl_machine.specs.Machine.{send_all}
-use Rattle.sl_unit.specs.Step.{onward, routed, passed, probed, initiated}
+use Rattle.sl_unit.specs.Step.{data_frame, probe_frame, onward, routed, passed, probed, initiated}
 use Rattle.sl_unit.proofs.Outs.{length_sent}
 
 pub outs_few : (way : Way) (exits : List Exit) → length (outs way exits) ≤ length exits
@@ -95,7 +95,7 @@ routed_few w p r = by_hops (p.hops == 0) (by_port (port_to w p.dst))
   where
     by_port : (o : Option ℕ) → length (onward w p r o).puts + length (outs (All sort.Notice) w.exits) ≤ length w.exits
     by_port None = omega (arith, outs_few (All sort.Notice) w.exits)
-    by_port (Some port) = omega (arith, two_ways (Toward w.device port) (All sort.Notice) w.exits refl, length_sent (Data r.id (record p { hops = p.hops - 1 })) (outs (Toward w.device port) w.exits))
+    by_port (Some port) = omega (arith, two_ways (Toward w.device port) (All sort.Notice) w.exits refl, length_sent (data_frame w r (record p { hops = p.hops - 1 })) (outs (Toward w.device port) w.exits))
 
     by_hops : (b : Bool) → length (onward w p r (port_to w p.dst)).puts + length (outs (All sort.Notice) w.exits) ≤ length w.exits
         → length (if b then record { state = record r { expired = more r.expired 1 }; puts = [] } else onward w p r (port_to w p.dst)).puts + length (outs (All sort.Notice) w.exits) ≤ length w.exits
@@ -105,15 +105,15 @@ routed_few w p r = by_hops (p.hops == 0) (by_port (port_to w p.dst))
 pub passed_few : (w : Wires) (p : Packet) (r : Registers) → length (passed w p r).puts + length (outs (All sort.Notice) w.exits) ≤ length w.exits
 passed_few w p r = let packets = outs (All sort.Cable) w.exits in let frames = outs (All sort.ToHost) w.exits in omega (
   arith,
-  length-append (send_all (Data r.id p) packets) (send_all (Host (plain_frame p)) frames),
-  length_sent (Data r.id p) packets,
-  length_sent (Host (plain_frame p)) frames,
+  length-append (send_all (data_frame w r p) packets) (send_all (framed plain_header p) frames),
+  length_sent (data_frame w r p) packets,
+  length_sent (framed plain_header p) frames,
   three_ways (All sort.Cable) (All sort.ToHost) (All sort.Notice) w.exits refl refl refl,
 )
 
 pub probed_few : (w : Wires) (own : Bool) (r : Registers) → length (probed w own r).puts + length (outs (All sort.Notice) w.exits) ≤ length w.exits
-probed_few w true r = omega (arith, two_ways (All sort.Cable) (All sort.Notice) w.exits refl, length_sent (Probe r.id) (outs (All sort.Cable) w.exits))
+probed_few w true r = omega (arith, two_ways (All sort.Cable) (All sort.Notice) w.exits refl, length_sent (probe_frame w r) (outs (All sort.Cable) w.exits))
 probed_few w false r = omega (arith, outs_few (All sort.Notice) w.exits)
 
 pub initiated_few : (w : Wires) (r : Registers) → length (initiated w r).puts + length (outs (All sort.Notice) w.exits) ≤ length w.exits
-initiated_few w r = omega (arith, two_ways (All sort.Crossbar) (All sort.Notice) w.exits refl, length_sent (Probe r.id) (outs (All sort.Crossbar) w.exits))
+initiated_few w r = omega (arith, two_ways (All sort.Crossbar) (All sort.Notice) w.exits refl, length_sent (probe_frame w r) (outs (All sort.Crossbar) w.exits))

@@ -22,6 +22,11 @@ abbrev pub side_of : ActorId → Option Side
 side_of (OfUnit u) = Some u.side
 side_of _ = None
 
+-- the port of a unit
+abbrev pub port_of : ActorId → ℕ
+port_of (OfUnit u) = u.port
+port_of _ = 0
+
 -- the unit at a place among the units
 abbrev pub unit_at : Net → ℕ → ActorId
 unit_at net unit = actor_of net (slice_index (units net) unit)
@@ -59,7 +64,8 @@ abbrev pub ports_of : Net → ℕ → List (Option ℕ)
 ports_of net d = map (next_port net.parts d) (below (length net.parts.hosts))
 
 abbrev pub wires_of : Net → ℕ → List (Option ℕ) → ℕ → Wires
-wires_of net a ports bits = record { device = device_of (actor_of net a); entrances = entrances_of net a; exits = exits_of net a; ports = ports; bits = bits; actions = 0 }
+wires_of net a ports bits =
+    record { device = device_of (actor_of net a); port = port_of (actor_of net a); entrances = entrances_of net a; exits = exits_of net a; ports = ports; bits = bits; actions = 0 }
 
 abbrev pub first_state : Wires → Snapshot → UnitState
 first_state wires n = record { wires = wires; window = n.window; registers = first_registers n.ring }

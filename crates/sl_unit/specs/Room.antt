@@ -1,12 +1,12 @@
 -- What the registers of a unit stand for, and the room that a turn needs.
 use Rattle.std.specs.Prelude.{◌≡◌, ℕ, true, List, length}
 use Rattle.std.specs.List.{All}
-use Rattle.sl_layout.specs.declared.actor.Sort.TheVariants.{ToHost, Dump as DumpSort}
+use Rattle.sl_layout.specs.declared.actor.Sort.TheVariants.{Dump as DumpSort}
 use Rattle.sl_saves.specs.Rings.{ring_view}
 use Rattle.sl_wire.specs.declared.message.Dump.{Dump}
 use Rattle.sl_unit.specs.declared.wires.Way.TheVariants.{All as AllOf}
 use Rattle.sl_unit.specs.declared.registers.Registers.{Registers as Declared}
-use Rattle.sl_unit.specs.Wires.{Wires, outs, entrance_at, is_poll, is_crossbar}
+use Rattle.sl_unit.specs.Wires.{Wires, outs, entrance_at, is_poll}
 use Rattle.sl_unit.specs.Registers.{Registers, dump_of}
 use Rattle.sl_unit.specs.Step.{UnitState}
 
@@ -26,17 +26,11 @@ registers_of r = record {
 abbrev pub state_of : Wires → Declared → UnitState
 state_of wires r = record { wires = wires; window = r.window; registers = registers_of r }
 
--- there are as many frames of 24 bytes as there are links to hosts
-pub record HasFrames (w : Wires) (frames : List (List ℕ)) : Type 0 where
-  pub many : length frames ≡ length (outs (AllOf ToHost) w.exits)
-  pub sized : All (λ frame. length frame ≡ 24) frames
-
 -- there are as many dumps of the registers as there are links of dumps
 pub record HasDumps (w : Wires) (r : Registers) (dumps : List Dump) : Type 0 where
   pub many : length dumps ≡ length (outs (AllOf DumpSort) w.exits)
-  pub same : All (λ dump. dump ≡ dump_of w.bits r) dumps
+  pub same : All (λ dump. dump ≡ dump_of r) dumps
 
 -- the room for a turn of the choice c
-pub record HasRoom (w : Wires) (r : Declared) (frames : List (List ℕ)) (dumps : List Dump) (c : ℕ) : Type 0 where
-  pub frames_are : is_crossbar (entrance_at w c) ≡ true → HasFrames w frames
-  pub dumps_are : is_poll (entrance_at w c) ≡ true → HasDumps w (registers_of r) dumps
+abbrev pub HasRoom : Wires → Declared → List Dump → ℕ → Type 0
+HasRoom w r dumps c = is_poll (entrance_at w c) ≡ true → HasDumps w (registers_of r) dumps

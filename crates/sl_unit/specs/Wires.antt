@@ -12,10 +12,11 @@ use Rattle.sl_unit.specs.declared.wires.Exit.{Exit}
 use Rattle.sl_unit.specs.declared.wires.Way.{Way}
 use Rattle.sl_unit.specs.declared.wires.Way.TheVariants.{All, Toward}
 
--- what comes by each choice; each outgoing link by its number; the next port to each host; the bits of wrapped ids; and how many own
--- actions it has
+-- its device and port; what comes by each choice; each outgoing link by its number; the next port to each host; the bits of wrapped ids;
+-- and how many own actions it has
 pub record Wires : Type 0 where
   pub device : ℕ
+  pub port : ℕ
   pub entrances : List Entrance
   pub exits : List Exit
   pub ports : List (Option ℕ)
@@ -57,8 +58,3 @@ pub record IsUsable (w : Wires) : Type 0 where
 abbrev pub is_poll : Entrance → Bool
 is_poll Poll = true
 is_poll _ = false
-
--- a packet that comes here may leave for a host
-abbrev pub is_crossbar : Entrance → Bool
-is_crossbar (FromCrossbar channel own) = true
-is_crossbar _ = false

@@ -5,7 +5,7 @@ ghost use Rattle.sl_layout.specs.Net.{actor_of, choices_of, data_channels, place
 ghost use Rattle.sl_route.specs.Routes.{IsRoutesOf};
 ghost use Rattle.sl_unit.specs.Wires.{IsSmall};
 ghost use Rattle.sl_layout.specs.Devices.{device_of};
-ghost use Rattle.sl_unit.specs.Made.{side_of, is_own, entrance, entrances_of, exits_of, ports_of, wires_of};
+ghost use Rattle.sl_unit.specs.Made.{side_of, port_of, is_own, entrance, entrances_of, exits_of, ports_of, wires_of};
 
 use crate::wires::{Entrance, Exit, Wires};
 use sl_ids::Width;
@@ -94,6 +94,18 @@ pub fn device_of(actor: ActorId) -> u32
     }
 }
 
+/// The port of an actor of a net, 0 where it is no unit.
+fn port_of(net: &Net, actor: u32) -> u8
+    requires { actor < length net.now.actors }
+    ensures { result ≡ port_of (actor_of net.now actor) }
+{
+    let _parts = net.parts();
+    match net.actor(actor) {
+        ActorId::Unit(unit) => unit.port as u8,
+        _ => 0,
+    }
+}
+
 /// What comes to a unit by each choice.
 #[tactic(auto, using(crate::proofs::Channels::entrances_small))]
 fn list_entrances(alloc: Global, net: &Net, actor: u32) -> Result<Vec<Entrance>, AllocError>
@@ -166,6 +178,7 @@ pub fn make_wires(
     let exits = list_exits(alloc, net, actor)?;
     Ok(Wires {
         device: device_of(net.actor(actor)),
+        port: port_of(net, actor),
         entrances,
         exits,
         ports,

@@ -1,8 +1,7 @@
 // The messages that a unit puts.
 ghost use Rattle.std.specs.Prelude.{◌≡◌, ◌+◌, ◌≤◌, ◌<◌, ◌^◌, ◌++◌, ◌∷◌, [], length, cond, true};
 ghost use Rattle.std.specs.List.{All};
-ghost use Rattle.sl_wire.specs.declared.message.Msg.TheVariants.{Host, Dump as DumpMsg};
-ghost use Rattle.sl_wire.specs.Frames.{plain_frame};
+ghost use Rattle.sl_wire.specs.declared.message.Msg.TheVariants.{Dump as DumpMsg};
 ghost use Rattle.sl_unit.specs.Wires.{outs};
 ghost use Rattle.sl_machine.specs.Machine.{send_all};
 ghost use Rattle.sl_unit.specs.Notes.{message_of};
@@ -10,16 +9,14 @@ ghost use Rattle.sl_wire.specs.declared.message.Dump.{Dump};
 
 use crate::wires::{Exit, Way};
 use sl_machine::Outputs;
-use sl_net::{Bytes, Packet, Sort};
-use sl_wire::{Boxed, Dump, Msg, plain_frame};
+use sl_net::Sort;
+use sl_wire::{Boxed, Dump, Frame, Msg};
 
 /// A message that can go on several links.
 #[derive(Clone, Copy)]
 pub enum Note {
-    /// A data packet with its stamp.
-    Data(u64, Packet),
-    /// A probe with its stamp.
-    Probe(u64),
+    /// A frame.
+    Frame(Frame),
     /// A notice.
     Notice,
 }
@@ -29,8 +26,7 @@ impl Note {
         ensures { result ≡ message_of self }
     {
         match self {
-            Note::Data(stamp, packet) => Msg::Data(stamp, packet),
-            Note::Probe(stamp) => Msg::Probe(stamp),
+            Note::Frame(frame) => Msg::Frame(frame),
             Note::Notice => Msg::Notice,
         }
     }
@@ -56,55 +52,6 @@ pub fn put_on(exits: &[Exit], way: Way, note: Note, out: &mut Outputs<Msg>)
 {
     for i in 0..exits.len() {
         put_if(out, exits[i].leads(way), i as u32, note);
-    }
-}
-
-/// Writes the plain frame of a packet over a frame.
-fn write_plain(frame: &mut Bytes, packet: &Packet)
-    requires { length frame.old ≡ 24 }
-    ensures { frame.new ≡ plain_frame packet.now }
-{
-    let plain = plain_frame(packet);
-    frame.items.as_mut_slice().copy_from_slice(&plain.bytes);
-}
-
-/// Puts a packet, as a plain frame, on an outgoing link where it goes there.
-fn put_frame_if(
-    out: &mut Outputs<Msg>,
-    goes: bool,
-    link: u32,
-    packet: &Packet,
-    frames: &mut Vec<Bytes>,
-)
-    requires room { goes ≡ true → length out.old.items < out.old.room }
-    requires some { goes ≡ true → 0 < length frames.old.items }
-    requires sized { All (λ frame. length frame ≡ 24) frames.old.items }
-    ensures items { out.new.items ≡ out.old.items ++ cond goes ((link, Host (plain_frame packet.now)) ∷ []) [] }
-    ensures room { out.new.room ≡ out.old.room }
-    ensures left { length frames.new.items + cond goes 1 0 ≡ length frames.old.items }
-    ensures still { All (λ frame. length frame ≡ 24) frames.new.items }
-{
-    if goes {
-        if let Some(mut frame) = frames.pop() {
-            write_plain(&mut frame, packet);
-            out.put(link, Msg::Host(frame));
-        }
-    }
-}
-
-/// Puts a packet, as a plain frame, on each link to a host.
-pub fn put_frames(exits: &[Exit], packet: &Packet, frames: &mut Vec<Bytes>, out: &mut Outputs<Msg>)
-    requires few { length exits.now < 2 ^ 32 }
-    requires room { length out.old.items + length (outs (Way.All Sort.ToHost) exits.now) ≤ out.old.room }
-    requires frames { length frames.old.items ≡ length (outs (Way.All Sort.ToHost) exits.now) }
-    requires sized { All (λ frame. length frame ≡ 24) frames.old.items }
-    ensures items { out.new.items ≡ out.old.items ++ send_all (Host (plain_frame packet.now)) (outs (Way.All Sort.ToHost) exits.now) }
-    ensures room { out.new.room ≡ out.old.room }
-    ensures still { All (λ frame. length frame ≡ 24) frames.new.items }
-{
-    for i in 0..exits.len() {
-        let goes = exits[i].leads(Way::All(Sort::ToHost));
-        put_frame_if(out, goes, i as u32, packet, frames);
     }
 }
 

@@ -1,13 +1,14 @@
 // The registers of a unit.
 ghost use Rattle.std.specs.Prelude.{◌≡◌, ◌<◌, ◌≤◌, ◌-◌, ◌^◌, length, IfOk};
+ghost use Rattle.sl_ids.specs.Ids.{distance};
 ghost use Rattle.sl_saves.specs.Rings.{ring_window};
-ghost use Rattle.sl_unit.specs.Registers.{IsChannel, first_registers, last_on, is_near, adopted, credited, seen, counted, after_stamp, after_data, more, dump_of};
+ghost use Rattle.sl_unit.specs.Registers.{IsChannel, first_registers, last_on, read_on, rise, age, is_near, adopted, credited, seen, counted, after_stamp, after_data, more, dump_of};
 
-use sl_ids::{Width, wrap};
+use sl_ids::{Wid, Width, wrap};
 use sl_machine::Memory;
 use sl_net::Packet;
 use sl_saves::{RingSaves, Saves};
-use sl_wire::{Dump, wrap_each};
+use sl_wire::Dump;
 use std::alloc::Global;
 
 /// The channel by which a stamped message comes.
@@ -19,17 +20,59 @@ pub enum Channel {
     Upstream(u32),
 }
 
+/// A stamp, read relative to the last-seen id of the channel by which it came.
+#[derive(Clone, Copy)]
+pub struct Reading {
+    /// The stamp.
+    pub stamp: Wid,
+    /// How far it lies above the last-seen id.
+    pub ahead: u16,
+    /// How far the unit's id lies above the last-seen id.
+    pub lead: u16,
+}
+
+impl Reading {
+    /// By how much the stamp is newer than the id.
+    fn rise(self) -> u16
+        ensures { result ≡ rise self }
+    {
+        self.ahead.saturating_sub(self.lead)
+    }
+
+    /// By how much the stamp is older than the id.
+    fn age(self) -> u16
+        ensures { result ≡ age self }
+    {
+        self.lead.saturating_sub(self.ahead)
+    }
+
+    /// Whether the stamp lies within the window.
+    pub fn is_near(self, window: u16) -> bool
+        ensures { result ≡ is_near window self }
+    {
+        self.ahead <= window && self.rise() <= window && self.age() <= window
+    }
+}
+
+/// How far one goes up from one wrapped id to another.
+fn distance_between(width: Width, from: Wid, to: Wid) -> u16
+    ensures { result ≡ distance width.bits from.raw to.raw }
+{
+    let above = u64::from(to.raw) + u64::from(width.modulus());
+    wrap(width, above.saturating_sub(u64::from(from.raw))).raw
+}
+
 /// The registers of a unit. The counters stay at the greatest number of 64 bits once there.
 #[derive(Drop)]
 pub struct Registers {
     /// The window within which stamps are read.
     pub window: u16,
     /// The unit's id.
-    pub id: u64,
+    pub id: Wid,
     /// The last-seen id of its control plane, 0 of an egress unit.
-    pub cpu: u64,
+    pub cpu: Wid,
     /// The last-seen ids of its data channels in order, 0 past them.
-    pub last: [u64; 8],
+    pub last: [Wid; 8],
     /// The data packets counted.
     pub packets: u64,
     /// The bytes of these.
@@ -59,9 +102,9 @@ impl Registers {
         let saves = RingSaves::new(alloc, window, ring)?;
         Ok(Registers {
             window,
-            id: 0,
-            cpu: 0,
-            last: [0; 8],
+            id: Wid { raw: 0 },
+            cpu: Wid { raw: 0 },
+            last: [Wid { raw: 0 }; 8],
             packets: 0,
             bytes: 0,
             saves,
@@ -71,8 +114,8 @@ impl Registers {
         })
     }
 
-    /// The number last seen on a channel.
-    pub fn last_on(&self, channel: Channel) -> u64
+    /// The id last seen on a channel.
+    fn last_on(&self, channel: Channel) -> Wid
         requires { IsChannel channel }
         ensures { result ≡ last_on channel (registers_of self.now) }
     {
@@ -82,47 +125,47 @@ impl Registers {
         }
     }
 
-    /// Whether a stamp on a channel lies within the window.
-    pub fn is_near(&self, channel: Channel, stamp: u64) -> bool
+    /// Reads a stamp that came on a channel.
+    pub fn read(&self, width: Width, channel: Channel, stamp: Wid) -> Reading
         requires { IsChannel channel }
-        ensures { result ≡ is_near self.now.window (last_on channel (registers_of self.now)) self.now.id stamp }
+        ensures { result ≡ read_on width.bits channel stamp (registers_of self.now) }
     {
-        let before = self.last_on(channel);
-        let window = u64::from(self.window);
-        before <= stamp
-            && stamp.saturating_sub(before) <= window
-            && stamp.saturating_sub(self.id) <= window
-            && self.id.saturating_sub(stamp) <= window
+        let last = self.last_on(channel);
+        Reading {
+            stamp,
+            ahead: distance_between(width, last, stamp),
+            lead: distance_between(width, last, self.id),
+        }
     }
 
     /// Adopts a newer stamp, and saves the counters for it.
-    fn adopt(&mut self, stamp: u64)
-        requires near { stamp - self.old.id ≤ self.old.window }
-        ensures registers { registers_of self.new ≡ adopted stamp (registers_of self.old) }
+    fn adopt(&mut self, reading: Reading)
+        requires near { rise reading ≤ self.old.window }
+        ensures registers { registers_of self.new ≡ adopted reading (registers_of self.old) }
         ensures window { self.new.window ≡ self.old.window }
     {
-        if stamp > self.id {
-            let by = (stamp - self.id) as u16;
-            self.saves.adopt(by, self.packets, self.bytes);
-            self.id = stamp;
+        let rise = reading.rise();
+        if rise > 0 {
+            self.saves.adopt(rise, self.packets, self.bytes);
+            self.id = reading.stamp;
         }
     }
 
     /// Credits a data packet whose stamp is older than the id.
-    fn credit(&mut self, channel: u32, stamp: u64, bytes: u16)
+    fn credit(&mut self, channel: u32, reading: Reading, bytes: u16)
         requires channel { channel < 8 }
-        requires near { self.old.id - stamp ≤ self.old.window }
-        ensures registers { registers_of self.new ≡ credited channel stamp bytes (registers_of self.old) }
+        requires near { age reading ≤ self.old.window }
+        ensures registers { registers_of self.new ≡ credited channel reading bytes (registers_of self.old) }
         ensures window { self.new.window ≡ self.old.window }
     {
-        if stamp < self.id {
-            let age = (self.id - stamp) as u16;
+        let age = reading.age();
+        if age > 0 {
             self.saves.credit(channel, age, u64::from(bytes));
         }
     }
 
-    /// Sets the number last seen on a channel.
-    fn see(&mut self, channel: Channel, stamp: u64)
+    /// Sets the id last seen on a channel.
+    fn see(&mut self, channel: Channel, stamp: Wid)
         requires { IsChannel channel }
         ensures registers { registers_of self.new ≡ seen channel stamp (registers_of self.old) }
         ensures window { self.new.window ≡ self.old.window }
@@ -143,27 +186,27 @@ impl Registers {
     }
 
     /// Takes the stamp of a probe or an initiation.
-    pub fn take_stamp(&mut self, channel: Channel, stamp: u64)
+    pub fn take_stamp(&mut self, channel: Channel, reading: Reading)
         requires channel { IsChannel channel }
-        requires near { stamp - self.old.id ≤ self.old.window }
-        ensures registers { registers_of self.new ≡ after_stamp channel stamp (registers_of self.old) }
+        requires near { rise reading ≤ self.old.window }
+        ensures registers { registers_of self.new ≡ after_stamp channel reading (registers_of self.old) }
         ensures window { self.new.window ≡ self.old.window }
     {
-        self.adopt(stamp);
-        self.see(channel, stamp);
+        self.adopt(reading);
+        self.see(channel, reading.stamp);
     }
 
     /// Takes the stamp of a data packet, and counts the packet.
-    pub fn take_data(&mut self, channel: u32, stamp: u64, packet: &Packet)
+    pub fn take_data(&mut self, channel: u32, reading: Reading, packet: &Packet)
         requires channel { channel < 8 }
-        requires above { stamp - self.old.id ≤ self.old.window }
-        requires below { self.old.id - stamp ≤ self.old.window }
-        ensures registers { registers_of self.new ≡ after_data channel stamp packet.now (registers_of self.old) }
+        requires above { rise reading ≤ self.old.window }
+        requires below { age reading ≤ self.old.window }
+        ensures registers { registers_of self.new ≡ after_data channel reading packet.now (registers_of self.old) }
         ensures window { self.new.window ≡ self.old.window }
     {
-        self.adopt(stamp);
-        self.credit(channel, stamp, packet.len);
-        self.see(Channel::Upstream(channel), stamp);
+        self.adopt(reading);
+        self.credit(channel, reading, packet.len);
+        self.see(Channel::Upstream(channel), reading.stamp);
         self.count(packet.len);
     }
 
@@ -191,15 +234,15 @@ impl Registers {
         self.noroute = self.noroute.saturating_add(1);
     }
 
-    /// The registers as a dump, with ids of this width.
-    pub fn dump(&self, width: Width) -> Result<Dump, Memory>
-        ensures { IfOk result (λ dump. dump ≡ dump_of width.bits (registers_of self.now)) }
+    /// The registers as a dump.
+    pub fn dump(&self) -> Result<Dump, Memory>
+        ensures { IfOk result (λ dump. dump ≡ dump_of (registers_of self.now)) }
     {
         let view = self.saves.view()?;
         Ok(Dump {
-            id: wrap(width, self.id),
-            cpu: wrap(width, self.cpu),
-            last: wrap_each(width, &self.last),
+            id: self.id,
+            cpu: self.cpu,
+            last: self.last,
             view,
         })
     }

@@ -1,26 +1,61 @@
 // What a unit makes of the messages that it takes.
 ghost use Rattle.std.specs.Prelude.{◌≡◌, ◌+◌, ◌≤◌, ◌<◌, ◌++◌, ◌==◌, [], if◌then◌else◌, length};
-ghost use Rattle.std.specs.List.{All};
-ghost use Rattle.sl_wire.specs.declared.message.Msg.TheVariants.{Host, Data, Probe, Init, Poll, Notice};
+ghost use Rattle.sl_wire.specs.declared.message.Msg.TheVariants.{Poll, Notice};
+ghost use Rattle.sl_wire.specs.Carried.{bytes_on, frame_on};
 ghost use Rattle.sl_unit.specs.Wires.{outs};
-ghost use Rattle.sl_unit.specs.Step.{routed, passed, probed, initiated, plain_packet, send, take_at};
-ghost use Rattle.sl_unit.specs.Room.{registers_of, state_of, HasFrames, HasDumps};
+ghost use Rattle.sl_unit.specs.Step.{data_frame, probe_frame, routed, passed, probed, initiated, plain_packet, send, take_at, from_host, cable_data, cable_probe, by_cable, crossbar_data, crossbar_probe, by_crossbar, initiation, by_init};
+ghost use Rattle.sl_unit.specs.Room.{registers_of, state_of, HasDumps};
+ghost use Rattle.sl_unit.specs.Notes.{message_of};
 
-use crate::puts::{Note, put_dumps, put_frames, put_on};
-use crate::registers::{Channel, Registers};
+use crate::puts::{Note, put_dumps, put_on};
+use crate::registers::{Channel, Reading, Registers};
 use crate::wires::{Entrance, Way, Wires};
-use sl_ids::Width;
+use sl_ids::{Wid, Width};
 use sl_machine::Outputs;
-use sl_net::{Bytes, Packet, Sort};
-use sl_wire::{Boxed, Dump, Kind, Msg, decode};
+use sl_net::{Packet, Sort};
+use sl_wire::{Boxed, Dump, Header, Kind, Msg, decode, frame_of, plain_frame};
 
-/// Puts a notice where the last-seen number of a channel changes.
-fn put_notice(wires: &Wires, before: u64, stamp: u64, out: &mut Outputs<Msg>)
+/// The header of a frame that a unit sends to another, with its id and port.
+fn header_of(wires: &Wires, registers: &Registers, kind: Kind) -> Header
+    ensures { result ≡ record { kind = kind; id = (registers_of registers.now).id; channel = wires.now.port } }
+{
+    Header {
+        kind,
+        id: registers.id,
+        channel: wires.port(),
+    }
+}
+
+/// A data packet on its way to another unit.
+fn data_note(wires: &Wires, registers: &Registers, packet: &Packet) -> Note
+    ensures { message_of result ≡ data_frame wires.now (registers_of registers.now) packet.now }
+{
+    let header = header_of(wires, registers, Kind::Carried);
+    Note::Frame(frame_of(&header, packet))
+}
+
+/// A probe to another unit.
+fn probe_note(wires: &Wires, registers: &Registers) -> Note
+    ensures { message_of result ≡ probe_frame wires.now (registers_of registers.now) }
+{
+    let header = header_of(wires, registers, Kind::Probe);
+    let packet = Packet {
+        src: 0,
+        dst: 0,
+        seq: 0,
+        len: 0,
+        hops: 0,
+    };
+    Note::Frame(frame_of(&header, &packet))
+}
+
+/// Puts a notice where the last-seen id of a channel changes.
+fn put_notice(wires: &Wires, ahead: u16, out: &mut Outputs<Msg>)
     requires room { length out.old.items + length (outs (Way.All Sort.Notice) wires.now.exits) ≤ out.old.room }
-    ensures puts { out.new.items ≡ out.old.items ++ (if before == stamp then [] else send wires.now (Way.All Sort.Notice) Notice) }
+    ensures puts { out.new.items ≡ out.old.items ++ (if ahead == 0 then [] else send wires.now (Way.All Sort.Notice) Notice) }
     ensures room { out.new.room ≡ out.old.room }
 {
-    if before != stamp {
+    if ahead != 0 {
         put_on(wires.exits(), Way::All(Sort::Notice), Note::Notice, out);
     }
 }
@@ -50,42 +85,36 @@ fn route(wires: &Wires, registers: &mut Registers, packet: Packet, out: &mut Out
                 hops: packet.hops - 1,
                 ..packet
             };
-            put_on(wires.exits(), way, Note::Data(registers.id, onward), out);
+            put_on(
+                wires.exits(),
+                way,
+                data_note(wires, registers, &onward),
+                out,
+            );
         }
     }
 }
 
 /// Sends a data packet on from an egress unit.
 #[tactic(auto, using(crate::proofs::Ways::outs_few))]
-fn pass(
-    wires: &Wires,
-    registers: &Registers,
-    packet: &Packet,
-    frames: &mut Vec<Bytes>,
-    out: &mut Outputs<Msg>,
-)
+fn pass(wires: &Wires, registers: &Registers, packet: &Packet, out: &mut Outputs<Msg>)
     requires empty { out.old.items ≡ [] }
     requires room { length wires.now.exits ≤ out.old.room }
-    requires frames { HasFrames wires.now frames.old.items }
     ensures puts { out.new.items ≡ (passed wires.now packet.now (registers_of registers.now)).puts }
     ensures room { out.new.room ≡ out.old.room }
-    ensures still { All (λ frame. length frame ≡ 24) frames.new.items }
 {
     let exits = wires.exits();
-    put_on(
-        exits,
-        Way::All(Sort::Cable),
-        Note::Data(registers.id, *packet),
-        out,
-    );
-    put_frames(exits, packet, frames, out);
+    let onward = data_note(wires, registers, packet);
+    put_on(exits, Way::All(Sort::Cable), onward, out);
+    let plain = Note::Frame(plain_frame(packet));
+    put_on(exits, Way::All(Sort::ToHost), plain, out);
 }
 
 /// The packet of which the bytes are the plain frame.
-fn plain_packet(width: Width, bytes: &Bytes) -> Option<Packet>
+fn plain_packet(width: Width, bytes: &[u8]) -> Option<Packet>
     ensures { result ≡ plain_packet width.bits bytes.now }
 {
-    match decode(width, bytes.items.as_slice()) {
+    match decode(width, bytes) {
         Ok((header, packet)) => match header.kind {
             Kind::Plain => Some(packet),
             _ => None,
@@ -94,13 +123,13 @@ fn plain_packet(width: Width, bytes: &Bytes) -> Option<Packet>
     }
 }
 
-/// Takes a frame from the host.
+/// Takes bytes from the host.
 #[tactic(auto, using(crate::proofs::Ways::routed_few))]
-pub fn take_frame(wires: &Wires, registers: &mut Registers, bytes: &Bytes, out: &mut Outputs<Msg>)
+fn take_bytes(wires: &Wires, registers: &mut Registers, bytes: &[u8], out: &mut Outputs<Msg>)
     requires empty { out.old.items ≡ [] }
     requires room { length wires.now.exits ≤ out.old.room }
-    ensures state { state_of wires.now registers.new ≡ (take_at Entrance.Host (state_of wires.now registers.old) (Host bytes.now)).state }
-    ensures puts { out.new.items ≡ (take_at Entrance.Host (state_of wires.now registers.old) (Host bytes.now)).puts }
+    ensures state { state_of wires.now registers.new ≡ (from_host (state_of wires.now registers.old) (plain_packet wires.now.bits bytes.now)).state }
+    ensures puts { out.new.items ≡ (from_host (state_of wires.now registers.old) (plain_packet wires.now.bits bytes.now)).puts }
     ensures room { out.new.room ≡ out.old.room }
 {
     match plain_packet(wires.width(), bytes) {
@@ -112,83 +141,130 @@ pub fn take_frame(wires: &Wires, registers: &mut Registers, bytes: &Bytes, out: 
     }
 }
 
+/// Takes a message from the host.
+pub fn take_host(wires: &Wires, registers: &mut Registers, m: &Msg, out: &mut Outputs<Msg>)
+    requires empty { out.old.items ≡ [] }
+    requires room { length wires.now.exits ≤ out.old.room }
+    ensures state { state_of wires.now registers.new ≡ (take_at Entrance.Host (state_of wires.now registers.old) m.now).state }
+    ensures puts { out.new.items ≡ (take_at Entrance.Host (state_of wires.now registers.old) m.now).puts }
+    ensures room { out.new.room ≡ out.old.room }
+{
+    if let Some(bytes) = m.bytes() {
+        take_bytes(wires, registers, bytes, out);
+    }
+}
+
 /// Takes a data packet from the cable.
 #[tactic(auto, using(crate::proofs::Ways::routed_few))]
-pub fn take_cable_data(
+fn take_cable_data(
     wires: &Wires,
     registers: &mut Registers,
     place: u32,
-    stamp: u64,
+    reading: Reading,
     packet: Packet,
     out: &mut Outputs<Msg>,
 )
     requires empty { out.old.items ≡ [] }
     requires room { length wires.now.exits ≤ out.old.room }
     requires channel { place < 8 }
-    ensures state { state_of wires.now registers.new ≡ (take_at (Entrance.Cable place) (state_of wires.now registers.old) (Data stamp packet)).state }
-    ensures puts { out.new.items ≡ (take_at (Entrance.Cable place) (state_of wires.now registers.old) (Data stamp packet)).puts }
+    ensures state { state_of wires.now registers.new ≡ (cable_data (state_of wires.now registers.old) place packet reading).state }
+    ensures puts { out.new.items ≡ (cable_data (state_of wires.now registers.old) place packet reading).puts }
     ensures room { out.new.room ≡ out.old.room }
 {
-    let channel = Channel::Upstream(place);
-    if registers.is_near(channel, stamp) {
-        let before = registers.last_on(channel);
-        registers.take_data(place, stamp, &packet);
+    if reading.is_near(registers.window) {
+        registers.take_data(place, reading, &packet);
         route(wires, registers, packet, out);
-        put_notice(wires, before, stamp, out);
+        put_notice(wires, reading.ahead, out);
     }
 }
 
 /// Takes a probe from the cable.
 #[tactic(auto, using(crate::proofs::Ways::outs_few))]
-pub fn take_cable_probe(
+fn take_cable_probe(
     wires: &Wires,
     registers: &mut Registers,
     place: u32,
-    stamp: u64,
+    reading: Reading,
     out: &mut Outputs<Msg>,
 )
     requires empty { out.old.items ≡ [] }
     requires room { length wires.now.exits ≤ out.old.room }
     requires channel { place < 8 }
-    ensures state { state_of wires.now registers.new ≡ (take_at (Entrance.Cable place) (state_of wires.now registers.old) (Probe stamp)).state }
-    ensures puts { out.new.items ≡ (take_at (Entrance.Cable place) (state_of wires.now registers.old) (Probe stamp)).puts }
+    ensures state { state_of wires.now registers.new ≡ (cable_probe (state_of wires.now registers.old) place reading).state }
+    ensures puts { out.new.items ≡ (cable_probe (state_of wires.now registers.old) place reading).puts }
     ensures room { out.new.room ≡ out.old.room }
 {
-    let channel = Channel::Upstream(place);
-    if registers.is_near(channel, stamp) {
-        let before = registers.last_on(channel);
-        registers.take_stamp(channel, stamp);
-        put_notice(wires, before, stamp, out);
+    if reading.is_near(registers.window) {
+        registers.take_stamp(Channel::Upstream(place), reading);
+        put_notice(wires, reading.ahead, out);
+    }
+}
+
+/// Takes a frame from the cable, by its kind.
+fn take_cable_frame(
+    wires: &Wires,
+    registers: &mut Registers,
+    place: u32,
+    header: &Header,
+    packet: Packet,
+    out: &mut Outputs<Msg>,
+)
+    requires empty { out.old.items ≡ [] }
+    requires room { length wires.now.exits ≤ out.old.room }
+    requires channel { place < 8 }
+    ensures state { state_of wires.now registers.new ≡ (by_cable place (state_of wires.now registers.old) header.now.kind header.now.id packet).state }
+    ensures puts { out.new.items ≡ (by_cable place (state_of wires.now registers.old) header.now.kind header.now.id packet).puts }
+    ensures room { out.new.room ≡ out.old.room }
+{
+    let reading = registers.read(wires.width(), Channel::Upstream(place), header.id);
+    match header.kind {
+        Kind::Carried => take_cable_data(wires, registers, place, reading, packet, out),
+        Kind::Probe => take_cable_probe(wires, registers, place, reading, out),
+        _ => {}
+    }
+}
+
+/// Takes a message from the cable.
+pub fn take_cable(
+    wires: &Wires,
+    registers: &mut Registers,
+    place: u32,
+    m: &Msg,
+    out: &mut Outputs<Msg>,
+)
+    requires empty { out.old.items ≡ [] }
+    requires room { length wires.now.exits ≤ out.old.room }
+    requires channel { place < 8 }
+    ensures state { state_of wires.now registers.new ≡ (take_at (Entrance.Cable place) (state_of wires.now registers.old) m.now).state }
+    ensures puts { out.new.items ≡ (take_at (Entrance.Cable place) (state_of wires.now registers.old) m.now).puts }
+    ensures room { out.new.room ≡ out.old.room }
+{
+    if let Some((header, packet)) = m.frame(wires.width()) {
+        take_cable_frame(wires, registers, place, &header, packet, out);
     }
 }
 
 /// Takes a data packet from an ingress unit.
 #[tactic(auto, using(crate::proofs::Ways::passed_few))]
-pub fn take_crossbar_data(
+fn take_crossbar_data(
     wires: &Wires,
     registers: &mut Registers,
     place: u32,
-    own: bool,
-    stamp: u64,
+    reading: Reading,
     packet: &Packet,
-    frames: &mut Vec<Bytes>,
     out: &mut Outputs<Msg>,
 )
     requires empty { out.old.items ≡ [] }
     requires room { length wires.now.exits ≤ out.old.room }
     requires channel { place < 8 }
-    requires frames { HasFrames wires.now frames.old.items }
-    ensures state { state_of wires.now registers.new ≡ (take_at (Entrance.Crossbar place own) (state_of wires.now registers.old) (Data stamp packet.now)).state }
-    ensures puts { out.new.items ≡ (take_at (Entrance.Crossbar place own) (state_of wires.now registers.old) (Data stamp packet.now)).puts }
+    ensures state { state_of wires.now registers.new ≡ (crossbar_data (state_of wires.now registers.old) place packet.now reading).state }
+    ensures puts { out.new.items ≡ (crossbar_data (state_of wires.now registers.old) place packet.now reading).puts }
     ensures room { out.new.room ≡ out.old.room }
-    ensures still { All (λ frame. length frame ≡ 24) frames.new.items }
 {
-    let channel = Channel::Upstream(place);
-    if registers.is_near(channel, stamp) {
-        let before = registers.last_on(channel);
-        registers.take_data(place, stamp, packet);
-        pass(wires, registers, packet, frames, out);
-        put_notice(wires, before, stamp, out);
+    if reading.is_near(registers.window) {
+        registers.take_data(place, reading, packet);
+        pass(wires, registers, packet, out);
+        put_notice(wires, reading.ahead, out);
     }
 }
 
@@ -201,38 +277,78 @@ fn probe(wires: &Wires, registers: &Registers, own: bool, out: &mut Outputs<Msg>
     ensures room { out.new.room ≡ out.old.room }
 {
     if own {
-        put_on(
-            wires.exits(),
-            Way::All(Sort::Cable),
-            Note::Probe(registers.id),
-            out,
-        );
+        let onward = probe_note(wires, registers);
+        put_on(wires.exits(), Way::All(Sort::Cable), onward, out);
     }
 }
 
 /// Takes a probe from an ingress unit.
 #[tactic(auto, using(crate::proofs::Ways::probed_few))]
-pub fn take_crossbar_probe(
+fn take_crossbar_probe(
     wires: &Wires,
     registers: &mut Registers,
     place: u32,
     own: bool,
-    stamp: u64,
+    reading: Reading,
     out: &mut Outputs<Msg>,
 )
     requires empty { out.old.items ≡ [] }
     requires room { length wires.now.exits ≤ out.old.room }
     requires channel { place < 8 }
-    ensures state { state_of wires.now registers.new ≡ (take_at (Entrance.Crossbar place own) (state_of wires.now registers.old) (Probe stamp)).state }
-    ensures puts { out.new.items ≡ (take_at (Entrance.Crossbar place own) (state_of wires.now registers.old) (Probe stamp)).puts }
+    ensures state { state_of wires.now registers.new ≡ (crossbar_probe (state_of wires.now registers.old) place own reading).state }
+    ensures puts { out.new.items ≡ (crossbar_probe (state_of wires.now registers.old) place own reading).puts }
     ensures room { out.new.room ≡ out.old.room }
 {
-    let channel = Channel::Upstream(place);
-    if registers.is_near(channel, stamp) {
-        let before = registers.last_on(channel);
-        registers.take_stamp(channel, stamp);
+    if reading.is_near(registers.window) {
+        registers.take_stamp(Channel::Upstream(place), reading);
         probe(wires, registers, own, out);
-        put_notice(wires, before, stamp, out);
+        put_notice(wires, reading.ahead, out);
+    }
+}
+
+/// Takes a frame from an ingress unit, by its kind.
+fn take_crossbar_frame(
+    wires: &Wires,
+    registers: &mut Registers,
+    place: u32,
+    own: bool,
+    header: &Header,
+    packet: &Packet,
+    out: &mut Outputs<Msg>,
+)
+    requires empty { out.old.items ≡ [] }
+    requires room { length wires.now.exits ≤ out.old.room }
+    requires channel { place < 8 }
+    ensures state { state_of wires.now registers.new ≡ (by_crossbar place own (state_of wires.now registers.old) header.now.kind header.now.id packet.now).state }
+    ensures puts { out.new.items ≡ (by_crossbar place own (state_of wires.now registers.old) header.now.kind header.now.id packet.now).puts }
+    ensures room { out.new.room ≡ out.old.room }
+{
+    let reading = registers.read(wires.width(), Channel::Upstream(place), header.id);
+    match header.kind {
+        Kind::Carried => take_crossbar_data(wires, registers, place, reading, packet, out),
+        Kind::Probe => take_crossbar_probe(wires, registers, place, own, reading, out),
+        _ => {}
+    }
+}
+
+/// Takes a message from an ingress unit.
+pub fn take_crossbar(
+    wires: &Wires,
+    registers: &mut Registers,
+    place: u32,
+    own: bool,
+    m: &Msg,
+    out: &mut Outputs<Msg>,
+)
+    requires empty { out.old.items ≡ [] }
+    requires room { length wires.now.exits ≤ out.old.room }
+    requires channel { place < 8 }
+    ensures state { state_of wires.now registers.new ≡ (take_at (Entrance.Crossbar place own) (state_of wires.now registers.old) m.now).state }
+    ensures puts { out.new.items ≡ (take_at (Entrance.Crossbar place own) (state_of wires.now registers.old) m.now).puts }
+    ensures room { out.new.room ≡ out.old.room }
+{
+    if let Some((header, packet)) = m.frame(wires.width()) {
+        take_crossbar_frame(wires, registers, place, own, &header, &packet, out);
     }
 }
 
@@ -244,27 +360,44 @@ fn initiate(wires: &Wires, registers: &Registers, out: &mut Outputs<Msg>)
     ensures puts { out.new.items ≡ (initiated wires.now (registers_of registers.now)).puts }
     ensures room { out.new.room ≡ out.old.room }
 {
-    put_on(
-        wires.exits(),
-        Way::All(Sort::Crossbar),
-        Note::Probe(registers.id),
-        out,
-    );
+    let onward = probe_note(wires, registers);
+    put_on(wires.exits(), Way::All(Sort::Crossbar), onward, out);
 }
 
-/// Takes an initiation.
-pub fn take_init(wires: &Wires, registers: &mut Registers, stamp: u64, out: &mut Outputs<Msg>)
+/// Takes an initiation, as it is read.
+#[tactic(auto, using(crate::proofs::Ways::initiated_few))]
+fn take_initiation(
+    wires: &Wires,
+    registers: &mut Registers,
+    reading: Reading,
+    out: &mut Outputs<Msg>,
+)
     requires empty { out.old.items ≡ [] }
     requires room { length wires.now.exits ≤ out.old.room }
-    ensures state { state_of wires.now registers.new ≡ (take_at Entrance.Init (state_of wires.now registers.old) (Init stamp)).state }
-    ensures puts { out.new.items ≡ (take_at Entrance.Init (state_of wires.now registers.old) (Init stamp)).puts }
+    ensures state { state_of wires.now registers.new ≡ (initiation (state_of wires.now registers.old) reading).state }
+    ensures puts { out.new.items ≡ (initiation (state_of wires.now registers.old) reading).puts }
     ensures room { out.new.room ≡ out.old.room }
 {
-    if registers.is_near(Channel::Cpu, stamp) {
-        let before = registers.last_on(Channel::Cpu);
-        registers.take_stamp(Channel::Cpu, stamp);
+    if reading.is_near(registers.window) {
+        registers.take_stamp(Channel::Cpu, reading);
         initiate(wires, registers, out);
-        put_notice(wires, before, stamp, out);
+        put_notice(wires, reading.ahead, out);
+    }
+}
+
+/// Takes a message from the control plane's link of initiations.
+pub fn take_init(wires: &Wires, registers: &mut Registers, m: &Msg, out: &mut Outputs<Msg>)
+    requires empty { out.old.items ≡ [] }
+    requires room { length wires.now.exits ≤ out.old.room }
+    ensures state { state_of wires.now registers.new ≡ (take_at Entrance.Init (state_of wires.now registers.old) m.now).state }
+    ensures puts { out.new.items ≡ (take_at Entrance.Init (state_of wires.now registers.old) m.now).puts }
+    ensures room { out.new.room ≡ out.old.room }
+{
+    if let Some((header, _packet)) = m.frame(wires.width()) {
+        if let Kind::Init = header.kind {
+            let reading = registers.read(wires.width(), Channel::Cpu, header.id);
+            take_initiation(wires, registers, reading, out);
+        }
     }
 }
 

@@ -1,19 +1,15 @@
 // Units as machines.
 ghost use Rattle.std.specs.Prelude.{◌≡◌, ◌<◌, ℕ, Some, None, IfOk, length, slice_index};
-ghost use Rattle.std.specs.List.{All};
 ghost use Rattle.sl_unit.specs.Room.{HasRoom};
 
 use crate::make::{device_of, list_ports, make_wires};
 use crate::registers::Registers;
-use crate::room::{make_dumps, make_frames};
-use crate::step::{
-    take_cable_data, take_cable_probe, take_crossbar_data, take_crossbar_probe, take_frame,
-    take_init, take_poll,
-};
+use crate::room::make_dumps;
+use crate::step::{take_cable, take_crossbar, take_host, take_init, take_poll};
 use crate::wires::{Entrance, Wires};
 use sl_ids::Width;
 use sl_machine::{Machine, Memory, Outputs};
-use sl_net::{Bytes, Net, Side, Snapshot};
+use sl_net::{Net, Side, Snapshot};
 use sl_route::Routes;
 use sl_wire::{Boxed, Dump, Msg};
 use std::alloc::Global;
@@ -23,12 +19,10 @@ use std::alloc::Global;
 #[derive(Drop)]
 pub struct Unit {
     prepared: Option<u32>,
-    frames: Vec<Bytes>,
     dumps: Vec<Boxed<Dump>>,
     wires: Wires,
     registers: Registers,
-    ghost sized: { All (λ frame. length frame ≡ 24) frames.items },
-    ghost ready: { (c : ℕ) → prepared ≡ Some c → HasRoom wires registers frames.items dumps.items c },
+    ghost ready: { (c : ℕ) → prepared ≡ Some c → HasRoom wires registers dumps.items c },
 }
 
 /// What a unit counted, as far as 64 bits go.
@@ -62,7 +56,6 @@ impl Unit {
         let registers = Registers::new(alloc, snapshot.window, snapshot.ring)?;
         Ok(Unit {
             prepared: None,
-            frames: Vec::new(alloc),
             dumps: Vec::new(alloc),
             wires,
             registers,
@@ -126,9 +119,9 @@ impl Unit {
 
     /// All registers.
     pub fn dump(&self) -> Result<Dump, Memory>
-        ensures { IfOk result (λ dump. dump ≡ dump_of (unit_state self.now).wires.bits (unit_state self.now).registers) }
+        ensures { IfOk result (λ dump. dump ≡ dump_of (unit_state self.now).registers) }
     {
-        self.registers.dump(self.wires.width())
+        self.registers.dump()
     }
 }
 
@@ -150,10 +143,8 @@ impl Machine for Unit {
 
     fn ready(&mut self, choice: u32) -> Result<(), Memory> {
         self.prepared = None;
-        match self.wires.entrance(choice) {
-            Entrance::Crossbar { .. } => make_frames(&self.wires, &mut self.frames)?,
-            Entrance::Poll => make_dumps(&self.wires, &self.registers, &mut self.dumps)?,
-            _ => {}
+        if let Entrance::Poll = self.wires.entrance(choice) {
+            make_dumps(&self.wires, &self.registers, &mut self.dumps)?;
         }
         self.prepared = Some(choice);
         Ok(())
@@ -163,22 +154,13 @@ impl Machine for Unit {
         self.prepared = None;
         let wires = &self.wires;
         let registers = &mut self.registers;
-        match (wires.entrance(link), m) {
-            (Entrance::Host, Msg::Host(bytes)) => take_frame(wires, registers, &bytes, out),
-            (Entrance::Cable(place), Msg::Data(stamp, packet)) => {
-                take_cable_data(wires, registers, place, stamp, packet, out);
+        match (wires.entrance(link), &m) {
+            (Entrance::Host, _) => take_host(wires, registers, &m, out),
+            (Entrance::Cable(place), _) => take_cable(wires, registers, place, &m, out),
+            (Entrance::Crossbar { channel, own }, _) => {
+                take_crossbar(wires, registers, channel, own, &m, out);
             }
-            (Entrance::Cable(place), Msg::Probe(stamp)) => {
-                take_cable_probe(wires, registers, place, stamp, out);
-            }
-            (Entrance::Crossbar { channel, own }, Msg::Data(stamp, packet)) => {
-                let frames = &mut self.frames;
-                take_crossbar_data(wires, registers, channel, own, stamp, &packet, frames, out);
-            }
-            (Entrance::Crossbar { channel, own }, Msg::Probe(stamp)) => {
-                take_crossbar_probe(wires, registers, channel, own, stamp, out);
-            }
-            (Entrance::Init, Msg::Init(stamp)) => take_init(wires, registers, stamp, out),
+            (Entrance::Init, _) => take_init(wires, registers, &m, out),
             (Entrance::Poll, Msg::Poll) => take_poll(wires, registers, &mut self.dumps, out),
             _ => {}
         }

@@ -74,6 +74,8 @@ impl Exit {
 pub struct Wires {
     /// The number of its device.
     pub device: u32,
+    /// Its port.
+    pub port: u8,
     /// What comes by each choice.
     pub entrances: Vec<Entrance>,
     /// The outgoing links by their numbers.
@@ -91,9 +93,9 @@ impl Model for Wires {
 
     ghost Value = { Wires };
 
-    ghost view = { λ w. record { device = w.device; entrances = w.entrances.items; exits = w.exits.items; ports = w.ports.items; bits = w.width.bits; actions = w.actions } };
+    ghost view = { λ w. record { device = w.device; port = w.port; entrances = w.entrances.items; exits = w.exits.items; ports = w.ports.items; bits = w.width.bits; actions = w.actions } };
 
-    ghost invariant = { λ w. IsUsable (record { device = w.device; entrances = w.entrances.items; exits = w.exits.items; ports = w.ports.items; bits = w.width.bits; actions = w.actions }) };
+    ghost invariant = { λ w. IsUsable (record { device = w.device; port = w.port; entrances = w.entrances.items; exits = w.exits.items; ports = w.ports.items; bits = w.width.bits; actions = w.actions }) };
 }
 
 impl Wires {
@@ -121,6 +123,13 @@ impl Wires {
         ensures { result ≡ self.now.device }
     {
         self.device
+    }
+
+    /// Its port.
+    pub fn port(&self) -> u8
+        ensures { result ≡ self.now.port }
+    {
+        self.port
     }
 
     /// The width of wrapped ids.

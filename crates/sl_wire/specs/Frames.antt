@@ -12,6 +12,7 @@
 --     16 to 23   0       0             0             0
 use Rattle.std.specs.Prelude.{◌≡◌, ℕ, ◌+◌, ◌*◌, ◌/◌, ◌%◌, ◌<◌, Bool, true, not, ◌&&◌, ◌||◌, ◌==◌, nat_lt, if◌then◌else◌, List, [], ◌∷◌, length, slice_index, slice_range, Option, Some, None, Result, Ok, Err, IsTrue}
 use Rattle.sl_ids.specs.Ids.{modulus}
+use Rattle.sl_ids.specs.declared.wid.Wid.{Wid}
 use Rattle.sl_net.specs.declared.input.Packet.{Packet}
 use Rattle.sl_wire.specs.declared.frame.Kind.{Kind}
 use Rattle.sl_wire.specs.declared.frame.Kind.TheVariants.{Plain, Carried, Probe, Init}
@@ -69,6 +70,20 @@ plain_header = record { kind = Plain; id = record { raw = 0 }; channel = 0 }
 
 abbrev pub plain_frame : Packet → List ℕ
 plain_frame p = frame plain_header p
+
+-- the headers of frames between units, with the sender's id and port, and that of an initiation
+abbrev pub carried_header : Wid → ℕ → Header
+carried_header id port = record { kind = Carried; id = id; channel = port }
+
+abbrev pub probe_header : Wid → ℕ → Header
+probe_header id port = record { kind = Probe; id = id; channel = port }
+
+abbrev pub init_header : Wid → Header
+init_header id = record { kind = Init; id = id; channel = 255 }
+
+-- what probes and initiations carry in place of a packet
+abbrev pub no_packet : Packet
+no_packet = record { src = 0; dst = 0; seq = 0; len = 0; hops = 0 }
 
 -- bytes are the frame of a header and packet
 pub record IsFrame (bits : ℕ) (bytes : List ℕ) (h : Header) (p : Packet) : Type 0 where

@@ -101,8 +101,9 @@ pub fn decode(width: Width, bytes: &[u8]) -> Result<(Header, Packet), WireFault>
     Ok((header, packet_of(bytes)))
 }
 
+/// The bytes of any header and packet.
 #[tactic(auto, unfolding(crate::specs::Frames::frame))]
-fn frame_of(header: &Header, packet: &Packet) -> Frame
+pub fn frame_of(header: &Header, packet: &Packet) -> Frame
     ensures { result.bytes ≡ frame header.now packet.now }
 {
     let id = header.id.raw;

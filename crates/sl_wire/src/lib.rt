@@ -9,8 +9,8 @@ mod reach;
 mod wids;
 
 pub use boxed::Boxed;
-pub use frame::{Frame, Header, Kind, WireFault, decode, encode, plain_frame};
+pub use frame::{Frame, Header, Kind, WireFault, decode, encode, frame_of, plain_frame};
 pub use laws::one_frame;
 pub use message::{Done, Dump, Msg, Rows};
 pub use reach::reached;
-pub use wids::{are_wids, has_room, have_room, is_wid, unwrap_each, wrap_each};
+pub use wids::{are_wids, has_room, have_room, is_wid, unwrap_each};

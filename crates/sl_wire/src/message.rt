@@ -1,6 +1,10 @@
-// Messages between actors, with whole numbers as stamps and wrapped ids in dumps.
+// Messages between actors.
+ghost use Rattle.std.specs.Prelude.{◌≡◌, option_map};
+ghost use Rattle.sl_wire.specs.Carried.{bytes_on, carrying, frame_on};
+
 use crate::boxed::Boxed;
-use sl_ids::Wid;
+use crate::frame::{Frame, Header, decode};
+use sl_ids::{Wid, Width};
 use sl_net::{Bytes, Packet};
 use sl_saves::{Saved, View};
 use std::marker::Model;
@@ -50,18 +54,15 @@ pub struct Dump {
     pub view: View,
 }
 
-/// A message between actors. Stamps and the numbers of snapshots are whole numbers, but for the ids
-/// in a dump.
+/// A message between actors. Ids on links and in dumps are wrapped; a Begin and a report have whole
+/// numbers.
 #[derive(Debug, Drop)]
 pub enum Msg {
-    /// The bytes of a frame from a host to its ingress unit, or from an egress unit to its host.
-    Host(Bytes),
-    /// A data packet with its stamp, between units.
-    Data(u64, Packet),
-    /// A probe with its stamp, between units.
-    Probe(u64),
-    /// An initiation of a snapshot, from a control plane to an ingress unit.
-    Init(u64),
+    /// A frame: of a packet from a host or to it, of a data packet or a probe between units, or of an
+    /// initiation from a control plane to an ingress unit.
+    Frame(Frame),
+    /// Bytes of a host that are not 24.
+    Wire(Bytes),
     /// A poll, from a control plane to a unit.
     Poll,
     /// A notice that a last-seen number of a unit has changed, to its control plane.
@@ -75,3 +76,38 @@ pub enum Msg {
 }
 
 const _: () = prove!(size_of::<Msg>() <= 32);
+
+impl Msg {
+    /// The message with these bytes. Those of 24 take no memory of their own.
+    pub fn carrying(bytes: Bytes) -> Msg
+        ensures { result ≡ carrying bytes }
+    {
+        if bytes.items.len() != 24 {
+            return Msg::Wire(bytes);
+        }
+        let mut frame = Frame { bytes: [0; 24] };
+        frame.bytes.copy_from_slice(bytes.items.as_slice());
+        Msg::Frame(frame)
+    }
+
+    /// The bytes that it carries.
+    pub fn bytes(&self) -> Option<&[u8]>
+        ensures { option_map (λ bytes. bytes.now) result ≡ bytes_on self.now }
+    {
+        match self {
+            Msg::Frame(frame) => Some(&frame.bytes),
+            Msg::Wire(bytes) => Some(bytes.items.as_slice()),
+            _ => None,
+        }
+    }
+
+    /// The header and the packet of which it carries the frame, with ids of this width.
+    pub fn frame(&self, width: Width) -> Option<(Header, Packet)>
+        ensures { result ≡ frame_on width.bits self.now }
+    {
+        match decode(width, self.bytes()?) {
+            Ok(read) => Some(read),
+            Err(_) => None,
+        }
+    }
+}

@@ -1,27 +1,10 @@
-// Ids wrapped and unwrapped, eight at a time, as dumps have them.
-ghost use Rattle.std.specs.Prelude.{◌≡◌, ℕ, ◌<◌, true, map, slice_index_or};
+// Wrapped ids unwrapped, eight at a time, as dumps have them.
+ghost use Rattle.std.specs.Prelude.{◌≡◌, ℕ, ◌<◌, true, slice_index_or};
 ghost use Rattle.std.specs.List.{list_all};
 ghost use Rattle.sl_ids.specs.Ids.{unwrapped};
-ghost use Rattle.sl_ids.specs.Wids.{wid};
 ghost use Rattle.sl_wire.specs.Wids.{is_wid, has_room, no_wid, unwrapped_each};
 
-use sl_ids::{Wid, Width, unwrap_from, wrap};
-
-/// The wrapped ids of eight numbers.
-pub fn wrap_each(width: Width, numbers: &[u64; 8]) -> [Wid; 8]
-    ensures { result ≡ map (wid width.bits) numbers.now }
-{
-    [
-        wrap(width, numbers[0]),
-        wrap(width, numbers[1]),
-        wrap(width, numbers[2]),
-        wrap(width, numbers[3]),
-        wrap(width, numbers[4]),
-        wrap(width, numbers[5]),
-        wrap(width, numbers[6]),
-        wrap(width, numbers[7]),
-    ]
-}
+use sl_ids::{Wid, Width, unwrap_from};
 
 /// Whether a wrapped id is one of this width.
 pub fn is_wid(width: Width, wid: Wid) -> bool

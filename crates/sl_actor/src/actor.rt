@@ -127,8 +127,8 @@ impl<A: Machine> Actor<A> {
     }
 
     /// One turn by a choice: it offers what waits in the outboxes, then the machine takes the next
-    /// message of the chosen link or acts, and it offers again. A turn that is refused for memory
-    /// has changed nothing.
+    /// message of the chosen link or acts, and where it made a step, the turn offers again. A turn
+    /// that is refused for memory has changed nothing.
     pub fn turn<R: Wait>(&mut self, rt: &R, choice: u32) -> Result<Moved, Memory>
         requires { IsChoice (held self.old).counts choice }
         ensures follows { (first : A.State) → Follows A.rules first (held self.old) → Follows A.rules first (held self.new) }
@@ -142,13 +142,13 @@ impl<A: Machine> Actor<A> {
         ensures ends { KeepsEnds (held self.old) (held self.new) }
         ensures counts { (held self.new).counts ≡ (held self.old).counts }
     {
-        self.prepare(choice)?;
+        let may_step = self.prepare(rt, choice)?;
         self.sleeper.note(&self.outs.waiting);
         let before = self.outs.offer(rt);
-        let did = self.step(rt, choice);
+        let did = self.step(rt, choice, may_step);
         self.sleeper.note(&self.outs.waiting);
-        let after = self.outs.offer(rt);
-        self.sleeper.wake_receivers();
+        let after = self.outs.offer_after(rt, did);
+        self.sleeper.wake_full(&self.outs.waiting);
         Ok(moved(did, before, after))
     }
 
@@ -157,8 +157,39 @@ impl<A: Machine> Actor<A> {
         self.place
     }
 
-    /// Takes the memory that a turn can need.
-    fn prepare(&mut self, choice: u32) -> Result<(), Memory>
+    /// Whether a step may come of a choice, for which the memory that it can need is taken then.
+    fn prepare<R: Wait>(&mut self, rt: &R, choice: u32) -> Result<bool, Memory>
+        requires { IsChoice (held self.old).counts choice }
+        ensures same { held self.new ≡ held self.old }
+        ensures nothing { IfOk result (λ may. OnFalse may (NothingDone A.rules choice (held self.old) (held self.old))) }
+        ensures log { IfOk result (λ may. OnTrue may (vec_len self.new.log < vec_capacity self.new.log)) }
+        ensures spare { IfOk result (λ may. OnTrue may (AreSpare self.new.outs.parts.items)) }
+        ensures ready { IfOk result (λ may. OnTrue may (A.ready_for self.new.machine ≡ Some choice)) }
+    {
+        if !self.may_step(rt, choice) {
+            return Ok(false);
+        }
+        self.make_ready(choice)?;
+        Ok(true)
+    }
+
+    /// Whether a step may come of a choice: an action, or a link with a message.
+    fn may_step<R: Wait>(&mut self, rt: &R, choice: u32) -> bool
+        requires { IsChoice (held self.old).counts choice }
+        ensures same { held self.new ≡ held self.old }
+        ensures nothing { OnFalse result (NothingDone A.rules choice (held self.old) (held self.old)) }
+    {
+        if (choice as usize) >= self.takes.len() {
+            return true;
+        }
+        let link = &mut self.takes[choice as usize];
+        let has_next = link.look(rt);
+        self.sleeper.looked(choice, has_next);
+        has_next
+    }
+
+    /// Takes the memory that a step by a choice can need.
+    fn make_ready(&mut self, choice: u32) -> Result<(), Memory>
         requires { IsChoice (held self.old).counts choice }
         ensures same { held self.new ≡ held self.old }
         ensures log { OnOk result (vec_len self.new.log < vec_capacity self.new.log) }
@@ -170,18 +201,22 @@ impl<A: Machine> Actor<A> {
         self.machine.ready(choice)
     }
 
-    /// The step of the machine by a choice. Whether it made one.
-    fn step<R: Wait>(&mut self, rt: &R, choice: u32) -> bool
+    /// The step of the machine by a choice of which one may come. Whether it made one.
+    fn step<R: Wait>(&mut self, rt: &R, choice: u32, may_step: bool) -> bool
         requires choice { IsChoice (held self.old).counts choice }
-        requires log { vec_len self.old.log < vec_capacity self.old.log }
-        requires spare { AreSpare self.old.outs.parts.items }
-        requires ready { A.ready_for self.old.machine ≡ Some choice }
+        requires nothing { OnFalse may_step (NothingDone A.rules choice (held self.old) (held self.old)) }
+        requires log { OnTrue may_step (vec_len self.old.log < vec_capacity self.old.log) }
+        requires spare { OnTrue may_step (AreSpare self.old.outs.parts.items) }
+        requires ready { OnTrue may_step (A.ready_for self.old.machine ≡ Some choice) }
         ensures did { OnTrue result (Stepped A.rules choice (held self.old) (held self.new)) }
         ensures idle { OnFalse result (NothingDone A.rules choice (held self.old) (held self.new)) }
         ensures outs { OnFalse result ((held self.new).outs ≡ (held self.old).outs) }
         ensures ends { KeepsEnds (held self.old) (held self.new) }
         ensures counts { (held self.new).counts ≡ (held self.old).counts }
     {
+        if !may_step {
+            return false;
+        }
         if (choice as usize) < self.takes.len() {
             self.take_step(rt, choice)
         } else {
@@ -202,10 +237,7 @@ impl<A: Machine> Actor<A> {
     {
         let end = &mut self.takes[choice as usize];
         let s = match end.take(rt) {
-            None => {
-                self.sleeper.emptied(choice);
-                return false;
-            }
+            None => return false,
             Some(s) => s,
         };
         let number = next_number(rt, self.number, s.number);

@@ -76,7 +76,7 @@ impl<A: Machine> Actor<A> {
         if steps == 0 {
             return Ok(Rest::Spent);
         }
-        self.sleeper.begin(rt);
+        self.sleeper.begin();
         let rest = self.rounds(rt, plan, steps, quiet, gate);
         self.sleeper.end();
         rest

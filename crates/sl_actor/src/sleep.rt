@@ -1,6 +1,6 @@
 // How actors sleep: one at which nothing moves sleeps until a neighbour has put something on one of
 // its links, or has emptied one on which it waits. No clause speaks of it.
-use crossbeam_utils::Backoff;
+use crossbeam_utils::{Backoff, CachePadded};
 use sl_machine::{Memory, Wiring};
 use std::alloc::Global;
 use std::collections::VecDeque;
@@ -18,26 +18,24 @@ const ASLEEP: u64 = 1;
 /// After how many rounds in a row without any move an actor makes ready to sleep.
 const IDLE_ROUNDS: u64 = 2;
 
-/// For how many milliseconds a run that begins waits for a further one to begin.
-const PATIENCE: u64 = 200;
+/// How many milliseconds an actor sleeps at most while some have begun no run.
+const PATIENCE: u64 = 500;
 
-/// For how many seconds an actor sleeps at most.
-const LONGEST: u64 = 2;
+/// How many milliseconds it sleeps at most once all have.
+const LONGEST: u64 = 2000;
 
 /// What the actors of a wiring share beside their links: which of them sleep.
 #[derive(Drop)]
 pub struct Roster {
-    states: Vec<AtomicU64>,
+    states: Vec<CachePadded<AtomicU64>>,
     // by link, whether its sender sleeps until the link is empty
     awaited: Vec<AtomicBool>,
-    // how many runs have begun
-    begun: AtomicU64,
-    // whether a run that begins waits for no others
-    is_open: AtomicBool,
-    // how many actors are awake in a run, with those that are just being woken
-    awake: AtomicU64,
-    // whether at some moment none was awake; nobody sleeps from then on
-    is_over: AtomicBool,
+    // how many actors have begun a run
+    begun: CachePadded<AtomicU64>,
+    // how many actors are awake, with those that are just being woken and those that have begun no run yet
+    awake: CachePadded<AtomicU64>,
+    // whether nothing moves any more; nobody sleeps from then on
+    is_over: CachePadded<AtomicBool>,
 }
 
 impl Roster {
@@ -45,39 +43,16 @@ impl Roster {
     pub fn shared(alloc: Global, wiring: &Wiring) -> Result<Arc<Roster, Global>, Memory> {
         let mut states = Vec::new(alloc);
         for _ in 0..wiring.in_counts.len() {
-            states.push(AtomicU64::new(AWAKE))?;
+            states.push(CachePadded::new(AtomicU64::new(AWAKE)))?;
         }
         let roster = Roster {
+            awake: CachePadded::new(AtomicU64::new(states.len() as u64)),
             states,
             awaited: none_awaited(alloc, wiring.links.len())?,
-            begun: AtomicU64::new(0),
-            is_open: AtomicBool::new(false),
-            awake: AtomicU64::new(0),
-            is_over: AtomicBool::new(false),
+            begun: CachePadded::new(AtomicU64::new(0)),
+            is_over: CachePadded::new(AtomicBool::new(false)),
         };
         Ok(Arc::new(alloc, roster)?)
-    }
-
-    /// Counts a run that begins, and waits until as many have begun as there are actors. Where for
-    /// some time none begins, as where they run one after another, nobody waits any longer.
-    fn begin<R: Wait>(&self, rt: &R) {
-        self.awake.fetch_add(1, SeqCst);
-        self.begun.fetch_add(1, SeqCst);
-        for _ in 0..self.states.len() {
-            let seen = self.begun.load(SeqCst);
-            if seen >= self.states.len() as u64 || self.is_open.load(SeqCst) {
-                break;
-            }
-            let low = (seen % (1 << 32)) as u32;
-            self.begun
-                .park_timeout(rt, low, Duration::from_millis(PATIENCE));
-            if self.begun.load(SeqCst) == seen {
-                break;
-            }
-        }
-        if !self.is_open.swap(true, SeqCst) {
-            self.begun.wake_all();
-        }
     }
 
     /// Wakes an actor.
@@ -95,14 +70,19 @@ impl Roster {
         }
     }
 
-    /// One less is awake. Where it was the last, nothing moves any more, and all are woken.
+    /// One less is awake. Where it was the last, nothing moves any more.
     fn leave(&self) {
         if self.awake.fetch_sub(1, SeqCst) == 1 {
-            self.is_over.store(true, SeqCst);
-            for state in &self.states {
-                state.store(AWAKE, SeqCst);
-                state.wake_one();
-            }
+            self.wake_all();
+        }
+    }
+
+    /// Wakes all, for good.
+    fn wake_all(&self) {
+        self.is_over.store(true, SeqCst);
+        for state in &self.states {
+            state.store(AWAKE, SeqCst);
+            state.wake_one();
         }
     }
 }
@@ -182,8 +162,11 @@ pub struct Sleeper {
     place: u32,
     senders: Vec<Neighbour>,
     receivers: Vec<Neighbour>,
-    // the outgoing links on which something may have been put in this turn
+    // the outgoing links on which something may have been put since their receivers were last woken
     offered: VecDeque<u32>,
+    is_offered: Vec<bool>,
+    // whether it was counted in a run
+    has_begun: bool,
     // whether it is about to sleep
     is_ready: bool,
 }
@@ -205,24 +188,33 @@ impl Sleeper {
     ) -> Result<Sleeper, Memory> {
         let senders = row_at(alloc, &neighbours.senders, place as usize)?;
         let receivers = row_at(alloc, &neighbours.receivers, place as usize)?;
-        let offered = VecDeque::with_capacity(alloc, receivers.len().saturating_mul(2))?;
+        let offered = VecDeque::with_capacity(alloc, receivers.len())?;
+        let is_offered = vec![in alloc; false; receivers.len()]?;
         Ok(Sleeper {
             roster: Arc::try_clone(roster)?,
             place,
             senders,
             receivers,
             offered,
+            is_offered,
+            has_begun: false,
             is_ready: false,
         })
     }
 
     /// A run begins.
-    pub fn begin<R: Wait>(&self, rt: &R) {
-        self.roster.begin(rt);
+    pub fn begin(&mut self) {
+        if self.has_begun {
+            self.roster.awake.fetch_add(1, SeqCst);
+        } else {
+            self.has_begun = true;
+            self.roster.begun.fetch_add(1, SeqCst);
+        }
     }
 
     /// The run ends.
     pub fn end(&mut self) {
+        self.wake_receivers();
         self.stay_awake();
         self.roster.leave();
     }
@@ -230,26 +222,44 @@ impl Sleeper {
     /// Notes that on these links something is offered next.
     pub fn note(&mut self, waiting: &VecDeque<u32>) {
         for i in 0..waiting.len() {
-            if self.offered.len() < self.offered.capacity() {
-                self.offered.push_back_reserved(waiting[i]);
+            let out = waiting[i];
+            if let Some(is_offered) = self.is_offered.get_mut(out as usize)
+                && !*is_offered
+                && self.offered.len() < self.offered.capacity()
+            {
+                *is_offered = true;
+                self.offered.push_back_reserved(out);
             }
         }
     }
 
-    /// Wakes the receivers of what was offered.
-    pub fn wake_receivers(&mut self) {
-        for _ in 0..self.offered.len() {
-            if let Some(out) = self.offered.pop_front()
-                && let Some(receiver) = self.receivers.get(out as usize)
-            {
+    /// Wakes the receivers of the links that are full.
+    pub fn wake_full(&self, waiting: &VecDeque<u32>) {
+        for i in 0..waiting.len() {
+            if let Some(receiver) = self.receivers.get(waiting[i] as usize) {
                 self.roster.wake(receiver.actor);
             }
         }
     }
 
-    /// An incoming link was found empty. Wakes its sender where that waits for it.
-    pub fn emptied(&self, choice: u32) {
-        if let Some(sender) = self.senders.get(choice as usize)
+    /// Wakes the receivers of what was offered.
+    fn wake_receivers(&mut self) {
+        for _ in 0..self.offered.len() {
+            if let Some(out) = self.offered.pop_front() {
+                if let Some(is_offered) = self.is_offered.get_mut(out as usize) {
+                    *is_offered = false;
+                }
+                if let Some(receiver) = self.receivers.get(out as usize) {
+                    self.roster.wake(receiver.actor);
+                }
+            }
+        }
+    }
+
+    /// An incoming link was looked at. Where it is empty, its sender may wait for that, and is woken.
+    pub fn looked(&self, choice: u32, has_next: bool) {
+        if !has_next
+            && let Some(sender) = self.senders.get(choice as usize)
             && let Some(is_awaited) = self.roster.awaited.get(sender.link)
             && is_awaited.load(SeqCst)
         {
@@ -270,9 +280,14 @@ impl Sleeper {
             self.stay_awake();
             return;
         }
-        backoff.snooze();
-        if idle < IDLE_ROUNDS || self.roster.is_over.load(SeqCst) {
+        self.wake_receivers();
+        if self.roster.is_over.load(SeqCst) {
             self.stay_awake();
+            backoff.reset();
+            backoff.snooze();
+        } else if idle < IDLE_ROUNDS {
+            self.stay_awake();
+            backoff.snooze();
         } else if self.is_ready {
             self.sleep(rt);
         } else {
@@ -308,12 +323,20 @@ impl Sleeper {
         }
     }
 
-    /// Sleeps until it is woken, and no longer than the longest time.
+    /// Sleeps until it is woken, or some time has passed. Where in this time no run began although
+    /// some are to begin, these come behind this one, or never, and nobody sleeps any more.
     fn sleep<R: Wait>(&mut self, rt: &R) {
         self.is_ready = false;
+        let begun = self.roster.begun.load(SeqCst);
+        let have_all = begun >= self.roster.states.len() as u64;
+        let most = if have_all { LONGEST } else { PATIENCE };
         self.roster.leave();
         if let Some(state) = self.roster.states.get(self.place as usize) {
-            state.park_timeout(rt, ASLEEP as u32, Duration::from_secs(LONGEST));
+            state.park_timeout(rt, ASLEEP as u32, Duration::from_millis(most));
+            let is_woken = state.load(SeqCst) == AWAKE;
+            if !is_woken && !have_all && self.roster.begun.load(SeqCst) == begun {
+                self.roster.wake_all();
+            }
         }
         self.roster.wake(self.place);
     }

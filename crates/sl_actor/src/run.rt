@@ -50,10 +50,9 @@ impl<A: Machine> Actor<A> {
 
     /// Rounds of one turn by each choice of the plan, until the log has grown by `steps` entries
     /// (`Spent`), or for `quiet` rounds in a row no turn did or moved anything (`Rested`). A run
-    /// that is refused for memory stands after the turns that it took. Before its first round it
-    /// waits a moment for the runs of the other actors to begin; between rounds in which nothing
-    /// moved it sleeps while others run, until a neighbour puts something on one of its links or
-    /// makes room.
+    /// that is refused for memory stands after the turns that it took. Between rounds in which
+    /// nothing moved it sleeps while others run or are to begin, until a neighbour puts something on
+    /// one of its links or makes room.
     pub fn run<R: Wait, G: Gate>(
         &mut self,
         rt: &R,

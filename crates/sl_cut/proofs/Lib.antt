@@ -1,1 +1,2 @@
 pub mod ForwardFindings
+pub mod Endings

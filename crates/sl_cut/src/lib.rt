@@ -1,11 +1,13 @@
-// The findings of a schedule, computed from whole histories, and the types of findings.
+// The findings of a schedule and how it ends, computed from whole histories, and the types of findings.
 #![tactic(auto)]
 
+mod ending;
 mod gather;
 mod judge;
 mod lost;
 mod values;
 
+pub use ending::{Ending, ending_of, endings_are_one};
 pub use gather::findings_of;
 pub use sl_model::{
     Cause, Counts, Drops, Finding, FindingList, Findings, Lag, Lost, Message, Put, Puts, Row,

@@ -48,7 +48,7 @@ fn rest_of(messages: &[Message], count: usize) -> &[Message]
 }
 
 /// The choice by which a link is taken.
-fn choice_of(net: &Net, link: u32) -> u32
+pub fn choice_of(net: &Net, link: u32) -> u32
     requires { link < length net.now.links }
     ensures { result ≡ choice_of net.now link }
 {

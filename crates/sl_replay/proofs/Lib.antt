@@ -4,3 +4,4 @@ pub mod ForwardLosses
 pub mod ForwardPuts
 pub mod Actions
 pub mod Observed
+pub mod LegalFront

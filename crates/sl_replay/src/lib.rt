@@ -19,8 +19,8 @@ mod wires;
 
 pub use counting::{bad, bytes, expired, noroute, packets};
 pub use history::{History, World};
-pub use knowledge::{floor, issued, resent, unit_floor};
+pub use knowledge::{can_issue, floor, issued, resent, unit_floor};
 pub use losses::{carried, without_lost};
-pub use schedule::follow;
-pub use tell::{id, last, put, stamp_taken, taken};
+pub use schedule::{follow, follow_legal};
+pub use tell::{id, known, last, put, stamp_taken, taken};
 pub use wires::{action_choice, data_channels, hosts};

@@ -3,3 +3,4 @@ pub mod RoutesText
 pub mod FaultText
 pub mod TraceText
 pub mod SummaryText
+pub mod Names

@@ -6,6 +6,7 @@ mod fault;
 mod findings;
 mod laws;
 mod lines;
+mod names;
 mod report;
 mod routes;
 mod summary;
@@ -14,6 +15,7 @@ mod units;
 
 pub use fault::fault_bytes;
 pub use laws::{legal_books_are_choices, traces_are_scripts};
+pub use names::nets_have_names;
 pub use report::report_bytes;
 pub use routes::routes_bytes;
 pub use summary::summary_bytes;

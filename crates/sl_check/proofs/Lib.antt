@@ -1,0 +1,9 @@
+pub mod Lists
+pub mod LineLemmas
+pub mod ScriptLemmas
+pub mod Printable
+pub mod Polled
+pub mod SettledPass
+pub mod ReportLines
+pub mod ClaimLemmas
+pub mod Answers

@@ -1,0 +1,6 @@
+pub mod Lines
+pub mod Claim
+pub mod Answer
+pub mod AnswerText
+pub mod Spellings
+pub mod Polled

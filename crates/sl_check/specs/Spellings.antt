@@ -1,0 +1,27 @@
+-- The spellings of the choices of a net.
+--     SpellsLines net       each is a line
+--     IsSpelled net s       a choice beside its spelling
+--     IsScript net text es  the text has the spellings of these turns, a line each
+use Rattle.std.specs.Prelude.{◌≡◌, ℕ, List, map}
+use Rattle.std.specs.List.{All}
+use Rattle.sl_layout.specs.Net.{Net}
+use Rattle.sl_net.specs.Spelling.{choice_text, HasChoice}
+use Rattle.sl_check.specs.declared.spellings.Spelled.{Spelled}
+use Rattle.sl_check.specs.Lines.{IsLine, lines_text}
+
+abbrev pub SpellsLines : Net → Type 0
+SpellsLines net = (a c : ℕ) → HasChoice net a c → IsLine (choice_text net a c)
+
+pub record IsSpelled (net : Net) (s : Spelled) : Type 0 where
+  pub choice : HasChoice net s.actor s.choice
+  pub text : s.text ≡ choice_text net s.actor s.choice
+
+abbrev pub IsTurn : Net → ℕ × ℕ → Type 0
+IsTurn net e = HasChoice net e.0 e.1
+
+abbrev pub script_text : Net → List (ℕ × ℕ) → List ℕ
+script_text net es = lines_text (map (λ e. choice_text net e.0 e.1) es)
+
+pub record IsScript (net : Net) (text : List ℕ) (es : List (ℕ × ℕ)) : Type 0 where
+  pub choices : All (IsTurn net) es
+  pub text_is : text ≡ script_text net es

@@ -1,0 +1,17 @@
+// A check of claims of runs: whether a trace is that of a whole legal run of an input, and a report
+// the report of this run.
+#![tactic(auto)]
+
+mod answer;
+mod claim;
+mod laws;
+mod lines;
+mod script;
+mod spellings;
+
+pub use answer::{CheckFault, Checked, answer_bytes};
+pub use claim::{Claim, read_claim};
+pub use laws::{
+    claims_have_one_answer, polled_units_are_known, printed_runs_are_right,
+    settled_worlds_are_idle, spellings_are_lines, worlds_finish_well,
+};

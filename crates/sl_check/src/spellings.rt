@@ -1,0 +1,124 @@
+// The choices of a net by their spellings.
+ghost use Rattle.std.specs.Prelude.{◌≡◌, ℕ, ◌<◌, OnOk, IfOk, IfSome, IfNone, length};
+ghost use Rattle.std.specs.List.{All};
+ghost use Rattle.sl_layout.specs.Net.{Net};
+ghost use Rattle.sl_net.specs.Spelling.{choice_text, HasChoice};
+ghost use Rattle.sl_check.specs.Spellings.{IsSpelled};
+
+use sl_machine::Memory;
+use sl_net::{Line, Net, choice_text};
+use std::alloc::Global;
+
+/// A choice with its spelling.
+#[derive(Drop)]
+pub struct Spelled {
+    pub text: Line,
+    pub actor: u32,
+    pub choice: u32,
+}
+
+fn add_choices(
+    alloc: Global,
+    net: &Net,
+    spelled: &mut Vec<Spelled>,
+    actor: u32,
+) -> Result<(), Memory>
+    requires { actor < length net.now.actors }
+    ensures { OnOk result (All (IsSpelled net.now) spelled.old.items → All (IsSpelled net.now) spelled.new.items) }
+{
+    for choice in 0..net.choice_count(actor) {
+        let text = choice_text(alloc, net, actor, choice)?;
+        spelled.push(Spelled {
+            text,
+            actor,
+            choice,
+        })?;
+    }
+    Ok(())
+}
+
+/// The choices of a net in the order of their spellings.
+pub fn all_spelled(alloc: Global, net: &Net) -> Result<Vec<Spelled>, Memory>
+    ensures { IfOk result (λ spelled. All (IsSpelled net.now) spelled.items) }
+{
+    let mut spelled = Vec::new(alloc);
+    for actor in 0..net.actors().len() as u32 {
+        add_choices(alloc, net, &mut spelled, actor)?;
+    }
+    spelled.sort_by(|a: &Spelled, b: &Spelled| {
+        a.text.items.as_slice().cmp(b.text.items.as_slice())
+    })?;
+    Ok(spelled)
+}
+
+/// The choice of an actor with this spelling.
+fn find_at(alloc: Global, net: &Net, actor: u32, text: &[u8]) -> Result<Option<u32>, Memory>
+    requires { actor < length net.now.actors }
+    ensures found { IfOk result (λ found. IfSome found (λ c. HasChoice net.now actor c)) }
+    ensures spelled { IfOk result (λ found. IfSome found (λ c. choice_text net.now actor c ≡ text.now)) }
+    ensures none { IfOk result (λ found. IfNone found ((c : ℕ) → HasChoice net.now actor c → ¬ (choice_text net.now actor c ≡ text.now))) }
+{
+    for choice in 0..net.choice_count(actor) {
+        let spelling = choice_text(alloc, net, actor, choice)?;
+        if spelling.items.as_slice() == text {
+            return Ok(Some(choice));
+        }
+    }
+    Ok(None)
+}
+
+/// The choice with this spelling, where the sorted list doesn't have it.
+fn find_slowly(alloc: Global, net: &Net, text: &[u8]) -> Result<Option<(u32, u32)>, Memory>
+    ensures found { IfOk result (λ found. IfSome found (λ e. HasChoice net.now e.0 e.1)) }
+    ensures spelled { IfOk result (λ found. IfSome found (λ e. choice_text net.now e.0 e.1 ≡ text.now)) }
+    ensures none { IfOk result (λ found. IfNone found ((a c : ℕ) → HasChoice net.now a c → ¬ (choice_text net.now a c ≡ text.now))) }
+{
+    for actor in 0..net.actors().len() as u32 {
+        if let Some(choice) = find_at(alloc, net, actor, text)? {
+            return Ok(Some((actor, choice)));
+        }
+    }
+    Ok(None)
+}
+
+/// Where the sorted list has a spelling.
+fn place_of(spelled: &[Spelled], text: &[u8]) -> Option<usize>
+    ensures { IfSome result (λ i. i < length spelled.now) }
+{
+    match spelled.binary_search_by(|s: &Spelled| s.text.items.as_slice().cmp(text)) {
+        Ok(place) => Some(place),
+        Err(_) => None,
+    }
+}
+
+/// The choice of the sorted list with this spelling.
+fn find_sorted(spelled: &[Spelled], text: &[u8]) -> Option<(u32, u32)>
+    ensures { IfSome result (λ e. (net : Net) → All (IsSpelled net) spelled.now → HasChoice net e.0 e.1 × (choice_text net e.0 e.1 ≡ text.now)) }
+{
+    let place = place_of(spelled, text)?;
+    let found = &spelled[place];
+    if found.text.items.as_slice() == text {
+        Some((found.actor, found.choice))
+    } else {
+        None
+    }
+}
+
+/// The choice with this spelling. The list is in the order of its spellings; where it weren't, the
+/// answer would be the same, and take longer.
+pub fn find_spelled(
+    alloc: Global,
+    net: &Net,
+    spelled: &[Spelled],
+    text: &[u8],
+) -> Result<Option<(u32, u32)>, Memory>
+    requires { All (IsSpelled net.now) spelled.now }
+    ensures found { IfOk result (λ found. IfSome found (λ e. HasChoice net.now e.0 e.1)) }
+    ensures spelled { IfOk result (λ found. IfSome found (λ e. choice_text net.now e.0 e.1 ≡ text.now)) }
+    ensures none { IfOk result (λ found. IfNone found ((a c : ℕ) → HasChoice net.now a c → ¬ (choice_text net.now a c ≡ text.now))) }
+{
+    match find_sorted(spelled, text) {
+        Some(entry) => Ok(Some(entry)),
+        None => find_slowly(alloc, net, text),
+    }
+}

@@ -4,6 +4,8 @@
 #[cfg(test)]
 mod call;
 #[cfg(test)]
+mod hostile;
+#[cfg(test)]
 mod meeting;
 #[cfg(test)]
 mod runs;

@@ -1,0 +1,3 @@
+pub mod Bad
+pub mod Erased
+pub mod Taken

@@ -1,0 +1,2 @@
+pub mod Forged
+pub mod Dropped

@@ -1,5 +1,7 @@
 // Sources and sinks: faults at each call in turn, and each constructor once.
-use sl_io::{MemorySink, MemorySource, ReadFault, StdSink, StdSource, read_all, write_all};
+use sl_io::{
+    MemorySink, MemorySource, ReadFault, Sink, Source, StdSink, StdSource, read_all, write_all,
+};
 use std::alloc::Global;
 use std::test::Fail;
 
@@ -107,5 +109,11 @@ fn standard_streams(rt: HostRuntime) -> Result<(), Fail> {
     assert_eq!(rt; sink.output.as_slice(), b"three".as_slice());
     assert!(rt; write_all(&mut StdSink::new(rt.stdout()), b"to standard output\n").is_ok());
     assert!(rt; write_all(&mut StdSink::new(rt.stderr()), b"to standard error\n").is_ok());
+    // The end of what is read is no fault, nor is a write of nothing.
+    let mut rest = [0; 4];
+    let mut ended = StdSource::new(&b""[..]);
+    assert_eq!(rt; (ended.read(&mut rest), ended.faults), (Ok(0), 0));
+    let mut written = StdSink::new(rt.stdout());
+    assert_eq!(rt; (written.write(b""), written.faults), (Ok(0), 0));
     Ok(())
 }

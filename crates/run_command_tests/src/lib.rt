@@ -9,3 +9,5 @@ mod hostile;
 mod meeting;
 #[cfg(test)]
 mod runs;
+#[cfg(test)]
+mod short;

@@ -1,13 +1,13 @@
 -- What the sums of units are: for each unit the steps that come before it is read.
-use Rattle.std.proofs.Common.{◌≡◌, ℕ, ◌+◌, ◌<◌, ◌≤◌, ◌⊎◌, List, [], ◌∷◌, ◌++◌, length, get_or, set, take, map, replicate, refl, sym, ap, subst, ◌∙◌, arith, inl, inr}
+use Rattle.std.proofs.Common.{◌≡◌, ℕ, ◌+◌, ◌<◌, ◌≤◌, ◌⊎◌, List, [], ◌∷◌, ◌++◌, length, get_or, set, map, replicate, refl, sym, ap, subst, ◌∙◌, arith, inl, inr}
 use Rattle.std.specs.Prelude.{Bool, true, false, cond, filter, ◌&&◌, nat_eq, nat_le, ◌==◌, if◌then◌else◌}
 use Rattle.std.proofs.lemmas.Bool.Decides.{eqb_tells, leb_tells}
-use Rattle.std.proofs.lemmas.List.{get_or-set_same, get_or-set_other, length-set, take_more, take_all, length-replicate, get_or-replicate}
+use Rattle.std.proofs.lemmas.List.{get_or-set_same, get_or-set_other, length-set, length-replicate, get_or-replicate}
 use Rattle.sl_parts.specs.Parts.{below}
 use Rattle.sl_layout.proofs.Grouping.{map_same}
 use Rattle.sl_poll.specs.declared.trail.Counted.{Counted}
 use Rattle.sl_poll.specs.declared.sums.Sum.{Sum}
-use Rattle.sl_poll.specs.Sums.{is_read, read_in, bytes_in, read_by, no_sum, sum_at, with_one, add_one, read_of_sum}
+use Rattle.sl_poll.specs.Sums.{is_read, read_in, bytes_in, read_by, no_sum, sum_at, with_one, add_one, read_of_sum, Summed}
 
 -- what a step counts for the unit at a place, up to an entry
 abbrev pub here : ℕ → (Counted → ℕ) → ℕ → Counted → ℕ
@@ -77,13 +77,7 @@ counted-bytes t i (c ∷ cs) = by_tests (c.unit == i) (nat_le c.entry t) (counte
     by_tests true false ih = omega (arith, ih)
     by_tests false d ih = omega (arith, ih)
 
--- The loop over all steps.
-
--- after the first steps, the sums of so many units
-pub record Summed (at : ℕ → ℕ) (cs : List Counted) (count : ℕ) (sums : List Sum) : Type 0 where
-  pub each : length sums ≡ count
-  pub packets : (i : ℕ) → i < count → (sum_at sums i).packets ≡ counted_for (at i) (λ c. 1) i cs
-  pub bytes : (i : ℕ) → i < count → (sum_at sums i).bytes ≡ counted_for (at i) (λ c. c.bytes) i cs
+-- The sums of so many units.
 
 pub summed_none : (at : ℕ → ℕ) (count : ℕ) (sums : List Sum) → sums ≡ replicate count no_sum → Summed at [] count sums
 summed_none at count sums q = record {
@@ -92,28 +86,16 @@ summed_none at count sums q = record {
   bytes = λ i h. ap (λ (s : Sum). s.bytes) (ap (λ xs. sum_at xs i) q ∙ get_or-replicate count i no_sum no_sum h);
 }
 
-pub summed_more : (at : ℕ → ℕ) (cs : List Counted) (count k : ℕ) (d : Counted) (sums new : List Sum) → k < length cs → Summed at (take k cs) count sums → new ≡ add_one at (get_or cs k d) sums → Summed at (take (k + 1) cs) count new
-summed_more at cs count k d sums new low s q = let c = get_or cs k d in record {
+pub summed_more : (at : ℕ → ℕ) (cs : List Counted) (count : ℕ) (c : Counted) (sums new : List Sum) → Summed at cs count sums → new ≡ add_one at c sums → Summed at (cs ++ c ∷ []) count new
+summed_more at cs count c sums new s q = record {
   each = ap length q ∙ sizes (λ c. 1) (λ (x : Sum). x.packets) (λ c x. refl) at c sums ∙ s.each;
   packets = λ i h. (let one = one-added (λ c. 1) (λ (x : Sum). x.packets) (λ c x. refl) at c sums i (omega (arith, h, s.each)) in
-      let more = ap (counted_for (at i) (λ c. 1) i) (take_more cs k d low) ∙ counted-append (at i) (λ c. 1) i (take k cs) (c ∷ []) in
-      omega (arith, ap (λ xs. (sum_at xs i).packets) q, one, s.packets i h, more));
+      omega (arith, ap (λ xs. (sum_at xs i).packets) q, one, s.packets i h, counted-length (at i) i cs, counted-length (at i) i (cs ++ c ∷ []), counted-append (at i) (λ c. 1) i cs (c ∷ [])));
   bytes = λ i h. (let one = one-added (λ c. c.bytes) (λ (x : Sum). x.bytes) (λ c x. refl) at c sums i (omega (arith, h, s.each)) in
-      let more = ap (counted_for (at i) (λ c. c.bytes) i) (take_more cs k d low) ∙ counted-append (at i) (λ c. c.bytes) i (take k cs) (c ∷ []) in
-      omega (arith, ap (λ xs. (sum_at xs i).bytes) q, one, s.bytes i h, more));
-}
-
-pub record Sums (at : ℕ → ℕ) (cs : List Counted) (count : ℕ) (sums : List Sum) : Type 0 where
-  pub packets : (i : ℕ) → i < count → (sum_at sums i).packets ≡ length (read_in at cs i)
-  pub bytes : (i : ℕ) → i < count → (sum_at sums i).bytes ≡ bytes_in (read_in at cs i)
-
-pub summed_all : (at : ℕ → ℕ) (cs : List Counted) (count k : ℕ) (sums : List Sum) → length cs ≤ k → Summed at (take k cs) count sums → Sums at cs count sums
-summed_all at cs count k sums h s = record {
-  packets = λ i l. s.packets i l ∙ ap (counted_for (at i) (λ c. 1) i) (take_all k cs h) ∙ counted-length (at i) i cs;
-  bytes = λ i l. s.bytes i l ∙ ap (counted_for (at i) (λ c. c.bytes) i) (take_all k cs h) ∙ counted-bytes (at i) i cs;
+      omega (arith, ap (λ xs. (sum_at xs i).bytes) q, one, s.bytes i h, counted-bytes (at i) i cs, counted-bytes (at i) i (cs ++ c ∷ []), counted-append (at i) (λ c. c.bytes) i cs (c ∷ [])));
 }
 
 -- what is read of the sums is what is read of the steps
-pub reads_same : (at : ℕ → ℕ) (cs : List Counted) (count : ℕ) (sums : List Sum) → Sums at cs count sums → map (read_of_sum at sums) (below count) ≡ map (read_by at cs) (below count)
+pub reads_same : (at : ℕ → ℕ) (cs : List Counted) (count : ℕ) (sums : List Sum) → Summed at cs count sums → map (read_of_sum at sums) (below count) ≡ map (read_by at cs) (below count)
 reads_same at cs count sums s = map_same (read_of_sum at sums) (read_by at cs) count
     (λ i h. (let p = s.packets i h in let b = s.bytes i h in λ j. record { unit = i; at = at i; packets = p j; bytes = b j }))

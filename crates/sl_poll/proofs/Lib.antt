@@ -2,6 +2,8 @@ pub mod Moves
 pub mod Pairs
 pub mod Cuts
 pub mod Added
+pub mod Heard
+pub mod Fronts
 pub mod Told
 pub mod Texts
 pub mod Feeds

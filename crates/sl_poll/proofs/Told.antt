@@ -145,25 +145,29 @@ one-place net ways a x unit q = go (actor_of net a) refl unit
     go (OfUnit i) k h = ways.one_unit a x i k q
     go (OfHost d) k h = absurd cc
 
-pub reads-are : (s : Setup) (lost : Losses) (es : List Entry) (begin gap : ℕ) → TakesTurns → HasWays s.net
-    → map (read_by (read_after (length es) begin gap) (all_counted s lost es)) (below (length (units s.net))) ≡ reads s lost es begin gap
-reads-are s lost es begin gap turns ways = map_same (read_by at (all_counted s lost es)) (read s lost es begin gap) (length (units s.net)) each
+-- the entries fs are those of the schedule, as far as units are read
+pub reads-are : (s : Setup) (lost : Losses) (es fs : List Entry) (begin gap : ℕ) → TakesTurns → HasWays s.net
+    → ((i : ℕ) → i < length (units s.net) → take (read_after (length es) begin gap i) fs ≡ take (read_after (length es) begin gap i) es)
+    → map (read_by (read_after (length es) begin gap) (all_counted s lost fs)) (below (length (units s.net))) ≡ reads s lost es begin gap
+reads-are s lost es fs begin gap turns ways front = map_same (read_by at (all_counted s lost fs)) (read s lost es begin gap) (length (units s.net)) each
   where
     at : ℕ → ℕ
     at = read_after (length es) begin gap
 
-    each : (i : ℕ) → i < length (units s.net) → read_by at (all_counted s lost es) i ≡ read s lost es begin gap i
+    each : (i : ℕ) → i < length (units s.net) → read_by at (all_counted s lost fs) i ≡ read s lost es begin gap i
     each i h =
         let a = get_or (units s.net) i 0 in
         let place = place-of s.net i h in
         let unit = is-unit s.net i h in
         let one : (x : ℕ) → unit_place s.net x ≡ unit_place s.net a → x ≡ a = λ x q. one-place s.net ways a x unit q in
-        let p : length (read_in at (all_counted s lost es) i) ≡ packets (history (world s lost (take (at i) es)) a) =
-        sym (counted-length (at i) i (all_counted s lost es)) ∙ sym (ap (λ j. counted_for (at i) (λ c. 1) j (all_counted s lost es)) place)
-        ∙ counts-are (λ c. 1) packets (λ o. unwrap_or (option_map (λ p. 1) o) 0) refl refl (λ step h. refl) (λ place n p. refl) s lost a one unit turns (at i) es in
-        let b : bytes_in (read_in at (all_counted s lost es) i) ≡ bytes (history (world s lost (take (at i) es)) a) =
-        sym (counted-bytes (at i) i (all_counted s lost es)) ∙ sym (ap (λ j. counted_for (at i) (λ c. c.bytes) j (all_counted s lost es)) place)
-        ∙ counts-are (λ c. c.bytes) bytes (λ o. unwrap_or (option_map (λ p. p.len) o) 0) refl refl (λ step h. refl) (λ place n p. refl) s lost a one unit turns (at i) es in
+        let p : length (read_in at (all_counted s lost fs) i) ≡ packets (history (world s lost (take (at i) es)) a) =
+        sym (counted-length (at i) i (all_counted s lost fs)) ∙ sym (ap (λ j. counted_for (at i) (λ c. 1) j (all_counted s lost fs)) place)
+        ∙ counts-are (λ c. 1) packets (λ o. unwrap_or (option_map (λ p. 1) o) 0) refl refl (λ step h. refl) (λ place n p. refl) s lost a one unit turns (at i) fs
+        ∙ ap (λ xs. packets (history (world s lost xs) a)) (front i h) in
+        let b : bytes_in (read_in at (all_counted s lost fs) i) ≡ bytes (history (world s lost (take (at i) es)) a) =
+        sym (counted-bytes (at i) i (all_counted s lost fs)) ∙ sym (ap (λ j. counted_for (at i) (λ c. c.bytes) j (all_counted s lost fs)) place)
+        ∙ counts-are (λ c. c.bytes) bytes (λ o. unwrap_or (option_map (λ p. p.len) o) 0) refl refl (λ step h. refl) (λ place n p. refl) s lost a one unit turns (at i) fs
+        ∙ ap (λ xs. bytes (history (world s lost xs) a)) (front i h) in
         λ j. record { unit = i; at = at i; packets = p j; bytes = b j }
 
 -- The same of a net and a list that are the run's.
@@ -171,12 +175,13 @@ reads-are s lost es begin gap turns ways = map_same (read_by at (all_counted s l
 abbrev by_steps : ℕ → ℕ → ℕ → Net → List Counted → List Read1
 by_steps begin gap count net cs = map (read_by (read_after count begin gap) cs) (below (length (units net)))
 
-pub reads-from : (s : Setup) (lost : Losses) (es : List Entry) (begin gap count : ℕ) (net : Net) (cs : List Counted) (rs : List Read1) → TakesTurns → HasWays net → s.net ≡ net → length es ≡ count → cs ≡ all_counted s lost es
+pub reads-from : (s : Setup) (lost : Losses) (es fs : List Entry) (begin gap count : ℕ) (net : Net) (cs : List Counted) (rs : List Read1) → TakesTurns → HasWays net → s.net ≡ net → length es ≡ count → cs ≡ all_counted s lost fs
+    → ((i : ℕ) → i < length (units s.net) → take (read_after (length es) begin gap i) fs ≡ take (read_after (length es) begin gap i) es)
     → rs ≡ map (read_by (read_after count begin gap) cs) (below (length (units net))) → rs ≡ reads s lost es begin gap
-reads-from s lost es begin gap count net cs rs turns ways n k q e = e ∙ ap (λ j. by_steps begin gap j net cs) (sym k) ∙ ap (λ j. by_steps begin gap (length es) j cs) (sym n)
-    ∙ ap (by_steps begin gap (length es) s.net) q ∙ reads-are s lost es begin gap turns (subst HasWays (sym n) ways)
+reads-from s lost es fs begin gap count net cs rs turns ways n k q front e = e ∙ ap (λ j. by_steps begin gap j net cs) (sym k) ∙ ap (λ j. by_steps begin gap (length es) j cs) (sym n)
+    ∙ ap (by_steps begin gap (length es) s.net) q ∙ reads-are s lost es fs begin gap turns (subst HasWays (sym n) ways) front
 
-pub broken-from : (s : Setup) (lost : Losses) (es : List Entry) (begin gap count : ℕ) (net : Net) (ps : List Pair) (o : Option Pair) → s.net ≡ net → length es ≡ count → ps ≡ pairs s lost es
-    → o ≡ find (breaks net count begin gap) ps → o ≡ broken_by s lost es begin gap
-broken-from s lost es begin gap count net ps o n k q e = e ∙ ap (λ j. find (breaks net j begin gap) ps) (sym k) ∙ ap (λ j. find (breaks j (length es) begin gap) ps) (sym n)
-    ∙ ap (find (breaks s.net (length es) begin gap)) q
+pub broken-from : (s : Setup) (lost : Losses) (es fs : List Entry) (begin gap count : ℕ) (net : Net) (ps : List Pair) (o : Option Pair) → s.net ≡ net → length es ≡ count → ps ≡ pairs s lost fs
+    → find (breaks s.net (length es) begin gap) (pairs s lost fs) ≡ broken_by s lost es begin gap → o ≡ find (breaks net count begin gap) ps → o ≡ broken_by s lost es begin gap
+broken-from s lost es fs begin gap count net ps o n k q front e = e ∙ ap (λ j. find (breaks net j begin gap) ps) (sym k) ∙ ap (λ j. find (breaks j (length es) begin gap) ps) (sym n)
+    ∙ ap (find (breaks s.net (length es) begin gap)) q ∙ front

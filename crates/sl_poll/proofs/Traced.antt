@@ -75,6 +75,13 @@ traced_first i es lanes feeds ps cs turns legal l f p c = record {
   counted = ap (λ r. r ++ all_counted (setup_of i) (losses i) es) c;
 }
 
+-- the same of a listener who was told what the others tell
+pub record Walked {L : Type 0} (heard : Net → L → L → List Pair → List Counted → Type 0) (first now : L) (i : Input) (es : List Entry) (index : ℕ) (lanes : List Lane) (feeds : List Feed) : Type 0 where
+  pub told : List Pair
+  pub counts : List Counted
+  pub traced : Traced i es index lanes feeds told counts
+  pub hears : heard i.net first now told counts
+
 -- The next entry.
 
 module _ (i : Input) (es : List Entry) (k : ℕ) (lanes : List Lane) (feeds : List Feed) (ps : List Pair) (cs : List Counted) (t : Traced i es k lanes feeds ps cs) (d : Entry) (low : k < length es) where

@@ -1,7 +1,9 @@
 pub mod Trail
 pub mod Reading
 pub mod DataCut
+pub mod Hearing
 pub mod Lanes
 pub mod Ways
 pub mod Sums
+pub mod HasRead
 pub mod PollText

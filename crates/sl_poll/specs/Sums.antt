@@ -1,6 +1,6 @@
 -- What units counted until they were read, told by the steps that count. The unit at a place is read after `at place` entries.
 --     read_in at cs place     those of these steps that are the unit's and come before it is read
-use Rattle.std.specs.Prelude.{ℕ, ◌+◌, Bool, ◌&&◌, List, length, filter, nat_le, ◌==◌, if◌then◌else◌, slice_set, slice_index_or}
+use Rattle.std.specs.Prelude.{◌≡◌, ℕ, ◌+◌, ◌<◌, Bool, ◌&&◌, List, length, filter, nat_le, ◌==◌, if◌then◌else◌, slice_set, slice_index_or}
 use Rattle.sl_model.specs.Words.{weigh}
 use Rattle.sl_poll.specs.declared.trail.Counted.{Counted}
 use Rattle.sl_poll.specs.declared.reading.Read1.{Read1}
@@ -35,3 +35,9 @@ add_one at c sums = if nat_le c.entry (at c.unit) then slice_set sums c.unit (wi
 
 abbrev pub read_of_sum : (ℕ → ℕ) → List Sum → ℕ → Read1
 read_of_sum at sums place = record { unit = place; at = at place; packets = (sum_at sums place).packets; bytes = (sum_at sums place).bytes }
+
+-- the sums of so many units are what these steps count for them
+pub record Summed (at : ℕ → ℕ) (cs : List Counted) (count : ℕ) (sums : List Sum) : Type 0 where
+  pub each : length sums ≡ count
+  pub packets : (i : ℕ) → i < count → (sum_at sums i).packets ≡ length (read_in at cs i)
+  pub bytes : (i : ℕ) → i < count → (sum_at sums i).bytes ≡ bytes_in (read_in at cs i)

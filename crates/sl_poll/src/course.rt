@@ -3,10 +3,11 @@ ghost use Rattle.std.specs.Prelude.{◌≡◌, ◌<◌, ◌∷◌, ◌++◌, [],
 ghost use Rattle.std.specs.List.{All};
 ghost use Rattle.sl_parts.specs.Parts.{below};
 ghost use Rattle.sl_flow.specs.Flow.{HasAddresses};
-ghost use Rattle.sl_layout.specs.Net.{links_into, is_unit};
+ghost use Rattle.sl_layout.specs.Net.{Net as NetData, links_into, is_unit};
 ghost use Rattle.sl_route.specs.Routes.{IsRoutesOf};
 ghost use Rattle.sl_model.specs.Losses.{loss_on};
 ghost use Rattle.sl_model.specs.Setup.{setup_of};
+ghost use Rattle.sl_poll.specs.Hearing.{Hears};
 ghost use Rattle.sl_poll.specs.Lanes.{put_each, AreFew};
 ghost use Rattle.sl_poll.specs.Trail.{count_of};
 ghost use Rattle.sl_poll.specs.Ways.{leads, links_by, send_by, first_mark, rest_of, packet_on, paired, counts, injected};
@@ -15,7 +16,8 @@ ghost use Rattle.sl_poll.specs.Ways.{lanes_after, feeds_after, pairs_told, count
 
 use crate::feed::{Feed, list_feeds};
 use crate::lane::{Lane, Mark};
-use crate::trail::{Counted, Pair, Trail};
+use crate::listener::Listener;
+use crate::trail::{Counted, Pair};
 use crate::way::{Sends, Way, bears, is_data, leads, sends_of};
 use sl_input::loss_on;
 use sl_machine::Memory;
@@ -136,14 +138,16 @@ fn packet_on(mark: Option<Mark>) -> Option<Packet>
     mark?.packet
 }
 
-fn add_pair(
-    pairs: &mut Vec<Pair>,
+fn tell_pair<L: Listener>(
+    listener: &mut L,
+    net: &Net,
     data_channel: bool,
     link: u32,
     entry: u64,
     mark: Option<Mark>,
 ) -> Result<(), Memory>
-    ensures { OnOk result (pairs.new.items ≡ pairs.old.items ++ paired data_channel link entry mark) }
+    requires { link < length net.now.links }
+    ensures { OnOk result (Hears L.heard net.now listener.old listener.new (paired data_channel link entry mark) []) }
 {
     let Some(mark) = mark else {
         return Ok(());
@@ -154,7 +158,7 @@ fn add_pair(
             put: mark.put,
             take: entry,
         };
-        pairs.push(pair)?;
+        listener.hear_pair(net, pair)?;
     }
     Ok(())
 }
@@ -165,16 +169,16 @@ fn is_unit(actor: ActorId) -> bool
     matches!(actor, ActorId::Unit(_))
 }
 
-fn add_count(
-    counted: &mut Vec<Counted>,
+fn tell_count<L: Listener>(
+    listener: &mut L,
     unit: u32,
     entry: u64,
     packet: Option<Packet>,
 ) -> Result<(), Memory>
-    ensures { OnOk result (counted.new.items ≡ counted.old.items ++ count_of unit entry packet) }
+    ensures { (net : NetData) → OnOk result (Hears L.heard net listener.old listener.new [] (count_of unit entry packet)) }
 {
     if let Some(packet) = packet {
-        counted.push(Counted {
+        listener.hear_count(Counted {
             unit,
             entry,
             bytes: packet.len as u64,
@@ -183,26 +187,26 @@ fn add_count(
     Ok(())
 }
 
-fn add_counts(
-    counted: &mut Vec<Counted>,
+fn tell_counts<L: Listener>(
+    listener: &mut L,
     net: &Net,
     actor: u32,
     entry: u64,
     packet: Option<Packet>,
 ) -> Result<(), Memory>
     requires { actor < length net.now.actors }
-    ensures { OnOk result (counted.new.items ≡ counted.old.items ++ counts net.now actor entry packet) }
+    ensures { OnOk result (Hears L.heard net.now listener.old listener.new [] (counts net.now actor entry packet)) }
 {
     if is_unit(net.actor(actor)) {
-        add_count(counted, net.unit_place(actor), entry, packet)?;
+        tell_count(listener, net.unit_place(actor), entry, packet)?;
     }
     Ok(())
 }
 
 /// An entry that takes a message from a link.
-fn follow_take(
+fn follow_take<L: Listener>(
     course: &mut Course,
-    trail: &mut Trail,
+    listener: &mut L,
     net: &Net,
     routes: &Routes,
     entry: u64,
@@ -218,14 +222,14 @@ fn follow_take(
     ensures feeds { OnOk result (course.new.feeds.items ≡ course.old.feeds.items) }
     ensures few { OnOk result (AreFew course.new.lanes.items) }
     ensures each { OnOk result (length course.new.lanes.items ≡ length net.now.links) }
-    ensures pairs { OnOk result (trail.new.pairs ≡ trail.old.pairs ++ pairs_told net.now entry (Some link) course.old.lanes.items) }
-    ensures counted { OnOk result (trail.new.counted ≡ trail.old.counted ++ counts_told net.now entry actor (Some link) course.old.lanes.items) }
+    ensures heard { let lanes = course.old.lanes.items in
+        OnOk result (Hears L.heard net.now listener.old listener.new (pairs_told net.now entry (Some link) lanes) (counts_told net.now entry actor (Some link) lanes)) }
 {
     let sort = net.link(link).sort;
     let mark = take_first(&mut course.lanes, link, bears(sort));
     let packet = packet_on(mark);
-    add_pair(&mut trail.pairs.items, is_data(sort), link, entry, mark)?;
-    add_counts(&mut trail.counted.items, net, actor, entry, packet)?;
+    tell_pair(listener, net, is_data(sort), link, entry, mark)?;
+    tell_counts(listener, net, actor, entry, packet)?;
     let sends = sends_of(net, routes, actor, link, packet);
     send(&mut course.lanes, net, entry, actor, sends)
 }
@@ -258,10 +262,10 @@ fn follow_action(course: &mut Course, net: &Net, entry: u64, actor: u32) -> Resu
     send(&mut course.lanes, net, entry, actor, injected(frame))
 }
 
-/// Follows a run by one entry, whose number is from 1, and notes what it tells.
-pub fn follow(
+/// Follows a run by one entry, whose number is from 1, and tells what it does with data packets.
+pub fn follow<L: Listener>(
     course: &mut Course,
-    trail: &mut Trail,
+    listener: &mut L,
     net: &Net,
     routes: &Routes,
     entry: u64,
@@ -279,13 +283,12 @@ pub fn follow(
         OnOk result (course.new.feeds.items ≡ feeds_after actor link course.old.feeds.items) }
     ensures few { OnOk result (AreFew course.new.lanes.items) }
     ensures each { OnOk result (length course.new.lanes.items ≡ length net.now.links) }
-    ensures pairs { let link = slice_get (links_into net.now actor) choice in
-        OnOk result (trail.new.pairs ≡ trail.old.pairs ++ pairs_told net.now entry link course.old.lanes.items) }
-    ensures counted { let link = slice_get (links_into net.now actor) choice in
-        OnOk result (trail.new.counted ≡ trail.old.counted ++ counts_told net.now entry actor link course.old.lanes.items) }
+    ensures heard { let lanes = course.old.lanes.items in
+        let link = slice_get (links_into net.now actor) choice in
+        OnOk result (Hears L.heard net.now listener.old listener.new (pairs_told net.now entry link lanes) (counts_told net.now entry actor link lanes)) }
 {
     match net.links_into(actor).get(choice as usize) {
-        Some(link) => follow_take(course, trail, net, routes, entry, actor, *link),
+        Some(link) => follow_take(course, listener, net, routes, entry, actor, *link),
         None => {
             follow_action(course, net, entry, actor)?;
             Ok(())

@@ -7,12 +7,14 @@ mod feed;
 mod lane;
 mod laws;
 mod listed;
+mod listener;
 mod poll;
 mod reading;
 mod run;
 mod sums;
 mod text;
 mod trail;
+mod walk;
 mod way;
 
 pub use laws::{broken_readings_are_no_cut, whole_readings_are_cuts};

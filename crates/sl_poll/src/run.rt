@@ -1,5 +1,5 @@
 // The trail of a run and the reading of it, from the schedule alone.
-ghost use Rattle.std.specs.Prelude.{◌≡◌, ◌<◌, [], IfOk, IfSome, length};
+ghost use Rattle.std.specs.Prelude.{◌≡◌, ◌<◌, ◌≤◌, [], IfOk, IfSome, length, take};
 ghost use Rattle.std.specs.List.{All};
 ghost use Rattle.sl_flow.specs.Flow.{HasAddresses};
 ghost use Rattle.sl_model.specs.Losses.{losses};
@@ -8,16 +8,15 @@ ghost use Rattle.sl_model.specs.World.{IsLegal};
 ghost use Rattle.sl_poll.specs.Trail.{pairs, all_counted};
 ghost use Rattle.sl_poll.specs.Reading.{reads, broken_by};
 
-use crate::course::{first_course, follow};
 use crate::listed::Listed;
-use crate::poll::reading_of;
+use crate::poll::Polling;
 use crate::reading::Polled;
+use crate::sums::{Pace, last_read};
 use crate::trail::Trail;
-use sl_input::losses_answer_in_order;
+use crate::walk::walk;
 use sl_machine::Memory;
 use sl_model::worlds_take_turns;
-use sl_net::{Input, nets_are_wired};
-use sl_route::Routes;
+use sl_net::{Input, nets_have_ways};
 use std::alloc::Global;
 
 fn no_trail(alloc: Global) -> Trail
@@ -41,32 +40,21 @@ pub fn trail_of(alloc: Global, input: &Input, schedule: &[(u32, u32)]) -> Result
     ensures pairs { IfOk result (λ t. t.pairs ≡ pairs (setup_of input.now) (losses input.now) schedule.now) }
     ensures counted { IfOk result (λ t. t.counted ≡ all_counted (setup_of input.now) (losses input.now) schedule.now) }
 {
-    worlds_take_turns();
-    losses_answer_in_order();
-    nets_are_wired();
-    let net = &input.net;
-    let _parts = net.parts();
-    let routes = Routes::make(alloc, net)?;
-    let mut course = first_course(alloc, input)?;
     let mut trail = no_trail(alloc);
-    let mut entry = 0;
-    for (actor, choice) in schedule {
-        entry += 1;
-        follow(
-            &mut course,
-            &mut trail,
-            net,
-            &routes,
-            entry,
-            *actor,
-            *choice,
-        )?;
-    }
+    walk(alloc, input, schedule, &mut trail)?;
     Ok(trail)
 }
 
+fn first_entries(schedule: &[(u32, u32)], count: u64) -> &[(u32, u32)]
+    requires { count ≤ length schedule.now }
+    ensures { result.now ≡ take count schedule.now }
+{
+    &schedule[..count as usize]
+}
+
 /// The reading of the run of a legal schedule: the first unit is read after `start` entries, and
-/// each further one after `gap` more, or after all.
+/// each further one after `gap` more, or after all. The entries after the last reading are not looked
+/// at, and no trail is kept.
 pub fn poll_of(
     alloc: Global,
     input: &Input,
@@ -80,8 +68,14 @@ pub fn poll_of(
     ensures broken { IfOk result (λ polled. polled.broken ≡ broken_by (setup_of input.now) (losses input.now) schedule.now start gap) }
     ensures link { IfOk result (λ polled. IfSome polled.broken (λ p. p.link < length input.now.net.links)) }
 {
-    let trail = trail_of(alloc, input, schedule)?;
+    worlds_take_turns();
+    nets_have_ways();
     let count = schedule.len() as u64;
-    let polled = reading_of(alloc, &input.net, &trail, count, start, gap)?;
+    let pace = Pace { count, start, gap };
+    let last = last_read(&input.net, pace);
+    let read = first_entries(schedule, last);
+    let mut polling = Polling::new(alloc, &input.net, pace)?;
+    walk(alloc, input, read, &mut polling)?;
+    let polled = polling.finish(alloc, &input.net)?;
     Ok(polled)
 }

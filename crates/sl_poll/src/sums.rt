@@ -1,9 +1,9 @@
 // What units counted until they were read.
-ghost use Rattle.std.specs.Prelude.{ℕ, ◌≡◌, ◌<◌, IfOk, OnOk, length, map};
+ghost use Rattle.std.specs.Prelude.{◌≡◌, ◌≤◌, IfOk, OnOk, length, map, replicate};
 ghost use Rattle.sl_parts.specs.Parts.{below};
 ghost use Rattle.sl_layout.specs.Net.{units};
 ghost use Rattle.sl_poll.specs.Reading.{read_after};
-ghost use Rattle.sl_poll.specs.Sums.{sum_at, with_one, add_one, read_in, bytes_in, read_by, read_of_sum};
+ghost use Rattle.sl_poll.specs.Sums.{no_sum, with_one, add_one, read_of_sum};
 
 use crate::reading::Read1;
 use crate::trail::Counted;
@@ -22,9 +22,9 @@ pub struct Pace {
 
 /// The data packets that a unit counted so far, and their bytes.
 #[derive(Clone, Copy)]
-struct Sum {
-    packets: u64,
-    bytes: u64,
+pub struct Sum {
+    pub packets: u64,
+    pub bytes: u64,
 }
 
 /// After how many entries the unit at a place is read.
@@ -48,7 +48,7 @@ fn with_one(sum: Sum, counted: Counted) -> Result<Sum, Memory>
 }
 
 /// Adds a step to the sum of its unit, where it comes before this is read.
-fn add_one(sums: &mut Vec<Sum>, pace: Pace, counted: Counted) -> Result<(), Memory>
+pub fn add_one(sums: &mut Vec<Sum>, pace: Pace, counted: Counted) -> Result<(), Memory>
     ensures { OnOk result (sums.new.items ≡ add_one (read_after pace.count pace.start pace.gap) counted sums.old.items) }
 {
     let place = counted.unit as usize;
@@ -58,22 +58,15 @@ fn add_one(sums: &mut Vec<Sum>, pace: Pace, counted: Counted) -> Result<(), Memo
     Ok(())
 }
 
-/// The sums of all units.
-fn add_all(alloc: Global, pace: Pace, counted: &[Counted], count: u32) -> Result<Vec<Sum>, Memory>
-    ensures packets { let at = read_after pace.count pace.start pace.gap in
-        IfOk result (λ sums. (i : ℕ) → i < count → (sum_at sums.items i).packets ≡ length (read_in at counted.now i)) }
-    ensures bytes { let at = read_after pace.count pace.start pace.gap in
-        IfOk result (λ sums. (i : ℕ) → i < count → (sum_at sums.items i).bytes ≡ bytes_in (read_in at counted.now i)) }
+/// The sums of so many units of which nothing was counted.
+pub fn no_sums(alloc: Global, count: u32) -> Result<Vec<Sum>, Memory>
+    ensures { IfOk result (λ sums. sums.items ≡ replicate count no_sum) }
 {
     let none = Sum {
         packets: 0,
         bytes: 0,
     };
-    let mut sums = vec![in alloc; none; count as usize]?;
-    for one in counted {
-        add_one(&mut sums, pace, *one)?;
-    }
-    Ok(sums)
+    Ok(vec![in alloc; none; count as usize]?)
 }
 
 fn read_of_sum(pace: Pace, sums: &[Sum], place: u32) -> Read1
@@ -96,7 +89,13 @@ fn read_of_sum(pace: Pace, sums: &[Sum], place: u32) -> Read1
     }
 }
 
-fn list_reads(alloc: Global, pace: Pace, sums: &[Sum], count: u32) -> Result<Vec<Read1>, AllocError>
+/// What is read of so many units.
+pub fn list_reads(
+    alloc: Global,
+    pace: Pace,
+    sums: &[Sum],
+    count: u32,
+) -> Result<Vec<Read1>, AllocError>
     ensures { IfOk result (λ reads. reads.items ≡ map (read_of_sum (read_after pace.count pace.start pace.gap) sums.now) (below count)) }
 {
     let mut reads = Vec::new(alloc);
@@ -106,23 +105,18 @@ fn list_reads(alloc: Global, pace: Pace, sums: &[Sum], count: u32) -> Result<Vec
     Ok(reads)
 }
 
-fn unit_count(net: &Net) -> u32
+/// How many units a net has.
+pub fn unit_count(net: &Net) -> u32
     ensures { result ≡ length (units net.now) }
 {
     let _actors = net.actors();
     net.unit_actors().len() as u32
 }
 
-/// What was read of each unit.
-pub fn reads_of(
-    alloc: Global,
-    net: &Net,
-    pace: Pace,
-    counted: &[Counted],
-) -> Result<Vec<Read1>, Memory>
-    ensures { IfOk result (λ reads. reads.items ≡ map (read_by (read_after pace.count pace.start pace.gap) counted.now) (below (length (units net.now)))) }
+/// After how many entries all units are read.
+pub fn last_read(net: &Net, pace: Pace) -> u64
+    ensures last { result ≡ read_after pace.count pace.start pace.gap (length (units net.now)) }
+    ensures within { result ≤ pace.count }
 {
-    let count = unit_count(net);
-    let sums = add_all(alloc, pace, counted, count)?;
-    Ok(list_reads(alloc, pace, sums.as_slice(), count)?)
+    read_after(pace, unit_count(net))
 }

@@ -12,12 +12,12 @@ ghost use Rattle.sl_model.specs.World.{Entry, IsLossTable, world, kept_from};
 ghost use Rattle.sl_model.specs.End.{AllTaken, KnowsAll, Settled, IsFinished};
 ghost use Rattle.sl_model.specs.Schedule.{settling_pass};
 ghost use Rattle.sl_check.specs.Spellings.{SpellsLines};
-ghost use Rattle.sl_cut.specs.Ending.{HasEnding};
+ghost use Rattle.sl_ending.specs.Ending.{HasEnding};
 ghost use Rattle.sl_check.specs.Polled.{all_polled, ends_well};
 ghost use Rattle.sl_check.specs.Answer.{IsAnswer, IsChecked, IsInputText, stream_of};
 
 use crate::answer::Checked;
-use sl_cut::{Ending, endings_are_one};
+use sl_ending::{Ending, endings_are_one};
 use sl_model::{dones_tell_dumps, known_steps_are_made, links_pass_messages, worlds_are_runs};
 use sl_net::{Input, Net, nets_are_wired, one_spelling};
 use sl_report::{legal_books_are_choices, nets_have_names};

@@ -1,2 +1,2 @@
 pub mod ForwardFindings
-pub mod Endings
+pub mod Sent

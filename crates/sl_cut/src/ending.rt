@@ -1,16 +1,17 @@
 // How a schedule ends, by whole histories.
-ghost use Rattle.std.specs.Prelude.{◌≡◌, ◌<◌, ◌≤◌, ◌+◌, ℕ, List, IfOk, length, count_by, ◌==◌};
+ghost use Rattle.std.specs.Prelude.{◌≡◌, ◌<◌, ◌≤◌, IfOk, length, count_by, ◌==◌};
 ghost use Rattle.std.specs.Bool.{Decides};
 ghost use Rattle.std.specs.List.{All};
 ghost use Rattle.sl_flow.specs.Flow.{HasAddresses};
-ghost use Rattle.sl_model.specs.History.{Losses};
 ghost use Rattle.sl_model.specs.Losses.{losses};
-ghost use Rattle.sl_model.specs.Setup.{Setup, setup_of, frames_of};
-ghost use Rattle.sl_model.specs.World.{Entry, receiver, carried, taken_by};
+ghost use Rattle.sl_model.specs.Setup.{setup_of, frames_of};
+ghost use Rattle.sl_model.specs.World.{receiver, carried, taken_by};
 ghost use Rattle.sl_model.specs.End.{AllTaken, AllSent, KnowsAll, IsFinished, is_collected};
-ghost use Rattle.sl_cut.specs.Ending.{HasEnding, HasSent};
+ghost use Rattle.sl_ending.specs.Ending.{HasEnding};
+ghost use Rattle.sl_cut.specs.Sent.{HasSent};
 
 use crate::values::choice_of;
+use sl_ending::Ending;
 use sl_flow::packets_of;
 use sl_machine::Memory;
 use sl_net::{ActorId, Input, Net, RawPart};
@@ -18,17 +19,6 @@ use sl_replay::{
     World, action_choice, can_issue, carried, floor, follow_legal, issued, known, resent, taken,
 };
 use std::alloc::Global;
-
-/// How a schedule ends.
-#[derive(Clone, Copy, Debug, PartialEq, Eq)]
-pub enum Ending {
-    /// An entry is idle; the number of the first one, from 1.
-    Idle(u64),
-    /// No entry is idle, and the world that the schedule reaches isn't finished.
-    Unfinished,
-    /// No entry is idle, and the world is finished.
-    Finished,
-}
 
 /// Whether all messages that a link carried were taken.
 fn is_taken(alloc: Global, input: &Input, world: &World, link: u32) -> Result<bool, Memory>
@@ -148,8 +138,3 @@ pub fn ending_of(alloc: Global, input: &Input, schedule: &[(u32, u32)]) -> Resul
         Ending::Unfinished
     })
 }
-
-/// A schedule has one ending.
-pub fn endings_are_one()
-    ensures { (s : Setup) (lost : Losses) (es : List Entry) (a b : Ending) → HasEnding s lost es a → HasEnding s lost es b → a ≡ b }
-{}

@@ -8,8 +8,9 @@ mod judge;
 mod lost;
 mod values;
 
-pub use ending::{Ending, ending_of, endings_are_one};
+pub use ending::ending_of;
 pub use gather::findings_of;
+pub use sl_ending::{Ending, endings_are_one};
 pub use sl_model::{
     Cause, Counts, Drops, Finding, FindingList, Findings, Lag, Lost, Message, Put, Puts, Row,
     Rows1, Step, Verdict,

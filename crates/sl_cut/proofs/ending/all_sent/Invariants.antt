@@ -1,6 +1,6 @@
 use Rattle.std.proofs.Common.{ℕ, ◌<◌}
 use Rattle.sl_model.specs.Setup.{setup_of}
-use Rattle.sl_cut.specs.Ending.{HasSent}
+use Rattle.sl_cut.specs.Sent.{HasSent}
 use Rattle.sl_cut.proofs.ending.all_sent.Given as goal
 
 abbrev pub invariant-loop-actor : goal.invariant-loop-actor

@@ -1,6 +1,6 @@
 use Rattle.sl_model.specs.Setup.{setup_of}
 use Rattle.std.proofs.Common.{rules, arith}
-use Rattle.sl_cut.proofs.Endings.{frames_counted}
+use Rattle.sl_cut.proofs.Sent.{frames_counted}
 use Rattle.sl_cut.proofs.ending.frame_count.Goals as goal
 
 pub returns : goal.returns

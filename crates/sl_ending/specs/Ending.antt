@@ -1,15 +1,13 @@
 -- How a schedule ends.
 --     IsFirstIdle s lost es n     its n-th entry, n from 1, is idle, and none before it
 --     HasEnding s lost es e       it has an idle entry, or it is legal and its world is finished or not
-use Rattle.std.specs.Prelude.{◌≡◌, ℕ, suc, List, ◌∷◌, ◌++◌, length, Some, None, slice_get}
-use Rattle.sl_layout.specs.declared.actor.ActorId.TheVariants.{Host as OfHost}
-use Rattle.sl_layout.specs.Net.{action_choice}
-use Rattle.sl_model.specs.History.{World, Losses, history, taken}
-use Rattle.sl_model.specs.Setup.{Setup, frames_of}
+use Rattle.std.specs.Prelude.{◌≡◌, ℕ, suc, List, ◌∷◌, ◌++◌, length, None}
+use Rattle.sl_model.specs.History.{Losses}
+use Rattle.sl_model.specs.Setup.{Setup}
 use Rattle.sl_model.specs.World.{Entry, next_step, world, IsLegal}
 use Rattle.sl_model.specs.End.{IsFinished}
-use Rattle.sl_cut.specs.declared.ending.Ending.{Ending}
-use Rattle.sl_cut.specs.declared.ending.Ending.TheVariants.{Idle, Unfinished, Finished}
+use Rattle.sl_ending.specs.declared.ending.Ending.{Ending}
+use Rattle.sl_ending.specs.declared.ending.Ending.TheVariants.{Idle, Unfinished, Finished}
 
 pub record IsFirstIdle (s : Setup) (lost : Losses) (es : List Entry) (n : ℕ) : Type 0 where
   pub before : List Entry
@@ -24,7 +22,3 @@ abbrev pub HasEnding : Setup → Losses → List Entry → Ending → Type 0
 HasEnding s lost es (Idle n) = IsFirstIdle s lost es n
 HasEnding s lost es Unfinished = IsLegal s lost es × (IsFinished s lost (world s lost es) → ⊥)
 HasEnding s lost es Finished = IsLegal s lost es × IsFinished s lost (world s lost es)
-
--- the actor is no host, or it has put all its frames
-abbrev pub HasSent : Setup → World → ℕ → Type 0
-HasSent s w a = (h : ℕ) → slice_get s.net.actors a ≡ Some (OfHost h) → taken (action_choice s.net a) (history w a) ≡ length (frames_of s h)

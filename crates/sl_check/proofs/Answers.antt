@@ -1,6 +1,6 @@
 -- A claim has one answer, and what is printed of a finished run is right.
 use Rattle.std.proofs.Common.{◌≡◌, ℕ, ◌≤◌, List, [], ◌∷◌, ◌++◌, map, length, refl, sym, ap, subst, ◌∙◌}
-use Rattle.std.specs.Prelude.{Ok, codes, decimal, flat_map}
+use Rattle.std.specs.Prelude.{Ok, flat_map}
 use Rattle.std.specs.List.{All}
 use Rattle.std.proofs.lemmas.List.{length-map}
 use Rattle.std.proofs.lemmas.List.Elements.{All-nil, All-cons, All-head, All-tail}
@@ -13,7 +13,7 @@ use Rattle.sl_read.specs.Inputs.{input_of}
 use Rattle.sl_model.specs.History.{Losses}
 use Rattle.sl_model.specs.Losses.{losses}
 use Rattle.sl_model.specs.Setup.{Setup, setup_of}
-use Rattle.sl_model.specs.World.{Entry, IsLegal}
+use Rattle.sl_model.specs.World.{Entry}
 use Rattle.sl_model.specs.Books.{schedule_of}
 use Rattle.sl_model.specs.Findings.{findings}
 use Rattle.sl_report.specs.Names.{HasNames}
@@ -24,7 +24,7 @@ use Rattle.sl_ending.specs.Ending.{HasEnding}
 use Rattle.sl_check.specs.declared.answer.Checked.{Checked}
 use Rattle.sl_check.specs.declared.answer.Checked.TheVariants.{Yes, NoTrace, NoLegal, NoFinished, NoReport}
 use Rattle.sl_check.specs.Spellings.{SpellsLines}
-use Rattle.sl_check.specs.Claim.{unnumbered, schedule_text, IsTrace, IsClaim}
+use Rattle.sl_check.specs.Claim.{unnumbered, schedule_text}
 use Rattle.sl_check.specs.Answer.{report_of, Claims, IsAnswer, IsChecked, IsInputText, stream_of}
 use Rattle.sl_check.proofs.ClaimLemmas.{one_claim}
 use Rattle.sl_check.proofs.ReportLines.{report_parts}

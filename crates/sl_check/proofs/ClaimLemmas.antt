@@ -1,16 +1,14 @@
 -- The trace of a schedule as lines, and claims.
-use Rattle.std.proofs.Common.{◌≡◌, ℕ, suc, ◌+◌, List, [], ◌∷◌, ◌++◌, map, length, take, length-append, refl, sym, ap, subst, ◌∙◌, append_assoc}
+use Rattle.std.proofs.Common.{◌≡◌, ℕ, ◌+◌, List, [], ◌∷◌, ◌++◌, map, length, take, length-append, refl, sym, ap, subst, ◌∙◌, append_assoc}
 use Rattle.std.specs.Prelude.{codes, decimal, flat_map}
-use Rattle.std.specs.List.{All}
 use Rattle.std.proofs.lemmas.List.{length-map}
 use Rattle.std.proofs.Math.Seq.{take-append_seam}
-use Rattle.sl_parts.specs.Lists.{Each}
 use Rattle.sl_layout.specs.Net.{Net}
-use Rattle.sl_net.specs.Spelling.{choice_text, HasChoice}
+use Rattle.sl_net.specs.Spelling.{choice_text}
 use Rattle.sl_net.specs.Spelled.{HasOneSpelling}
 use Rattle.sl_model.specs.World.{Entry}
-use Rattle.sl_report.specs.TraceText.{count_line, entry_line, trace_text}
-use Rattle.sl_check.specs.Lines.{IsLine, lines_text, PartsAt}
+use Rattle.sl_report.specs.TraceText.{count_line, entry_line}
+use Rattle.sl_check.specs.Lines.{IsLine, PartsAt}
 use Rattle.sl_check.specs.Spellings.{SpellsLines, script_text, IsScript}
 use Rattle.sl_check.specs.Claim.{unnumbered, schedule_text, IsTrace, IsClaim}
 use Rattle.sl_check.proofs.LineLemmas.{line_is_first, line_has_none, one_part}

@@ -7,3 +7,7 @@ pub mod SettledPass
 pub mod ReportLines
 pub mod ClaimLemmas
 pub mod Answers
+pub mod Runnable
+pub mod Driven
+pub mod Ended
+pub mod Checking

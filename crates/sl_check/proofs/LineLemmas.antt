@@ -1,9 +1,9 @@
 -- A text has one first line that is a mark.
 use Rattle.std.proofs.Common.{◌≡◌, ℕ, zero, suc, ◌+◌, ◌<◌, List, [], ◌∷◌, ◌++◌, length, length-append, get_or, take, refl, sym, ap, subst, ◌∙◌, arith, append_assoc}
-use Rattle.std.specs.Prelude.{codes, flat_map}
+use Rattle.std.specs.Prelude.{codes}
 use Rattle.std.proofs.Math.Seq.{take-nil, take-append_seam}
 use Rattle.std.proofs.lemmas.List.{append-nil}
-use Rattle.sl_parts.specs.Lists.{Each, Member}
+use Rattle.sl_parts.specs.Lists.{Each}
 use Rattle.sl_check.specs.Lines.{IsLine, lines_text, PartsAt}
 
 -- a line ends at the first newline

@@ -1,6 +1,6 @@
 -- Where all links are empty, the observer knows of a unit the steps up to the last one that took a poll.
-use Rattle.std.proofs.Common.{◌≡◌, ℕ, zero, suc, ◌+◌, ◌-◌, ◌<◌, ◌≤◌, List, [], ◌∷◌, ◌++◌, length, drop, true, false, Bool, Option, Some, None, refl, sym, ap, subst, ◌∙◌, arith, inl, inr, append-nil, append_assoc, length-append}
-use Rattle.std.specs.Prelude.{◌⊎◌, ◌==◌, cond, if◌then◌else◌, slice_get, unwrap_or, IsTrue, ◌&&◌}
+use Rattle.std.proofs.Common.{◌≡◌, ℕ, zero, suc, ◌-◌, ◌≤◌, List, [], ◌∷◌, ◌++◌, length, true, false, Bool, Option, Some, None, refl, sym, ap, subst, ◌∙◌, arith, inl, inr, append-nil, append_assoc, length-append}
+use Rattle.std.specs.Prelude.{◌⊎◌, ◌==◌, cond, if◌then◌else◌, slice_get, ◌&&◌}
 use Rattle.std.specs.List.{list_all}
 use Rattle.std.proofs.lemmas.Bool.{and_parts, eq-eqb}
 use Rattle.std.proofs.lemmas.List.{drop_all}
@@ -11,28 +11,27 @@ use Rattle.sl_layout.specs.declared.actor.Side.{Side}
 use Rattle.sl_layout.specs.declared.actor.Side.TheVariants.{Ingress, Egress}
 use Rattle.sl_layout.specs.declared.actor.Sort.{Sort}
 use Rattle.sl_layout.specs.declared.actor.Sort.TheVariants.{FromHost, ToHost, Cable, Crossbar, Init, Poll, Notice, Dump, Begin, Done}
-use Rattle.sl_layout.specs.declared.actor.LinkKind.TheVariants.{Reliable}
 use Rattle.sl_parts.specs.Lists.{Each, Member}
 use Rattle.sl_parts.specs.Parts.{below}
 use Rattle.sl_check.proofs.Lists.{each-at, each-imp, each-passes, each-both-of}
 use Rattle.sl_layout.specs.Net.{Net, actor_of, link_of, links_into, links_out, same_sort, choice_of, unit_place, units, is_unit, action_choice}
 use Rattle.sl_layout.specs.Wiring.{kind_of}
 use Rattle.sl_net.specs.declared.input.Packet.{Packet}
-use Rattle.sl_net.specs.Wired.{IsNet, IsWired, Reports}
+use Rattle.sl_net.specs.Wired.{IsWired, Reports}
 use Rattle.sl_route.specs.Route.{next_port}
 use Rattle.sl_model.specs.declared.message.Message.{Message}
 use Rattle.sl_model.specs.declared.message.Message.TheVariants.{Host as HostMsg, Data, Probe as ProbeMsg, Init as InitMsg, Poll as PollMsg, Notice as NoticeMsg, Dump as DumpMsg, Begin as BeginMsg, Done as DoneMsg}
 use Rattle.sl_model.specs.declared.message.Put.{Put}
 use Rattle.sl_model.specs.declared.message.Step.{Step}
 use Rattle.sl_model.specs.Words.{listed, numbers, last_of}
-use Rattle.sl_model.specs.History.{History, World, Losses, history, stamp_of, dump_of, done_of, last, takes, taken, put, on_link, without_lost}
+use Rattle.sl_model.specs.History.{History, Losses, history, stamp_of, dump_of, done_of, last, takes, taken, put, on_link, without_lost}
 use Rattle.sl_model.specs.Setup.{Setup}
 use Rattle.sl_model.specs.Frame.{packet_of}
 use Rattle.sl_model.specs.Knowledge.{observer, known}
 use Rattle.sl_model.specs.Puts.{send_all, onward, route, route_frame, crossbar_to, ingress_puts, egress_puts, is_own_port, side_puts, notice_puts, dump_puts, unit_puts, id_after, puts_of, action}
 use Rattle.sl_model.specs.World.{Entry, IsLossTable, carried, receiver, sender, taken_by, world}
 use Rattle.sl_model.specs.Window.{on_way}
-use Rattle.sl_model.specs.Made.{Took, Acted, IsMade, Fifo, Ran}
+use Rattle.sl_model.specs.Made.{Took, Acted, IsMade, Ran}
 use Rattle.sl_model.specs.Fit.{fits, fits_link}
 use Rattle.sl_model.specs.Reported.{AreReported}
 use Rattle.sl_model.specs.Passing.{PassesMessages}

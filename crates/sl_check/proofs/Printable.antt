@@ -1,6 +1,6 @@
 -- Spellings have no newline.
-use Rattle.std.proofs.Common.{◌≡◌, ℕ, zero, suc, ◌+◌, ◌-◌, ◌<◌, ◌≤◌, ◌/◌, ◌%◌, List, [], ◌∷◌, ◌++◌, map, length, true, false, Bool, not, refl, sym, ap, subst, ◌∙◌, arith}
-use Rattle.std.specs.Prelude.{codes, decimal, ◌==◌, nat_lt, nat_le, if◌then◌else◌, cond, slice_index_or}
+use Rattle.std.proofs.Common.{◌≡◌, ℕ, zero, suc, ◌+◌, ◌-◌, ◌<◌, ◌/◌, ◌%◌, List, [], ◌∷◌, ◌++◌, map, true, false, Bool, not, refl, sym, ap, ◌∙◌, arith}
+use Rattle.std.specs.Prelude.{codes, decimal, ◌==◌, nat_lt, if◌then◌else◌, slice_index_or}
 use Rattle.std.specs.List.{All, list_all}
 use Rattle.std.specs.Fmt.{digits, digits_onto, digit_glyph}
 use Rattle.std.proofs.lemmas.Bool.{and_parts, lt-ltb}
@@ -12,7 +12,6 @@ use Rattle.sl_layout.specs.declared.actor.ActorId.TheVariants.{Observer, Control
 use Rattle.sl_layout.specs.declared.actor.Sort.{Sort}
 use Rattle.sl_layout.specs.declared.actor.Sort.TheVariants.{FromHost, ToHost, Cable, Crossbar, Init, Poll, Notice, Dump, Begin, Done}
 use Rattle.sl_parts.specs.Parts.{Parts}
-use Rattle.sl_parts.specs.Lists.{Each}
 use Rattle.sl_parts.specs.Text.{IsName, is_name_byte}
 use Rattle.sl_layout.specs.Net.{Net, actor_of, link_of, link_at, action_choice}
 use Rattle.sl_net.specs.Spelling.{device_name, host_name, side_text, actor_text, sender_text, port_of, link_word, link_rest, link_text, action_text, choice_word, choice_text}

@@ -1,21 +1,19 @@
 -- The lines of a report: the last one is `end`, and no other is.
-use Rattle.std.proofs.Common.{◌≡◌, ℕ, zero, suc, ◌+◌, ◌<◌, List, [], ◌∷◌, ◌++◌, map, length, true, false, Bool, refl, sym, ap, subst, ◌∙◌, append_assoc, append-nil}
+use Rattle.std.proofs.Common.{◌≡◌, ℕ, List, [], ◌∷◌, ◌++◌, map, length, true, false, refl, sym, ap, subst, ◌∙◌, append_assoc, append-nil}
 use Rattle.std.specs.Prelude.{codes, decimal, flat_map, ◌==◌}
 use Rattle.std.specs.List.{All}
 use Rattle.std.proofs.lemmas.List.Elements.{All-head, All-tail}
 use Rattle.sl_parts.specs.Lists.{Each}
-use Rattle.sl_parts.specs.Parts.{Parts}
 use Rattle.sl_parts.specs.Text.{IsName}
 use Rattle.sl_parts.specs.declared.parts.HostPart.{HostPart}
 use Rattle.sl_layout.specs.declared.actor.Side.{Side}
 use Rattle.sl_layout.specs.declared.actor.Side.TheVariants.{Ingress, Egress}
-use Rattle.sl_layout.specs.declared.actor.UnitId.{UnitId}
 use Rattle.sl_layout.specs.declared.actor.ActorId.{ActorId}
 use Rattle.sl_layout.specs.declared.actor.ActorId.TheVariants.{Observer, Control, Unit as OfUnit, Host as OfHost}
 use Rattle.sl_layout.specs.declared.actor.Sort.{Sort}
 use Rattle.sl_layout.specs.declared.actor.Sort.TheVariants.{FromHost, ToHost, Cable, Crossbar, Init, Poll, Notice, Dump, Begin, Done}
 use Rattle.sl_layout.specs.Net.{Net, actor_of, link_of, units}
-use Rattle.sl_net.specs.Spelling.{side_text, actor_text, device_name, port_of}
+use Rattle.sl_net.specs.Spelling.{side_text, device_name, port_of}
 use Rattle.sl_saves.specs.declared.entry.Total.{Total}
 use Rattle.sl_model.specs.declared.verdict.Cause.{Cause}
 use Rattle.sl_model.specs.declared.verdict.Cause.TheVariants.{Skipped, Miscredited}

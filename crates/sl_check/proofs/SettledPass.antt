@@ -1,23 +1,22 @@
 -- What a settled world says of a settling pass.
-use Rattle.std.proofs.Common.{◌≡◌, ℕ, zero, suc, ◌+◌, ◌-◌, ◌<◌, ◌≤◌, List, [], ◌∷◌, ◌++◌, length, map, true, false, Bool, Option, Some, None, refl, sym, ap, subst, ◌∙◌, arith, inl, inr}
-use Rattle.std.specs.Prelude.{◌⊎◌, ◌==◌, ◌&&◌, ◌||◌, cond, if◌then◌else◌, slice_get, option_map, option_and_then, is_some}
+use Rattle.std.proofs.Common.{◌≡◌, ℕ, suc, ◌-◌, ◌<◌, List, [], ◌∷◌, ◌++◌, length, true, false, Bool, Some, None, refl, sym, ap, ◌∙◌, arith, inl, inr}
+use Rattle.std.specs.Prelude.{◌⊎◌, ◌==◌, ◌&&◌, ◌||◌, cond, slice_get, option_map, option_and_then, is_some}
 use Rattle.std.proofs.lemmas.Bool.{and_parts, eq-eqb, eqb-true}
-use Rattle.std.proofs.lemmas.Option.{slice_get_past, slice_get_within, slice_get-get_or, get_or_from_slice_get}
+use Rattle.std.proofs.lemmas.Option.{slice_get_past, slice_get-get_or}
 use Rattle.sl_layout.specs.declared.actor.ActorId.{ActorId}
 use Rattle.sl_layout.specs.declared.actor.ActorId.TheVariants.{Observer, Control, Unit as OfUnit, Host as OfHost}
 use Rattle.sl_layout.specs.declared.actor.Sort.TheVariants.{FromHost}
 use Rattle.sl_parts.specs.Lists.{Each}
 use Rattle.sl_parts.specs.Parts.{below}
-use Rattle.sl_layout.specs.Net.{Net, actor_of, nobody, link_of, link_at, links_into, links_out, choice_of, action_choice}
+use Rattle.sl_layout.specs.Net.{actor_of, nobody, link_at, links_into, links_out, choice_of, action_choice}
 use Rattle.sl_net.specs.Wired.{IsWired}
 use Rattle.sl_model.specs.declared.message.Message.TheVariants.{Host as HostMsg}
-use Rattle.sl_model.specs.declared.message.Step.{Step}
 use Rattle.sl_model.specs.History.{World, Losses, history, taken}
 use Rattle.sl_model.specs.Setup.{Setup, frames_of}
-use Rattle.sl_model.specs.Knowledge.{observer, issued, resent, floor, can_issue}
+use Rattle.sl_model.specs.Knowledge.{observer, issued, resent, floor}
 use Rattle.sl_model.specs.Puts.{puts_of, action, begin_all, guarded, send_all}
-use Rattle.sl_model.specs.World.{Entry, carried, receiver, taken_by, floor_for, front, next_step, step_by, taking, acting, turn, kept_from}
-use Rattle.sl_model.specs.Schedule.{link_entries, first_action, pass_actions, settling_pass}
+use Rattle.sl_model.specs.World.{Entry, carried, floor_for, front, next_step, step_by, taking, acting, turn, kept_from}
+use Rattle.sl_model.specs.Schedule.{link_entries, pass_actions, settling_pass}
 use Rattle.sl_model.specs.End.{Settled, IsFinished, IsSpent, is_collected, KnowsAll}
 use Rattle.sl_check.proofs.Lists.{each-append, each-map, each-flat, each-below}
 use Rattle.sl_check.specs.Polled.{all_polled, ends_well}

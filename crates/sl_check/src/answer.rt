@@ -1,6 +1,7 @@
 // What a check answers, and its text.
 ghost use Rattle.std.specs.Prelude.{◌≡◌, IfOk, string_bytes};
 ghost use Rattle.sl_check.specs.declared.answer.CheckFault.TheVariants as fault;
+ghost use Rattle.sl_check.specs.Faults.{fault_of};
 ghost use Rattle.sl_check.specs.AnswerText.{answer_text};
 
 use sl_machine::Memory;
@@ -40,6 +41,17 @@ impl From<Memory> for CheckFault {
 
     fn from(_: Memory) -> CheckFault {
         CheckFault::Memory
+    }
+}
+
+impl From<InputFault> for CheckFault {
+    ghost from_gives = { λ f e. e ≡ fault_of f };
+
+    fn from(fault: InputFault) -> CheckFault {
+        match fault {
+            InputFault::Memory => CheckFault::Memory,
+            refusal => CheckFault::Input(refusal),
+        }
     }
 }
 

@@ -3,13 +3,18 @@
 #![tactic(auto)]
 
 mod answer;
+mod check;
 mod claim;
+mod end;
+mod last;
 mod laws;
 mod lines;
+mod nodes;
 mod script;
 mod spellings;
 
 pub use answer::{CheckFault, Checked, answer_bytes};
+pub use check::check_bytes;
 pub use claim::{Claim, read_claim};
 pub use laws::{
     claims_have_one_answer, polled_units_are_known, printed_runs_are_right,

@@ -4,6 +4,7 @@ complete -c speedlight -n __fish_use_subcommand -a step -d 'run an input on one 
 complete -c speedlight -n __fish_use_subcommand -a run -d 'run an input with a thread for each actor'
 complete -c speedlight -n __fish_use_subcommand -a routes -d 'print the routes of an input'
 complete -c speedlight -n __fish_use_subcommand -a sample -d 'run a sample input'
+complete -c speedlight -n __fish_use_subcommand -a check -d 'check what a run is claimed to have printed'
 complete -c speedlight -n __fish_use_subcommand -a balance -d 'show how evenly cables are used at consistent cuts'
 complete -c speedlight -n __fish_use_subcommand -a poll -d 'show what reading one unit after the other would show'
 complete -c speedlight -n '__fish_seen_subcommand_from step run' -l trace -d 'print the turns after the report'

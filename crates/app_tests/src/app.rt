@@ -24,7 +24,7 @@ const DEAD_CABLE: &str =
     "device = [{name = \"a\", ports = 2}, {name = \"b\", ports = 2}]\ncable = [{a = \"a.1\", b = \"b.0\"}]\nhost = [{name = \"h0\", at = \"a.0\"}, {name = \"h1\", at = \"b.1\"}]\nsnapshot = {bits = 2, window = 1, ring = 1, count = 2, retries = 0}\nloss = {cable = 1000}\n";
 
 const USAGE: &str =
-    "speedlight: usage: speedlight step [--trace] | run [--trace] | routes | sample N [--input] | balance | poll S G\n";
+    "speedlight: usage: speedlight step [--trace] | run [--trace] | routes | sample N [--input] | check | balance | poll S G\n";
 
 /// What a call left: its status, what it wrote, whether there is a book, and the bytes left.
 #[derive(Drop)]
@@ -242,7 +242,7 @@ fn words_and_faults(rt: HostRuntime) -> Result<(), Fail> {
     let write_fault = "speedlight: write fault\n";
     // The words, the calls that fail, the status, and what is on the error sink. A source of one
     // piece is read twice. A read that fails is told, whatever the words of the input.
-    let rows: [(&[&str], (u64, u64, u64), u8, &str); 26] = [
+    let rows: [(&[&str], (u64, u64, u64), u8, &str); 31] = [
         (&[], (1, 0, 0), 2, USAGE),
         (&["walk"], (1, 0, 0), 2, USAGE),
         (&["-h"], (1, 0, 0), 2, USAGE),
@@ -250,6 +250,11 @@ fn words_and_faults(rt: HostRuntime) -> Result<(), Fail> {
         (&["run"], (0, 1, 0), 5, write_fault),
         (&["sample", "65"], (1, 0, 0), 2, USAGE),
         (&["routes", "x"], (1, 0, 0), 2, USAGE),
+        (&["check", "--trace"], (1, 0, 0), 2, USAGE),
+        (&["check"], (1, 0, 0), 4, read_fault),
+        (&["check"], (2, 0, 0), 4, read_fault),
+        (&["check", "--"], (0, 0, 0), 3, "speedlight: C2\n"),
+        (&["check"], (0, 0, 1), 5, write_fault),
         (&["balance", "--trace"], (1, 0, 0), 2, USAGE),
         (&["poll", "03", "2"], (1, 0, 0), 2, USAGE),
         (&["poll", "3"], (1, 0, 0), 2, USAGE),
@@ -275,6 +280,105 @@ fn words_and_faults(rt: HostRuntime) -> Result<(), Fail> {
         let answered = is_answered(&rt, alloc, words, fail, status, text)?;
         assert!(rt; answered, "{count} words, {fail:?}");
     }
+    Ok(())
+}
+
+/// Whether a stream has this answer, with its status, or is refused with this line.
+fn is_checked<R: Threads + Wait + Sync>(
+    rt: &R,
+    alloc: Global,
+    stream: &str,
+    status: u8,
+    told: &str,
+) -> Result<bool, Fail> {
+    let left = call(rt, alloc, &["check"], stream, (0, 0, 0))?;
+    let (text, other) = if status == 3 {
+        (&left.err, &left.out)
+    } else {
+        (&left.out, &left.err)
+    };
+    let told = text.as_slice() == told.as_bytes();
+    Ok(!left.has_book && left.status == status && told && other.is_empty())
+}
+
+/// A claim of a run, and the same with one thing changed.
+#[test]
+fn claims(rt: HostRuntime) -> Result<(), Fail> {
+    let alloc = rt.alloc();
+    let yes = rows::claim();
+    assert!(rt; is_checked(&rt, alloc, yes, 0, "check yes\n")?);
+    let last = "observer done:a\nobserver done:a\n";
+    // What takes the place of a part of the claim, and the answer that comes of it.
+    let changes = [
+        (last, "observer done:a\n", 8, "check no trace\n"),
+        (
+            "observer issue\n",
+            "observer resend\n",
+            8,
+            "check no legal 1\n",
+        ),
+        ("h0 sent 0", "h0 sent 1", 8, "check no report\n"),
+        ("---\n", "", 3, "speedlight: C2\n"),
+        ("---\n", " ---\n", 3, "speedlight: C2\n"),
+        (
+            "window = 3",
+            "window = 4",
+            3,
+            "speedlight: I6 snapshot.window 4\n",
+        ),
+        ("\nend\n", "\n", 8, "check no trace\n"),
+        ("in a.0 init\n", "in a.0 cable\n", 8, "check no trace\n"),
+        (
+            "out a.0 x0\ncontrol",
+            "out a.0 x0\nout a.0 x0\ncontrol",
+            8,
+            "check no trace\n",
+        ),
+    ];
+    for (old, new, status, told) in changes {
+        let text = yes.replace(alloc, old, new)?;
+        assert!(rt;
+            is_checked(&rt, alloc, text.as_str(), status, told)?,
+            "{told}"
+        );
+    }
+    let shorter = yes.replace(alloc, last, "observer done:a\n")?;
+    let fewer = shorter.replace(alloc, "trace 12", "trace 11")?;
+    assert!(rt; is_checked(&rt, alloc, fewer.as_str(), 8, "check no finished\n")?);
+    let more = yes.replace(alloc, "trace 12", "trace 13")?;
+    let longer = more.replace(
+        alloc,
+        last,
+        "observer done:a\nobserver done:a\nobserver done:a\n",
+    )?;
+    assert!(rt; is_checked(&rt, alloc, longer.as_str(), 8, "check no legal 13\n")?);
+    Ok(())
+}
+
+/// A stream may have 4,194,304 bytes.
+#[test]
+fn longest_stream(rt: HostRuntime) -> Result<(), Fail> {
+    let alloc = rt.alloc();
+    let mut stream = String::from_str(alloc, rows::claim())?;
+    for _ in 0..4_194_304_usize.saturating_sub(rows::claim().len()) {
+        stream.push('\n')?;
+    }
+    assert!(rt; is_checked(&rt, alloc, stream.as_str(), 8, "check no trace\n")?);
+    stream.push('\n')?;
+    assert!(rt; is_checked(&rt, alloc, stream.as_str(), 3, "speedlight: C1\n")?);
+    Ok(())
+}
+
+/// The answer of a check can't be written.
+#[test]
+fn answers_are_not_written(rt: HostRuntime) -> Result<(), Fail> {
+    let alloc = rt.alloc();
+    let left = call(&rt, alloc, &["check"], rows::claim(), (0, 1, 0))?;
+    let told = left.err.as_slice() == "speedlight: write fault\n".as_bytes();
+    assert_eq!(rt;
+        (left.status, left.out.is_empty(), told, left.has_book),
+        (5, true, true, false)
+    );
     Ok(())
 }
 
@@ -471,6 +575,21 @@ fn retaken<R: Threads + Wait + Sync>(
     let again = with_script(alloc, text, trace)?;
     let second = traced(rt, alloc, again.as_str())?;
     Ok((first, second))
+}
+
+/// What `step --trace` prints for an input is checked with yes.
+fn is_right<R: Threads + Wait + Sync>(rt: &R, alloc: Global, text: &str) -> Result<bool, Fail> {
+    let printed = traced(rt, alloc, text)?;
+    let stream = format!(in alloc; "{text}---\n{printed}")?;
+    is_checked(rt, alloc, stream.as_str(), 0, "check yes\n")
+}
+
+#[test]
+fn printed_runs_are_right(rt: HostRuntime) -> Result<(), Fail> {
+    let alloc = rt.alloc();
+    assert!(rt; is_right(&rt, alloc, THREE_PACKETS)?);
+    assert!(rt; is_right(&rt, alloc, DEAD_CABLE)?);
+    Ok(())
 }
 
 /// A trace that is taken as a script is taken again. Where all was collected nothing follows; else

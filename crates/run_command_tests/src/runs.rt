@@ -109,6 +109,19 @@ fn told<R: Threads + Wait + Sync>(
     Ok(String::from_utf8(left.out).ok().ok_or("no text")?)
 }
 
+/// What a run in threads prints with its trace is checked with yes.
+#[test]
+fn printed_runs_are_right(rt: HostRuntime) -> Result<(), Fail> {
+    let alloc = rt.alloc();
+    let printed = told(&rt, alloc, "run --trace", THREE_PACKETS)?;
+    let stream = format!(in alloc; "{THREE_PACKETS}---\n{printed}")?;
+    let left = call(&rt, alloc, "check", stream.as_str(), &FreeGate)?;
+    let answer = left.out.as_slice() == "check yes\n".as_bytes();
+    let silent = left.err.is_empty() && left.book.is_none();
+    assert_eq!(rt; (left.status, answer, silent), (0, true, true));
+    Ok(())
+}
+
 /// A run in threads collects all and delivers all, and the turns that it tells, taken one after the
 /// other, lead to the same report and to no further turn.
 #[test]

@@ -1,15 +1,44 @@
 -- Counts that rise, and prefixes that are appended.
-use Rattle.std.proofs.Common.{◌≡◌, ℕ, ◌<◌, ◌≤◌, ◌⊎◌, inl, inr, List, Option, None, ap, length, take, sym, subst, arith, ◌∙◌}
+use Rattle.std.proofs.Common.{◌≡◌, ℕ, ◌<◌, ◌≤◌, ◌⊎◌, inl, inr, List, Option, Some, None, ap, length, take, sym, subst, arith, ◌∙◌}
 use Rattle.std.proofs.Math.Seq.{take-length}
 use Rattle.std.proofs.lemmas.Bool.{cases_order}
+use Rattle.std.specs.Prelude.{Bool, Result, Ok, Err}
 use Rattle.std.specs.Io.KnownBytes.{Appends}
 use Rattle.sl_io.specs.Faults.{Rose}
 use Rattle.sl_io.specs.Pieces.{AppendsPart}
+use Rattle.sl_words.specs.declared.command.Command.TheVariants.{Check, Sample}
+use Rattle.sl_words.specs.Words.{words_of}
+use Rattle.sl_check.specs.declared.answer.CheckFault.{CheckFault}
+use Rattle.sl_check.specs.Answer.{IsChecked}
 use Rattle.sl_app.specs.Texts.{write_fault_text, refusal_text}
 use Rattle.sl_app.specs.declared.ended.Refusal.{Refusal}
+use Rattle.sl_app.specs.declared.ended.Refusal.TheVariants.{Usage, Input as InputRefused, Stream as StreamRefused, ReadFault, TooMany, Memory}
 use Rattle.sl_app.specs.declared.ended.Ended.{Ended}
+use Rattle.sl_machine.specs.Book.{Book}
+use Rattle.sl_proto.specs.Nodes.{NodeState}
+use Rattle.sl_app.specs.declared.run.Served.{Served}
 use Rattle.sl_app.specs.Served.{states_of}
-use Rattle.sl_app.specs.Ends.{Writing, TellsWriteFault, Refuses}
+use Rattle.sl_app.specs.Ends.{Reading, Writing, TellsWriteFault, Refuses, HasReadStream, TellsStreamFault, HasCause, reads, IsUnread, IsServed, Serves, ServesSample}
+
+-- a stream that is refused for a fault
+pub stream_refused : (r : Reading) (bytes : List ℕ) (fault : CheckFault) (e : Refusal) → words_of r.words ≡ Some Check → HasReadStream r bytes → IsChecked bytes (Err fault)
+    → TellsStreamFault fault e → HasCause r e
+stream_refused r bytes fault (StreamRefused line) words read checked told =
+    record { words = words; bytes = bytes; fault = fault; refusal = told.0; read = read; refused = checked; line_is = told.1 }
+stream_refused r bytes fault Memory words read checked told = λ none. absurd (none (subst reads (sym words) tt))
+stream_refused r bytes fault Usage words read checked told = absurd told
+stream_refused r bytes fault (InputRefused line) words read checked told = absurd told
+stream_refused r bytes fault ReadFault words read checked told = absurd told
+stream_refused r bytes fault (TooMany line) words read checked told = absurd told
+
+-- a sample is served without reading
+pub sample_served : (r : Reading) (number : ℕ) (input : Bool) (x : Result Served Refusal) → words_of r.words ≡ Some (Sample number input) → IsUnread r
+    → ServesSample number input x → Serves r x
+sample_served r number input (Ok s) words unread h =
+    subst (λ (b : Option Book). IsServed r b s.front (states_of s.nodes) s.status s.text.items) (sym h.1)
+    (subst (λ (m : Option (List NodeState)). IsServed r None s.front m s.status s.text.items) (sym h.3)
+    (inl (inr (record { number = number; input = input; words = words; unread = unread; sample = h.0 }), h.4), h.2))
+sample_served r number input (Err e) words unread h = subst (HasCause r) (sym h) (λ none. unread)
 
 -- a count that rose has risen wherever it goes on from there
 pub rose_on : (a b c : ℕ) → a ≤ b → Rose a b → b ≤ c → Rose a c

@@ -110,31 +110,35 @@ report-of IsBook i lost trace book front nodes run stand (Err e) b f n t = tt
 
 -- a report that was made of an input that was read, of a run of the script and of one in threads
 pub stepped : (r : Reading) (i : Input) (trace : Bool) → words_of r.words ≡ Some (Step trace) → WasRead r i → input_bound i < 2 ^ 27
-    → (book : Option Book) (front : ℕ) (nodes : Option (List NodeState)) (text : List ℕ) → IsReport IsRunBook i (losses i) book front nodes trace text → IsServed r book front nodes text
-stepped r i trace words read few (Some book) front (Some nodes) text told = inl (record { trace = trace; words = words; input = i; accepted = read; small = few; run = told })
-stepped r i trace words read few (Some book) front None text told = absurd told
-stepped r i trace words read few None front nodes text told = absurd told
+    → (book : Option Book) (front : ℕ) (nodes : Option (List NodeState)) (status : ℕ) (text : List ℕ)
+    → IsReport IsRunBook i (losses i) book front nodes trace text → status ≡ 0 → IsServed r book front nodes status text
+stepped r i trace words read few (Some book) front (Some nodes) status text told is = (inl (record { trace = trace; words = words; input = i; accepted = read; small = few; run = told }), is)
+stepped r i trace words read few (Some book) front None status text told is = absurd told
+stepped r i trace words read few None front nodes status text told is = absurd told
 
 pub threaded : (r : Reading) (i : Input) (trace : Bool) → words_of r.words ≡ Some (Run trace) → WasRead r i → bound_of (setup_of i) 0 < 2 ^ 27 → length i.net.actors ≤ 256
-    → (book : Option Book) (front : ℕ) (nodes : Option (List NodeState)) (text : List ℕ) → IsReport IsThreadedBook i (losses i) book front nodes trace text → IsServed r book front nodes text
-threaded r i trace words read small few (Some book) front (Some nodes) text told =
-    inr (record { trace = trace; words = words; input = i; accepted = read; few = few; small = small; rested = told.run.rested small; run = told })
-threaded r i trace words read small few (Some book) front None text told = absurd told
-threaded r i trace words read small few None front nodes text told = absurd told
+    → (book : Option Book) (front : ℕ) (nodes : Option (List NodeState)) (status : ℕ) (text : List ℕ)
+    → IsReport IsThreadedBook i (losses i) book front nodes trace text → status ≡ 0 → IsServed r book front nodes status text
+threaded r i trace words read small few (Some book) front (Some nodes) status text told is =
+    (inr (record { trace = trace; words = words; input = i; accepted = read; few = few; small = small; rested = told.run.rested small; run = told }), is)
+threaded r i trace words read small few (Some book) front None status text told is = absurd told
+threaded r i trace words read small few None front nodes status text told is = absurd told
 
 -- a table that was made of an input that was read
 pub tabled : (r : Reading) (i : Input) → words_of r.words ≡ Some Balance → WasRead r i → input_bound i < 2 ^ 27
-    → (book : Option Book) (front : ℕ) (nodes : Option (List NodeState)) (text : List ℕ) → IsTable i (losses i) book front nodes text → IsServed r book front nodes text
-tabled r i words read few (Some book) front None text told = inl (record { words = words; input = i; accepted = read; small = few; run = told })
-tabled r i words read few (Some book) front (Some nodes) text told = absurd told
-tabled r i words read few None front nodes text told = absurd told
+    → (book : Option Book) (front : ℕ) (nodes : Option (List NodeState)) (status : ℕ) (text : List ℕ)
+    → IsTable i (losses i) book front nodes text → status ≡ 0 → IsServed r book front nodes status text
+tabled r i words read few (Some book) front None status text told is = (inl (record { words = words; input = i; accepted = read; small = few; run = told }), is)
+tabled r i words read few (Some book) front (Some nodes) status text told is = absurd told
+tabled r i words read few None front nodes status text told is = absurd told
 
 -- a reading that was made of an input that was read
 pub polled : (r : Reading) (i : Input) (start gap : ℕ) → words_of r.words ≡ Some (Poll start gap) → WasRead r i → input_bound i < 2 ^ 27
-    → (book : Option Book) (front : ℕ) (nodes : Option (List NodeState)) (text : List ℕ) → IsReading i (losses i) book front nodes start gap text → IsServed r book front nodes text
-polled r i start gap words read few (Some book) front None text told = inr (record { start = start; gap = gap; words = words; input = i; accepted = read; small = few; run = told })
-polled r i start gap words read few (Some book) front (Some nodes) text told = absurd told
-polled r i start gap words read few None front nodes text told = absurd told
+    → (book : Option Book) (front : ℕ) (nodes : Option (List NodeState)) (status : ℕ) (text : List ℕ)
+    → IsReading i (losses i) book front nodes start gap text → status ≡ 0 → IsServed r book front nodes status text
+polled r i start gap words read few (Some book) front None status text told is = (inr (record { start = start; gap = gap; words = words; input = i; accepted = read; small = few; run = told }), is)
+polled r i start gap words read few (Some book) front (Some nodes) status text told is = absurd told
+polled r i start gap words read few None front nodes status text told is = absurd told
 
 -- the counts of a run within its bound are few
 abbrev pub FewCounts : Type 0

@@ -13,10 +13,10 @@ use Rattle.sl_words.specs.declared.command.Command.{Command}
 use Rattle.sl_words.specs.declared.command.Command.TheVariants as command
 use Rattle.sl_words.specs.Words.{words_of}
 use Rattle.sl_app.specs.declared.ended.Refusal.{Refusal}
-use Rattle.sl_app.specs.declared.ended.Refusal.TheVariants.{Usage, Input as InputRefused, ReadFault, TooMany, Memory}
+use Rattle.sl_app.specs.declared.ended.Refusal.TheVariants.{Usage, Input as InputRefused, Stream as StreamRefused, ReadFault, TooMany, Memory}
 use Rattle.sl_app.specs.declared.ended.Ended.{Ended}
 use Rattle.sl_app.specs.declared.run.Served.{Served}
-use Rattle.sl_app.specs.Texts.{status_of, refusal_text, write_fault_text, many_text}
+use Rattle.sl_app.specs.Texts.{status_of, refusal_text, write_fault_text, many_text, stream_fault_text, answer_status}
 use Rattle.sl_net.specs.Input.{Input}
 use Rattle.sl_read.specs.declared.fault.InputFault.{InputFault}
 use Rattle.sl_read.specs.Inputs.{input_of}
@@ -28,6 +28,11 @@ use Rattle.sl_model.specs.World.{world}
 use Rattle.sl_model.specs.Books.{schedule_of}
 use Rattle.sl_report.specs.FaultText.{fault_text}
 use Rattle.sl_report.specs.RoutesText.{routes_text}
+use Rattle.sl_check.specs.declared.answer.Checked.{Checked}
+use Rattle.sl_check.specs.declared.answer.CheckFault.{CheckFault}
+use Rattle.sl_check.specs.declared.answer.CheckFault.TheVariants as check
+use Rattle.sl_check.specs.Answer.{IsChecked}
+use Rattle.sl_check.specs.AnswerText.{answer_text}
 use Rattle.sl_proto.specs.Nodes.{NodeState}
 use Rattle.sl_emul.specs.Run.{IsRunBook}
 use Rattle.sl_emul.specs.Threaded.{HasRested, IsThreadedBook}
@@ -77,6 +82,10 @@ pub record IsUntouched (w : Writing) : Type 0 where
 abbrev pub HasRead : Reading → List ℕ → Type 0
 HasRead r bytes = IsReadUpTo 1048577 r.before r.after bytes
 
+-- all bytes were read, or as many as a stream may have and one more
+abbrev pub HasReadStream : Reading → List ℕ → Type 0
+HasReadStream r bytes = IsReadUpTo 4194305 r.before r.after bytes
+
 -- this input was read
 pub record WasRead (r : Reading) (i : Input) : Type 0 where
   pub bytes : List ℕ
@@ -97,14 +106,40 @@ TellsFault fault (InputRefused line) = line.items ≡ fault_text fault
 TellsFault fault Memory = Unit {0}
 TellsFault fault _ = ⊥
 
+-- a fault of a stream; want of memory is none
+abbrev pub IsStreamFault : CheckFault → Type 0
+IsStreamFault check.Memory = ⊥
+IsStreamFault _ = Unit {0}
+
+-- the bytes that were read are no stream that is checked, for this fault, and this is its line
+pub record IsRefusedStream (r : Reading) (line : List ℕ) : Type 0 where
+  pub words : words_of r.words ≡ Some command.Check
+  pub bytes : List ℕ
+  pub fault : CheckFault
+  pub refusal : IsStreamFault fault
+  pub read : HasReadStream r bytes
+  pub refused : IsChecked bytes (Err fault)
+  pub line_is : line ≡ stream_fault_text fault
+
+-- the refusal of a stream for this fault, or want of memory
+abbrev pub TellsStreamFault : CheckFault → Refusal → Type 0
+TellsStreamFault fault (StreamRefused line) = IsStreamFault fault × (line.items ≡ stream_fault_text fault)
+TellsStreamFault fault Memory = Unit {0}
+TellsStreamFault fault _ = ⊥
+
 -- the words are such that an input is read
+abbrev pub reads_input : Option Command → Type 0
+reads_input (Some (command.Step trace)) = Unit {0}
+reads_input (Some (command.Run trace)) = Unit {0}
+reads_input (Some command.Routes) = Unit {0}
+reads_input (Some command.Balance) = Unit {0}
+reads_input (Some (command.Poll start gap)) = Unit {0}
+reads_input _ = ⊥
+
+-- the same, or a stream
 abbrev pub reads : Option Command → Type 0
-reads (Some (command.Step trace)) = Unit {0}
-reads (Some (command.Run trace)) = Unit {0}
-reads (Some command.Routes) = Unit {0}
-reads (Some command.Balance) = Unit {0}
-reads (Some (command.Poll start gap)) = Unit {0}
-reads _ = ⊥
+reads (Some command.Check) = Unit {0}
+reads c = reads_input c
 
 -- the words ask for a run in threads
 abbrev pub asks_for_run : Option Command → Type 0
@@ -125,10 +160,11 @@ TellsTooMany actors (TooMany line) = line.items ≡ many_text actors
 TellsTooMany actors Memory = Unit {0}
 TellsTooMany actors _ = ⊥
 
--- the cause of a refusal; want of memory has none, but where the words ask for no input, nothing was read then either
+-- the cause of a refusal; want of memory has none, but where the words ask for no input and no stream, nothing was read then either
 abbrev pub HasCause : Reading → Refusal → Type 0
 HasCause r Usage = (words_of r.words ≡ None) × IsUnread r
-HasCause r (InputRefused line) = reads (words_of r.words) × IsRefusedInput r line.items
+HasCause r (InputRefused line) = reads_input (words_of r.words) × IsRefusedInput r line.items
+HasCause r (StreamRefused line) = IsRefusedStream r line.items
 HasCause r ReadFault = reads (words_of r.words) × Rose r.faults_before r.faults_after
 HasCause r (TooMany line) = IsTooMany r line.items
 HasCause r Memory = ¬ reads (words_of r.words) → IsUnread r
@@ -188,16 +224,27 @@ pub record IsSampled (r : Reading) (text : List ℕ) : Type 0 where
   pub unread : IsUnread r
   pub sample : IsSampleText number input text
 
--- what is served: a run, the table or the reading of one of the script, for which there is no node, or a text for which there is no book either
-abbrev pub IsServed : Reading → Option Book → ℕ → Option (List NodeState) → List ℕ → Type 0
-IsServed r (Some book) front (Some nodes) text = IsStepped r book.entries front nodes text ⊎ IsThreaded r book.entries front nodes text
-IsServed r (Some book) front None text = IsBalanced r book.entries front text ⊎ IsPolled r book.entries front text
-IsServed r None front None text = (IsRouted r text ⊎ IsSampled r text) × (front ≡ 0)
-IsServed r _ front _ text = ⊥
+-- a stream was checked, and this is the text of the answer, with the status that it has
+pub record IsAnswered (r : Reading) (status : ℕ) (text : List ℕ) : Type 0 where
+  pub words : words_of r.words ≡ Some command.Check
+  pub bytes : List ℕ
+  pub answer : Checked
+  pub read : HasReadStream r bytes
+  pub checked : IsChecked bytes (Ok answer)
+  pub text_is : text ≡ answer_text answer
+  pub status_is : status ≡ answer_status answer
+
+-- what is served, with the status that it has once it is written: a run, the table or the reading of one of the script, for which there is no node, or
+-- a text for which there is no book either
+abbrev pub IsServed : Reading → Option Book → ℕ → Option (List NodeState) → ℕ → List ℕ → Type 0
+IsServed r (Some book) front (Some nodes) status text = (IsStepped r book.entries front nodes text ⊎ IsThreaded r book.entries front nodes text) × (status ≡ 0)
+IsServed r (Some book) front None status text = (IsBalanced r book.entries front text ⊎ IsPolled r book.entries front text) × (status ≡ 0)
+IsServed r None front None status text = (((IsRouted r text ⊎ IsSampled r text) × (status ≡ 0)) ⊎ IsAnswered r status text) × (front ≡ 0)
+IsServed r _ front _ status text = ⊥
 
 -- what a command comes to: what is served, or a refusal with its cause
 abbrev pub Serves : Reading → Result Served Refusal → Type 0
-Serves r (Ok s) = IsServed r s.book s.front (states_of s.nodes) s.text.items
+Serves r (Ok s) = IsServed r s.book s.front (states_of s.nodes) s.status s.text.items
 Serves r (Err refusal) = HasCause r refusal
 
 -- the same of an input that is read, and of a sample
@@ -206,7 +253,7 @@ Accepts r (Ok i) = WasRead r i × IsAccepted i
 Accepts r (Err refusal) = HasCause r refusal
 
 abbrev pub ServesSample : ℕ → Bool → Result Served Refusal → Type 0
-ServesSample number text (Ok s) = IsSampleText number text s.text.items × (s.book ≡ None) × (s.front ≡ 0) × (states_of s.nodes ≡ None)
+ServesSample number text (Ok s) = IsSampleText number text s.text.items × (s.book ≡ None) × (s.front ≡ 0) × (states_of s.nodes ≡ None) × (s.status ≡ 0)
 ServesSample number text (Err refusal) = refusal ≡ Memory
 
 -- the whole line for status 5 was appended, or a part of it where the sink's count rose
@@ -215,9 +262,9 @@ TellsWriteFault err = Appends err.before err.after write_fault_text ⊎ (Appends
 
 -- The ways in which writing ends.
 
--- the text was written whole: nothing was appended to `err`
-pub record IsWhole (out err : Writing) (text : List ℕ) (e : Ended) : Type 0 where
-  pub status : e.status ≡ 0
+-- the text was written whole, and the status is its own: nothing was appended to `err`
+pub record IsWhole (out err : Writing) (status : ℕ) (text : List ℕ) (e : Ended) : Type 0 where
+  pub status_is : e.status ≡ status
   pub written : Appends out.before out.after text
   pub silent : IsUntouched err
 
@@ -229,14 +276,14 @@ pub record IsOutFault (out err : Writing) (text : List ℕ) (e : Ended) : Type 0
   pub told : TellsWriteFault err
 
 -- what writing a text leaves: the book and the nodes, where there are any, are returned either way
-pub record Reports (out err : Writing) (book : Option Book) (front : ℕ) (nodes : Option (List NodeState)) (text : List ℕ) (e : Ended) : Type 0 where
+pub record Reports (out err : Writing) (book : Option Book) (front : ℕ) (nodes : Option (List NodeState)) (status : ℕ) (text : List ℕ) (e : Ended) : Type 0 where
   pub kept : e.book ≡ book
   pub front_kept : e.front ≡ front
   pub nodes_kept : states_of e.nodes ≡ nodes
-  pub ending : IsWhole out err text e ⊎ IsOutFault out err text e
+  pub ending : IsWhole out err status text e ⊎ IsOutFault out err text e
 
 abbrev pub ReportsServed : Writing → Writing → Served → Ended → Type 0
-ReportsServed out err s e = Reports out err s.book s.front (states_of s.nodes) s.text.items e
+ReportsServed out err s e = Reports out err s.book s.front (states_of s.nodes) s.status s.text.items e
 
 -- the line for a refusal was written whole
 pub record IsTold (err : Writing) (refusal : Refusal) (e : Ended) : Type 0 where
@@ -265,9 +312,10 @@ pub record IsReported (r : Reading) (out err : Writing) (e : Ended) : Type 0 whe
   pub book : Option Book
   pub front : ℕ
   pub nodes : Option (List NodeState)
+  pub status : ℕ
   pub text : List ℕ
-  pub served : IsServed r book front nodes text
-  pub reports : Reports out err book front nodes text e
+  pub served : IsServed r book front nodes status text
+  pub reports : Reports out err book front nodes status text e
 
 -- a refusal had its cause, and nothing was appended to `out`
 pub record IsRefused (r : Reading) (out err : Writing) (e : Ended) : Type 0 where

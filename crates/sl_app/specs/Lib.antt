@@ -1,3 +1,4 @@
 pub mod Texts
 pub mod Served
 pub mod Ends
+pub mod Printed

@@ -49,7 +49,7 @@ IsReport IsBook i lost _ front _ trace text = ⊥
 
 -- a run with a thread for each actor, or how many actors there are, where they are too many for it
 abbrev pub ServesThreads : Input → Bool → Result Served EmulFault → Type 0
-ServesThreads i trace (Ok s) = (length i.net.actors ≤ 256) × IsReport IsThreadedBook i (losses i) s.book s.front (states_of s.nodes) trace s.text.items
+ServesThreads i trace (Ok s) = (length i.net.actors ≤ 256) × (IsReport IsThreadedBook i (losses i) s.book s.front (states_of s.nodes) trace s.text.items × (s.status ≡ 0))
 ServesThreads i trace (Err (TooMany actors)) = (256 < length i.net.actors) × (actors ≡ length i.net.actors)
 ServesThreads i trace (Err OutOfMemory) = Unit {0}
 

@@ -12,6 +12,8 @@ pub enum Refusal {
     Usage,
     /// The input is refused, with the line that says why.
     Input(Vec<u8>),
+    /// The stream can't be checked, with the line that says why.
+    Stream(Vec<u8>),
     /// A read of the source failed.
     ReadFault,
     /// The net has more actors than run in threads, with the line that says how many.
@@ -28,6 +30,7 @@ impl Refusal {
         match self {
             Refusal::Usage => 2,
             Refusal::Input(_) => 3,
+            Refusal::Stream(_) => 3,
             Refusal::ReadFault => 4,
             Refusal::TooMany(_) => 7,
             Refusal::Memory => 6,
@@ -41,9 +44,10 @@ impl Refusal {
     {
         match self {
             Refusal::Usage => {
-                b"speedlight: usage: speedlight step [--trace] | run [--trace] | routes | sample N [--input] | balance | poll S G\n"
+                b"speedlight: usage: speedlight step [--trace] | run [--trace] | routes | sample N [--input] | check | balance | poll S G\n"
             }
             Refusal::Input(line) => line.as_slice(),
+            Refusal::Stream(line) => line.as_slice(),
             Refusal::ReadFault => b"speedlight: read fault\n",
             Refusal::TooMany(line) => line.as_slice(),
             Refusal::Memory => b"speedlight: out of memory\n",

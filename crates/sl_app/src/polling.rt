@@ -27,7 +27,8 @@ fn schedule_of(alloc: Global, entries: &[Entry]) -> Result<Vec<(u32, u32)>, Allo
 /// after `start` entries, each further one after `gap` more.
 pub fn serve_poll(alloc: Global, input: &Input, start: u64, gap: u64) -> Result<Served, Memory>
     requires { CanRun input.now }
-    ensures { IfOk result (λ s. IsReading input.now (losses input.now) s.book s.front (states_of s.nodes) start gap s.text.items) }
+    ensures reading { IfOk result (λ s. IsReading input.now (losses input.now) s.book s.front (states_of s.nodes) start gap s.text.items) }
+    ensures status { IfOk result (λ s. s.status ≡ 0) }
 {
     let run = run_stepped(alloc, input)?;
     let schedule = schedule_of(alloc, run.book.entries.as_slice())?;
@@ -37,6 +38,7 @@ pub fn serve_poll(alloc: Global, input: &Input, start: u64, gap: u64) -> Result<
         book: Some(run.book),
         front: run.front,
         nodes: None,
+        status: 0,
         text,
     })
 }

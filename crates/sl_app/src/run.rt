@@ -23,18 +23,21 @@ use std::alloc::Global;
 use std::sync::Wait;
 use std::thread::Threads;
 
-/// What is served: a text, and where it is that of a run of an input, the book of the run, how many
-/// of its entries come before finishing, and the nodes that it ended with.
+/// What is served: a text, with the exit status once it is written, and where it is that of a run of
+/// an input, the book of the run, how many of its entries come before finishing, and the nodes that
+/// it ended with.
 #[derive(Drop)]
 pub struct Served {
     pub book: Option<Book>,
     pub front: u64,
     pub nodes: Option<Vec<Node>>,
+    pub status: u8,
     pub text: Vec<u8>,
 }
 
-/// A text without a run.
-pub fn only_text(text: Vec<u8>) -> Served
+/// A text without a run, with the status that it has.
+pub fn only_text(status: u8, text: Vec<u8>) -> Served
+    ensures status { result.status ≡ status }
     ensures text { result.text.items ≡ text.items }
     ensures book { result.book ≡ None }
     ensures front { result.front ≡ 0 }
@@ -44,6 +47,7 @@ pub fn only_text(text: Vec<u8>) -> Served
         book: None,
         front: 0,
         nodes: None,
+        status,
         text,
     }
 }
@@ -73,6 +77,7 @@ fn report_run(alloc: Global, input: &Input, run: Run, trace: bool) -> Result<Ser
     ensures book { IfOk result (λ s. s.book ≡ Some run.book) }
     ensures front { IfOk result (λ s. s.front ≡ run.front) }
     ensures nodes { IfOk result (λ s. states_of s.nodes ≡ Some (map node_state run.nodes.items)) }
+    ensures status { IfOk result (λ s. s.status ≡ 0) }
     ensures text { IfOk result (λ s. s.text.items ≡ run_text input.now (losses input.now) run.book.entries trace) }
 {
     legal_books_are_choices();
@@ -82,6 +87,7 @@ fn report_run(alloc: Global, input: &Input, run: Run, trace: bool) -> Result<Ser
         book: Some(run.book),
         front: run.front,
         nodes: Some(run.nodes),
+        status: 0,
         text,
     })
 }
@@ -89,7 +95,8 @@ fn report_run(alloc: Global, input: &Input, run: Run, trace: bool) -> Result<Ser
 /// Runs an input by its script, and reports it.
 pub fn serve_run(alloc: Global, input: &Input, trace: bool) -> Result<Served, Memory>
     requires { CanRun input.now }
-    ensures { IfOk result (λ s. IsReport IsRunBook input.now (losses input.now) s.book s.front (states_of s.nodes) trace s.text.items) }
+    ensures report { IfOk result (λ s. IsReport IsRunBook input.now (losses input.now) s.book s.front (states_of s.nodes) trace s.text.items) }
+    ensures status { IfOk result (λ s. s.status ≡ 0) }
 {
     let run = run_stepped(alloc, input)?;
     report_run(alloc, input, run, trace)
@@ -116,8 +123,9 @@ pub fn serve_routes(alloc: Global, input: &Input) -> Result<Served, Memory>
     ensures book { IfOk result (λ s. s.book ≡ None) }
     ensures front { IfOk result (λ s. s.front ≡ 0) }
     ensures nodes { IfOk result (λ s. states_of s.nodes ≡ None) }
+    ensures status { IfOk result (λ s. s.status ≡ 0) }
 {
     let routes = Routes::make(alloc, &input.net)?;
     let text = routes_bytes(alloc, &input.net, &routes)?;
-    Ok(only_text(text))
+    Ok(only_text(0, text))
 }

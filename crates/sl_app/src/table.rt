@@ -1,5 +1,5 @@
 // What is served of a run as a table of balance.
-ghost use Rattle.std.specs.Prelude.{◌<◌, ◌^◌, IfOk};
+ghost use Rattle.std.specs.Prelude.{◌≡◌, ◌<◌, ◌^◌, IfOk};
 ghost use Rattle.sl_model.specs.Bound.{input_bound};
 ghost use Rattle.sl_model.specs.Losses.{losses};
 ghost use Rattle.sl_emul.specs.Run.{CanRun};
@@ -17,7 +17,8 @@ use std::alloc::Global;
 pub fn serve_balance(alloc: Global, input: &Input) -> Result<Served, Memory>
     requires can { CanRun input.now }
     requires small { input_bound input.now < 2 ^ 27 }
-    ensures { IfOk result (λ s. IsTable input.now (losses input.now) s.book s.front (states_of s.nodes) s.text.items) }
+    ensures table { IfOk result (λ s. IsTable input.now (losses input.now) s.book s.front (states_of s.nodes) s.text.items) }
+    ensures status { IfOk result (λ s. s.status ≡ 0) }
 {
     counts_are_few();
     let run = run_stepped(alloc, input)?;
@@ -28,6 +29,7 @@ pub fn serve_balance(alloc: Global, input: &Input) -> Result<Served, Memory>
         book: Some(run.book),
         front: run.front,
         nodes: None,
+        status: 0,
         text,
     })
 }

@@ -4,14 +4,16 @@ ghost use Rattle.sl_flow.specs.Sample.{IsSampleNumber};
 ghost use Rattle.sl_words.specs.Words.{words_of};
 ghost use Rattle.sl_words.specs.declared.command.Command.TheVariants as command;
 ghost use Rattle.sl_app.specs.Texts.{many_text};
-ghost use Rattle.sl_app.specs.Ends.{reading, writing, texts_of, reads, asks_for_run, TellsFault, TellsTooMany, Accepts, Serves, ServesSample, TellsWriteFault, Refuses, ReportsServed, Ends};
+ghost use Rattle.sl_app.specs.Ends.{reading, writing, texts_of, reads_input, reads, asks_for_run, TellsFault, TellsTooMany, Accepts, Serves, ServesSample, TellsWriteFault, Refuses, ReportsServed, Ends};
 
 use crate::ended::{Ended, Refusal};
 use crate::polling::serve_poll;
 use crate::run::{Served, only_text, serve_routes, serve_run, serve_threads};
 use crate::sample::sample_bytes;
+use crate::stream::{refused_stream, serve_answer};
 use crate::table::serve_balance;
 use sl_actor::Gate;
+use sl_check::check_bytes;
 use sl_emul::EmulFault;
 use sl_io::{ReadFault, Sink, Source, read_all, write_all};
 use sl_model::input_bounds_are_small;
@@ -27,6 +29,9 @@ use std::thread::Threads;
 /// The most bytes of an input, and one more.
 const LIMIT: usize = 1_048_577;
 
+/// The most bytes of a stream that is checked, and one more.
+const STREAM_LIMIT: usize = 4_194_305;
+
 /// The refusal of an input.
 fn refused(alloc: Global, fault: &InputFault) -> Refusal
     ensures { TellsFault fault.now result }
@@ -39,7 +44,8 @@ fn refused(alloc: Global, fault: &InputFault) -> Refusal
 
 /// Reads an input, or says why there is none.
 fn accept<I: Source>(alloc: Global, words: &[String], input: &mut I) -> Result<Input, Refusal>
-    requires { reads (words_of (texts_of words.now)) }
+    requires input { reads_input (words_of (texts_of words.now)) }
+    requires source { reads (words_of (texts_of words.now)) }
     ensures { Accepts (reading I.Source (texts_of words.now) input.old input.new) result }
 {
     let bytes = match read_all(alloc, input, LIMIT) {
@@ -65,10 +71,7 @@ fn step<I: Source>(
 {
     passes_are_choices();
     input_bounds_are_small();
-    let accepted = match accept(alloc, words, input) {
-        Ok(accepted) => accepted,
-        Err(refusal) => return Err(refusal),
-    };
+    let accepted = accept(alloc, words, input)?;
     match serve_run(alloc, &accepted, trace) {
         Ok(served) => Ok(served),
         Err(_) => Err(Refusal::Memory),
@@ -117,16 +120,32 @@ fn run<R: Threads + Wait + Sync, I: Source, G: Gate + Sync>(
     }
 }
 
+fn check<I: Source>(alloc: Global, words: &[String], input: &mut I) -> Result<Served, Refusal>
+    requires { words_of (texts_of words.now) ≡ Some command.Check }
+    ensures { Serves (reading I.Source (texts_of words.now) input.old input.new) result }
+{
+    let bytes = match read_all(alloc, input, STREAM_LIMIT) {
+        Ok(bytes) => bytes,
+        Err(ReadFault::Failed) => return Err(Refusal::ReadFault),
+        Err(ReadFault::Memory) => return Err(Refusal::Memory),
+    };
+    let answer = match check_bytes(alloc, bytes.as_slice()) {
+        Ok(answer) => answer,
+        Err(fault) => return Err(refused_stream(alloc, &fault)),
+    };
+    match serve_answer(alloc, answer) {
+        Ok(served) => Ok(served),
+        Err(_) => Err(Refusal::Memory),
+    }
+}
+
 fn balance<I: Source>(alloc: Global, words: &[String], input: &mut I) -> Result<Served, Refusal>
     requires { words_of (texts_of words.now) ≡ Some command.Balance }
     ensures { Serves (reading I.Source (texts_of words.now) input.old input.new) result }
 {
     passes_are_choices();
     input_bounds_are_small();
-    let accepted = match accept(alloc, words, input) {
-        Ok(accepted) => accepted,
-        Err(refusal) => return Err(refusal),
-    };
+    let accepted = accept(alloc, words, input)?;
     match serve_balance(alloc, &accepted) {
         Ok(served) => Ok(served),
         Err(_) => Err(Refusal::Memory),
@@ -145,10 +164,7 @@ fn poll<I: Source>(
 {
     passes_are_choices();
     input_bounds_are_small();
-    let accepted = match accept(alloc, words, input) {
-        Ok(accepted) => accepted,
-        Err(refusal) => return Err(refusal),
-    };
+    let accepted = accept(alloc, words, input)?;
     match serve_poll(alloc, &accepted, start, gap) {
         Ok(served) => Ok(served),
         Err(_) => Err(Refusal::Memory),
@@ -159,10 +175,7 @@ fn routes<I: Source>(alloc: Global, words: &[String], input: &mut I) -> Result<S
     requires { words_of (texts_of words.now) ≡ Some command.Routes }
     ensures { Serves (reading I.Source (texts_of words.now) input.old input.new) result }
 {
-    let accepted = match accept(alloc, words, input) {
-        Ok(accepted) => accepted,
-        Err(refusal) => return Err(refusal),
-    };
+    let accepted = accept(alloc, words, input)?;
     match serve_routes(alloc, &accepted) {
         Ok(served) => Ok(served),
         Err(_) => Err(Refusal::Memory),
@@ -174,7 +187,7 @@ fn sample(alloc: Global, number: u8, text: bool) -> Result<Served, Refusal>
     ensures { ServesSample number text result }
 {
     match sample_bytes(alloc, number, text) {
-        Ok(bytes) => Ok(only_text(bytes)),
+        Ok(bytes) => Ok(only_text(0, bytes)),
         Err(_) => Err(Refusal::Memory),
     }
 }
@@ -186,6 +199,7 @@ fn serve<I: Source>(alloc: Global, words: &[String], input: &mut I) -> Result<Se
 {
     match words_of(alloc, words) {
         Ok(Some(Command::Step(trace))) => step(alloc, words, trace, input),
+        Ok(Some(Command::Check)) => check(alloc, words, input),
         Ok(Some(Command::Balance)) => balance(alloc, words, input),
         Ok(Some(Command::Poll(start, gap))) => poll(alloc, words, start, gap, input),
         Ok(Some(Command::Routes)) => routes(alloc, words, input),
@@ -235,7 +249,7 @@ fn report<O: Sink, E: Sink>(served: Served, out: &mut O, err: &mut E) -> Ended
     ensures { ReportsServed (writing O.Sink out.old out.new) (writing E.Sink err.old err.new) served result }
 {
     let status = match write_all(out, &served.text) {
-        Ok(()) => 0,
+        Ok(()) => served.status,
         Err(_) => {
             tell_write_fault(err);
             5

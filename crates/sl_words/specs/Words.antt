@@ -9,7 +9,7 @@ use Rattle.clap.specs.Walk.{Rule}
 use Rattle.sl_words.specs.declared.flags.Flag.{Flag}
 use Rattle.sl_words.specs.declared.flags.Flag.TheVariants.{Trace, Input}
 use Rattle.sl_words.specs.declared.command.Command.{Command}
-use Rattle.sl_words.specs.declared.command.Command.TheVariants.{Step, Run, Routes, Sample, Balance, Poll}
+use Rattle.sl_words.specs.declared.command.Command.TheVariants.{Step, Run, Routes, Sample, Check, Balance, Poll}
 use Rattle.clap.specs.declared.builder.action.ArgAction.TheVariants.{SetTrue}
 
 abbrev pub dashes : List ℕ
@@ -98,6 +98,9 @@ routes_of ws = option_map (λ asked. Routes) (ends false ws)
 abbrev pub sample_of : List (List ℕ) → Option Command
 sample_of ws = option_map (λ p. Sample p.0 p.1) (sample_words ws)
 
+abbrev pub check_of : List (List ℕ) → Option Command
+check_of ws = option_map (λ asked. Check) (ends false ws)
+
 abbrev pub balance_of : List (List ℕ) → Option Command
 balance_of ws = option_map (λ asked. Balance) (ends false ws)
 
@@ -111,6 +114,7 @@ command_of w ws =
     else if bytes_eq w (codes "run") then run_of ws
     else if bytes_eq w (codes "routes") then routes_of ws
     else if bytes_eq w (codes "sample") then sample_of ws
+    else if bytes_eq w (codes "check") then check_of ws
     else if bytes_eq w (codes "balance") then balance_of ws
     else if bytes_eq w (codes "poll") then poll_of ws
     else None

@@ -1,6 +1,6 @@
 // The command that words ask for.
 ghost use Rattle.std.specs.Prelude.{◌≡◌, IfOk, IfSome, map, string_bytes, is_some, false};
-ghost use Rattle.sl_words.specs.Words.{ends, step_of, run_of, routes_of, sample_of, balance_of, poll_of, command_of, words_of, HasNumber};
+ghost use Rattle.sl_words.specs.Words.{ends, step_of, run_of, routes_of, sample_of, check_of, balance_of, poll_of, command_of, words_of, HasNumber};
 
 use crate::flags::{Flag, flag_words};
 use crate::poll::poll_words;
@@ -19,6 +19,8 @@ pub enum Command {
     Routes,
     /// `sample` with its number, from 1 to 64, and whether with `--input`.
     Sample(u8, bool),
+    /// `check`.
+    Check,
     /// `balance`.
     Balance,
     /// `poll` with its two numbers, each up to 1,000,000: after how many entries the first unit is
@@ -46,7 +48,7 @@ fn run_words(alloc: Global, words: &[String]) -> Result<Option<Command>, Memory>
     }
 }
 
-/// `routes` and `balance` have no option: what is one elsewhere is refused.
+/// `routes`, `check` and `balance` have no option: what is one elsewhere is refused.
 #[tactic(auto, using(crate::proofs::RouteLemmas::no_option))]
 fn is_bare(alloc: Global, words: &[String]) -> Result<bool, Memory>
     ensures { IfOk result (λ fits. fits ≡ is_some (ends false (map string_bytes words.now))) }
@@ -75,6 +77,17 @@ fn sample_command(alloc: Global, words: &[String]) -> Result<Option<Command>, Me
     match sample_words(alloc, words)? {
         Some((number, input)) => Ok(Some(Command::Sample(number, input))),
         None => Ok(None),
+    }
+}
+
+fn check_words(alloc: Global, words: &[String]) -> Result<Option<Command>, Memory>
+    ensures command { IfOk result (λ c. c ≡ check_of (map string_bytes words.now)) }
+    ensures number { IfOk result (λ c. IfSome c HasNumber) }
+{
+    if is_bare(alloc, words)? {
+        Ok(Some(Command::Check))
+    } else {
+        Ok(None)
     }
 }
 
@@ -111,6 +124,8 @@ fn command_of(alloc: Global, name: &str, words: &[String]) -> Result<Option<Comm
         routes_words(alloc, words)
     } else if name == "sample" {
         sample_command(alloc, words)
+    } else if name == "check" {
+        check_words(alloc, words)
     } else if name == "balance" {
         balance_words(alloc, words)
     } else if name == "poll" {

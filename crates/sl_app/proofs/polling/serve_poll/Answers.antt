@@ -23,8 +23,8 @@ pub polled_bytes-requires : goal.polled_bytes-requires
 polled_bytes-requires c =
     subst (λ (net : Net). IfSome c.in_ok-polled.polled.broken (λ p. p.link < length net.links)) (sym (ap (λ (i : Input). i.net) c.input.view_is)) c.in_ok-polled.ensures.link
 
-pub returns : goal.returns
-returns c =
+pub returns-clause-reading : goal.returns-clause-reading
+returns-clause-reading c =
     let i = c.args.input.now in
     let net : c.input.inside.net ≡ i.net = ap (λ (i : Input). i.net) c.input.view_is in
     let entries : c.run.inside.0.0.entries.items ≡ c.in_ok-run.run'.book.entries = ap (λ (r : Run). r.book.entries) c.run.view_is in

@@ -3,8 +3,8 @@ use Rattle.sl_emul.specs.Run.{IsRunBook}
 use Rattle.sl_app.proofs.RunLemmas.{report-of}
 use Rattle.sl_app.proofs.run.serve_run.Goals as goal
 
-pub returns : goal.returns
-returns c =
+pub returns-clause-report : goal.returns-clause-report
+returns-clause-report c =
     let i = c.args.input.now in
     let run = c.in_ok-run.ensures in
     let told = c.report_run.ensures in

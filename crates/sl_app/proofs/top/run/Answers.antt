@@ -10,4 +10,4 @@ serve_threads-requires g c =
 pub returns-in-Ok-serve_threads : goal.returns-in-Ok-serve_threads
 returns-in-Ok-serve_threads g c =
     let small = small_threads c.input_bounds_are_small.ensures c.in-Ok.accepted c.in-Ok.ensures.1 in
-    threaded _ c.in-Ok.accepted c.args.trace c.requires c.in-Ok.ensures.0 small c.in-Ok-serve_threads.ensures.0 _ _ _ _ c.in-Ok-serve_threads.ensures.1
+    threaded _ c.in-Ok.accepted c.args.trace c.requires c.in-Ok.ensures.0 small c.in-Ok-serve_threads.ensures.0 _ _ _ _ _ c.in-Ok-serve_threads.ensures.1.0 c.in-Ok-serve_threads.ensures.1.1

@@ -425,6 +425,59 @@ host h1 sent 0 delivered 1
 drops bad 0 expired 0 noroute 0
 lost cable 0 crossbar 0 init 0 notice 0
 end
+==
+step two_credits
+device = [{name = "a", ports = 2}]
+host = [{name = "h0", at = "a.0"}, {name = "h1", at = "a.1"}]
+flow = [{from = "h0", to = "h1", count = 1, bytes = 100, hops = 8}]
+snapshot = {bits = 2, window = 2, ring = 2, count = 2, retries = 0, credits = 2}
+script = {entries = ["host h0 inject", "in a.0 host", "observer issue", "observer issue", "control a begin", "control a begin", "in a.1 init", "in a.1 init", "out a.1 x1", "out a.1 x1", "out a.1 x0"]}
+--
+speedlight 1
+network devices 1 units 4 hosts 2
+observer count 2 issued 2 collected 2 resent 0
+snapshot 1 consistent
+in a.0 1 100
+out a.0 0 0 x0 0 0 x1 0 0
+in a.1 0 0
+out a.1 0 0 x0 1 100 x1 0 0
+snapshot 2 consistent
+in a.0 1 100
+out a.0 0 0 x0 0 0 x1 0 0
+in a.1 0 0
+out a.1 0 0 x0 1 100 x1 0 0
+host h0 sent 1 delivered 0
+host h1 sent 0 delivered 1
+drops bad 0 expired 0 noroute 0
+lost cable 0 crossbar 0 init 0 notice 0
+end
+==
+step two_credits_not_enough
+device = [{name = "a", ports = 2}]
+host = [{name = "h0", at = "a.0"}, {name = "h1", at = "a.1"}]
+flow = [{from = "h0", to = "h1", count = 1, bytes = 100, hops = 8}]
+snapshot = {bits = 2, window = 3, ring = 3, count = 3, retries = 0, credits = 2}
+script = {entries = ["host h0 inject", "in a.0 host", "observer issue", "observer issue", "observer issue", "control a begin", "control a begin", "control a begin", "in a.1 init", "in a.1 init", "in a.1 init", "out a.1 x1", "out a.1 x1", "out a.1 x1", "out a.1 x0"]}
+--
+speedlight 1
+network devices 1 units 4 hosts 2
+observer count 3 issued 3 collected 3 resent 0
+snapshot 1 inconsistent out a.1 miscredited by 2
+snapshot 2 consistent
+in a.0 1 100
+out a.0 0 0 x0 0 0 x1 0 0
+in a.1 0 0
+out a.1 0 0 x0 1 100 x1 0 0
+snapshot 3 consistent
+in a.0 1 100
+out a.0 0 0 x0 0 0 x1 0 0
+in a.1 0 0
+out a.1 0 0 x0 1 100 x1 0 0
+host h0 sent 1 delivered 0
+host h1 sent 0 delivered 1
+drops bad 0 expired 0 noroute 0
+lost cable 0 crossbar 0 init 0 notice 0
+end
 "#
 }
 
@@ -455,6 +508,14 @@ speedlight: I2
 step padded_input.4
 --
 speedlight: I3 device
+==
+step five_credits
+device = [{name = "a", ports = 2}]
+host = [{name = "h0", at = "a.0"}, {name = "h1", at = "a.1"}]
+flow = [{from = "h0", to = "h1", count = 3, bytes = 100, hops = 8}]
+snapshot = {bits = 2, window = 3, ring = 3, count = 1, retries = 0, credits = 5}
+--
+speedlight: I6 snapshot.credits 5
 ==
 step refused_inputs.1
 device = [{name = "a", ports = 2}]

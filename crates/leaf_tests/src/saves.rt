@@ -3,6 +3,7 @@ ghost use Rattle.std.specs.Prelude.{◌≡◌, ◌+◌, ◌<◌, ◌≤◌, leng
 
 use sl_machine::Memory;
 use sl_saves::{ListSaves, RingSaves, Saved, Saves, Total, View, read_saved, try_read_saved};
+use std::alloc::Global;
 use std::process::Abort;
 use std::test::Fail;
 
@@ -61,10 +62,44 @@ fn check_entries<S: Saves>(rt: &impl Abort, saves: &mut S) -> Result<(), Memory>
     Ok(())
 }
 
+/// A packet goes to two numbers, and its foot is the lower one.
+fn check_two_credits<S: Saves>(rt: &impl Abort, saves: &mut S) -> Result<(), Memory>
+    requires window { S.window saves.old ≡ 3 }
+    requires size { S.size saves.old ≡ 3 }
+{
+    let mut inflight = [NONE; 8];
+    saves.ready()?;
+    saves.adopt(1, 5, 500);
+    saves.ready()?;
+    saves.adopt(2, 7, 700);
+    saves.credit(0, 3, 100);
+    let view = saves.view()?;
+    inflight[0] = Total {
+        packets: 1,
+        bytes: 100,
+    };
+    let seven = Saved::Value {
+        packets: 7,
+        bytes: 700,
+        inflight,
+    };
+    let five = Saved::Value {
+        packets: 5,
+        bytes: 500,
+        inflight,
+    };
+    assert_eq!(rt; answer(&view, 3, 3), Some(seven));
+    assert_eq!(rt; answer(&view, 3, 2), Some(Saved::Skipped { to: 3 }));
+    assert_eq!(rt; answer(&view, 3, 1), Some(five));
+    Ok(())
+}
+
 #[test]
 fn saved_entries(rt: HostRuntime) -> Result<(), Fail> {
-    check_entries(&rt, &mut ListSaves::new(rt.alloc(), 3, 3)?)?;
-    check_entries(&rt, &mut RingSaves::new(rt.alloc(), 3, 3)?)?;
+    check_entries(&rt, &mut ListSaves::new(rt.alloc(), 3, 3, 1)?)?;
+    check_entries(&rt, &mut RingSaves::new(rt.alloc(), 3, 3, 1)?)?;
+    check_two_credits(&rt, &mut ListSaves::new(rt.alloc(), 3, 3, 2)?)?;
+    check_two_credits(&rt, &mut RingSaves::new(rt.alloc(), 3, 3, 2)?)?;
     Ok(())
 }
 
@@ -123,10 +158,12 @@ fn check_alike(rt: &impl Abort, one: &View, other: &View, id: u64) -> u64
 }
 
 /// Ten thousand turns on a list and on a ring, whose views say the same.
-#[test]
-fn list_and_ring_are_read_alike(rt: HostRuntime) -> Result<(), Fail> {
-    let mut list = ListSaves::new(rt.alloc(), WINDOW, RING)?;
-    let mut ring = RingSaves::new(rt.alloc(), WINDOW, RING)?;
+fn check_turns(rt: &impl Abort, alloc: Global, credits: u8) -> Result<(), Memory>
+    requires some { 1 ≤ credits }
+    requires few { credits ≤ 4 }
+{
+    let mut list = ListSaves::new(alloc, WINDOW, RING, credits)?;
+    let mut ring = RingSaves::new(alloc, WINDOW, RING, credits)?;
     let mut list_view = list.view()?;
     let mut ring_view = ring.view()?;
     let mut random = 1u64;
@@ -139,8 +176,16 @@ fn list_and_ring_are_read_alike(rt: HostRuntime) -> Result<(), Fail> {
         id = id.saturating_add(u64::from(by));
         list.fill(&mut list_view);
         ring.fill(&mut ring_view);
-        values = values.saturating_add(check_alike(&rt, &list_view, &ring_view, id));
+        values = values.saturating_add(check_alike(rt, &list_view, &ring_view, id));
     }
     assert!(rt; values > 1000 && id > 1000);
+    Ok(())
+}
+
+#[test]
+fn list_and_ring_are_read_alike(rt: HostRuntime) -> Result<(), Fail> {
+    for credits in 1..5u8 {
+        check_turns(&rt, rt.alloc(), credits)?;
+    }
     Ok(())
 }

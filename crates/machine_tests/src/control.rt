@@ -52,6 +52,7 @@ fn made(alloc: Global, net: &Net) -> Result<Control, Memory>
         ring: 3,
         count: 9,
         retries: 0,
+        credits: 1,
     };
     Control::new(alloc, net, 0, &snapshot)
 }

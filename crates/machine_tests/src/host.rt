@@ -50,6 +50,7 @@ fn input(alloc: Global) -> Result<Input, Fail>
             ring: 3,
             count: 1,
             retries: 0,
+            credits: 1,
         },
         loss: LossSpec {
             seed: 0,

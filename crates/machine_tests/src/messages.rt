@@ -67,7 +67,7 @@ fn no_packet() -> Packet {
 
 /// A view of three slots of a unit that went from 0 to a number below 7, by at most 3 in one step.
 fn view_at(alloc: Global, id: u64) -> Result<View, Memory> {
-    let mut saves = RingSaves::new(alloc, 3, 3)?;
+    let mut saves = RingSaves::new(alloc, 3, 3, 1)?;
     let first = id.min(3);
     if first >= 1 {
         saves.adopt(first as u16, 5, 500);

@@ -57,6 +57,7 @@ fn collector_of(alloc: Global, net: &Net) -> Result<Collector, Fail> {
         ring: 3,
         count: 3,
         retries: 1,
+        credits: 1,
     };
     let ins = net.links_into(0).len() as u32;
     let outs = net.links_from(0).len() as u32;

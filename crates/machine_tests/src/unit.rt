@@ -1,5 +1,5 @@
 // Units of a device with two ports.
-ghost use Rattle.std.specs.Prelude.{◌≡◌, ◌<◌, IfOk, length, slice_index};
+ghost use Rattle.std.specs.Prelude.{◌≡◌, ◌<◌, ◌≤◌, IfOk, length, slice_index};
 ghost use Rattle.sl_layout.specs.Net.{units, links_into, links_from};
 ghost use Rattle.sl_unit.specs.Made.{IsRanged};
 ghost use Rattle.sl_unit.specs.Units.{unit_counts};
@@ -10,14 +10,16 @@ use crate::nets::net;
 use sl_machine::Memory;
 use sl_net::{Net, Side, Snapshot};
 use sl_route::Routes;
-use sl_saves::{Saved, View, read_saved, try_read_saved};
+use sl_saves::{Saved, Total, View, read_saved, try_read_saved};
 use sl_unit::{Unit, UnitCounts, unit_side};
 use sl_wire::{Boxed, Dump, Msg};
 use std::alloc::Global;
 use std::test::Fail;
 
-/// A window of two and a ring of two slots.
-fn snapshot() -> Snapshot
+/// A window of two, a ring of two slots, and so many credits.
+fn snapshot(credits: u8) -> Snapshot
+    requires least { 1 ≤ credits }
+    requires most { credits ≤ 4 }
     ensures { IsRanged result }
 {
     Snapshot {
@@ -26,26 +28,32 @@ fn snapshot() -> Snapshot
         ring: 2,
         count: 2,
         retries: 0,
+        credits,
     }
 }
 
-/// The unit at a place of a net.
-fn unit_of(alloc: Global, net: &Net, place: u32) -> Result<Unit, Memory>
-    requires { place < length (units net.now) }
+/// The unit at a place of a net, with so many credits.
+fn unit_of(alloc: Global, net: &Net, place: u32, credits: u8) -> Result<Unit, Memory>
+    requires place { place < length (units net.now) }
+    requires least { 1 ≤ credits }
+    requires most { credits ≤ 4 }
     ensures { IfOk result (λ unit. let a = slice_index (units net.now) place in
         unit_counts unit ≡ record { ins = length (links_into net.now a); outs = length (links_from net.now a); actions = 0 }) }
 {
     match unit_side(net, place) {
         Side::Ingress => {
             let routes = Routes::make(alloc, net)?;
-            Unit::ingress(alloc, net, &routes, place, &snapshot())
+            Unit::ingress(alloc, net, &routes, place, &snapshot(credits))
         }
-        Side::Egress => Unit::egress(alloc, net, place, &snapshot()),
+        Side::Egress => Unit::egress(alloc, net, place, &snapshot(credits)),
     }
 }
 
-/// The unit at a place of a net, with its links.
-fn joined(alloc: Global, net: &Net, place: u32) -> Result<Bench<Unit>, Fail> {
+/// The unit at a place of a net, with its links and so many credits.
+fn joined(alloc: Global, net: &Net, place: u32, credits: u8) -> Result<Bench<Unit>, Fail>
+    requires least { 1 ≤ credits }
+    requires most { credits ≤ 4 }
+{
     if place as usize >= net.units().len() {
         return Err("no such unit".into());
     }
@@ -53,7 +61,7 @@ fn joined(alloc: Global, net: &Net, place: u32) -> Result<Bench<Unit>, Fail> {
     let ins = net.links_into(actor).len() as u32;
     let outs = net.links_from(actor).len() as u32;
     Ok(Bench {
-        machine: unit_of(alloc, net, place)?,
+        machine: unit_of(alloc, net, place, credits)?,
         ins,
         outs,
         actions: 0,
@@ -61,9 +69,12 @@ fn joined(alloc: Global, net: &Net, place: u32) -> Result<Bench<Unit>, Fail> {
 }
 
 /// The unit at a place: `in a.0`, `out a.0`, `in a.1`, `out a.1`.
-fn unit(alloc: Global, place: u32) -> Result<Bench<Unit>, Fail> {
+fn unit(alloc: Global, place: u32, credits: u8) -> Result<Bench<Unit>, Fail>
+    requires least { 1 ≤ credits }
+    requires most { credits ≤ 4 }
+{
     let net = net(alloc, 2)?;
-    joined(alloc, &net, place)
+    joined(alloc, &net, place, credits)
 }
 
 /// The dump with which a unit answers a poll by its last choice.
@@ -102,7 +113,7 @@ fn late() -> &'static [Turn] {
 #[test]
 fn late_packet(rt: HostRuntime) -> Result<(), Fail> {
     let alloc = rt.alloc();
-    let mut unit = unit(alloc, 3)?;
+    let mut unit = unit(alloc, 3, 1)?;
     assert_eq!(rt; first_wrong(alloc, &mut unit, late())?, None);
     let dump = polled(alloc, &mut unit)?;
     let dump = dump.get();
@@ -112,6 +123,32 @@ fn late_packet(rt: HostRuntime) -> Result<(), Fail> {
         (dump.id.raw, dump.last[0].raw, dump.last[1].raw, first),
         (2, 0, 2, Some(late))
     );
+    Ok(())
+}
+
+#[test]
+fn two_credits(rt: HostRuntime) -> Result<(), Fail> {
+    let alloc = rt.alloc();
+    let mut unit = unit(alloc, 3, 2)?;
+    assert_eq!(rt; first_wrong(alloc, &mut unit, late())?, None);
+    let dump = polled(alloc, &mut unit)?;
+    let dump = dump.get();
+    let none = Total {
+        packets: 0,
+        bytes: 0,
+    };
+    let mut inflight = [none; 8];
+    inflight[0] = Total {
+        packets: 1,
+        bytes: 100,
+    };
+    let value = Saved::Value {
+        packets: 0,
+        bytes: 0,
+        inflight,
+    };
+    assert_eq!(rt; saved(&dump.view, 2, 1), Some(value));
+    assert_eq!(rt; saved(&dump.view, 2, 2), Some(value));
     Ok(())
 }
 
@@ -134,7 +171,7 @@ fn is_new(alloc: Global, place: u32) -> Result<bool, Fail> {
         expired: 0,
         noroute: 0,
     };
-    let unit = unit(alloc, place)?.machine;
+    let unit = unit(alloc, place, 1)?.machine;
     Ok(is_blank(&unit.dump()?) && unit.counts() == none)
 }
 
@@ -164,7 +201,7 @@ fn frames() -> &'static [Turn] {
 #[test]
 fn frames_of_the_host(rt: HostRuntime) -> Result<(), Fail> {
     let alloc = rt.alloc();
-    let mut unit = unit(alloc, 2)?;
+    let mut unit = unit(alloc, 2, 1)?;
     assert_eq!(rt; first_wrong(alloc, &mut unit, frames())?, None);
     let counts = UnitCounts {
         packets: 5,

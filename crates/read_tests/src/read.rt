@@ -151,8 +151,14 @@ snapshot = {bits = 2, window = 3, ring = 4, count = 1001} => I6 snapshot.count 1
 snapshot = {bits = 2, window = 3, ring = 4, count = 1000, retries = 101} => I6 snapshot.retries 101
 snapshot = {bits = 2, window = 3, ring = 4, count = 1, retries = -1} => I6 snapshot.retries -1
 snapshot = {bits = 2, window = 3, ring = 4, count = 1, retries = true} => I5 snapshot.retries
+snapshot = {bits = 2, window = 3, ring = 4, count = 1, retries = 101, credits = 5} => I6 snapshot.retries 101
+snapshot = {bits = 2, window = 3, ring = 4, count = 1, credits = 0} => I6 snapshot.credits 0
+snapshot = {bits = 2, window = 3, ring = 4, count = 1, retries = 3, credits = 5} => I6 snapshot.credits 5
+snapshot = {bits = 2, window = 3, ring = 4, count = 1, credits = "2"} => I5 snapshot.credits
 snapshot = {bits = 2, window = 4, colour = 1} => I4 snapshot
 snapshot = {bits = 2, window = 3, ring = 3, count = 1,} => accepted
+snapshot = {bits = 2, window = 3, ring = 3, count = 1, credits = 1} => accepted
+snapshot = {bits = 2, window = 3, ring = 3, count = 1, credits = 4} => accepted
 snapshot = { ; bits = 2, # bits ; window = 3, ; ring = 3, count = 1 ; } => accepted
 snapshot = {bits = 2, window = 3, ring = 3, count = 1} ; host = [{name = "\x68\x30", at = "a.0"}] => accepted
 snapshot = {bits = 2, window = 3, ring = 3, count = 1, retries = 0 => I2
@@ -382,9 +388,21 @@ fn three_packets(rt: HostRuntime) -> Result<(), Fail> {
         ring: 3,
         count: 1,
         retries: 0,
+        credits: 1,
     };
     assert_eq!(rt; input.snapshot, snapshot);
     assert_eq!(rt; input.script.len(), 0);
+    Ok(())
+}
+
+#[test]
+fn credits(rt: HostRuntime) -> Result<(), Fail> {
+    let alloc = rt.alloc();
+    let table = "snapshot = {bits = 2, window = 3, ring = 3, count = 1, credits = 2}\n";
+    let text = joined(alloc, &[DEVICE, HOSTS, table])?;
+    let input = read(alloc, text.as_str())?;
+    assert_eq!(rt; input.snapshot.credits, 2);
+    assert_eq!(rt; input.snapshot.retries, 0);
     Ok(())
 }
 

@@ -67,7 +67,7 @@ addressed i a = λ k d h. let f = a.flows k d h in record { from = omega (arith,
 pub runnable : Spelled → (i : Input) → IsAccepted i → CanRun i
 runnable spelled i a = record {
   net = record { made = a.net; right = a.right };
-  snapshot = record { some_bits = a.snapshot.some_bits; few_bits = a.snapshot.few_bits; some_window = a.snapshot.some_window; few_window = a.snapshot.few_window; some_ring = a.snapshot.some_ring };
+  snapshot = record { some_bits = a.snapshot.some_bits; few_bits = a.snapshot.few_bits; some_window = a.snapshot.some_window; few_window = a.snapshot.few_window; some_ring = a.snapshot.some_ring; some_credits = a.snapshot.some_credits; few_credits = a.snapshot.few_credits };
   addresses = addressed i a;
   short = record {
     flows = each-of (λ (f : Flow). f.bytes < 2 ^ 16) i.flows (λ k d h. (a.flows k d h).bytes);
@@ -79,7 +79,7 @@ runnable spelled i a = record {
 pub sample_runs : (n : ℕ) → IsSample (sample_parts n) → CanRun (sample_parts n)
 sample_runs n s = record {
   net = record { made = s.net; right = s.right };
-  snapshot = record { some_bits = omega (arith, s.bits); few_bits = omega (arith, s.bits); some_window = s.some_window; few_window = subst (λ bits. (sample_parts n).snapshot.window < 2 ^ bits) (sym s.bits) s.few_window; some_ring = omega (arith, s.ring) };
+  snapshot = record { some_bits = omega (arith, s.bits); few_bits = omega (arith, s.bits); some_window = s.some_window; few_window = subst (λ bits. (sample_parts n).snapshot.window < 2 ^ bits) (sym s.bits) s.few_window; some_ring = omega (arith, s.ring); some_credits = omega (arith, s.credits); few_credits = omega (arith, s.credits) };
   addresses = λ k d h. let f = s.flows k d h in record { from = omega (arith, f.from, s.hosts); to = omega (arith, f.to, s.hosts) };
   short = record { flows = each-map (λ (f : Flow). f.bytes < 2 ^ 16) (flow n) (below (host_count n)) (λ h. omega arith); raws = tt };
   script = λ k d h. absurd (omega (arith, h));

@@ -67,6 +67,6 @@ module _ (fits : (h : History) → packets h ≤ length h) (s : Setup) (lost : L
 
   pub few-findings : All (λ f. AreFew f.rows) (findings s lost es).list
   few-findings = all-from_each (λ (f : Finding). AreFew f.rows) (findings s lost es).list
-      (each-map (λ (f : Finding). AreFew f.rows) (finding s.net lost (world s lost es)) (numbers_from 1 s.count)
-      (each-of (λ k. AreFew (finding s.net lost (world s lost es) k).rows) (numbers_from 1 s.count)
-      (λ k m. all-from_each (λ (r : Row). r.packets < 2 ^ 40) (rows_for s.net lost (world s lost es) k (verdict s.net (world s lost es) k)) (few-rows k (verdict s.net (world s lost es) k)))))
+      (each-map (λ (f : Finding). AreFew f.rows) (finding s.credits s.net lost (world s lost es)) (numbers_from 1 s.count)
+      (each-of (λ k. AreFew (finding s.credits s.net lost (world s lost es) k).rows) (numbers_from 1 s.count)
+      (λ k m. all-from_each (λ (r : Row). r.packets < 2 ^ 40) (rows_for s.net lost (world s lost es) k (verdict s.credits s.net (world s lost es) k)) (few-rows k (verdict s.credits s.net (world s lost es) k)))))

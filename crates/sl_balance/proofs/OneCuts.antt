@@ -28,29 +28,29 @@ map_same : (f g : ℕ → ℕ) (xs : List ℕ) → Each (λ x. f x ≡ g x) xs �
 map_same f g [] e = refl
 map_same f g (x ∷ xs) e = ap (λ y. y ∷ map f xs) e.0 ∙ ap (λ ys. g x ∷ ys) (map_same f g xs e.1)
 
-module _ (net : Net) (lost : Losses) (w : World) (consistent : (k : ℕ) → IsConsistentCut net lost w (cuts w k)) where
+module _ (n : ℕ) (net : Net) (lost : Losses) (w : World) (consistent : (k : ℕ) → IsConsistentCut net lost w (cuts w k)) where
   -- in the rows of a finding stands what the units counted before
   counted : (k d : ℕ) → map (packets_at (map (row net lost w k) (units net))) (cabled net d) ≡ map (packets_before net w k) (cabled net d)
   counted k d = map_same (packets_at (map (row net lost w k) (units net))) (packets_before net w k) (cabled net d)
       (each-filter (λ i. packets_at (map (row net lost w k) (units net)) i ≡ packets_before net w k i) (λ i. is_cabled net.parts d (actor_of net (unit_at net i))) (below (length (units net)))
       (each-below (λ i. packets_at (map (row net lost w k) (units net)) i ≡ packets_before net w k i) (length (units net)) (λ i h. row_at (row net lost w k) (units net) i h)))
 
-  of_device : (k d : ℕ) → verdict net w k ≡ Consistent → Each (IsOfOneCut net lost w) (device_line net k (map (row net lost w k) (units net)) d)
+  of_device : (k d : ℕ) → verdict n net w k ≡ Consistent → Each (IsOfOneCut n net lost w) (device_line net k (map (row net lost w k) (units net)) d)
   of_device k d v = go (map (packets_at (map (row net lost w k) (units net))) (cabled net d)) (sym (counted k d))
     where
-      go : (xs : List ℕ) → map (packets_before net w k) (cabled net d) ≡ xs → Each (IsOfOneCut net lost w) (line_of k d xs)
+      go : (xs : List ℕ) → map (packets_before net w k) (cabled net d) ≡ xs → Each (IsOfOneCut n net lost w) (line_of k d xs)
       go [] e = tt
       go (x ∷ xs) e = (record { is_consistent = v; cut = consistent k; counts = ap (line_of k d) e }, tt)
 
-  of_verdict : (k : ℕ) (v : Verdict) → verdict net w k ≡ v → Each (IsOfOneCut net lost w) (lines_if net k (rows_for net lost w k v) v)
-  of_verdict k Consistent e = each-flat (IsOfOneCut net lost w) (device_line net k (map (row net lost w k) (units net))) (below (length net.parts.devices))
-      (each-below (λ d. Each (IsOfOneCut net lost w) (device_line net k (map (row net lost w k) (units net)) d)) (length net.parts.devices) (λ d h. of_device k d e))
+  of_verdict : (k : ℕ) (v : Verdict) → verdict n net w k ≡ v → Each (IsOfOneCut n net lost w) (lines_if net k (rows_for net lost w k v) v)
+  of_verdict k Consistent e = each-flat (IsOfOneCut n net lost w) (device_line net k (map (row net lost w k) (units net))) (below (length net.parts.devices))
+      (each-below (λ d. Each (IsOfOneCut n net lost w) (device_line net k (map (row net lost w k) (units net)) d)) (length net.parts.devices) (λ d h. of_device k d e))
   of_verdict k (Inconsistent unit cause) e = tt
   of_verdict k (Pending unit lag) e = tt
   of_verdict k (NotIssued unit floor) e = tt
 
-  pub of_findings : (count : ℕ) → All (IsOfOneCut net lost w) (balance net (map (finding net lost w) (numbers_from 1 count)))
-  of_findings count = all-from_each (IsOfOneCut net lost w) (balance net (map (finding net lost w) (numbers_from 1 count)))
-      (each-flat (IsOfOneCut net lost w) (finding_lines net) (map (finding net lost w) (numbers_from 1 count))
-      (each-map (λ (f : Finding). Each (IsOfOneCut net lost w) (finding_lines net f)) (finding net lost w) (numbers_from 1 count)
-      (each-from (λ k. Each (IsOfOneCut net lost w) (finding_lines net (finding net lost w k))) 1 count (λ k g h. of_verdict k (verdict net w k) refl))))
+  pub of_findings : (count : ℕ) → All (IsOfOneCut n net lost w) (balance net (map (finding n net lost w) (numbers_from 1 count)))
+  of_findings count = all-from_each (IsOfOneCut n net lost w) (balance net (map (finding n net lost w) (numbers_from 1 count)))
+      (each-flat (IsOfOneCut n net lost w) (finding_lines net) (map (finding n net lost w) (numbers_from 1 count))
+      (each-map (λ (f : Finding). Each (IsOfOneCut n net lost w) (finding_lines net f)) (finding n net lost w) (numbers_from 1 count)
+      (each-from (λ k. Each (IsOfOneCut n net lost w) (finding_lines net (finding n net lost w k))) 1 count (λ k g h. of_verdict k (verdict n net w k) refl))))

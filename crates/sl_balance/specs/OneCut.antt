@@ -14,8 +14,8 @@ use Rattle.sl_balance.specs.Balance.{line_of}
 abbrev pub packets_before : Net → World → ℕ → ℕ → ℕ
 packets_before net w k i = (value k (history w (unit_at net i))).packets
 
--- the verdict on the line's snapshot is consistent, its cut is a consistent cut, and the line is that of what the device's units counted before it
-pub record IsOfOneCut (net : Net) (lost : Losses) (w : World) (line : Line1) : Type 0 where
-  pub is_consistent : verdict net w line.k ≡ Consistent
+-- the verdict on the line's snapshot, where a data packet is credited to n numbers at most, is consistent, its cut is a consistent cut, and the line is that of what the device's units counted before it
+pub record IsOfOneCut (n : ℕ) (net : Net) (lost : Losses) (w : World) (line : Line1) : Type 0 where
+  pub is_consistent : verdict n net w line.k ≡ Consistent
   pub cut : IsConsistentCut net lost w (cuts w line.k)
   pub counts : line_of line.k line.device (map (packets_before net w line.k) (cabled net line.device)) ≡ line ∷ []

@@ -29,7 +29,7 @@ pub fn spread_is_of_pairs()
 /// the verdict consistent, before which the device's units counted what the line tells.
 pub fn lines_are_of_one_cut()
     ensures { (s : Setup) (lost : Losses) (es : List Entry) → IsNet s.net
-        → All (IsOfOneCut s.net lost (world s lost es)) (balance s.net (findings s lost es).list) }
+        → All (IsOfOneCut s.credits s.net lost (world s lost es)) (balance s.net (findings s lost es).list) }
 {
     cuts_are_consistent()
 }

@@ -26,7 +26,7 @@ pub net-of : (i : Input) → IsAccepted i → IsNet i.net
 net-of i a = record { made = a.net; right = a.right }
 
 pub ranged : (i : Input) → IsAccepted i → IsRanged i.snapshot
-ranged i a = record { some_bits = a.snapshot.some_bits; few_bits = a.snapshot.few_bits; some_window = a.snapshot.some_window; few_window = a.snapshot.few_window; some_ring = a.snapshot.some_ring }
+ranged i a = record { some_bits = a.snapshot.some_bits; few_bits = a.snapshot.few_bits; some_window = a.snapshot.some_window; few_window = a.snapshot.few_window; some_ring = a.snapshot.some_ring; some_credits = a.snapshot.some_credits; few_credits = a.snapshot.few_credits }
 
 pub buildable : (i : Input) → IsAccepted i → IsBuildable i
 buildable i a = record {
@@ -46,5 +46,5 @@ runnable i lost a sound table = record {
     flows = each-of (λ (f : Flow). f.bytes < 2 ^ 16) i.flows (λ k d h. (a.flows k d h).bytes);
     raws = each-of (λ (r : RawPart). Each (λ b. b < 256) r.bytes) i.raws (λ k d h. each-of (λ b. b < 256) _ (a.raws k d h).bytes);
   };
-  is_table = record { window = refl; count = refl; retries = refl; few_bits = a.snapshot.few_bits; apart = a.snapshot.few_window; room = a.snapshot.some_ring };
+  is_table = record { window = refl; count = refl; retries = refl; credits = refl; some_credits = a.snapshot.some_credits; few_bits = a.snapshot.few_bits; apart = a.snapshot.few_window; room = a.snapshot.some_ring };
 }

@@ -9,7 +9,7 @@ use Rattle.sl_wire.specs.declared.message.Msg.{Msg}
 use Rattle.sl_wire.specs.declared.message.Msg.TheVariants.{Poll as PollMsg, Done as DoneMsg}
 use Rattle.sl_saves.specs.declared.entry.View.{View}
 use Rattle.sl_wire.specs.declared.message.Dump.{Dump}
-use Rattle.sl_wire.specs.Sizes.{Sizes}
+use Rattle.sl_wire.specs.Sizes.{Lengths}
 use Rattle.sl_control.specs.declared.known.Numbers.{Numbers}
 use Rattle.sl_control.specs.declared.known.Known.{Known}
 use Rattle.sl_control.specs.Control.{asked, is_asked, ask_by, ask_puts, numbers_told, answered, done_of, answer_by, is_taken, takes_dump, dump_by, dump_puts}
@@ -37,7 +37,7 @@ kept outs inits done f k rs h = record {
 pub asked-joined : (outs : ℕ) (inits : List ℕ) (done : ℕ) (o : Option ℕ) (rs : List Known) → IsJoined outs inits done rs → IsJoined outs inits done (map (ask_by o) rs)
 asked-joined outs inits done o rs h = kept outs inits done (ask_by o) (λ r. elim (is_asked o r) as (λ b. (cond b (asked r) r).wires ≡ r.wires) [ true ↦ refl | false ↦ refl ]) rs h
 
-pub answered-joined : (outs : ℕ) (inits : List ℕ) (done : ℕ) (sizes : Sizes) (c : ℕ) (d : Dump) (rs : List Known) → IsJoined outs inits done rs → IsJoined outs inits done (map (dump_by sizes c d) rs)
+pub answered-joined : (outs : ℕ) (inits : List ℕ) (done : ℕ) (sizes : Lengths) (c : ℕ) (d : Dump) (rs : List Known) → IsJoined outs inits done rs → IsJoined outs inits done (map (dump_by sizes c d) rs)
 answered-joined outs inits done sizes c d rs h = kept outs inits done (dump_by sizes c d) (λ r. elim (takes_dump sizes c d r) as (λ b. (cond b (answered (numbers_told sizes.bits d r) r) r).wires ≡ r.wires) [ true ↦ refl | false ↦ refl ]) rs h
 
 -- Puts.
@@ -90,7 +90,7 @@ answer-fits outs done n view r true q h = subst (λ b. is_fitting outs ((done, D
 answer-fits outs done n view r false q h = subst (λ b. is_fitting outs ((done, DoneMsg (done_of n view r)) ∷ cond b ((r.wires.poll, PollMsg) ∷ []) []) ≡ true) (sym q)
     (fitting outs ((done, DoneMsg (done_of n view r)) ∷ []) (h.below.0, tt) (tt, tt))
 
-pub answers-fit : (outs : ℕ) (sizes : Sizes) (done c : ℕ) (d : Dump) (rs : List Known) → AllByRecursion (λ r. AreOuts outs (done ∷ r.wires.poll ∷ [])) rs → AreApart (dumps_of rs) → is_fitting outs (flat_map (dump_puts sizes done c d) rs) ≡ true
+pub answers-fit : (outs : ℕ) (sizes : Lengths) (done c : ℕ) (d : Dump) (rs : List Known) → AllByRecursion (λ r. AreOuts outs (done ∷ r.wires.poll ∷ [])) rs → AreApart (dumps_of rs) → is_fitting outs (flat_map (dump_puts sizes done c d) rs) ≡ true
 answers-fit outs sizes done c d [] h a = refl
 answers-fit outs sizes done c d (r ∷ rs) h a = by_tells (answers-fit outs sizes done c d rs h.1 a.1) (eqb_tells c r.wires.dump) (is_taken sizes d r)
   where

@@ -5,7 +5,7 @@ use Rattle.std.proofs.lemmas.Bool.{lt-ltb}
 use Rattle.sl_ids.specs.declared.wid.Wid.{Wid}
 use Rattle.sl_saves.specs.Calls.{channels}
 use Rattle.sl_wire.specs.declared.message.Dump.{Dump}
-use Rattle.sl_wire.specs.Sizes.{Sizes}
+use Rattle.sl_wire.specs.Sizes.{Lengths}
 use Rattle.sl_wire.specs.Wids.{unwrapped_each}
 use Rattle.sl_control.specs.declared.known.Known.{Known}
 use Rattle.sl_control.specs.Rows.{seen_on}
@@ -44,5 +44,5 @@ more bits d r e = record {
   upto = omega arith;
 }
 
-pub lowers-nothing : (sizes : Sizes) (c : ℕ) (d : Dump) (r : Known) → length d.last ≡ 8 → IsNoLess r (dump_by sizes c d r)
+pub lowers-nothing : (sizes : Lengths) (c : ℕ) (d : Dump) (r : Known) → length d.last ≡ 8 → IsNoLess r (dump_by sizes c d r)
 lowers-nothing sizes c d r e = elim (takes_dump sizes c d r) as (λ b. IsNoLess r (cond b (answered (numbers_told sizes.bits d r) r) r)) [ true ↦ more sizes.bits d r e | false ↦ same r ]

@@ -16,7 +16,7 @@ use Rattle.sl_wire.specs.declared.message.Msg.TheVariants.{Poll as PollMsg, Noti
 use Rattle.sl_wire.specs.Carried.{framed}
 use Rattle.sl_wire.specs.Frames.{init_header, no_packet}
 use Rattle.sl_wire.specs.Reach.{reached}
-use Rattle.sl_wire.specs.Sizes.{Sizes}
+use Rattle.sl_wire.specs.Sizes.{Lengths}
 use Rattle.sl_wire.specs.Wids.{is_wid, has_room, unwrapped_each}
 use Rattle.sl_saves.specs.declared.entry.View.{View}
 use Rattle.sl_control.specs.declared.known.Known.{Known}
@@ -24,13 +24,13 @@ use Rattle.sl_control.specs.declared.known.Numbers.{Numbers}
 use Rattle.sl_control.specs.Rows.{span, seen_on, is_sized, is_readable, row}
 
 -- how a control plane is joined: the choices by which it takes Begins and sweeps; the places among its outgoing links of those for
--- initiations, ports ascending, and for Dones; and the sizes of what the dumps of its units hold
+-- initiations, ports ascending, and for Dones; and the sizes by which the dumps of its units are read
 pub record ControlWires : Type 0 where
   pub begin : ℕ
   pub sweep : ℕ
   pub inits : List ℕ
   pub done : ℕ
-  pub sizes : Sizes
+  pub sizes : Lengths
 
 pub record ControlState : Type 0 where
   pub wires : ControlWires
@@ -103,7 +103,7 @@ abbrev pub answer_by : ℕ → Numbers → View → Known → List (ℕ × Msg)
 answer_by done n view r = (done, DoneMsg (done_of n view r)) ∷ (if r.again then (r.wires.poll, PollMsg) ∷ [] else [])
 
 -- a dump is taken where its ids can be unwrapped, and what they tell can be read
-abbrev pub is_taken : Sizes → Dump → Known → Bool
+abbrev pub is_taken : Lengths → Dump → Known → Bool
 is_taken sizes d r = has_wids sizes.bits d && (has_rooms sizes.bits r && is_read sizes.ring (numbers_told sizes.bits d r) d.view r)
 
 -- The step, for one unit: what the choice c makes of it, and what is put.
@@ -119,13 +119,13 @@ ask_by o r = cond (is_asked o r) (asked r) r
 abbrev pub ask_puts : Option ℕ → Known → List (ℕ × Msg)
 ask_puts o r = cond (is_asked o r) (poll_by r) []
 
-abbrev pub takes_dump : Sizes → ℕ → Dump → Known → Bool
+abbrev pub takes_dump : Lengths → ℕ → Dump → Known → Bool
 takes_dump sizes c d r = (c == r.wires.dump) && is_taken sizes d r
 
-abbrev pub dump_by : Sizes → ℕ → Dump → Known → Known
+abbrev pub dump_by : Lengths → ℕ → Dump → Known → Known
 dump_by sizes c d r = cond (takes_dump sizes c d r) (answered (numbers_told sizes.bits d r) r) r
 
-abbrev pub dump_puts : Sizes → ℕ → ℕ → Dump → Known → List (ℕ × Msg)
+abbrev pub dump_puts : Lengths → ℕ → ℕ → Dump → Known → List (ℕ × Msg)
 dump_puts sizes done c d r = cond (takes_dump sizes c d r) (answer_by done (numbers_told sizes.bits d r) d.view r) []
 
 -- The step.

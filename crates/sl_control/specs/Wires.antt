@@ -7,7 +7,7 @@ use Rattle.sl_layout.specs.declared.actor.ActorId.TheVariants.{Control}
 use Rattle.sl_layout.specs.Net.{Net, place_of, links_into, links_from, links_out, choices_of, data_channels, action_choice, unit_place}
 use Rattle.sl_layout.specs.Serving.{Served, served}
 use Rattle.sl_layout.specs.Wires.{out_of}
-use Rattle.sl_wire.specs.Sizes.{Sizes}
+use Rattle.sl_wire.specs.Sizes.{Sizes, lengths}
 use Rattle.sl_control.specs.declared.known.UnitWires.{UnitWires}
 use Rattle.sl_control.specs.declared.known.Known.{Known}
 use Rattle.sl_control.specs.Control.{ControlWires, ControlState}
@@ -37,7 +37,7 @@ control_wires net a sizes = record {
   sweep = action_choice net a;
   inits = outs_of net a Init;
   done = slice_index_or (outs_of net a Done) 0 0;
-  sizes = sizes;
+  sizes = lengths sizes;
 }
 
 -- a unit from which no dump came

@@ -65,35 +65,31 @@ impl Control {
         ensures counts { IfOk result (λ c. c.counts ≡ control_counts net.now (control_of net.now device)) }
         ensures ready { IfOk result (λ c. c.ready ≡ None) }
     {
-        let width = Width {
-            bits: snapshot.width,
-        };
-        Control::make(alloc, net, control_of(net, device), width, snapshot.ring)
+        Control::make(alloc, net, control_of(net, device), snapshot)
     }
 
     /// The control plane that an actor is.
-    fn make(
-        alloc: Global,
-        net: &Net,
-        actor: u32,
-        width: Width,
-        ring: u16,
-    ) -> Result<Control, Memory>
-        requires { actor < length net.now.actors }
-        ensures state { IfOk result (λ c. c.state ≡ first_control net.now actor (record { bits = width.bits; ring = ring })) }
+    fn make(alloc: Global, net: &Net, actor: u32, snapshot: &Snapshot) -> Result<Control, Memory>
+        requires actor { actor < length net.now.actors }
+        requires some_bits { 1 ≤ snapshot.now.width }
+        requires few_bits { snapshot.now.width ≤ most_bits }
+        ensures state { IfOk result (λ c. c.state ≡ first_control net.now actor (sizes_of snapshot.now)) }
         ensures counts { IfOk result (λ c. c.counts ≡ control_counts net.now actor) }
         ensures ready { IfOk result (λ c. c.ready ≡ None) }
     {
         // A net is that of its parts, so it is wired as such nets are.
         let _parts = net.parts();
         nets_are_wired();
+        let width = Width {
+            bits: snapshot.width,
+        };
         Ok(Control {
             links: net.links_into(actor).len() as u32,
             outs: net.links_from(actor).len() as u32,
             inits: inits_of(alloc, net, actor)?,
             done: done_of(alloc, net, actor)?,
             width,
-            ring,
+            ring: snapshot.ring,
             units: units_of(alloc, net, actor)?,
             blanks: Blanks::new(alloc),
             prepared: None,

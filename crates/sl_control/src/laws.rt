@@ -2,7 +2,7 @@
 // it.
 ghost use Rattle.std.specs.Prelude.{◌≡◌, ℕ, length};
 ghost use Rattle.sl_wire.specs.declared.message.Dump.{Dump};
-ghost use Rattle.sl_wire.specs.Sizes.{Sizes};
+ghost use Rattle.sl_wire.specs.Sizes.{Lengths};
 ghost use Rattle.sl_control.specs.declared.known.Known.{Known};
 ghost use Rattle.sl_control.specs.Control.{dump_by};
 ghost use Rattle.sl_control.specs.Known.{IsNoLess};
@@ -10,5 +10,5 @@ ghost use Rattle.sl_control.specs.Known.{IsNoLess};
 /// No dump lowers a number that a control plane knows of a unit, or the number up to which its rows
 /// are collected.
 pub fn dumps_lower_nothing()
-    ensures { (sizes : Sizes) (c : ℕ) (d : Dump) (r : Known) → length d.last ≡ 8 → IsNoLess r (dump_by sizes c d r) }
+    ensures { (sizes : Lengths) (c : ℕ) (d : Dump) (r : Known) → length d.last ≡ 8 → IsNoLess r (dump_by sizes c d r) }
 {}

@@ -24,6 +24,10 @@ least-from a (y ∷ ys) = let e : min y y ≡ y = omega arith in
 pub least_cons : (x : ℕ) (xs : List ℕ) → least (x ∷ xs) ≡ Some (min (unwrap_or (least xs) x) x)
 least_cons x xs = let e : min x x ≡ x = omega arith in ap (λ n. least_in (Some n) xs) e ∙ least-from x xs
 
+pub least_if : (b : Bool) (x : ℕ) (xs : List ℕ) → least (cond b (x ∷ xs) xs) ≡ cond b (Some (min (unwrap_or (least xs) x) x)) (least xs)
+least_if true x xs = least_cons x xs
+least_if false x xs = refl
+
 -- Eight places.
 
 pub eight_places : (ts : List Total) → eight_totals ts

@@ -63,9 +63,9 @@ fn rows_for(
 
 fn finding(alloc: Global, input: &Input, world: &World, snapshot: u64) -> Result<Finding, Memory>
     requires { steps_in world.now < 2 ^ 40 }
-    ensures { IfOk result (λ one. one ≡ finding input.now.net (losses input.now) world.now snapshot) }
+    ensures { IfOk result (λ one. one ≡ finding input.now.snapshot.credits input.now.net (losses input.now) world.now snapshot) }
 {
-    let verdict = verdict(alloc, &input.net, world, snapshot)?;
+    let verdict = verdict(alloc, input.snapshot.credits, &input.net, world, snapshot)?;
     Ok(Finding {
         k: snapshot,
         verdict,
@@ -80,7 +80,7 @@ fn finding_list(
     count: u64,
 ) -> Result<FindingList, Memory>
     requires { steps_in world.now < 2 ^ 40 }
-    ensures { IfOk result (λ list. list ≡ map (finding input.now.net (losses input.now) world.now) (numbers_from 1 count)) }
+    ensures { IfOk result (λ list. list ≡ map (finding input.now.snapshot.credits input.now.net (losses input.now) world.now) (numbers_from 1 count)) }
 {
     let mut items = Vec::new(alloc);
     for done in 0..count {

@@ -1,5 +1,5 @@
 // Verdicts on snapshots, from whole histories.
-ghost use Rattle.std.specs.Prelude.{◌≡◌, ◌+◌, ◌<◌, ◌^◌, length, reverse, IfOk, Some};
+ghost use Rattle.std.specs.Prelude.{◌≡◌, ◌+◌, ◌-◌, ◌<◌, ◌^◌, ◌∷◌, ◌&&◌, length, reverse, slice_index_or, nat_lt, min, unwrap_or, if◌then◌else◌, IfOk, Some};
 ghost use Rattle.std.specs.List.{All};
 ghost use Rattle.sl_layout.specs.Net.{units};
 ghost use Rattle.sl_model.specs.Words.{first_told};
@@ -40,31 +40,71 @@ fn is_old_data(snapshot: u64, step: &Step) -> bool
     }
 }
 
+/// The n-th of some numbers, from 1, or 0 where there are fewer.
+fn nth_of(n: u8, numbers: &[u64]) -> u64
+    ensures { result ≡ slice_index_or numbers.now (n - 1) 0 }
+{
+    match numbers.get(n.saturating_sub(1) as usize) {
+        Some(number) => *number,
+        None => 0,
+    }
+}
+
+/// Puts a number before others where it is above an id.
+fn adopt(adopted: &mut Vec<u64>, id: u64, next: u64) -> Result<(), Memory>
+    ensures { IfOk result (λ _. adopted.new.items ≡ (if nat_lt id next then next ∷ adopted.old.items else adopted.old.items)) }
+{
+    if id < next {
+        adopted.insert(0, next)?;
+    }
+    Ok(())
+}
+
+/// The lesser of two numbers, where the second counts.
+fn least_with(by: Option<u64>, counts: bool, number: u64) -> Option<u64>
+    ensures { result ≡ (if counts then Some (min (unwrap_or by number) number) else by) }
+{
+    if counts {
+        Some(by.unwrap_or(number).min(number))
+    } else {
+        by
+    }
+}
+
 /// The least number by which a unit miscredited a snapshot, if it did.
-#[tactic(auto, using(sl_replay::proofs::ForwardSteps::reverse_more, crate::proofs::ForwardFindings::least_cons))]
-fn miscredited_by(snapshot: u64, steps: &[Step]) -> Option<u64>
-    ensures { result ≡ least (miscredits snapshot (reverse steps.now)) }
+#[tactic(auto, using(sl_replay::proofs::ForwardSteps::reverse_more, crate::proofs::ForwardFindings::least_if))]
+fn miscredited_by(
+    alloc: Global,
+    credits: u8,
+    snapshot: u64,
+    steps: &[Step],
+) -> Result<Option<u64>, Memory>
+    ensures { IfOk result (λ by. by ≡ least (miscredits credits snapshot (reverse steps.now))) }
 {
     let mut by: Option<u64> = None;
     let mut id = 0;
+    let mut adopted = Vec::new(alloc);
     for step in steps {
-        id = stamp_taken(step).unwrap_or(0).max(id);
-        if is_old_data(snapshot, step) && snapshot < id {
-            by = Some(by.unwrap_or(id).min(id));
-        }
+        let next = stamp_taken(step).unwrap_or(0).max(id);
+        adopt(&mut adopted, id, next)?;
+        id = next;
+        let nth = nth_of(credits, &adopted);
+        let counts = is_old_data(snapshot, step) && snapshot < nth;
+        by = least_with(by, counts, nth);
     }
-    by
+    Ok(by)
 }
 
 /// Why a snapshot is inconsistent at a unit, if it is: skipped before miscredited.
-fn cause(snapshot: u64, steps: &[Step]) -> Option<Cause>
-    ensures { result ≡ cause snapshot (reverse steps.now) }
+fn cause(alloc: Global, credits: u8, snapshot: u64, steps: &[Step]) -> Result<Option<Cause>, Memory>
+    ensures { IfOk result (λ why. why ≡ cause credits snapshot (reverse steps.now)) }
 {
-    match (skipped_to(snapshot, steps), miscredited_by(snapshot, steps)) {
+    let by = miscredited_by(alloc, credits, snapshot, steps)?;
+    Ok(match (skipped_to(snapshot, steps), by) {
         (Some(to), _) => Some(Cause::Skipped { to }),
         (None, Some(by)) => Some(Cause::Miscredited { by }),
         (None, None) => None,
-    }
+    })
 }
 
 /// The first of some channels whose last-seen number is below a snapshot, by its place.
@@ -130,18 +170,24 @@ fn first_lag(
 }
 
 /// The first of some units with a cause, by its place.
-fn first_with_cause(world: &World, snapshot: u64, units: &[u32]) -> Option<(u32, Cause)>
+fn first_with_cause(
+    alloc: Global,
+    credits: u8,
+    world: &World,
+    snapshot: u64,
+    units: &[u32],
+) -> Result<Option<(u32, Cause)>, Memory>
     requires { length units.now < 2 ^ 32 }
-    ensures { result ≡ first_told (λ u. cause snapshot (history world.now u)) units.now }
+    ensures { IfOk result (λ first. first ≡ first_told (λ u. cause credits snapshot (history world.now u)) units.now) }
 {
     let mut place = 0;
     for unit in units {
-        if let Some(cause) = cause(snapshot, world.steps(*unit)) {
-            return Some((place, cause));
+        if let Some(cause) = cause(alloc, credits, snapshot, world.steps(*unit))? {
+            return Ok(Some((place, cause)));
         }
         place += 1;
     }
-    None
+    Ok(None)
 }
 
 /// The units of a net, by their actors' numbers; a net has few actors.
@@ -155,14 +201,20 @@ fn units_of(net: &Net) -> &[u32]
     net.unit_actors()
 }
 
-fn issued_verdict(alloc: Global, net: &Net, world: &World, snapshot: u64) -> Result<Verdict, Memory>
-    ensures { IfOk result (λ answer. answer ≡ issued_verdict net.now world.now snapshot) }
+fn issued_verdict(
+    alloc: Global,
+    credits: u8,
+    net: &Net,
+    world: &World,
+    snapshot: u64,
+) -> Result<Verdict, Memory>
+    ensures { IfOk result (λ answer. answer ≡ issued_verdict credits net.now world.now snapshot) }
 {
     let units = units_of(net);
     if let Some((place, lag)) = first_lag(alloc, net, world, snapshot, units)? {
         return Ok(Verdict::Pending { unit: place, lag });
     }
-    match first_with_cause(world, snapshot, units) {
+    match first_with_cause(alloc, credits, world, snapshot, units)? {
         Some((place, cause)) => Ok(Verdict::Inconsistent { unit: place, cause }),
         None => Ok(Verdict::Consistent),
     }
@@ -185,12 +237,18 @@ fn holder_of(alloc: Global, net: &Net, world: &World, units: &[u32]) -> Result<u
     Ok(0)
 }
 
-/// The verdict on a snapshot.
-pub fn verdict(alloc: Global, net: &Net, world: &World, snapshot: u64) -> Result<Verdict, Memory>
-    ensures { IfOk result (λ answer. answer ≡ verdict net.now world.now snapshot) }
+/// The verdict on a snapshot, where a data packet is credited to so many numbers at most.
+pub fn verdict(
+    alloc: Global,
+    credits: u8,
+    net: &Net,
+    world: &World,
+    snapshot: u64,
+) -> Result<Verdict, Memory>
+    ensures { IfOk result (λ answer. answer ≡ verdict credits net.now world.now snapshot) }
 {
     if snapshot <= issued(net, world.steps(0)) {
-        return issued_verdict(alloc, net, world, snapshot);
+        return issued_verdict(alloc, credits, net, world, snapshot);
     }
     let holder = holder_of(alloc, net, world, units_of(net))?;
     Ok(Verdict::NotIssued {

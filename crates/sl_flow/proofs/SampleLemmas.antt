@@ -85,6 +85,7 @@ is_sample n few =
       ring = refl;
       count = refl;
       retries = refl;
+      credits = refl;
       flows = made_below (IsSampleFlow (leaf_spine (leaf_count n))) (flow n) (host_count n) (λ i l. is_flow n i (host_count n) few refl l);
       few_packets = omega (arith, sum, flows);
       raws = refl;

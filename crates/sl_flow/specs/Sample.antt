@@ -63,7 +63,7 @@ abbrev pub by_parity : ℕ → ℕ → ℕ → ℕ
 by_parity n even odd = if n % 2 == 0 then even else odd
 
 abbrev pub snapshot : ℕ → Snapshot
-snapshot n = record { width = 2; window = by_parity n 1 3; ring = by_parity n 1 3; count = 5; retries = 3 }
+snapshot n = record { width = 2; window = by_parity n 1 3; ring = by_parity n 1 3; count = 5; retries = 3; credits = 1 }
 
 abbrev pub loss : ℕ → LossSpec
 loss n = record { seed = n; cable = by_parity n 0 5; crossbar = by_parity n 0 1; init = by_parity n 0 20; notice = by_parity n 0 20; drops = [] }
@@ -95,6 +95,7 @@ pub record IsSample (input : Input) : Type 0 where
   pub ring : input.snapshot.ring ≡ input.snapshot.window
   pub count : input.snapshot.count ≡ 5
   pub retries : input.snapshot.retries ≡ 3
+  pub credits : input.snapshot.credits ≡ 1
   pub flows : All (IsSampleFlow input.net.parts) input.flows
   pub few_packets : sum_by (λ f. f.count) input.flows ≤ 5120
   pub raws : input.raws ≡ []

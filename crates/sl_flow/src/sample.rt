@@ -81,6 +81,7 @@ pub fn snapshot(n: u64) -> Snapshot
         ring: by_parity(n, 1, 3),
         count: 5,
         retries: 3,
+        credits: 1,
     }
 }
 

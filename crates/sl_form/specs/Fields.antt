@@ -49,9 +49,9 @@ number p low high _ = Err (Form p)
 abbrev pub required_number : TableName → Key → ℕ → ℕ → Members → Result ℕ Refusal
 required_number t k low high ms = required (at t k) (λ p. number p low high) (get_key k ms)
 
--- 0 where it is absent
-abbrev pub optional_number : TableName → Key → ℕ → Members → Result ℕ Refusal
-optional_number t k high ms = optional (at t k) 0 (λ p. number p 0 high) (get_key k ms)
+-- the least one where it is absent
+abbrev pub optional_number : TableName → Key → ℕ → ℕ → Members → Result ℕ Refusal
+optional_number t k low high ms = optional (at t k) low (λ p. number p low high) (get_key k ms)
 
 abbrev pub text_at : Path → Data → Result (List ℕ) Refusal
 text_at p (string text) = Ok text

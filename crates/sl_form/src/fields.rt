@@ -98,14 +98,21 @@ pub fn required_number(
     }
 }
 
-/// The number at a key, or 0 where the key is absent.
-pub fn optional_number(table: &Table, at: TableName, key: Key, high: u64) -> Result<u64, Refusal>
-    ensures exact { result ≡ optional_number at key high (table_view table.now) }
-    ensures high { IfOk result (λ n. n ≤ high) }
+/// The number at a key, or the least that may stand there where the key is absent.
+pub fn optional_number(
+    table: &Table,
+    at: TableName,
+    key: Key,
+    low: u64,
+    high: u64,
+) -> Result<u64, Refusal>
+    ensures exact { result ≡ optional_number at key low high (table_view table.now) }
+    ensures low { IfOk result (λ n. low ≤ n) }
+    ensures high { low ≤ high → IfOk result (λ n. n ≤ high) }
 {
     match find(table, key) {
-        Some(value) => number(Path::at(at, key), 0, high, value),
-        None => Ok(0),
+        Some(value) => number(Path::at(at, key), low, high, value),
+        None => Ok(low),
     }
 }
 

@@ -1,6 +1,6 @@
 -- A step that took a frame which is no plain frame brings no stamp, counts no packet and credits nothing.
 use Rattle.std.proofs.Common.{◌≡◌, ℕ, ◌+◌, ◌<◌, ◌≤◌, List, [], ◌∷◌, ◌++◌, refl, sym, ap, ◌∙◌, Option, Some, None, arith, inl, inr}
-use Rattle.std.specs.Prelude.{true, false, Bool, ◌&&◌, ◌⊎◌, ◌==◌, if◌then◌else◌, cond, nat_lt, max, unwrap_or, option_and_then, option_map, is_none}
+use Rattle.std.specs.Prelude.{true, false, Bool, ◌&&◌, ◌⊎◌, ◌==◌, if◌then◌else◌, cond, take, nat_lt, max, unwrap_or, option_and_then, option_map, is_none}
 use Rattle.std.proofs.lemmas.Bool.{lt-ltb, le-ltb, cases_lt}
 use Rattle.sl_net.specs.declared.input.Packet.{Packet}
 use Rattle.sl_parts.specs.Parts.{Parts}
@@ -11,9 +11,9 @@ use Rattle.sl_model.specs.Frame.{packet_of}
 use Rattle.sl_model.specs.History.{History, stamp_of, id, last}
 use Rattle.sl_model.specs.Counting.{counted_in, packets, bytes, is_bad, is_expired, is_noroute, expired, noroute}
 use Rattle.sl_model.specs.Cut.{before}
-use Rattle.sl_model.specs.Verdict.{is_old_data, skipped_to, miscredits}
+use Rattle.sl_model.specs.Verdict.{is_old_data, skipped_to, adopted, nth_adopted, miscredits}
 use Rattle.sl_model.specs.Calls.{credits_in}
-use Rattle.sl_model.specs.Rows.{credits_at}
+use Rattle.sl_model.specs.Rows.{is_among, credits_at, feet_in, feet_at}
 use Rattle.sl_hostile.specs.Forged.{is_forged}
 
 -- What such a step took.
@@ -37,6 +37,10 @@ no-old k _ q = absurd (cc)
 pub no-credit : (cs : List ℕ) (k c : ℕ) (o : Option Message) → is_bad o ≡ true → credits_in cs k c o ≡ []
 no-credit cs k c (Some (HostMsg b)) q = refl
 no-credit cs k c _ q = absurd (cc)
+
+pub no-foot : (js : List ℕ) (k : ℕ) (o : Option Message) → is_bad o ≡ true → feet_in js k o ≡ []
+no-foot js k (Some (HostMsg b)) q = refl
+no-foot js k _ q = absurd (cc)
 
 -- What the history has of it.
 
@@ -97,12 +101,19 @@ pub skipped-gone : (k : ℕ) (s : Step) (h : History) → is_forged s ≡ true �
 skipped-gone k s h q = ap (λ n. if nat_lt (id h) k && nat_lt k n then Some n else skipped_to k h) (id-gone s h q)
     ∙ ap (λ b. if b then Some (id h) else skipped_to k h) (between (id h) k)
 
-pub miscredits-gone : (k : ℕ) (s : Step) (h : History) → is_forged s ≡ true → miscredits k (s ∷ h) ≡ miscredits k h
-miscredits-gone k s h q = ap (λ b. cond (b && nat_lt k (id (s ∷ h))) (id (s ∷ h) ∷ miscredits k h) (miscredits k h)) (no-old k s.taken q)
+pub adopted-gone : (s : Step) (h : History) → is_forged s ≡ true → adopted (s ∷ h) ≡ adopted h
+adopted-gone s h q = ap (λ n. if nat_lt (id h) n then n ∷ adopted h else adopted h) (id-gone s h q) ∙ ap (λ b. if b then id h ∷ adopted h else adopted h) (le-ltb (id h) (id h) (omega arith))
 
-pub credits-gone : (cs : List ℕ) (k : ℕ) (s : Step) (h : History) → is_forged s ≡ true → credits_at cs k (s ∷ h) ≡ credits_at cs k h
-credits-gone cs k s h q = ap (λ xs. if id (s ∷ h) == k then xs ++ credits_at cs k h else credits_at cs k h) (no-credit cs k s.choice s.taken q) ∙ by_bool (id (s ∷ h) == k)
+pub miscredits-gone : (n k : ℕ) (s : Step) (h : History) → is_forged s ≡ true → miscredits n k (s ∷ h) ≡ miscredits n k h
+miscredits-gone n k s h q = ap (λ b. cond (b && nat_lt k (nth_adopted n (s ∷ h))) (nth_adopted n (s ∷ h) ∷ miscredits n k h) (miscredits n k h)) (no-old k s.taken q)
+
+pub credits-gone : (n : ℕ) (cs : List ℕ) (k : ℕ) (s : Step) (h : History) → is_forged s ≡ true → credits_at n cs k (s ∷ h) ≡ credits_at n cs k h
+credits-gone n cs k s h q = ap (λ xs. if is_among k (take n (adopted (s ∷ h))) then xs ++ credits_at n cs k h else credits_at n cs k h) (no-credit cs k s.choice s.taken q)
+    ∙ by_bool (is_among k (take n (adopted (s ∷ h))))
   where
-    by_bool : (b : Bool) → (if b then credits_at cs k h else credits_at cs k h) ≡ credits_at cs k h
+    by_bool : (b : Bool) → (if b then credits_at n cs k h else credits_at n cs k h) ≡ credits_at n cs k h
     by_bool true = refl
     by_bool false = refl
+
+pub feet-gone : (n k : ℕ) (s : Step) (h : History) → is_forged s ≡ true → feet_at n k (s ∷ h) ≡ feet_at n k h
+feet-gone n k s h q = ap (λ xs. xs ++ feet_at n k h) (no-foot (take n (adopted (s ∷ h))) k s.taken q)

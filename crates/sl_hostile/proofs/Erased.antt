@@ -1,11 +1,11 @@
 -- What is told of a history is told of it without the steps that took frames which are no plain frames.
 use Rattle.std.proofs.Common.{◌≡◌, ℕ, ◌+◌, ◌-◌, List, [], ◌∷◌, ◌++◌, refl, sym, ap, ◌∙◌, Option, Some, None, arith, inl, inr}
-use Rattle.std.specs.Prelude.{true, false, Bool, ◌&&◌, ◌⊎◌, ◌==◌, if◌then◌else◌, cond, map, nat_lt, max, unwrap_or, option_map}
+use Rattle.std.specs.Prelude.{true, false, Bool, ◌&&◌, ◌⊎◌, ◌==◌, if◌then◌else◌, cond, map, take, slice_index_or, nat_lt, max, unwrap_or, option_map}
 use Rattle.std.proofs.lemmas.Bool.{cases_Bool}
 use Rattle.sl_parts.specs.Parts.{Parts}
 use Rattle.sl_layout.specs.Net.{Net, data_channels}
 use Rattle.sl_route.specs.Least.{least}
-use Rattle.sl_saves.specs.Calls.{Credit, Call, Adopt, Credited, greatest, totals}
+use Rattle.sl_saves.specs.Calls.{Call, Adopt, Credited, greatest, totals}
 use Rattle.sl_saves.specs.declared.entry.Saved.TheVariants.{Value, Miscredited}
 use Rattle.sl_model.specs.declared.message.Step.{Step}
 use Rattle.sl_model.specs.declared.verdict.Cause.{Cause}
@@ -15,9 +15,9 @@ use Rattle.sl_model.specs.Words.{first_told}
 use Rattle.sl_model.specs.History.{History, stamp_taken, id, last}
 use Rattle.sl_model.specs.Counting.{counted, packets, bytes, bad, is_expired, is_noroute, expired, noroute}
 use Rattle.sl_model.specs.Cut.{before, value}
-use Rattle.sl_model.specs.Verdict.{is_old_data, skipped_to, miscredits, first_cause, cause, lag_at, lag}
+use Rattle.sl_model.specs.Verdict.{is_old_data, skipped_to, adopted, miscredits, first_cause, cause, lag_at, lag}
 use Rattle.sl_model.specs.Calls.{credits_in, calls}
-use Rattle.sl_model.specs.Rows.{credits_at, told, row}
+use Rattle.sl_model.specs.Rows.{is_among, credits_at, feet_in, feet_at, told, row}
 use Rattle.sl_hostile.specs.Forged.{is_forged, without_forged}
 use Rattle.sl_hostile.proofs.Bad
 
@@ -97,25 +97,35 @@ skipped-same : (k : ℕ) (h : History) → skipped_to k (without_forged h) ≡ s
 skipped-same k h = erased (skipped_to k) (Bad.skipped-gone k)
     (λ s h e. λ i. if nat_lt (id-same h i) k && nat_lt k (max (unwrap_or (stamp_taken s) 0) (id-same h i)) then Some (max (unwrap_or (stamp_taken s) 0) (id-same h i)) else e i) h
 
-miscredits-same : (k : ℕ) (h : History) → miscredits k (without_forged h) ≡ miscredits k h
-miscredits-same k h = erased (miscredits k) (Bad.miscredits-gone k)
-    (λ s h e. λ i. cond (is_old_data k s.taken && nat_lt k (max (unwrap_or (stamp_taken s) 0) (id-same h i))) (max (unwrap_or (stamp_taken s) 0) (id-same h i) ∷ e i) (e i)) h
+adopted-same : (h : History) → adopted (without_forged h) ≡ adopted h
+adopted-same h = erased adopted Bad.adopted-gone
+    (λ s h e. λ i. if nat_lt (id-same h i) (max (unwrap_or (stamp_taken s) 0) (id-same h i)) then max (unwrap_or (stamp_taken s) 0) (id-same h i) ∷ e i else e i) h
 
-pub cause-same : (k : ℕ) (h : History) → cause k (without_forged h) ≡ cause k h
-cause-same k h = λ i. first_cause (skipped-same k h i) (least (miscredits-same k h i))
+adopted-kept : (s : Step) (h : History) → adopted (s ∷ without_forged h) ≡ adopted (s ∷ h)
+adopted-kept s h = λ i. if nat_lt (id-same h i) (max (unwrap_or (stamp_taken s) 0) (id-same h i)) then max (unwrap_or (stamp_taken s) 0) (id-same h i) ∷ adopted-same h i else adopted-same h i
+
+miscredits-same : (n k : ℕ) (h : History) → miscredits n k (without_forged h) ≡ miscredits n k h
+miscredits-same n k h = erased (miscredits n k) (Bad.miscredits-gone n k)
+    (λ s h e. λ i. cond (is_old_data k s.taken && nat_lt k (slice_index_or (adopted-kept s h i) (n - 1) 0)) (slice_index_or (adopted-kept s h i) (n - 1) 0 ∷ e i) (e i)) h
+
+pub cause-same : (n k : ℕ) (h : History) → cause n k (without_forged h) ≡ cause n k h
+cause-same n k h = λ i. first_cause (skipped-same k h i) (least (miscredits-same n k h i))
 
 pub lag-same : (net : Net) (k u : ℕ) (h : History) → lag net k u (without_forged h) ≡ lag net k u h
 lag-same net k u h = λ i. if nat_lt (id-same h i) k then Some (Id (id-same h i))
     else lag_at (first_told (λ c. if nat_lt (last-same c h i) k then Some (last-same c h i) else None) (data_channels net u))
 
-credits-same : (cs : List ℕ) (k : ℕ) (h : History) → credits_at cs k (without_forged h) ≡ credits_at cs k h
-credits-same cs k h = erased (credits_at cs k) (Bad.credits-gone cs k)
-    (λ s h e. λ i. if max (unwrap_or (stamp_taken s) 0) (id-same h i) == k then credits_in cs k s.choice s.taken ++ e i else e i) h
+credits-same : (n : ℕ) (cs : List ℕ) (k : ℕ) (h : History) → credits_at n cs k (without_forged h) ≡ credits_at n cs k h
+credits-same n cs k h = erased (credits_at n cs k) (Bad.credits-gone n cs k)
+    (λ s h e. λ i. if is_among k (take n (adopted-kept s h i)) then credits_in cs k s.choice s.taken ++ e i else e i) h
 
-told-same : (cs : List ℕ) (k : ℕ) (h : History) (o : Option Cause) → told cs k (without_forged h) o ≡ told cs k h o
-told-same cs k h (Some (WasSkipped j)) = refl
-told-same cs k h (Some (WasMiscredited j)) = ap (λ xs. Miscredited j (greatest (map (λ (c : Credit). c.age) xs))) (credits-same cs j h)
-told-same cs k h None = λ i. Value (packets-before k h i) (bytes-before k h i) (totals (credits-same cs k h i))
+feet-same : (n k : ℕ) (h : History) → feet_at n k (without_forged h) ≡ feet_at n k h
+feet-same n k h = erased (feet_at n k) (Bad.feet-gone n k) (λ s h e. λ i. feet_in (take n (adopted-kept s h i)) k s.taken ++ e i) h
 
-pub row-same : (cs : List ℕ) (k : ℕ) (h : History) → row cs k (without_forged h) ≡ row cs k h
-row-same cs k h = ap (told cs k (without_forged h)) (cause-same k h) ∙ told-same cs k h (cause k h)
+told-same : (n : ℕ) (cs : List ℕ) (k : ℕ) (h : History) (o : Option Cause) → told n cs k (without_forged h) o ≡ told n cs k h o
+told-same n cs k h (Some (WasSkipped j)) = refl
+told-same n cs k h (Some (WasMiscredited j)) = ap (λ xs. Miscredited j (greatest xs)) (feet-same n j h)
+told-same n cs k h None = λ i. Value (packets-before k h i) (bytes-before k h i) (totals (credits-same n cs k h i))
+
+pub row-same : (n : ℕ) (cs : List ℕ) (k : ℕ) (h : History) → row n cs k (without_forged h) ≡ row n cs k h
+row-same n cs k h = ap (told n cs k (without_forged h)) (cause-same n k h) ∙ told-same n cs k h (cause n k h)

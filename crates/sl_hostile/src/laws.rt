@@ -71,9 +71,9 @@ pub fn forged_frames_change_nothing()
     ensures bad { (h : History) → bad (without_forged h) ≡ 0 }
     ensures calls { (cs : List ℕ) (h : History) → calls cs (without_forged h) ≡ calls cs h }
     ensures value { (k : ℕ) (h : History) → value k (without_forged h) ≡ value k h }
-    ensures cause { (k : ℕ) (h : History) → cause k (without_forged h) ≡ cause k h }
+    ensures cause { (n k : ℕ) (h : History) → cause n k (without_forged h) ≡ cause n k h }
     ensures lag { (net : Net) (k u : ℕ) (h : History) → lag net k u (without_forged h) ≡ lag net k u h }
-    ensures row { (cs : List ℕ) (k : ℕ) (h : History) → row cs k (without_forged h) ≡ row cs k h }
+    ensures row { (n : ℕ) (cs : List ℕ) (k : ℕ) (h : History) → row n cs k (without_forged h) ≡ row n cs k h }
 {
     calls_follow_steps()
 }

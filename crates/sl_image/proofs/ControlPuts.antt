@@ -65,7 +65,7 @@ sent-polls net sizes us ws a told v = sent-poll net sizes ws a told v (is_outsta
 -- An answer: a Done, then a poll where one was asked for again.
 
 pub sent-answer : (net : Net) (sizes : Sizes) (us ws : ℕ → History) (a k n : ℕ) (v : Served) (x : Numbers) (view : View) → links_out net a Done ≡ k ∷ [] → slice_index (units net) (unit_place net v.unit) ≡ v.unit → v.dump ≡ choice_from net a v.unit Dump → ws v.unit ≡ us v.unit
-    → IsDoneOf net v.unit (told_of us v (us a)) (first n (us v.unit)) (done_of x view (known_of net us a v)) → AreSent net sizes ws a (told_at net us a) (dump_answer net a (us a) n v) (answer_by (control_wires net a sizes).done x view (known_of net us a v))
+    → IsDoneOf sizes.credits net v.unit (told_of us v (us a)) (first n (us v.unit)) (done_of x view (known_of net us a v)) → AreSent net sizes ws a (told_at net us a) (dump_answer net a (us a) n v) (answer_by (control_wires net a sizes).done x view (known_of net us a v))
 sent-answer net sizes us ws a k n v x view e at c w o =
     subst (λ ls. AreSent net sizes ws a (told_at net us a) (send_all (DoneMsg (unit_place net v.unit) n) ls ++ again) ((slice_index_or (map (out_of net) ls) 0 0, wire.Done (done_of x view (known_of net us a v))) ∷ more)) (sym e)
     ((refl, told), sent-again net sizes ws a (told_at net us a) v (is_again (action_choice net a) v (us a)))
@@ -76,11 +76,11 @@ sent-answer net sizes us ws a k n v x view e at c w o =
     more : List (ℕ × Msg)
     more = if is_again (action_choice net a) v (us a) then (out_of net v.poll, wire.Poll) ∷ [] else []
 
-    here : SaysDone net v.unit (first (dumped (choice_from net a v.unit Dump) (us a)) (ws v.unit)) (first n (ws v.unit)) (wire.Done (done_of x view (known_of net us a v)))
-    here = subst (λ c. SaysDone net v.unit (first (dumped c (us a)) (ws v.unit)) (first n (ws v.unit)) (wire.Done (done_of x view (known_of net us a v)))) c
-        (subst (λ g. SaysDone net v.unit (first (dumped v.dump (us a)) g) (first n g) (wire.Done (done_of x view (known_of net us a v)))) (sym w)
+    here : SaysDone sizes.credits net v.unit (first (dumped (choice_from net a v.unit Dump) (us a)) (ws v.unit)) (first n (ws v.unit)) (wire.Done (done_of x view (known_of net us a v)))
+    here = subst (λ c. SaysDone sizes.credits net v.unit (first (dumped c (us a)) (ws v.unit)) (first n (ws v.unit)) (wire.Done (done_of x view (known_of net us a v)))) c
+        (subst (λ g. SaysDone sizes.credits net v.unit (first (dumped v.dump (us a)) g) (first n g) (wire.Done (done_of x view (known_of net us a v)))) (sym w)
         (record { done = done_of x view (known_of net us a v); is = refl; of = o }))
 
-    told : SaysDone net (slice_index (units net) (unit_place net v.unit)) (first (told_at net us a (unit_place net v.unit)) (ws (slice_index (units net) (unit_place net v.unit))))
+    told : SaysDone sizes.credits net (slice_index (units net) (unit_place net v.unit)) (first (told_at net us a (unit_place net v.unit)) (ws (slice_index (units net) (unit_place net v.unit))))
         (first n (ws (slice_index (units net) (unit_place net v.unit)))) (wire.Done (done_of x view (known_of net us a v)))
-    told = subst (λ u. SaysDone net u (first (dumped (choice_from net a u Dump) (us a)) (ws u)) (first n (ws u)) (wire.Done (done_of x view (known_of net us a v)))) (sym at) here
+    told = subst (λ u. SaysDone sizes.credits net u (first (dumped (choice_from net a u Dump) (us a)) (ws u)) (first n (ws u)) (wire.Done (done_of x view (known_of net us a v)))) (sym at) here

@@ -11,7 +11,7 @@ use Rattle.sl_layout.specs.Net.{Net, actor_of, link_of, links_into, links_out, a
 use Rattle.sl_layout.specs.Serving.{Served, serving, served}
 use Rattle.sl_net.specs.Wired.{IsWired}
 use Rattle.sl_wire.specs.declared.message.Dump.{Dump as UnitDump}
-use Rattle.sl_wire.specs.Sizes.{Sizes}
+use Rattle.sl_wire.specs.Sizes.{Sizes, lengths}
 use Rattle.sl_control.specs.declared.known.Known.{Known}
 use Rattle.sl_control.specs.Control.{asked, ask_by, ask_puts, numbers_told, is_taken, takes_dump, dump_by, dump_puts, answered, answer_by}
 use Rattle.sl_control.specs.Wires.{unit_wires, unheard, control_wires, first_control}
@@ -163,15 +163,15 @@ dump-puts : (net : Net) (a c l n : ℕ) (h : History) (ps : List Put) → Member
 dump-puts net a c l n h ps m p = ap (on_link l) p ∙ own-link net a l (λ v. if c == v.dump then dump_answer net a h n v else []) m
     (λ x ne. if-off (c == (serving net a x).dump) l (dump_answer net a h n (serving net a x)) (answer-on net a l n h (serving net a x) m ∙ again-else (is_again (action_choice net a) (serving net a x) h) x l ne))
 
-takes-it : (net : Net) (sizes : Sizes) (us : ℕ → History) (a c l n : ℕ) (d : UnitDump) → Answers net sizes us a l n d → nat_eq c (serving net a l).dump ≡ true → takes_dump sizes c d (known_of net us a (serving net a l)) ≡ true
+takes-it : (net : Net) (sizes : Sizes) (us : ℕ → History) (a c l n : ℕ) (d : UnitDump) → Answers net sizes us a l n d → nat_eq c (serving net a l).dump ≡ true → takes_dump (lengths sizes) c d (known_of net us a (serving net a l)) ≡ true
 takes-it net sizes us a c l n d x e = and_from _ _ e (taken-is net sizes (serving net a l) (told_of us (serving net a l) (us a)) (first n (us (link_of net l).to)) d (is_outstanding (serving net a l) (us a)) (is_again (action_choice net a) (serving net a l) (us a)) x.tells x.waits)
 
-leaves-it : (net : Net) (sizes : Sizes) (us : ℕ → History) (a c l : ℕ) (d : UnitDump) → nat_eq c (serving net a l).dump ≡ false → takes_dump sizes c d (known_of net us a (serving net a l)) ≡ false
-leaves-it net sizes us a c l d e = ap (λ b. b && is_taken sizes d (known_of net us a (serving net a l))) e
+leaves-it : (net : Net) (sizes : Sizes) (us : ℕ → History) (a c l : ℕ) (d : UnitDump) → nat_eq c (serving net a l).dump ≡ false → takes_dump (lengths sizes) c d (known_of net us a (serving net a l)) ≡ false
+leaves-it net sizes us a c l d e = ap (λ b. b && is_taken (lengths sizes) d (known_of net us a (serving net a l))) e
 
 pub dump-one : (net : Net) (sizes : Sizes) (us ws : ℕ → History) (a c l n : ℕ) (step : Step) (d : UnitDump) → IsWired net → actor_of net a ≡ Control c → Turns us ws a step → Member l (links_out net a Poll) → IsAsked (serving net a l) (us a)
     → (step.choice ≡ (serving net a l).dump → Answers net sizes us a l n d) → step.taken ≡ Some (DumpMsg n) → step.puts ≡ control_puts net a (us a) step.choice (DumpMsg n)
-    → dump_by sizes step.choice d (known_of net us a (serving net a l)) ≡ known_of net ws a (serving net a l)
+    → dump_by (lengths sizes) step.choice d (known_of net us a (serving net a l)) ≡ known_of net ws a (serving net a l)
 dump-one net sizes us ws a c l n step d z q t m b f e p = by_test (eqb_tells step.choice (serving net a l).dump)
   where
     v : IsServed net a l
@@ -186,7 +186,7 @@ dump-one net sizes us ws a c l n step d z q t m b f e p = by_test (eqb_tells ste
     puts : on_link l step.puts ≡ on_link l (if step.choice == (serving net a l).dump then dump_answer net a (us a) n (serving net a l) else [])
     puts = dump-puts net a step.choice l n (us a) step.puts m p
 
-    by_test : Tested step.choice (serving net a l).dump → dump_by sizes step.choice d (known_of net us a (serving net a l)) ≡ known_of net ws a (serving net a l)
+    by_test : Tested step.choice (serving net a l).dump → dump_by (lengths sizes) step.choice d (known_of net us a (serving net a l)) ≡ known_of net ws a (serving net a l)
     by_test (inl x) = let y = f x.1 in
         ap (λ b. cond b (answered (numbers_told sizes.bits d r) r) r) (takes-it net sizes us a step.choice l n d y x.0)
         ∙ answered-is net sizes (serving net a l) (told_of us (serving net a l) (us a)) (first n g) d (is_outstanding (serving net a l) (us a)) (is_again (action_choice net a) (serving net a l) (us a)) y.tells
@@ -200,7 +200,7 @@ dump-one net sizes us ws a c l n step d z q t m b f e p = by_test (eqb_tells ste
 
 pub answer-one : (net : Net) (sizes : Sizes) (us ws : ℕ → History) (a c e l n : ℕ) (step : Step) (d : UnitDump) → IsWired net → actor_of net a ≡ Control e → Turns us ws a step → Member l (links_out net a Poll)
     → (c ≡ (serving net a l).dump → Answers net sizes us a l n d)
-    → AreSent net sizes ws a (told_at net us a) (if c == (serving net a l).dump then dump_answer net a (us a) n (serving net a l) else []) (dump_puts sizes (control_wires net a sizes).done c d (known_of net us a (serving net a l)))
+    → AreSent net sizes ws a (told_at net us a) (if c == (serving net a l).dump then dump_answer net a (us a) n (serving net a l) else []) (dump_puts (lengths sizes) (control_wires net a sizes).done c d (known_of net us a (serving net a l)))
 answer-one net sizes us ws a c e l n step d z q t m f = by_test (eqb_tells c (serving net a l).dump)
   where
     v : IsServed net a l
@@ -216,12 +216,12 @@ answer-one net sizes us ws a c e l n step d z q t m f = by_test (eqb_tells c (se
     dones = ap (λ b. links_out net b Done) v.control ∙ v.reports.dones
 
     by_test : Tested c (serving net a l).dump
-        → AreSent net sizes ws a (told_at net us a) (if c == (serving net a l).dump then dump_answer net a (us a) n (serving net a l) else []) (dump_puts sizes (control_wires net a sizes).done c d (known_of net us a (serving net a l)))
+        → AreSent net sizes ws a (told_at net us a) (if c == (serving net a l).dump then dump_answer net a (us a) n (serving net a l) else []) (dump_puts (lengths sizes) (control_wires net a sizes).done c d (known_of net us a (serving net a l)))
     by_test (inl x) = let y = f x.1 in let b = takes-it net sizes us a c l n d y x.0 in
-        subst (λ y. AreSent net sizes ws a (told_at net us a) (if y then dump_answer net a (us a) n (serving net a l) else []) (dump_puts sizes (control_wires net a sizes).done c d r)) (sym x.0)
+        subst (λ y. AreSent net sizes ws a (told_at net us a) (if y then dump_answer net a (us a) n (serving net a l) else []) (dump_puts (lengths sizes) (control_wires net a sizes).done c d r)) (sym x.0)
         (subst (λ y. AreSent net sizes ws a (told_at net us a) (dump_answer net a (us a) n (serving net a l)) (cond y (answer_by (control_wires net a sizes).done (numbers_told sizes.bits d r) d.view r) [])) (sym b)
         (sent-answer net sizes us ws a v.reports.done n s (numbers_told sizes.bits d r) d.view dones (unit-at net (link_of net l).to (z.ways.unit (link_of net l).to v.unit v.is_unit)) refl (t.other (link_of net l).to (not-control net a e l q v))
         (done-is net sizes s (told_of us s (us a)) (first n (us (link_of net l).to)) d (is_outstanding s (us a)) (is_again (action_choice net a) s (us a)) y.tells)))
     by_test (inr x) = let b = leaves-it net sizes us a c l d x.0 in
-        subst (λ y. AreSent net sizes ws a (told_at net us a) (if y then dump_answer net a (us a) n (serving net a l) else []) (dump_puts sizes (control_wires net a sizes).done c d r)) (sym x.0)
+        subst (λ y. AreSent net sizes ws a (told_at net us a) (if y then dump_answer net a (us a) n (serving net a l) else []) (dump_puts (lengths sizes) (control_wires net a sizes).done c d r)) (sym x.0)
         (subst (λ y. AreSent net sizes ws a (told_at net us a) [] (cond y (answer_by (control_wires net a sizes).done (numbers_told sizes.bits d r) d.view r) [])) (sym b) tt)

@@ -17,7 +17,7 @@ use Rattle.sl_saves.specs.Calls.{number}
 use Rattle.sl_saves.specs.Views.{IsLive, held_saved, read}
 use Rattle.sl_wire.specs.declared.message.Dump.{Dump}
 use Rattle.sl_wire.specs.Reach.{reached}
-use Rattle.sl_wire.specs.Sizes.{Sizes}
+use Rattle.sl_wire.specs.Sizes.{Sizes, lengths}
 use Rattle.sl_wire.specs.Wids.{is_wid, has_room, unwrapped_each}
 use Rattle.sl_control.specs.Rows.{span, seen_on, is_sized, is_readable, row as control_row}
 use Rattle.sl_control.specs.Control.{has_wids, has_rooms, numbers_told, is_read, is_taken, answered, done_of}
@@ -114,7 +114,7 @@ pub record Tells (net : Net) (sizes : Sizes) (v : Served) (before g : History) (
   pub rises : upto_of net v.unit before ≤ upto_of net v.unit g
   pub near : (k : ℕ) → upto_of net v.unit before < k → id g < k + sizes.ring
   pub live : (k : ℕ) → upto_of net v.unit before < k → k ≤ upto_of net v.unit g → IsLive d.view (id g) k
-  pub reads : (k : ℕ) → upto_of net v.unit before < k → k ≤ upto_of net v.unit g → read d.view (id g) k ≡ held_saved (row (data_channels net v.unit) k g)
+  pub reads : (k : ℕ) → upto_of net v.unit before < k → k ≤ upto_of net v.unit g → read d.view (id g) k ≡ held_saved (row sizes.credits (data_channels net v.unit) k g)
 
 -- What is unwrapped are the numbers of the unit.
 
@@ -174,15 +174,15 @@ answered-is net sizes v before g d waits again t = ap (λ n. answered n (known_b
     max-is a b p = omega (arith, p)
 
 pub done-is : (net : Net) (sizes : Sizes) (v : Served) (before g : History) (d : Dump) (waits again : Bool) → Tells net sizes v before g d
-    → IsDoneOf net v.unit before g (done_of (numbers_told sizes.bits d (known_by net v before waits again)) d.view (known_by net v before waits again))
-done-is net sizes v before g d waits again t = subst (λ n. IsDoneOf net v.unit before g (done_of n d.view (known_by net v before waits again))) (sym (numbers-are net sizes v before g d waits again t.unwraps t.dump t.raised))
+    → IsDoneOf sizes.credits net v.unit before g (done_of (numbers_told sizes.bits d (known_by net v before waits again)) d.view (known_by net v before waits again))
+done-is net sizes v before g d waits again t = subst (λ n. IsDoneOf sizes.credits net v.unit before g (done_of n d.view (known_by net v before waits again))) (sym (numbers-are net sizes v before g d waits again t.unwraps t.dump t.raised))
     (let u = reached-is net v.unit g t.few in record {
       unit = refl;
       id = refl;
       last = last-is net v.unit g t.few;
       floor = ap (λ n. if nat_lt 0 (length (choices_of net v.unit Init)) then min n (cpu_last net v.unit g) else n) u ∙ floor-by (upto_of net v.unit g) g (choices_of net v.unit Init) t.one;
       rows = ap (λ n. map (control_row d.view (id g)) (span (upto_of net v.unit before) n)) u
-          ∙ map-above (control_row d.view (id g)) (held_row net v.unit g) (upto_of net v.unit before) (upto_of net v.unit g - upto_of net v.unit before)
+          ∙ map-above (control_row d.view (id g)) (held_row sizes.credits net v.unit g) (upto_of net v.unit before) (upto_of net v.unit g - upto_of net v.unit before)
           (λ k l m. ap (λ y. (k, y)) (t.reads k l (omega (arith, l, m))));
     })
 
@@ -197,6 +197,6 @@ read-is net sizes v before g d waits again t w = and_from _ _ w (and_from _ _ (s
     ∙ all-above (is_readable d.view (id g)) (upto_of net v.unit before) (upto_of net v.unit g - upto_of net v.unit before)
     (λ k l m. readable-live d.view (id g) k (let x = t.near k l in let y = t.dump.size in omega (arith, x, y)) (t.live k l (omega (arith, l, m))))))
 
-pub taken-is : (net : Net) (sizes : Sizes) (v : Served) (before g : History) (d : Dump) (waits again : Bool) → Tells net sizes v before g d → waits ≡ true → is_taken sizes d (known_by net v before waits again) ≡ true
+pub taken-is : (net : Net) (sizes : Sizes) (v : Served) (before g : History) (d : Dump) (waits again : Bool) → Tells net sizes v before g d → waits ≡ true → is_taken (lengths sizes) d (known_by net v before waits again) ≡ true
 taken-is net sizes v before g d waits again t w = and_from _ _ (has-ids net sizes v before g d t) (and_from _ _ (has-rooms net sizes v before g d waits again t)
     (ap (λ n. is_read sizes.ring n d.view (known_by net v before waits again)) (numbers-are net sizes v before g d waits again t.unwraps t.dump t.raised) ∙ read-is net sizes v before g d waits again t w))

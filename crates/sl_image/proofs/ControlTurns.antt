@@ -18,7 +18,7 @@ use Rattle.sl_saves.specs.Views.{IsShown, IsLive, held_saved, read}
 use Rattle.sl_wire.specs.declared.message.Dump.{Dump as UnitDump}
 use Rattle.sl_wire.specs.declared.message.Msg.{Msg}
 use Rattle.sl_wire.specs.declared.message.Msg.TheVariants as wire
-use Rattle.sl_wire.specs.Sizes.{Sizes}
+use Rattle.sl_wire.specs.Sizes.{Sizes, lengths}
 use Rattle.sl_control.specs.declared.known.Known.{Known}
 use Rattle.sl_machine.specs.Machine.{send_all as send_each}
 use Rattle.sl_control.specs.Control.{ControlState, initiation, numbers_told, ask_by, ask_puts, dump_by, dump_puts, is_swept as is_swept_by, asked_all, control_take, control_act}
@@ -93,8 +93,8 @@ take-dump : (net : Net) (sizes : Sizes) (us ws : ℕ → History) (a c n : ℕ) 
 take-dump net sizes us ws a c n step d z q t b f e p = record {
   stands = record {
     wires = refl;
-    units = units-are (dump_by sizes step.choice d) (known_of net us a) (known_of net ws a) (serving net a) (links_out net a Poll)
-        (each-of (λ l. dump_by sizes step.choice d (known_of net us a (serving net a l)) ≡ known_of net ws a (serving net a l)) (links_out net a Poll)
+    units = units-are (dump_by (lengths sizes) step.choice d) (known_of net us a) (known_of net ws a) (serving net a) (links_out net a Poll)
+        (each-of (λ l. dump_by (lengths sizes) step.choice d (known_of net us a (serving net a l)) ≡ known_of net ws a (serving net a l)) (links_out net a Poll)
         (λ l m. dump-one net sizes us ws a c l n step d z q t m (each-at (λ l. IsAsked (serving net a l) (us a)) l (links_out net a Poll) b m) (f l m) e p));
   };
   sent = subst (λ ps. AreSent net sizes ws a (told_at net us a) ps (flat_map out (map (known_of net us a) (served net a)))) (sym (p ∙ flat-map answer (serving net a) (links_out net a Poll)))
@@ -109,7 +109,7 @@ take-dump net sizes us ws a c n step d z q t b f e p = record {
     answer v = if step.choice == v.dump then dump_answer net a (us a) n v else []
 
     out : Known → List (ℕ × Msg)
-    out r = dump_puts sizes (control_wires net a sizes).done step.choice d r
+    out r = dump_puts (lengths sizes) (control_wires net a sizes).done step.choice d r
 
 -- The sweep.
 
@@ -138,12 +138,12 @@ sweep-acts net sizes us ws a d step z q t b i c n e p = record {
 
 -- that the rows of a dump can be read, and what is read
 abbrev pub AreLive : Type 0
-AreLive = (net : Net) (window u : ℕ) (h : History) (m n : ℕ) (cs : List ℕ) (view : View) (k : ℕ) → IsBrought net window u h m n → IsShown view (calls cs (first n h)) → window ≤ length view.slots
+AreLive = (net : Net) (window u : ℕ) (h : History) (m n credits : ℕ) (cs : List ℕ) (view : View) (k : ℕ) → IsBrought net window u h m n → IsShown credits view (calls cs (first n h)) → window ≤ length view.slots
     → upto_of net u (first m h) < k → k ≤ upto_of net u (first n h) → IsLive view (id (first n h)) k
 
 abbrev pub AreRead : Type 0
-AreRead = (net : Net) (window u : ℕ) (h : History) (m n : ℕ) (cs : List ℕ) (view : View) (k : ℕ) → IsBrought net window u h m n → IsShown view (calls cs (first n h)) → window ≤ length view.slots
-    → upto_of net u (first m h) < k → k ≤ upto_of net u (first n h) → read view (id (first n h)) k ≡ held_saved (row cs k (first n h))
+AreRead = (net : Net) (window u : ℕ) (h : History) (m n credits : ℕ) (cs : List ℕ) (view : View) (k : ℕ) → IsBrought net window u h m n → 1 ≤ credits → IsShown credits view (calls cs (first n h)) → window ≤ length view.slots
+    → upto_of net u (first m h) < k → k ≤ upto_of net u (first n h) → read view (id (first n h)) k ≡ held_saved (row credits cs k (first n h))
 
 -- what the laws of worlds say of control planes
 pub record Given (s : Setup) : Type 0 where
@@ -181,10 +181,10 @@ id-room s lost es u m sizes given p small =
     omega (arith, a, b, c, d, e, f, small)
 
 -- the dump of a unit that a control plane takes
-answers : (s : Setup) (lost : Losses) (es : List Entry) (e : Entry) (sizes : Sizes) (k n l : ℕ) (step : Step) (d : UnitDump) → Given s → IsWired s.net → HoldWindow s.window sizes → length es < 2 ^ 40 → next_step s lost (world s lost es) e ≡ Some step → step.taken ≡ Some (DumpMsg n)
+answers : (s : Setup) (lost : Losses) (es : List Entry) (e : Entry) (sizes : Sizes) (k n l : ℕ) (step : Step) (d : UnitDump) → Given s → IsWired s.net → HoldWindow s.window sizes → 1 ≤ sizes.credits → length es < 2 ^ 40 → next_step s lost (world s lost es) e ≡ Some step → step.taken ≡ Some (DumpMsg n)
     → slice_get (links_into s.net e.0) step.choice ≡ Some k → IsDumpOf s.net sizes (link_of s.net k).from (first n (history (world s lost es) (link_of s.net k).from)) d → Member l (links_out s.net e.0 Poll)
     → step.choice ≡ (serving s.net e.0 l).dump → Answers s.net sizes (history (world s lost es)) e.0 l n d
-answers s lost es e sizes k n l step d given z p small x t g of m c = record {
+answers s lost es e sizes k n l step d given z p some small x t g of m c = record {
   tells = record {
     dump = is;
     few = z.few_channels u v.unit v.is_unit;
@@ -195,8 +195,8 @@ answers s lost es e sizes k n l step d given z p small x t g of m c = record {
     room = id-room s lost es u (dumped (serving s.net e.0 l).dump (history w e.0)) sizes given p small;
     rises = brought.rises;
     near = λ j q. let y = brought.near j q in let o = p.room in omega (arith, y, o);
-    live = λ j q r. given.live s.net s.window u (history w u) (dumped (serving s.net e.0 l).dump (history w e.0)) n (data_channels s.net u) d.view j brought is.shown size q r;
-    reads = λ j q r. given.reads s.net s.window u (history w u) (dumped (serving s.net e.0 l).dump (history w e.0)) n (data_channels s.net u) d.view j brought is.shown size q r;
+    live = λ j q r. given.live s.net s.window u (history w u) (dumped (serving s.net e.0 l).dump (history w e.0)) n sizes.credits (data_channels s.net u) d.view j brought is.shown size q r;
+    reads = λ j q r. given.reads s.net s.window u (history w u) (dumped (serving s.net e.0 l).dump (history w e.0)) n sizes.credits (data_channels s.net u) d.view j brought some is.shown size q r;
   };
   waits = each-at (λ l. step.choice ≡ (serving s.net e.0 l).dump → is_outstanding (serving s.net e.0 l) (history w e.0) ≡ true) l (links_out s.net e.0 Poll)
       (each-unmap (λ v. step.choice ≡ v.dump → is_outstanding v (history w e.0) ≡ true) (serving s.net e.0) (links_out s.net e.0 Poll) (given.awaited lost es e step x)) m c;
@@ -230,26 +230,26 @@ message-heard : (s : Setup) (a d c k : ℕ) (m : Message) → IsWired s.net → 
 message-heard s a d c k m z q i f = let x = z.ways.into a c k i in
     heard d (link_of s.net k).sort m (subst (λ y. receives y (link_of s.net k).sort ≡ true) (ap (actor_of s.net) x.to ∙ q) (z.receiver k x.is_link)) f
 
-take-of : (s : Setup) (lost : Losses) (es : List Entry) (e : Entry) (d : ℕ) (sizes : Sizes) (k : ℕ) (step : Step) (m : Message) (told : ℕ → ℕ) (x : Msg) → Given s → IsWired s.net → actor_of s.net e.0 ≡ Control d → HoldWindow s.window sizes → length es < 2 ^ 40
+take-of : (s : Setup) (lost : Losses) (es : List Entry) (e : Entry) (d : ℕ) (sizes : Sizes) (k : ℕ) (step : Step) (m : Message) (told : ℕ → ℕ) (x : Msg) → Given s → IsWired s.net → actor_of s.net e.0 ≡ Control d → HoldWindow s.window sizes → 1 ≤ sizes.credits → length es < 2 ^ 40
     → next_step s lost (world s lost es) e ≡ Some step → step.taken ≡ Some m → slice_get (links_into s.net e.0) step.choice ≡ Some k → step.puts ≡ control_puts s.net e.0 (history (world s lost es) e.0) step.choice m → fits_link s.net k m ≡ true → is_heard m ≡ true
     → IsMessage s.net sizes (history (world s lost es)) (link_of s.net k).from told m x
     → ControlSimulates s.net sizes (history (world s lost es)) (history (turn s lost (world s lost es) e)) e.0 step.puts (control_take (control_at s.net sizes (history (world s lost es)) e.0) step.choice x)
-take-of s lost es e d sizes k step (BeginMsg b) told x given z q p small n t g o f y is =
+take-of s lost es e d sizes k step (BeginMsg b) told x given z q p some small n t g o f y is =
     subst (λ x. ControlSimulates s.net sizes (history (world s lost es)) (history (turn s lost (world s lost es) e)) e.0 step.puts (control_take (control_at s.net sizes (history (world s lost es)) e.0) step.choice x)) (sym is)
     (take-begin s.net sizes (history (world s lost es)) (history (turn s lost (world s lost es) e)) e.0 d k b step z q (turns-at s lost es e step given n) g (begin-sort (link_of s.net k).sort b f) t o)
-take-of s lost es e d sizes k step NoticeMsg told x given z q p small n t g o f y is =
+take-of s lost es e d sizes k step NoticeMsg told x given z q p some small n t g o f y is =
     subst (λ x. ControlSimulates s.net sizes (history (world s lost es)) (history (turn s lost (world s lost es) e)) e.0 step.puts (control_take (control_at s.net sizes (history (world s lost es)) e.0) step.choice x)) (sym is)
     (take-notice s.net sizes (history (world s lost es)) (history (turn s lost (world s lost es) e)) e.0 d k step z q (turns-at s lost es e step given n) (asked-at s lost es e.0 d given q) g (notice-sort (link_of s.net k).sort f) t o)
-take-of s lost es e d sizes k step (DumpMsg b) told x given z q p small n t g o f y is =
+take-of s lost es e d sizes k step (DumpMsg b) told x given z q p some small n t g o f y is =
     subst (λ x. ControlSimulates s.net sizes (history (world s lost es)) (history (turn s lost (world s lost es) e)) e.0 step.puts (control_take (control_at s.net sizes (history (world s lost es)) e.0) step.choice x)) (sym is.is)
     (take-dump s.net sizes (history (world s lost es)) (history (turn s lost (world s lost es) e)) e.0 d b step is.dump z q (turns-at s lost es e step given n) (asked-at s lost es e.0 d given q)
-    (λ l m. answers s lost es e sizes k b l step is.dump given z p small n t g is.of m) t o)
-take-of s lost es e d sizes k step _ told x given z q p small n t g o f y is = absurd cc
+    (λ l m. answers s lost es e sizes k b l step is.dump given z p some small n t g is.of m) t o)
+take-of s lost es e d sizes k step _ told x given z q p some small n t g o f y is = absurd cc
 
-pub takes-message : (s : Setup) (lost : Losses) (es : List Entry) (e : Entry) (d : ℕ) (sizes : Sizes) (step : Step) (m : Message) (told : ℕ → ℕ) (x : Msg) (t : ControlState) → Given s → IsWired s.net → actor_of s.net e.0 ≡ Control d → HoldWindow s.window sizes → length es < 2 ^ 40
+pub takes-message : (s : Setup) (lost : Losses) (es : List Entry) (e : Entry) (d : ℕ) (sizes : Sizes) (step : Step) (m : Message) (told : ℕ → ℕ) (x : Msg) (t : ControlState) → Given s → IsWired s.net → actor_of s.net e.0 ≡ Control d → HoldWindow s.window sizes → 1 ≤ sizes.credits → length es < 2 ^ 40
     → next_step s lost (world s lost es) e ≡ Some step → step.taken ≡ Some m → IsMessage s.net sizes (history (world s lost es)) (link_of s.net (link_at s.net e.0 e.1)).from told m x → IsControlOf s.net sizes (history (world s lost es)) e.0 t
     → ControlSimulates s.net sizes (history (world s lost es)) (history (turn s lost (world s lost es) e)) e.0 step.puts (control_take t e.1 x)
-takes-message s lost es e d sizes step m told x t given z q p small n k is r = by_view (given.turns.view s lost (world s lost es) e step n)
+takes-message s lost es e d sizes step m told x t given z q p some small n k is r = by_view (given.turns.view s lost (world s lost es) e step n)
   where
     us : ℕ → History
     us = history (world s lost es)
@@ -268,7 +268,7 @@ takes-message s lost es e d sizes step m told x t given z q p small n k is r = b
         let puts : step.puts ≡ control_puts s.net e.0 (us e.0) step.choice m = y.took.puts ∙ ap (λ x. puts_of s e.0 x (us e.0) step.choice y.took.link y.took.message) q ∙ ap (control_puts s.net e.0 (us e.0) step.choice) same in
         subst (λ b. ControlSimulates s.net sizes us ws e.0 step.puts (control_take t b x)) c
         (subst (λ t. ControlSimulates s.net sizes us ws e.0 step.puts (control_take t step.choice x)) (sym (is-at s.net sizes us e.0 t r))
-        (take-of s lost es e d sizes y.took.link step m told x given z q p small n k y.took.into puts f (message-heard s e.0 d step.choice y.took.link m z q y.took.into f)
+        (take-of s lost es e d sizes y.took.link step m told x given z q p some small n k y.took.into puts f (message-heard s e.0 d step.choice y.took.link m z q y.took.into f)
         (subst (λ l. IsMessage s.net sizes us (link_of s.net l).from told m x) at is)))
       where
         of_message : {x y : Message} → Some x ≡ Some y → x ≡ y

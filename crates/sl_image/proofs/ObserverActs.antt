@@ -37,7 +37,7 @@ use Rattle.sl_image.proofs.ObserverTakes.{same-units}
 -- The floor and the guards.
 
 pub floor-same : (net : Net) (table : Snapshot) (w : World) → register_floor (observer_of net table w) ≡ floor net w
-floor-same net table w = ap (λ xs. unwrap_or (least xs) (issued net (observer w))) (map-map (λ x. x.floor) (λ u. unit_of net u (collected net w u)) (units net))
+floor-same net table w = ap (λ xs. unwrap_or (least xs) (issued net (observer w))) (map-map (λ x. x.floor) (λ u. unit_of table.credits net u (collected net w u)) (units net))
 
 issue-same : (s : Setup) (table : Snapshot) (w : World) → IsTableOf s table → registers_can_issue (observer_of s.net table w) ≡ can_issue s (floor s.net w) (observer w)
 issue-same s table w f = let e = floor-same s.net table w in let c = f.count in let d = f.window in
@@ -81,7 +81,7 @@ module _ (turns : TakesTurns) (s : Setup) (lost : Losses) (table : Snapshot) (es
   abbrev ActSimulatesIt : Option (After ObserverState Msg) → Type 0
   ActSimulatesIt o = ActSimulates (IsObserverOf s.net table (turn s lost (world s lost es) (0, c))) s.net sizes (λ u. history (turn s lost (world s lost es) (0, c)) u) 0 told step.puts o
 
-  units-stay : map (λ u. unit_of s.net u (collected s.net (world s lost es) u)) (units s.net) ≡ map (λ u. unit_of s.net u (collected s.net (turn s lost (world s lost es) (0, c)) u)) (units s.net)
+  units-stay : map (λ u. unit_of table.credits s.net u (collected s.net (world s lost es) u)) (units s.net) ≡ map (λ u. unit_of table.credits s.net u (collected s.net (turn s lost (world s lost es) (0, c)) u)) (units s.net)
   units-stay = same-units turns s table (world s lost es) (turn s lost (world s lost es) (0, c)) step z (turns.grows s lost es (0, c) step x) (λ u i q. ap (option_and_then (done_of (unit_place s.net u))) e)
 
   sends : (k : ℕ) → step.puts ≡ begin_all s.net k → AreSent s.net sizes (λ u. history (turn s lost (world s lost es) (0, c)) u) 0 told step.puts (begins_out (length (links_from s.net 0)) k)

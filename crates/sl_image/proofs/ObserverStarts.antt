@@ -17,5 +17,5 @@ collected-start turns net u = ap (first (known (unit_place net u) (observer (sta
 
 pub observer-start : TakesTurns → (net : Net) (table : Snapshot) → first_state net table ≡ observer_of net table (start net)
 observer-start turns net table = let e = turns.starts net 0 in let k = sym (ap (issued net) e) in let r = sym (ap (resent net) e) in
-    let us = map-same (first_unit net) (λ u. unit_of net u (collected net (start net) u)) (units net) (λ j p. unit-start net (get_or (units net) j 0) ∙ ap (unit_of net (get_or (units net) j 0)) (sym (collected-start turns net (get_or (units net) j 0)))) in
+    let us = map-same (first_unit net) (λ u. unit_of table.credits net u (collected net (start net) u)) (units net) (λ j p. unit-start table.credits net (get_or (units net) j 0) ∙ ap (unit_of table.credits net (get_or (units net) j 0)) (sym (collected-start turns net (get_or (units net) j 0)))) in
     λ i. record { ins = length (links_into net 0); outs = length (links_from net 0); snapshot = table; issued = k i; resent = r i; units = us i }

@@ -68,7 +68,7 @@ module _ (turns : TakesTurns) (s : Setup) (table : Snapshot) (w v : World) (step
   pub same-collected : (u : ℕ) (i : UnitId) → actor_of s.net u ≡ OfUnit i → option_and_then (done_of (unit_place s.net u)) step.taken ≡ None → collected s.net v u ≡ collected s.net w u
   same-collected u i q e = let k = same-known (unit_place s.net u) e in let h = same-unit u i q in λ j. first (k j) (h j)
 
-  pub state-after : step.choice < action_choice s.net 0 → (us : List UnitState) → us ≡ map (λ u. unit_of s.net u (collected s.net v u)) (units s.net)
+  pub state-after : step.choice < action_choice s.net 0 → (us : List UnitState) → us ≡ map (λ u. unit_of table.credits s.net u (collected s.net v u)) (units s.net)
       → record { ins = length (links_into s.net 0); outs = length (links_from s.net 0); snapshot = table; issued = issued s.net (observer w); resent = resent s.net (observer w); units = us } ≡ observer_of s.net table v
   state-after l us e =
       let k : issued s.net (observer v) ≡ issued s.net (observer w) = ap (issued s.net) g.same ∙ turns.uncounted (action_choice s.net 0) step (observer w) (λ q. absurd (omega (arith, q, l))) in
@@ -77,9 +77,9 @@ module _ (turns : TakesTurns) (s : Setup) (table : Snapshot) (w v : World) (step
       λ i. record { ins = length (links_into s.net 0); outs = length (links_from s.net 0); snapshot = table; issued = a i; resent = b i; units = e i }
 
   pub same-units : ((u : ℕ) (i : UnitId) → actor_of s.net u ≡ OfUnit i → option_and_then (done_of (unit_place s.net u)) step.taken ≡ None)
-      → map (λ u. unit_of s.net u (collected s.net w u)) (units s.net) ≡ map (λ u. unit_of s.net u (collected s.net v u)) (units s.net)
-  same-units h = map-same (λ u. unit_of s.net u (collected s.net w u)) (λ u. unit_of s.net u (collected s.net v u)) (units s.net)
-      (λ j p. let t = unit-at s.net j p in ap (unit_of s.net (get_or (units s.net) j 0)) (sym (same-collected (get_or (units s.net) j 0) t.0 t.1 (h (get_or (units s.net) j 0) t.0 t.1))))
+      → map (λ u. unit_of table.credits s.net u (collected s.net w u)) (units s.net) ≡ map (λ u. unit_of table.credits s.net u (collected s.net v u)) (units s.net)
+  same-units h = map-same (λ u. unit_of table.credits s.net u (collected s.net w u)) (λ u. unit_of table.credits s.net u (collected s.net v u)) (units s.net)
+      (λ j p. let t = unit-at s.net j p in ap (unit_of table.credits s.net (get_or (units s.net) j 0)) (sym (same-collected (get_or (units s.net) j 0) t.0 t.1 (h (get_or (units s.net) j 0) t.0 t.1))))
 
 -- A Done.
 
@@ -122,19 +122,19 @@ module _ (turns : TakesTurns) (s : Setup) (lost : Losses) (table : Snapshot) (es
   v = turn s lost (world s lost es) (0, c)
 
   abbrev old : ℕ → UnitState
-  old u = unit_of s.net u (collected s.net w u)
+  old u = unit_of table.credits s.net u (collected s.net w u)
 
   abbrev new : ℕ → UnitState
-  new u = unit_of s.net u (collected s.net v u)
+  new u = unit_of table.credits s.net u (collected s.net v u)
 
   grows : GrowsAt w v 0 step
   grows = turns.grows s lost es (0, c) step x
 
   -- its unit
-  unit-done-is : (u : ℕ) (i : UnitId) → actor_of s.net u ≡ OfUnit i → step.taken ≡ Some (DoneMsg (unit_place s.net u) n) → IsDoneOf s.net u (collected s.net w u) (first n (history w u)) y
+  unit-done-is : (u : ℕ) (i : UnitId) → actor_of s.net u ≡ OfUnit i → step.taken ≡ Some (DoneMsg (unit_place s.net u) n) → IsDoneOf table.credits s.net u (collected s.net w u) (first n (history w u)) y
       → after_done table.ring c y (old u) ≡ new u
   unit-done-is u i q e d = let k = sym known_by.0 in let h = sym (same-unit turns s table w v step z grows u i q) in
-      hears s.net u table.ring c (collected s.net w u) (first n (history w u)) y brings (by_choice known_by.1) ∙ ap (unit_of s.net u) (λ j. first (k j) (h j))
+      hears table.credits s.net u table.ring c (collected s.net w u) (first n (history w u)) y brings (by_choice known_by.1) ∙ ap (unit_of table.credits s.net u) (λ j. first (k j) (h j))
     where
       known_by : (known (unit_place s.net u) (observer v) ≡ n) × ((device_of (actor_of s.net u) ≡ step.choice) ⊎ (known (unit_place s.net u) (observer w) ≡ n))
       known_by = by-device s lost w v step u n i reported z (turns.ran s lost es) (turns.goes_on s lost w (0, c) (turns.ran s lost es)) grows q e
@@ -142,13 +142,13 @@ module _ (turns : TakesTurns) (s : Setup) (lost : Losses) (table : Snapshot) (es
       brought : IsBrought s.net s.window u (history w u) (known (unit_place s.net u) (observer w)) n
       brought = rows u n i q e
 
-      brings : Brings s.net u table.ring (collected s.net w u) (first n (history w u)) y
+      brings : Brings table.credits s.net u table.ring (collected s.net w u) (first n (history w u)) y
       brings = record {
         few = z.few_channels u i q;
         of = d;
         rises = brought.rises;
         within = let a = brought.within in let b = f.window in let g = f.room in omega (arith, a, b, g);
-        stays = λ k l. brought.stays (data_channels s.net u) k l;
+        stays = λ k l. brought.stays table.credits (data_channels s.net u) k l;
       }
 
       by_choice : (device_of (actor_of s.net u) ≡ step.choice) ⊎ (known (unit_place s.net u) (observer w) ≡ n) → (device_of (actor_of s.net u) ≡ c) ⊎ (collected s.net w u ≡ first n (history w u))
@@ -158,12 +158,12 @@ module _ (turns : TakesTurns) (s : Setup) (lost : Losses) (table : Snapshot) (es
   -- any other unit
   other-unit : (place j : ℕ) → j < length (units s.net) → (j ≡ place → ⊥) → step.taken ≡ Some (DoneMsg place n) → old (get_or (units s.net) j 0) ≡ new (get_or (units s.net) j 0)
   other-unit place j l ne e = let a = unit-at s.net j l in let u = get_or (units s.net) j 0 in
-      ap (unit_of s.net u) (sym (same-collected turns s table w v step z grows u a.0 a.1
+      ap (unit_of table.credits s.net u) (sym (same-collected turns s table w v step z grows u a.0 a.1
       (ap (option_and_then (done_of (unit_place s.net u))) e ∙ done-elsewhere (unit_place s.net u) place n (λ q. let b = place-of-unit s.net j l in ne (omega (arith, q, b))))))
 
   -- all units, after a Done of the one at a place
   units-done : (place : ℕ) → step.taken ≡ Some (DoneMsg place n)
-      → IsDoneOf s.net (get_or (units s.net) place 0) (first (known place (observer w)) (history w (get_or (units s.net) place 0))) (first n (history w (get_or (units s.net) place 0))) y
+      → IsDoneOf table.credits s.net (get_or (units s.net) place 0) (first (known place (observer w)) (history w (get_or (units s.net) place 0))) (first n (history w (get_or (units s.net) place 0))) y
       → units_after table.ring c y (map old (units s.net)) ≡ map new (units s.net)
   units-done place e d = by_place (cases_lt place (length (units s.net)))
     where
@@ -172,8 +172,8 @@ module _ (turns : TakesTurns) (s : Setup) (lost : Losses) (table : Snapshot) (es
 
       by_place : (place < length (units s.net)) ⊎ (length (units s.net) ≤ place) → units_after table.ring c y (map old (units s.net)) ≡ map new (units s.net)
       by_place (inl p) = let here = place-of-unit s.net place p in let is = unit-at s.net place p in
-          let same : IsDoneOf s.net (get_or (units s.net) place 0) (collected s.net w (get_or (units s.net) place 0)) (first n (history w (get_or (units s.net) place 0))) y =
-          subst (λ k. IsDoneOf s.net (get_or (units s.net) place 0) (first (known k (observer w)) (history w (get_or (units s.net) place 0))) (first n (history w (get_or (units s.net) place 0))) y) (sym here) d in
+          let same : IsDoneOf table.credits s.net (get_or (units s.net) place 0) (collected s.net w (get_or (units s.net) place 0)) (first n (history w (get_or (units s.net) place 0))) y =
+          subst (λ k. IsDoneOf table.credits s.net (get_or (units s.net) place 0) (first (known k (observer w)) (history w (get_or (units s.net) place 0))) (first n (history w (get_or (units s.net) place 0))) y) (sym here) d in
           ap (λ k. slice_set (map old (units s.net)) k (after_done table.ring c y (unit_at (map old (units s.net)) k))) (d.unit ∙ here)
           ∙ ap (λ r. slice_set (map old (units s.net)) place (after_done table.ring c y r)) (get_or-map old (units s.net) place 0 (new_unit 0 0) p)
           ∙ map-set old new (units s.net) place (after_done table.ring c y (old u)) p (λ j l ne. other-unit place j l ne e)
@@ -197,11 +197,11 @@ is-take turns s lost w c step m z x e = by_view (turns.view s lost w (0, c) step
     by_view (inl t) = record { low = slice_get_within (links_into s.net 0) step.choice t.took.link t.took.into; puts = t.took.puts ∙ ap (λ y. puts_of s 0 y (history w 0) step.choice t.took.link t.took.message) z.observer }
     by_view (inr t) = absurd (let q : None ≡ Some m = sym t.acted.taken ∙ e in cc)
 
-module _ (turns : TakesTurns) (s : Setup) (lost : Losses) (table : Snapshot) (es : List Entry) (c : ℕ) (sizes : Sizes) (a : ℕ) (told : ℕ → ℕ) (step : Step) (reported : AreReported s) (rows : BringsRows s lost es step) (z : IsWired s.net) (f : IsTableOf s table) (x : next_step s lost (world s lost es) (0, c) ≡ Some step) where
+module _ (turns : TakesTurns) (s : Setup) (lost : Losses) (table : Snapshot) (es : List Entry) (c : ℕ) (sizes : Sizes) (a : ℕ) (told : ℕ → ℕ) (step : Step) (reported : AreReported s) (rows : BringsRows s lost es step) (z : IsWired s.net) (f : IsTableOf s table) (same : sizes.credits ≡ table.credits) (x : next_step s lost (world s lost es) (0, c) ≡ Some step) where
   abbrev SimulatesIt : After ObserverState Msg → Type 0
   SimulatesIt y = Simulates (IsObserverOf s.net table (turn s lost (world s lost es) (0, c))) s.net sizes (λ u. history (turn s lost (world s lost es) (0, c)) u) 0 told step.puts y
 
-  leaves : (m : Message) → step.taken ≡ Some m → (us : List UnitState) → us ≡ map (λ u. unit_of s.net u (collected s.net (turn s lost (world s lost es) (0, c)) u)) (units s.net)
+  leaves : (m : Message) → step.taken ≡ Some m → (us : List UnitState) → us ≡ map (λ u. unit_of table.credits s.net u (collected s.net (turn s lost (world s lost es) (0, c)) u)) (units s.net)
       → SimulatesIt (record { state = record (observer_of s.net table (world s lost es)) { units = us }; puts = [] })
   leaves m e us q = let k = is-take turns s lost (world s lost es) c step m z x e in record {
     stands = state-after turns s table (world s lost es) (turn s lost (world s lost es) (0, c)) step z (turns.grows s lost es (0, c) step x) k.low us q;
@@ -210,7 +210,7 @@ module _ (turns : TakesTurns) (s : Setup) (lost : Losses) (table : Snapshot) (es
 
   -- a message that is no Done
   quiet : (m : Message) → step.taken ≡ Some m → ((place : ℕ) → done_of place m ≡ None) → SimulatesIt (record { state = observer_of s.net table (world s lost es); puts = [] })
-  quiet m e h = leaves m e (map (λ u. unit_of s.net u (collected s.net (world s lost es) u)) (units s.net))
+  quiet m e h = leaves m e (map (λ u. unit_of table.credits s.net u (collected s.net (world s lost es) u)) (units s.net))
       (same-units turns s table (world s lost es) (turn s lost (world s lost es) (0, c)) step z (turns.grows s lost es (0, c) step x) (λ u i q. ap (option_and_then (done_of (unit_place s.net u))) e ∙ h (unit_place s.net u)))
 
   -- bytes of a host, in place or not
@@ -229,4 +229,5 @@ module _ (turns : TakesTurns) (s : Setup) (lost : Losses) (table : Snapshot) (es
   takes (DumpMsg n) y e k = subst (λ y. SimulatesIt (observer_take (observer_of s.net table (world s lost es)) c y)) (sym k.is) (quiet (DumpMsg n) e (λ p. refl))
   takes (Begin n) y e k = subst (λ y. SimulatesIt (observer_take (observer_of s.net table (world s lost es)) c y)) (sym k) (quiet (Begin n) e (λ p. refl))
   takes (DoneMsg place n) y e k = subst (λ y. SimulatesIt (observer_take (observer_of s.net table (world s lost es)) c y)) (sym k.is)
-      (leaves (DoneMsg place n) e (units_after table.ring c k.done (map (λ u. unit_of s.net u (collected s.net (world s lost es) u)) (units s.net))) (units-done turns s lost table es c n step k.done reported rows z f x place e k.of))
+      (leaves (DoneMsg place n) e (units_after table.ring c k.done (map (λ u. unit_of table.credits s.net u (collected s.net (world s lost es) u)) (units s.net))) (units-done turns s lost table es c n step k.done reported rows z f x place e
+      (subst (λ credits. IsDoneOf credits s.net (get_or (units s.net) place 0) (first (known place (observer (world s lost es))) (history (world s lost es) (get_or (units s.net) place 0))) (first n (history (world s lost es) (get_or (units s.net) place 0))) k.done) same k.of)))

@@ -30,7 +30,7 @@ unit-at net j p = of_actor (actor_of net (get_or (units net) j 0))
 
 pub same-observer : (net : Net) (table : Snapshot) (w v : World) → observer v ≡ observer w → ((u : ℕ) (i : UnitId) → actor_of net u ≡ OfUnit i → collected net v u ≡ collected net w u) → observer_of net table v ≡ observer_of net table w
 same-observer net table w v e h = let k = ap (issued net) e in let r = ap (resent net) e in
-    let us = map-same (λ u. unit_of net u (collected net v u)) (λ u. unit_of net u (collected net w u)) (units net) (λ j p. let t = unit-at net j p in ap (unit_of net (get_or (units net) j 0)) (h (get_or (units net) j 0) t.0 t.1)) in
+    let us = map-same (λ u. unit_of table.credits net u (collected net v u)) (λ u. unit_of table.credits net u (collected net w u)) (units net) (λ j p. let t = unit-at net j p in ap (unit_of table.credits net (get_or (units net) j 0)) (h (get_or (units net) j 0) t.0 t.1)) in
     λ i. record { ins = length (links_into net 0); outs = length (links_from net 0); snapshot = table; issued = k i; resent = r i; units = us i }
 
 -- Another actor's turn changes nothing of it.

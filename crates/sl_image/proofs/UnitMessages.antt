@@ -48,7 +48,7 @@ use Rattle.sl_image.proofs.UnitTurns.{wires_at, wires-are, one_if, Routes, route
 pub record IsGiven (net : Net) (table : Snapshot) (u d p : ℕ) (side : Side) (c : ℕ) (h : History) (saved : View) (m : Message) : Type 0 where
   pub actor : actor_of net u ≡ OfUnit (record { device = d; port = p; side = side })
   pub chans : HasChannels net u
-  pub keeps : Keeps table.ring saved (calls (data_channels net u) h)
+  pub keeps : Keeps (sizes_of table) saved (calls (data_channels net u) h)
   pub room : HasRoom h m
   pub few : length h + 1 < 2 ^ 64
   pub near : (k : ℕ) → stamp_of m ≡ Some k → IsTakeable table.window c h k
@@ -62,7 +62,7 @@ abbrev pub regs_at : Net → ℕ → ℕ → ℕ → Side → History → View �
 regs_at net bits u d side h saved = regs net bits u h (dropped side (bad h)) (dropped side (expired h)) (dropped side (noroute net.parts d h)) saved
 
 abbrev pub state_at : Net → Snapshot → ℕ → ℕ → Side → History → View → UnitState
-state_at net table u d side h saved = record { wires = wires_at net u d side table; window = table.window; registers = regs_at net table.width u d side h saved }
+state_at net table u d side h saved = record { wires = wires_at net u d side table; window = table.window; credits = table.credits; registers = regs_at net table.width u d side h saved }
 
 -- how the unit reads the stamp k of the choice c
 abbrev pub reading_at : Snapshot → ℕ → ℕ → History → Reading
@@ -70,7 +70,7 @@ reading_at table c k h = reading table.width (last c h) (id h) k
 
 -- an adoption is by no more than a ring has slots
 is-read : (table : Snapshot) (c k : ℕ) (h : History) → IsTakeable table.window c h k → table.window ≤ table.ring → IsRead (sizes_of table) c k h
-is-read table c k h t holds = let a = t.above in record { low = t.order; behind = t.behind; near = omega (arith, a, holds) }
+is-read table c k h t holds = let a = t.above in let b = t.below in record { low = t.order; behind = t.behind; near = omega (arith, a, holds); back = omega (arith, b, holds) }
 
 tally-le : (t : Step → Bool) (h : History) → tally t h ≤ length h
 tally-le t [] = omega arith
@@ -82,8 +82,8 @@ tally-le t (s ∷ h) = by_bool (t s) (tally-le t h)
 
 stands : (net : Net) (table : Snapshot) (u d p : ℕ) (side : Side) (h : History) (b e n : ℕ) (r : Registers) → actor_of net u ≡ OfUnit (unit_at d p side) → Moves net (sizes_of table) u h b e n r
     → b ≡ dropped side (bad h) → e ≡ dropped side (expired h) → n ≡ dropped side (noroute net.parts d h)
-    → IsUnitOf net table u (unit_at d p side) h (record { wires = wires_at net u d side table; window = table.window; registers = r })
-stands net table u d p side h b e n r q m x y z = record { wires = sym (wires-are net u (unit_at d p side) table q); window = refl; registers = has-registers net (sizes_of table) u (unit_at d p side) h b e n r m x y z }
+    → IsUnitOf net table u (unit_at d p side) h (record { wires = wires_at net u d side table; window = table.window; credits = table.credits; registers = r })
+stands net table u d p side h b e n r q m x y z = record { wires = sym (wires-are net u (unit_at d p side) table q); window = refl; credits = refl; registers = has-registers net (sizes_of table) u (unit_at d p side) h b e n r m x y z }
 
 -- the place of a data channel
 abbrev pub place : Net → ℕ → ℕ → ℕ
@@ -98,21 +98,21 @@ pub cable-data : (net : Net) (table : Snapshot) (u d p : ℕ) (us : ℕ → Hist
 cable-data net table u d p us told c k q ps h saved g m out =
     of_moves (data-moves net (sizes_of table) u c k q ps h (bad h) (expired h) (noroute net.parts d h) saved g.chans g.room m out g.keeps (is-read table c k h (g.near k refl) g.holds))
   where
-    of_routes : (v : Moves net (sizes_of table) u (taking c (Data k q) ps ∷ h) (bad h) (expired h) (noroute net.parts d h) (after_data (place net u c) (reading_at table c k h) q (regs_at net table.width u d Ingress h saved)))
+    of_routes : (v : Moves net (sizes_of table) u (taking c (Data k q) ps ∷ h) (bad h) (expired h) (noroute net.parts d h) (after_data table.credits (place net u c) (reading_at table c k h) q (regs_at net table.width u d Ingress h saved)))
         → Routes net (sizes_of table) us told u d (taking c (Data k q) ps ∷ h) (bad h) (expired h) (noroute net.parts d h) v.saved q
         (routed (wires_at net u d Ingress table) q (regs net table.width u (taking c (Data k q) ps ∷ h) (bad h) (expired h) (noroute net.parts d h) v.saved))
         → Ends net table u (unit_at d p Ingress) us told (taking c (Data k q) ps ∷ h) (route net u d (id (taking c (Data k q) ps ∷ h)) q ++ (notice_puts net u (last c h) (Some k) ++ []))
         (cable_data (state_at net table u d Ingress h saved) (place net u c) q (reading_at table c k h))
     of_routes v r = let e = ap (routed (wires_at net u d Ingress table) q) v.is in let t = g.near k refl in let z : bad h ≡ 0 + bad h = omega arith in
         stamped-ends net table u (unit_at d p Ingress) us told (taking c (Data k q) ps ∷ h) (route net u d (id (taking c (Data k q) ps ∷ h)) q) (last c h) k (state_at net table u d Ingress h saved) (reading_at table c k h)
-        (routed (wires_at net u d Ingress table) q (after_data (place net u c) (reading_at table c k h) q (regs_at net table.width u d Ingress h saved)))
+        (routed (wires_at net u d Ingress table) q (after_data table.credits (place net u c) (reading_at table c k h) q (regs_at net table.width u d Ingress h saved)))
         refl t.order refl (near-is table.width table.window c k h t)
         (stands net table u d p Ingress (taking c (Data k q) ps ∷ h) (bad h) (one_if (q.hops == 0) + expired h) (one_if (not (q.hops == 0) && is_none (next_port net.parts d q.dst)) + noroute net.parts d h)
-        (routed (wires_at net u d Ingress table) q (after_data (place net u c) (reading_at table c k h) q (regs_at net table.width u d Ingress h saved))).state g.actor
+        (routed (wires_at net u d Ingress table) q (after_data table.credits (place net u c) (reading_at table c k h) q (regs_at net table.width u d Ingress h saved))).state g.actor
         (record { saved = v.saved; is = ap (λ a. a.state) e ∙ r.state; keeps = v.keeps }) z refl refl)
         (subst (λ a. AreSent net (sizes_of table) us u told (route net u d (id (taking c (Data k q) ps ∷ h)) q) a.puts) (sym e) r.sent)
 
-    of_moves : Moves net (sizes_of table) u (taking c (Data k q) ps ∷ h) (bad h) (expired h) (noroute net.parts d h) (after_data (place net u c) (reading_at table c k h) q (regs_at net table.width u d Ingress h saved))
+    of_moves : Moves net (sizes_of table) u (taking c (Data k q) ps ∷ h) (bad h) (expired h) (noroute net.parts d h) (after_data table.credits (place net u c) (reading_at table c k h) q (regs_at net table.width u d Ingress h saved))
         → Ends net table u (unit_at d p Ingress) us told (taking c (Data k q) ps ∷ h) (route net u d (id (taking c (Data k q) ps ∷ h)) q ++ (notice_puts net u (last c h) (Some k) ++ []))
         (cable_data (state_at net table u d Ingress h saved) (place net u c) q (reading_at table c k h))
     of_moves v = of_routes v (routes net (sizes_of table) us told u d (taking c (Data k q) ps ∷ h) (bad h) (expired h) (noroute net.parts d h) v.saved q table
@@ -165,19 +165,19 @@ pub crossbar-data : (net : Net) (table : Snapshot) (u d p : ℕ) (us : ℕ → H
     (crossbar_data (state_at net table u d Egress h saved) (place net u c) q (reading_at table c k h))
 crossbar-data net table u d p us told c k own q ps h saved g m out = of_moves (data-moves net (sizes_of table) u c k q ps h 0 0 0 saved g.chans g.room m out g.keeps (is-read table c k h (g.near k refl) g.holds))
   where
-    of_moves : Moves net (sizes_of table) u (taking c (Data k q) ps ∷ h) 0 0 0 (after_data (place net u c) (reading_at table c k h) q (regs_at net table.width u d Egress h saved))
+    of_moves : Moves net (sizes_of table) u (taking c (Data k q) ps ∷ h) 0 0 0 (after_data table.credits (place net u c) (reading_at table c k h) q (regs_at net table.width u d Egress h saved))
         → Ends net table u (unit_at d p Egress) us told (taking c (Data k q) ps ∷ h)
         ((send_all (Data (id (taking c (Data k q) ps ∷ h)) q) (links_out net u CableSort) ++ send_all (HostMsg (plain_frame q)) (links_out net u ToHost)) ++ (notice_puts net u (last c h) (Some k) ++ []))
         (crossbar_data (state_at net table u d Egress h saved) (place net u c) q (reading_at table c k h))
     of_moves v = let t = g.near k refl in
         stamped-ends net table u (unit_at d p Egress) us told (taking c (Data k q) ps ∷ h) (send_all (Data (id (taking c (Data k q) ps ∷ h)) q) (links_out net u CableSort) ++ send_all (HostMsg (plain_frame q)) (links_out net u ToHost))
         (last c h) k (state_at net table u d Egress h saved) (reading_at table c k h)
-        (passed (wires_at net u d Egress table) q (after_data (place net u c) (reading_at table c k h) q (regs_at net table.width u d Egress h saved)))
+        (passed (wires_at net u d Egress table) q (after_data table.credits (place net u c) (reading_at table c k h) q (regs_at net table.width u d Egress h saved)))
         refl t.order refl (near-is table.width table.window c k h t)
-        (stands net table u d p Egress (taking c (Data k q) ps ∷ h) 0 0 0 (after_data (place net u c) (reading_at table c k h) q (regs_at net table.width u d Egress h saved)) g.actor v refl refl refl)
+        (stands net table u d p Egress (taking c (Data k q) ps ∷ h) 0 0 0 (after_data table.credits (place net u c) (reading_at table c k h) q (regs_at net table.width u d Egress h saved)) g.actor v refl refl refl)
         (sent-append net (sizes_of table) us u told (send_all (Data (id (taking c (Data k q) ps ∷ h)) q) (links_out net u CableSort)) (send_all (HostMsg (plain_frame q)) (links_out net u ToHost))
-        (send (wires_at net u d Egress table) (All CableSort) (data_frame (wires_at net u d Egress table) (after_data (place net u c) (reading_at table c k h) q (regs_at net table.width u d Egress h saved)) q)) (send (wires_at net u d Egress table) (All ToHost) (framed plain_header q))
-        (sort-sent net (sizes_of table) us u told (Data (id (taking c (Data k q) ps ∷ h)) q) (data_frame (wires_at net u d Egress table) (after_data (place net u c) (reading_at table c k h) q (regs_at net table.width u d Egress h saved)) q) CableSort (wires_at net u d Egress table) refl (ap (λ r. framed (carried_header r.id (port_of (actor_of net u))) q) v.is))
+        (send (wires_at net u d Egress table) (All CableSort) (data_frame (wires_at net u d Egress table) (after_data table.credits (place net u c) (reading_at table c k h) q (regs_at net table.width u d Egress h saved)) q)) (send (wires_at net u d Egress table) (All ToHost) (framed plain_header q))
+        (sort-sent net (sizes_of table) us u told (Data (id (taking c (Data k q) ps ∷ h)) q) (data_frame (wires_at net u d Egress table) (after_data table.credits (place net u c) (reading_at table c k h) q (regs_at net table.width u d Egress h saved)) q) CableSort (wires_at net u d Egress table) refl (ap (λ r. framed (carried_header r.id (port_of (actor_of net u))) q) v.is))
         (sort-sent net (sizes_of table) us u told (HostMsg (plain_frame q)) (framed plain_header q) ToHost (wires_at net u d Egress table) refl (carried-plain q)))
 
 pub crossbar-probe : (net : Net) (table : Snapshot) (u d p : ℕ) (us : ℕ → History) (told : ℕ → ℕ) (c k : ℕ) (own : Bool) (ps : List Put) (h : History) (saved : View)

@@ -2,7 +2,7 @@
 --     regs net bits u h bad expired noroute saved     the registers that stand for the history h, with these drops and saved entries
 --     Moves ..                                   registers are such, and their saved entries keep the calls of h
 use Rattle.std.proofs.Common.{◌≡◌, ℕ, ◌+◌, ◌-◌, ◌^◌, ◌<◌, ◌≤◌, List, [], ◌∷◌, ◌++◌, length, refl, sym, ap, subst, ◌∙◌, Some, None, arith, inl, inr}
-use Rattle.std.specs.Prelude.{◌⊎◌, max, map, if◌then◌else◌, unwrap_or, option_map, slice_index_or}
+use Rattle.std.specs.Prelude.{◌⊎◌, max, map, if◌then◌else◌, unwrap_or, option_map}
 use Rattle.std.proofs.lemmas.List.{length-set}
 use Rattle.std.proofs.lemmas.Bool.{lt-ltb, le-ltb, cases_lt}
 use Rattle.sl_layout.specs.declared.actor.Sort.TheVariants.{Init}
@@ -12,9 +12,9 @@ use Rattle.sl_layout.specs.Net.{Net, data_channels, choices_of, place_in}
 use Rattle.sl_parts.specs.Lists.{Member, Distinct}
 use Rattle.sl_saves.specs.Calls.{Adopt, Credited}
 use Rattle.sl_saves.specs.declared.entry.View.{View}
-use Rattle.sl_saves.specs.Views.{IsShown, no_slot}
-use Rattle.sl_saves.specs.Keeping.{new_slot, place_above, slot_credited, view_adopted, view_credited}
-use Rattle.sl_saves.proofs.Rings.{ring-adopt, ring-credit}
+use Rattle.sl_saves.specs.Views.{IsShown}
+use Rattle.sl_saves.specs.Keeping.{new_slot, place_above, view_adopted, view_credited}
+use Rattle.sl_saves.proofs.Rings.{length-credited, ring-adopt, ring-credit}
 use Rattle.sl_ids.specs.declared.wid.Wid.{Wid}
 use Rattle.sl_ids.specs.Wids.{wid}
 use Rattle.sl_wire.specs.Sizes.{Sizes}
@@ -53,7 +53,7 @@ regs net bits u h b e n saved = record {
 pub record Moves (net : Net) (sizes : Sizes) (u : ℕ) (h : History) (b e n : ℕ) (r : Registers) : Type 0 where
   pub saved : View
   pub is : r ≡ regs net sizes.bits u h b e n saved
-  pub keeps : Keeps sizes.ring saved (calls (data_channels net u) h)
+  pub keeps : Keeps sizes saved (calls (data_channels net u) h)
 
 -- from registers with a history, and back
 
@@ -94,10 +94,10 @@ at_id r w saved = record r { id = w; saved = saved }
 record Adopts (net : Net) (sizes : Sizes) (u : ℕ) (step : Step) (h : History) (r q : Registers) : Type 0 where
   pub saved : View
   pub is : q ≡ at_id r (wid sizes.bits (id (step ∷ h))) saved
-  pub keeps : Keeps sizes.ring saved (calls (data_channels net u) (step ∷ h))
+  pub keeps : Keeps sizes saved (calls (data_channels net u) (step ∷ h))
 
 -- the stamp k, where l was last seen
-module _ (net : Net) (sizes : Sizes) (u l k : ℕ) (h : History) (b e n : ℕ) (saved : View) (low : l ≤ k) (behind : l ≤ id h) (keeps : Keeps sizes.ring saved (calls (data_channels net u) h)) (near : k - id h ≤ sizes.ring) where
+module _ (net : Net) (sizes : Sizes) (u l k : ℕ) (h : History) (b e n : ℕ) (saved : View) (low : l ≤ k) (behind : l ≤ id h) (keeps : Keeps sizes saved (calls (data_channels net u) h)) (near : k - id h ≤ sizes.ring) (back : id h - k ≤ sizes.ring) where
   abbrev now : Registers
   now = regs net sizes.bits u h b e n saved
 
@@ -119,9 +119,9 @@ module _ (net : Net) (sizes : Sizes) (u l k : ℕ) (h : History) (b e n : ℕ) (
             is = ap (λ t. if t then adopting else now) (lt-ltb 0 (rise read) (omega (arith, x, p)))
                 ∙ ap (λ j. at_id now (wid sizes.bits j) (view_adopted (rise read) (packets h) (bytes h) saved)) z;
             keeps = record {
-              shown = subst (IsShown (view_adopted (rise read) (packets h) (bytes h) saved))
+              shown = subst (IsShown sizes.credits (view_adopted (rise read) (packets h) (bytes h) saved))
                   (ap (λ j. Adopt j (packets h) (bytes h) ∷ calls (data_channels net u) h) y ∙ sym (calls-rise (data_channels net u) step h (omega (arith, i, p))))
-                  (ring-adopt saved (rise read) (packets h) (bytes h) (calls (data_channels net u) h) (omega (arith, x, p)) (subst (λ m. rise read ≤ m) (sym keeps.size) (omega (arith, x, near))) keeps.shown);
+                  (ring-adopt sizes.credits saved (rise read) (packets h) (bytes h) (calls (data_channels net u) h) (omega (arith, x, p)) (subst (λ m. rise read ≤ m) (sym keeps.size) (omega (arith, x, near))) keeps.shown);
               size = length-set saved.slots (place_above (length saved.slots) saved.at (rise read)) (new_slot (rise read) (packets h) (bytes h)) ∙ keeps.size;
             };
           }
@@ -129,12 +129,12 @@ module _ (net : Net) (sizes : Sizes) (u l k : ℕ) (h : History) (b e n : ℕ) (
         saved = saved;
         is = ap (λ t. if t then adopting else now) (le-ltb 0 (rise read) (omega (arith, rise-is sizes.bits l (id h) k behind, p)))
             ∙ ap (λ j. at_id now (wid sizes.bits j) saved) z;
-        keeps = subst (Keeps sizes.ring saved) (sym (s p)) keeps;
+        keeps = subst (Keeps sizes saved) (sym (s p)) keeps;
       }
 
   -- a data packet, which is credited where its stamp lies below the id
   credits : (c : ℕ) (p : Packet) (ps : List Put) → place_in 0 c (data_channels net u) < 8
-      → Adopts net sizes u (taking c (Data k p) ps) h now (credited (place_in 0 c (data_channels net u)) read p.len (adopted read now))
+      → Adopts net sizes u (taking c (Data k p) ps) h now (credited sizes.credits (place_in 0 c (data_channels net u)) read p.len (adopted read now))
   credits c p ps few = by_cases (cases_lt k (id h))
     where
       ch : ℕ
@@ -144,28 +144,28 @@ module _ (net : Net) (sizes : Sizes) (u l k : ℕ) (h : History) (b e n : ℕ) (
       stays q r = calls-stay (data_channels net u) (taking c (Data k p) ps) h (omega (arith, r))
           ∙ ap (λ t. map Credited (if t then credit (data_channels net u) (id h) c k p ∷ [] else []) ++ calls (data_channels net u) h) (le-ltb k (id h) q)
 
-      no_credit : (r : Registers) → id h ≤ k → credited (place_in 0 c (data_channels net u)) read p.len r ≡ r
-      no_credit r q = ap (λ t. if t then record r { saved = view_credited (record { channel = place_in 0 c (data_channels net u); age = age read; bytes = p.len }) r.saved } else r)
+      no_credit : (r : Registers) → id h ≤ k → credited sizes.credits (place_in 0 c (data_channels net u)) read p.len r ≡ r
+      no_credit r q = ap (λ t. if t then record r { saved = view_credited sizes.credits (record { channel = place_in 0 c (data_channels net u); age = age read; bytes = p.len }) r.saved } else r)
           (le-ltb 0 (age read) (omega (arith, age-is sizes.bits l (id h) k low, q)))
 
       of_adopted : id h ≤ k → Adopts net sizes u (taking c (Data k p) ps) h now (adopted read now)
-          → Adopts net sizes u (taking c (Data k p) ps) h now (credited (place_in 0 c (data_channels net u)) read p.len (adopted read now))
+          → Adopts net sizes u (taking c (Data k p) ps) h now (credited sizes.credits (place_in 0 c (data_channels net u)) read p.len (adopted read now))
       of_adopted q a = record { saved = a.saved; is = no_credit (adopted read now) q ∙ a.is; keeps = a.keeps }
 
-      by_cases : (k < id h) ⊎ (id h ≤ k) → Adopts net sizes u (taking c (Data k p) ps) h now (credited (place_in 0 c (data_channels net u)) read p.len (adopted read now))
+      by_cases : (k < id h) ⊎ (id h ≤ k) → Adopts net sizes u (taking c (Data k p) ps) h now (credited sizes.credits (place_in 0 c (data_channels net u)) read p.len (adopted read now))
       by_cases (inl q) =
           let z : id h ≡ id (taking c (Data k p) ps ∷ h) = omega (arith, q) in
           let x : age read ≡ id h - k = age-is sizes.bits l (id h) k low in record {
-            saved = view_credited (credit (data_channels net u) (id h) c k p) saved;
-            is = ap (λ t. credited (place_in 0 c (data_channels net u)) read p.len (if t then adopting else now)) (le-ltb 0 (rise read) (omega (arith, rise-is sizes.bits l (id h) k behind, q)))
-                ∙ ap (λ t. if t then record now { saved = view_credited (record { channel = place_in 0 c (data_channels net u); age = age read; bytes = p.len }) saved } else now) (lt-ltb 0 (age read) (omega (arith, x, q)))
-                ∙ ap (λ j. record now { saved = view_credited (record { channel = place_in 0 c (data_channels net u); age = j; bytes = p.len }) saved }) x
-                ∙ ap (λ j. at_id now (wid sizes.bits j) (view_credited (credit (data_channels net u) (id h) c k p) saved)) z;
+            saved = view_credited sizes.credits (credit (data_channels net u) (id h) c k p) saved;
+            is = ap (λ t. credited sizes.credits (place_in 0 c (data_channels net u)) read p.len (if t then adopting else now)) (le-ltb 0 (rise read) (omega (arith, rise-is sizes.bits l (id h) k behind, q)))
+                ∙ ap (λ t. if t then record now { saved = view_credited sizes.credits (record { channel = place_in 0 c (data_channels net u); age = age read; bytes = p.len }) saved } else now) (lt-ltb 0 (age read) (omega (arith, x, q)))
+                ∙ ap (λ j. record now { saved = view_credited sizes.credits (record { channel = place_in 0 c (data_channels net u); age = j; bytes = p.len }) saved }) x
+                ∙ ap (λ j. at_id now (wid sizes.bits j) (view_credited sizes.credits (credit (data_channels net u) (id h) c k p) saved)) z;
             keeps = record {
-              shown = subst (IsShown (view_credited (credit (data_channels net u) (id h) c k p) saved))
+              shown = subst (IsShown sizes.credits (view_credited sizes.credits (credit (data_channels net u) (id h) c k p) saved))
                   (sym (calls-stay (data_channels net u) (taking c (Data k p) ps) h (omega (arith, q)) ∙ ap (λ t. map Credited (if t then credit (data_channels net u) (id h) c k p ∷ [] else []) ++ calls (data_channels net u) h) (lt-ltb k (id h) q)))
-                  (ring-credit saved (credit (data_channels net u) (id h) c k p) (calls (data_channels net u) h) few keeps.shown);
-              size = length-set saved.slots saved.at (slot_credited (credit (data_channels net u) (id h) c k p) (slice_index_or saved.slots saved.at no_slot)) ∙ keeps.size;
+                  (ring-credit sizes.credits saved (credit (data_channels net u) (id h) c k p) (calls (data_channels net u) h) few (subst (λ m. id h - k ≤ m) (sym keeps.size) back) keeps.shown);
+              size = length-credited sizes.credits (credit (data_channels net u) (id h) c k p) saved.at saved.slots ∙ keeps.size;
             };
           }
       by_cases (inr q) = of_adopted q (adopts (taking c (Data k p) ps) refl (stays q))
@@ -191,15 +191,16 @@ pub record IsRead (sizes : Sizes) (c k : ℕ) (h : History) : Type 0 where
   pub low : last c h ≤ k
   pub behind : last c h ≤ id h
   pub near : k - id h ≤ sizes.ring
+  pub back : id h - k ≤ sizes.ring
 
 pub data-moves : (net : Net) (sizes : Sizes) (u c k : ℕ) (p : Packet) (ps : List Put) (h : History) (b e n : ℕ) (saved : View) → HasChannels net u → HasRoom h (Data k p)
-    → Member c (data_channels net u) → (Member c (choices_of net u Init) → ⊥) → Keeps sizes.ring saved (calls (data_channels net u) h) → IsRead sizes c k h
-    → Moves net sizes u (taking c (Data k p) ps ∷ h) b e n (after_data (place_in 0 c (data_channels net u)) (reading sizes.bits (last c h) (id h) k) p (regs net sizes.bits u h b e n saved))
-data-moves net sizes u c k p ps h b e n saved chans room m out keeps d = of_adopted (credits net sizes u (last c h) k h b e n saved d.low d.behind keeps d.near c p ps (omega (arith, place-lt 0 c (data_channels net u) m, chans.few)))
+    → Member c (data_channels net u) → (Member c (choices_of net u Init) → ⊥) → Keeps sizes saved (calls (data_channels net u) h) → IsRead sizes c k h
+    → Moves net sizes u (taking c (Data k p) ps ∷ h) b e n (after_data sizes.credits (place_in 0 c (data_channels net u)) (reading sizes.bits (last c h) (id h) k) p (regs net sizes.bits u h b e n saved))
+data-moves net sizes u c k p ps h b e n saved chans room m out keeps d = of_adopted (credits net sizes u (last c h) k h b e n saved d.low d.behind keeps d.near d.back c p ps (omega (arith, place-lt 0 c (data_channels net u) m, chans.few)))
   where
     of_adopted : Adopts net sizes u (taking c (Data k p) ps) h (regs net sizes.bits u h b e n saved)
-        (credited (place_in 0 c (data_channels net u)) (reading sizes.bits (last c h) (id h) k) p.len (adopted (reading sizes.bits (last c h) (id h) k) (regs net sizes.bits u h b e n saved)))
-        → Moves net sizes u (taking c (Data k p) ps ∷ h) b e n (after_data (place_in 0 c (data_channels net u)) (reading sizes.bits (last c h) (id h) k) p (regs net sizes.bits u h b e n saved))
+        (credited sizes.credits (place_in 0 c (data_channels net u)) (reading sizes.bits (last c h) (id h) k) p.len (adopted (reading sizes.bits (last c h) (id h) k) (regs net sizes.bits u h b e n saved)))
+        → Moves net sizes u (taking c (Data k p) ps ∷ h) b e n (after_data sizes.credits (place_in 0 c (data_channels net u)) (reading sizes.bits (last c h) (id h) k) p (regs net sizes.bits u h b e n saved))
     of_adopted a = let x = ap (wid sizes.bits) (first-there (choices_of net u Init) (taking c (Data k p) ps) h out) in
         let y = wids-set sizes.bits (data_channels net u) c k (taking c (Data k p) ps) h chans.distinct m refl (last-here c k (taking c (Data k p) ps) h (Data k p) refl refl refl) in
         let f = packed (packets h) 1 room.packets in let g = packed (bytes h) p.len room.bytes in record {
@@ -219,10 +220,10 @@ data-moves net sizes u c k p ps h b e n saved chans room m out keeps d = of_adop
         }
 
 pub probe-moves : (net : Net) (sizes : Sizes) (u c k : ℕ) (ps : List Put) (h : History) (b e n : ℕ) (saved : View) → HasChannels net u
-    → Member c (data_channels net u) → (Member c (choices_of net u Init) → ⊥) → Keeps sizes.ring saved (calls (data_channels net u) h) → IsRead sizes c k h
+    → Member c (data_channels net u) → (Member c (choices_of net u Init) → ⊥) → Keeps sizes saved (calls (data_channels net u) h) → IsRead sizes c k h
     → Moves net sizes u (taking c (ProbeMsg k) ps ∷ h) b e n (after_stamp (Upstream (place_in 0 c (data_channels net u))) (reading sizes.bits (last c h) (id h) k) (regs net sizes.bits u h b e n saved))
 probe-moves net sizes u c k ps h b e n saved chans m out keeps d =
-    of_adopted (adopts net sizes u (last c h) k h b e n saved d.low d.behind keeps d.near (taking c (ProbeMsg k) ps) refl (λ q. calls-stay (data_channels net u) (taking c (ProbeMsg k) ps) h (omega (arith, q))))
+    of_adopted (adopts net sizes u (last c h) k h b e n saved d.low d.behind keeps d.near d.back (taking c (ProbeMsg k) ps) refl (λ q. calls-stay (data_channels net u) (taking c (ProbeMsg k) ps) h (omega (arith, q))))
   where
     of_adopted : Adopts net sizes u (taking c (ProbeMsg k) ps) h (regs net sizes.bits u h b e n saved) (adopted (reading sizes.bits (last c h) (id h) k) (regs net sizes.bits u h b e n saved))
         → Moves net sizes u (taking c (ProbeMsg k) ps ∷ h) b e n (after_stamp (Upstream (place_in 0 c (data_channels net u))) (reading sizes.bits (last c h) (id h) k) (regs net sizes.bits u h b e n saved))
@@ -245,10 +246,10 @@ probe-moves net sizes u c k ps h b e n saved chans m out keeps d =
         }
 
 pub init-moves : (net : Net) (sizes : Sizes) (u c k : ℕ) (ps : List Put) (h : History) (b e n : ℕ) (saved : View) → HasChannels net u
-    → Member c (choices_of net u Init) → (Member c (data_channels net u) → ⊥) → Keeps sizes.ring saved (calls (data_channels net u) h) → IsRead sizes c k h
+    → Member c (choices_of net u Init) → (Member c (data_channels net u) → ⊥) → Keeps sizes saved (calls (data_channels net u) h) → IsRead sizes c k h
     → Moves net sizes u (taking c (InitMsg k) ps ∷ h) b e n (after_stamp Cpu (reading sizes.bits (last c h) (id h) k) (regs net sizes.bits u h b e n saved))
 init-moves net sizes u c k ps h b e n saved chans m out keeps d =
-    of_adopted (adopts net sizes u (last c h) k h b e n saved d.low d.behind keeps d.near (taking c (InitMsg k) ps) refl (λ q. calls-stay (data_channels net u) (taking c (InitMsg k) ps) h (omega (arith, q))))
+    of_adopted (adopts net sizes u (last c h) k h b e n saved d.low d.behind keeps d.near d.back (taking c (InitMsg k) ps) refl (λ q. calls-stay (data_channels net u) (taking c (InitMsg k) ps) h (omega (arith, q))))
   where
     of_adopted : Adopts net sizes u (taking c (InitMsg k) ps) h (regs net sizes.bits u h b e n saved) (adopted (reading sizes.bits (last c h) (id h) k) (regs net sizes.bits u h b e n saved))
         → Moves net sizes u (taking c (InitMsg k) ps ∷ h) b e n (after_stamp Cpu (reading sizes.bits (last c h) (id h) k) (regs net sizes.bits u h b e n saved))
@@ -272,7 +273,7 @@ init-moves net sizes u c k ps h b e n saved chans m out keeps d =
 
 -- a message without a stamp, and without data on a channel, changes counters alone
 pub quiet-moves : (net : Net) (sizes : Sizes) (u c : ℕ) (m : Message) (ps : List Put) (h : History) (b e n x y : ℕ) (saved : View) → stamp_of m ≡ None → credits_in (data_channels net u) (id h) c (Some m) ≡ []
-    → x ≡ packets (taking c m ps ∷ h) → y ≡ bytes (taking c m ps ∷ h) → Keeps sizes.ring saved (calls (data_channels net u) h)
+    → x ≡ packets (taking c m ps ∷ h) → y ≡ bytes (taking c m ps ∷ h) → Keeps sizes saved (calls (data_channels net u) h)
     → Moves net sizes u (taking c m ps ∷ h) b e n (record (regs net sizes.bits u h b e n saved) { packets = x; bytes = y })
 quiet-moves net sizes u c m ps h b e n x y saved s z f g keeps = let i : id h ≡ id (taking c m ps ∷ h) = (let v : 0 ≡ unwrap_or (stamp_of m) 0 = sym (ap (λ o. unwrap_or o 0) s) in omega (arith, v)) in
     let w = ap (wid sizes.bits) i in
@@ -290,5 +291,5 @@ quiet-moves net sizes u c m ps h b e n x y saved s z f g keeps = let i : id h �
         noroute = n;
         saved = saved;
       };
-      keeps = subst (Keeps sizes.ring saved) (sym (calls-stay (data_channels net u) (taking c m ps) h (omega (arith, i)) ∙ ap (λ cs. map Credited cs ++ calls (data_channels net u) h) z)) keeps;
+      keeps = subst (Keeps sizes saved) (sym (calls-stay (data_channels net u) (taking c m ps) h (omega (arith, i)) ∙ ap (λ cs. map Credited cs ++ calls (data_channels net u) h) z)) keeps;
     }

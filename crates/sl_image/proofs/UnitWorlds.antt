@@ -117,8 +117,8 @@ pub takes-follow : (s : Setup) (table : Snapshot) (lost : Losses) (es : List Ent
 takes-follow s table lost es u c i step m x st vs a was told given wired t wide holds few q n e y stands = of_turn (is-turn given.turns s lost es u c i step m q n e)
   where
     state : st ≡ state_at s.net table u i.device i.side (history (world s lost es) u) st.registers.saved
-    state = let w = stands.wires ∙ wires-are s.net u i table q in let v = stands.window in let r = regs-is s.net (sizes_of table) u i (history (world s lost es) u) st.registers stands.registers in
-        λ j. record { wires = w j; window = v j; registers = r j }
+    state = let w = stands.wires ∙ wires-are s.net u i table q in let v = stands.window in let n = stands.credits in let r = regs-is s.net (sizes_of table) u i (history (world s lost es) u) st.registers stands.registers in
+        λ j. record { wires = w j; window = v j; credits = n j; registers = r j }
 
     receives_it : (l : ℕ) → slice_get (links_into s.net u) c ≡ Some l → unit_receives i.side (link_of s.net l).sort ≡ true
     receives_it l k = let o = wired.ways.into u c l k in
@@ -167,7 +167,7 @@ new-stands net table u i r = by_side i.side
       expired = nothing side;
       noroute = nothing side;
       saved = record {
-        shown = let w = r.some_window in let v = r.some_ring in ring-first table.ring (omega (arith, w, v));
+        shown = let w = r.some_window in let v = r.some_ring in ring-first table.credits table.ring (omega (arith, w, v));
         size = length-replicate table.ring free_slot;
       };
     }
@@ -183,5 +183,5 @@ new-stands net table u i r = by_side i.side
         nothing Egress = refl
 
     by_side : (side : Side) → IsUnitOf net table u (record { device = i.device; port = i.port; side = side }) [] (new_state net u table side)
-    by_side Ingress = record { wires = refl; window = refl; registers = new Ingress }
-    by_side Egress = record { wires = refl; window = refl; registers = new Egress }
+    by_side Ingress = record { wires = refl; window = refl; credits = refl; registers = new Ingress }
+    by_side Egress = record { wires = refl; window = refl; credits = refl; registers = new Egress }

@@ -2,7 +2,7 @@
 --     HoldWindow window sizes             what sizes must be for the numbers of a window
 --     numbers_after net u g               the numbers that a unit u has after its history g
 --     IsDumpOf net sizes u g d            d has the registers of the unit u after its history g
---     IsDoneOf net u before now d         d brings, over what was known of the unit u before, what is known now
+--     IsDoneOf n net u before now d       d brings, over what was known of the unit u before, what is known now, with credits to n saved numbers
 --     IsMessage net sizes us a told m x   x stands for the message m that the actor a puts
 --     AreSent net sizes us a told ps xs   the puts of a machine stand for those of a step
 -- told gives for the place of each unit how many of its steps were told before.
@@ -59,28 +59,28 @@ pub record IsDumpOf (net : Net) (sizes : Sizes) (u : ℕ) (g : History) (d : Dum
   pub cpu : d.cpu ≡ wid sizes.bits (cpu_last net u g)
   pub last : d.last ≡ map (wid sizes.bits) (eight (lasts net u g))
   pub size : length d.view.slots ≡ sizes.ring
-  pub shown : IsShown d.view (calls (data_channels net u) g)
+  pub shown : IsShown sizes.credits d.view (calls (data_channels net u) g)
 
 -- a number with its row, as slots hold it
-abbrev pub held_row : Net → ℕ → History → ℕ → ℕ × Saved
-held_row net u g k = (k, held_saved (row (data_channels net u) k g))
+abbrev pub held_row : ℕ → Net → ℕ → History → ℕ → ℕ × Saved
+held_row n net u g k = (k, held_saved (row n (data_channels net u) k g))
 
-pub record IsDoneOf (net : Net) (u : ℕ) (before now : History) (d : Done) : Type 0 where
+pub record IsDoneOf (n : ℕ) (net : Net) (u : ℕ) (before now : History) (d : Done) : Type 0 where
   pub unit : d.unit ≡ unit_place net u
   pub id : d.id ≡ id now
   pub last : d.last ≡ eight (lasts net u now)
   pub floor : d.floor ≡ floor_of net u now
-  pub rows : d.rows ≡ map (held_row net u now) (span (upto_of net u before) (upto_of net u now))
+  pub rows : d.rows ≡ map (held_row n net u now) (span (upto_of net u before) (upto_of net u now))
 
 pub record SaysDump (net : Net) (sizes : Sizes) (u : ℕ) (g : History) (x : Msg) : Type 0 where
   pub dump : Dump
   pub is : x ≡ wire.Dump dump
   pub of : IsDumpOf net sizes u g dump
 
-pub record SaysDone (net : Net) (u : ℕ) (before now : History) (x : Msg) : Type 0 where
+pub record SaysDone (n : ℕ) (net : Net) (u : ℕ) (before now : History) (x : Msg) : Type 0 where
   pub done : Done
   pub is : x ≡ wire.Done done
-  pub of : IsDoneOf net u before now done
+  pub of : IsDoneOf n net u before now done
 
 abbrev pub IsMessage : Net → Sizes → (ℕ → History) → ℕ → (ℕ → ℕ) → Message → Msg → Type 0
 IsMessage net sizes us a told (Host bytes) x = x ≡ carrying bytes
@@ -92,7 +92,7 @@ IsMessage net sizes us a told Notice x = x ≡ wire.Notice
 IsMessage net sizes us a told (DumpMsg n) x = SaysDump net sizes a (first n (us a)) x
 IsMessage net sizes us a told (Begin k) x = x ≡ wire.Begin k
 IsMessage net sizes us a told (DoneMsg place n) x =
-    let u : ℕ = slice_index (units net) place in SaysDone net u (first (told place) (us u)) (first n (us u)) x
+    let u : ℕ = slice_index (units net) place in SaysDone sizes.credits net u (first (told place) (us u)) (first n (us u)) x
 
 -- in order, each on the outgoing link that has the number of the put's link
 abbrev pub AreSent : Net → Sizes → (ℕ → History) → ℕ → (ℕ → ℕ) → List Put → List (ℕ × Msg) → Type 0

@@ -1,5 +1,5 @@
 -- What the observer's machine stands for: the histories of a world, as far as the observer knows them.
---     unit_of net u g           the unit u as the observer has it, where it knows the history g of the unit
+--     unit_of n net u g         the unit u as the observer has it, where it knows the history g of the unit, with credits to n saved numbers
 --     observer_of net table w   the machine's state in the world w; table is the snapshot table
 --     known_at w                how many steps the observer knows, by the place of a unit
 --     account_of x              the account that a unit's state is
@@ -27,14 +27,14 @@ use Rattle.sl_image.specs.Messages.{eight, lasts}
 use Rattle.sl_image.specs.Simulates.{Simulates, ActSimulates}
 
 -- the rows are those of the numbers that are collected, as slots hold them
-abbrev pub unit_of : Net → ℕ → History → UnitState
-unit_of net u g = record {
+abbrev pub unit_of : ℕ → Net → ℕ → History → UnitState
+unit_of n net u g = record {
   device = device_of (actor_of net u);
   channels = length (data_channels net u);
   id = id g;
   last = eight (lasts net u g);
   floor = floor_of net u g;
-  rows = map (λ k. held_saved (row (data_channels net u) k g)) (numbers_from 1 (upto_of net u g));
+  rows = map (λ k. held_saved (row n (data_channels net u) k g)) (numbers_from 1 (upto_of net u g));
 }
 
 abbrev pub observer_of : Net → Snapshot → World → ObserverState
@@ -44,7 +44,7 @@ observer_of net table w = record {
   snapshot = table;
   issued = issued net (observer w);
   resent = resent net (observer w);
-  units = map (λ u. unit_of net u (collected net w u)) (units net);
+  units = map (λ u. unit_of table.credits net u (collected net w u)) (units net);
 }
 
 abbrev pub IsObserverOf : Net → Snapshot → World → ObserverState → Type 0
@@ -60,11 +60,14 @@ ObserverActSimulates net table sizes v told ps o = ActSimulates (IsObserverOf ne
 abbrev pub known_at : World → ℕ → ℕ
 known_at w place = known place (observer w)
 
--- the table is that of the setup, a wrapped id stands for one number of a window, and a ring holds a window
+-- the table is that of the setup, a wrapped id stands for one number of a window, a ring holds a window, and a data packet in flight is
+-- credited to one number at least
 pub record IsTableOf (s : Setup) (table : Snapshot) : Type 0 where
   pub window : table.window ≡ s.window
   pub count : table.count ≡ s.count
   pub retries : table.retries ≡ s.retries
+  pub credits : table.credits ≡ s.credits
+  pub some_credits : 1 ≤ table.credits
   pub few_bits : table.width ≤ most_bits
   pub apart : table.window < modulus table.width
   pub room : table.window ≤ table.ring

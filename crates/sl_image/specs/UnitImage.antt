@@ -1,6 +1,6 @@
 -- What the machine of a unit stands for. table is the snapshot table, u the unit's number, i the unit, h its history.
 --     IsDistance bits from to        wrapped ids tell how far a number lies above another
---     Keeps ring saved calls         the ring of a machine keeps what some calls saved
+--     Keeps sizes saved calls        the ring of a machine keeps what some calls saved
 --     IsUnitOf net table u i h m     the state m stands for the history h
 --     UnitSimulates ..               a turn of the machine simulates a step of the unit
 use Rattle.std.specs.Prelude.{◌≡◌, ◌≤◌, ◌<◌, ◌+◌, ◌-◌, ℕ, List, length, map}
@@ -34,9 +34,9 @@ pub record IsDistance (bits from to : ℕ) : Type 0 where
   pub told : distance bits (wrapped bits from) (wrapped bits to) ≡ to - from
 
 -- it has so many slots, and shows them
-pub record Keeps (ring : ℕ) (saved : View) (calls : List Call) : Type 0 where
-  pub shown : IsShown saved calls
-  pub size : length saved.slots ≡ ring
+pub record Keeps (sizes : Sizes) (saved : View) (calls : List Call) : Type 0 where
+  pub shown : IsShown sizes.credits saved calls
+  pub size : length saved.slots ≡ sizes.ring
 
 -- the state of a new unit
 abbrev pub new_state : Net → ℕ → Snapshot → Side → UnitState
@@ -58,12 +58,13 @@ pub record HasRegisters (net : Net) (sizes : Sizes) (u : ℕ) (i : UnitId) (h : 
   pub bad : r.bad ≡ dropped i.side (bad h)
   pub expired : r.expired ≡ dropped i.side (expired h)
   pub noroute : r.noroute ≡ dropped i.side (noroute net.parts i.device h)
-  pub saved : Keeps sizes.ring r.saved (calls (data_channels net u) h)
+  pub saved : Keeps sizes r.saved (calls (data_channels net u) h)
 
--- links and window never change
+-- links, window and credits never change
 pub record IsUnitOf (net : Net) (table : Snapshot) (u : ℕ) (i : UnitId) (h : History) (m : UnitState) : Type 0 where
   pub wires : m.wires ≡ (new_state net u table i.side).wires
   pub window : m.window ≡ table.window
+  pub credits : m.credits ≡ table.credits
   pub registers : HasRegisters net (sizes_of table) u i h m.registers
 
 -- us gives the history of each actor after the step, ps the puts of the step; a unit tells of no other, so told doesn't matter

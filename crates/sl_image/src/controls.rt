@@ -1,6 +1,6 @@
 // The machine of a control plane stands for its history, over all schedules and losses. The
 // functions do nothing: their contracts are the laws, and the proofs are in proofs/.
-ghost use Rattle.std.specs.Prelude.{◌≡◌, ◌≢◌, ℕ, ◌<◌, ◌^◌, List, length, Some, None};
+ghost use Rattle.std.specs.Prelude.{◌≡◌, ◌≢◌, ℕ, ◌<◌, ◌≤◌, ◌^◌, List, length, Some, None};
 ghost use Rattle.sl_parts.specs.Lists.{Each};
 ghost use Rattle.sl_layout.specs.Serving.{served};
 ghost use Rattle.sl_wire.specs.declared.message.Dump.{Dump};
@@ -56,7 +56,7 @@ pub fn dumps_are_unwrapped()
 pub fn controls_take()
     ensures { (s : Setup) (lost : Losses) (es : List Entry) (e : Entry) (d : ℕ) (sizes : Sizes) (step : Step) (m : Message)
         (told : ℕ → ℕ) (x : Msg) (t : ControlState) → IsNet s.net → actor_of s.net e.0 ≡ Control d → HoldWindow s.window sizes
-        → length es < 2 ^ 40
+        → 1 ≤ sizes.credits → length es < 2 ^ 40
         → next_step s lost (world s lost es) e ≡ Some step → step.taken ≡ Some m
         → IsMessage s.net sizes (history (world s lost es)) (link_of s.net (link_at s.net e.0 e.1)).from told m x
         → IsControlOf s.net sizes (history (world s lost es)) e.0 t

@@ -54,7 +54,8 @@ pub fn observers_stay()
 /// before, leaves a state that stands for the world after the step, and the observer puts nothing.
 pub fn observers_take()
     ensures { (s : Setup) (lost : Losses) (table : Snapshot) (es : List Entry) (c : ℕ) (sizes : Sizes) (a : ℕ) (told : ℕ → ℕ)
-        (step : Step) (m : Message) (x : Msg) (o : ObserverState) → IsNet s.net → IsTableOf s table → IsObserverOf s.net table (world s lost es) o
+        (step : Step) (m : Message) (x : Msg) (o : ObserverState) → IsNet s.net → IsTableOf s table → sizes.credits ≡ table.credits
+        → IsObserverOf s.net table (world s lost es) o
         → next_step s lost (world s lost es) (0, c) ≡ Some step → step.taken ≡ Some m
         → IsMessage s.net sizes (λ u. history (world s lost es) u) a (known_at (world s lost es)) m x
         → ObserverSimulates s.net table sizes (turn s lost (world s lost es) (0, c)) told step.puts (observer_take o c x) }
@@ -98,9 +99,9 @@ pub fn observers_tell()
         → IsObserverOf s.net table (world s lost es) o → actor_of s.net u ≡ OfUnit i
         → seen_of (unit_at o.units (unit_place s.net u)) ≡ seen_by s.net (world s lost es) u }
     ensures saved { (s : Setup) (lost : Losses) (table : Snapshot) (es : List Entry) (o : ObserverState) (u k : ℕ) (i : UnitId)
-        → IsNet s.net → SendsShort s → length es < 2 ^ 40 → IsObserverOf s.net table (world s lost es) o
+        → IsNet s.net → IsTableOf s table → SendsShort s → length es < 2 ^ 40 → IsObserverOf s.net table (world s lost es) o
         → actor_of s.net u ≡ OfUnit i → 1 ≤ k → k ≤ upto_of s.net u (collected s.net (world s lost es) u)
-        → saved_of (unit_at o.units (unit_place s.net u)) k ≡ Some (row (data_channels s.net u) k (history (world s lost es) u)) }
+        → saved_of (unit_at o.units (unit_place s.net u)) k ≡ Some (row s.credits (data_channels s.net u) k (history (world s lost es) u)) }
     ensures unsaved { (s : Setup) (lost : Losses) (table : Snapshot) (es : List Entry) (o : ObserverState) (u k : ℕ) (i : UnitId)
         → IsObserverOf s.net table (world s lost es) o → actor_of s.net u ≡ OfUnit i → upto_of s.net u (collected s.net (world s lost es) u) < k
         → saved_of (unit_at o.units (unit_place s.net u)) k ≡ None }
@@ -115,13 +116,14 @@ pub fn observers_tell()
 /// floor at any time, and in a finished world all.
 pub fn observers_give_findings()
     ensures accounts { (s : Setup) (lost : Losses) (table : Snapshot) (es : List Entry) (o : ObserverState)
-        → IsNet s.net → SendsShort s → length es < 2 ^ 40 → IsObserverOf s.net table (world s lost es) o
-        → map account_of o.units ≡ accounts s.net (world s lost es) }
+        → IsNet s.net → IsTableOf s table → SendsShort s → length es < 2 ^ 40 → IsObserverOf s.net table (world s lost es) o
+        → map account_of o.units ≡ accounts s.credits s.net (world s lost es) }
     ensures collected { (s : Setup) (lost : Losses) (table : Snapshot) (es : List Entry) (o : ObserverState) (k : ℕ)
-        → IsNet s.net → SendsShort s → length es < 2 ^ 40 → IsObserverOf s.net table (world s lost es) o
+        → IsNet s.net → IsTableOf s table → SendsShort s → length es < 2 ^ 40 → IsObserverOf s.net table (world s lost es) o
         → 1 ≤ k → k ≤ floor s.net (world s lost es)
-        → finding_by o.issued (map account_of o.units) k ≡ finding s.net lost (world s lost es) k }
-    ensures list { (s : Setup) (lost : Losses) (table : Snapshot) (es : List Entry) (o : ObserverState) → IsNet s.net → SendsShort s → length es < 2 ^ 40
+        → finding_by o.issued (map account_of o.units) k ≡ finding s.credits s.net lost (world s lost es) k }
+    ensures list { (s : Setup) (lost : Losses) (table : Snapshot) (es : List Entry) (o : ObserverState)
+        → IsNet s.net → IsTableOf s table → SendsShort s → length es < 2 ^ 40
         → IsObserverOf s.net table (world s lost es) o → IsFinished s lost (world s lost es)
         → map (finding_by o.issued (map account_of o.units)) (numbers_from 1 s.count) ≡ (findings s lost es).list }
 {

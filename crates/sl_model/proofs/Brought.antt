@@ -44,11 +44,11 @@ reached-upto net u k h p = record {
 }
 
 -- what was collected is the row of the unit's whole history
-pub row-collected : (s : Setup) (lost : Losses) (w : World) (cs : List ℕ) (u k : ℕ) (i : UnitId) → IsWired s.net → Ran s lost w → actor_of s.net u ≡ OfUnit i → k ≤ upto_of s.net u (collected s.net w u)
-    → row cs k (collected s.net w u) ≡ row cs k (history w u)
-row-collected s lost w cs u k i n r q p = let m = known (unit_place s.net u) (observer w) in let a = (knows s lost w u i n r (n.reports u i q) q).at_most in
-    sym (row-later s lost w cs u k m (length (history w u)) n r a (lag-of s.net k u (first m (history w u)) (reached-upto s.net u k (first m (history w u)) p)))
-    ∙ ap (row cs k) (first-all (length (history w u)) (history w u) (omega arith))
+pub row-collected : (s : Setup) (lost : Losses) (w : World) (credits : ℕ) (cs : List ℕ) (u k : ℕ) (i : UnitId) → IsWired s.net → Ran s lost w → actor_of s.net u ≡ OfUnit i → k ≤ upto_of s.net u (collected s.net w u)
+    → row credits cs k (collected s.net w u) ≡ row credits cs k (history w u)
+row-collected s lost w credits cs u k i n r q p = let m = known (unit_place s.net u) (observer w) in let a = (knows s lost w u i n r (n.reports u i q) q).at_most in
+    sym (row-later s lost w credits cs u k m (length (history w u)) n r a (lag-of s.net k u (first m (history w u)) (reached-upto s.net u k (first m (history w u)) p)))
+    ∙ ap (row credits cs k) (first-all (length (history w u)) (history w u) (omega arith))
 
 -- F is at most what the observer has collected of a unit, and so at most what is known after more steps.
 floor-upto : (s : Setup) (lost : Losses) (w : World) (u m : ℕ) (i : UnitId) → IsWired s.net → Ran s lost w → actor_of s.net u ≡ OfUnit i → known (unit_place s.net u) (observer w) ≤ m → floor s.net w ≤ upto_of s.net u (first m (history w u))
@@ -80,7 +80,7 @@ brings s lost w u m k i n r x q p o t = record {
   rises = never-falls (upto_of s.net u) m k (history w u) (upto-falls s lost w u n r) o;
   within = omega (arith, high, low);
   near = λ j l. omega (arith, l, top, low);
-  stays = λ cs j l. row-later s lost w cs u j m k n r o (lag-of s.net j u (first m (history w u)) (reached-upto s.net u j (first m (history w u)) l));
+  stays = λ credits cs j l. row-later s lost w credits cs u j m k n r o (lag-of s.net j u (first m (history w u)) (reached-upto s.net u j (first m (history w u)) l));
   id_raised = raised id s.window m k (issued s.net (observer w)) (history w u) (id-falls (history w u)) o top
       (let a = floor-id s.net u (first m (history w u)) in omega (arith, a, base));
   lasts_raised = each-of (λ c. IsRaised s.window (last c (first m (history w u))) (last c (first k (history w u)))) (data_channels s.net u) (λ c i.

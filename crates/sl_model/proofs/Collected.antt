@@ -21,7 +21,7 @@ use Rattle.sl_model.specs.Setup.{Setup}
 use Rattle.sl_model.specs.World.{Entry, run}
 use Rattle.sl_model.specs.Made.{Took, Acted, IsMade, Ran}
 use Rattle.sl_model.specs.Cut.{outside}
-use Rattle.sl_model.specs.Verdict.{skipped_to, is_old_data, miscredits, first_cause, channel_lag, lag_at, lag}
+use Rattle.sl_model.specs.Verdict.{skipped_to, is_old_data, nth_adopted, miscredits, first_cause, channel_lag, lag_at, lag}
 use Rattle.sl_saves.specs.declared.entry.Total.{Total}
 use Rattle.sl_model.specs.Counting.{packets, bytes}
 use Rattle.sl_model.specs.Fit.{fits, fits_link, is_stamped, stamp}
@@ -168,26 +168,26 @@ abbrev total_of : History → Total
 total_of h = record { packets = packets h; bytes = bytes h }
 
 -- one step more
-kept-step : (s : Setup) (a k : ℕ) (step : Step) (g h : History) → TakesFit s a (step ∷ h) → DataFalls s a (step ∷ h) → Took s a h step ⊎ Acted s a h step → IsKept s.net a k g h → IsKept s.net a k g (step ∷ h)
-kept-step s a k step g h f d t i = of_reached (reached-of s.net k a h i.reached)
+kept-step : (s : Setup) (credits a k : ℕ) (step : Step) (g h : History) → TakesFit s a (step ∷ h) → DataFalls s a (step ∷ h) → Took s a h step ⊎ Acted s a h step → IsKept credits s.net a k g h → IsKept credits s.net a k g (step ∷ h)
+kept-step s credits a k step g h f d t i = of_reached (reached-of s.net k a h i.reached)
   where
-    of_reached : Reached s.net k a h → IsKept s.net a k g (step ∷ h)
+    of_reached : Reached s.net k a h → IsKept credits s.net a k g (step ∷ h)
     of_reached r = let o : is_old_data k step.taken ≡ false = not-old s a k step h f d r t in
         let skip : skipped_to k (step ∷ h) ≡ skipped_to k h = ap (λ b. if b then Some (id (step ∷ h)) else skipped_to k h) (and_left (nat_lt (id h) k) (nat_lt k (id (step ∷ h))) (le-ltb (id h) k r.id_at)) in
-        let miss : miscredits k (step ∷ h) ≡ miscredits k h = ap (λ b. cond b (id (step ∷ h) ∷ miscredits k h) (miscredits k h)) (and_left (is_old_data k step.taken) (nat_lt k (id (step ∷ h))) o) in
+        let miss : miscredits credits k (step ∷ h) ≡ miscredits credits k h = ap (λ b. cond b (nth_adopted credits (step ∷ h) ∷ miscredits credits k h) (miscredits credits k h)) (and_left (is_old_data k step.taken) (nat_lt k (nth_adopted credits (step ∷ h))) o) in
         record {
           reached = lag-of s.net k a (step ∷ h) (record {
             id_at = omega (arith, r.id_at, id-le step h);
             lasts = each-both-of (λ c. k ≤ last c h) (IsChannel s.net a) (λ c. k ≤ last c (step ∷ h)) (data_channels s.net a) (λ c p x. let more : last c h ≤ last c (step ∷ h) = (d c x.link x.into x.data_sort).0 in omega (arith, p, more)) r.lasts (each-channel s.net a);
           });
           value = ap total_of (before-same k step h (omega (arith, r.id_at, id-le step h))) ∙ i.value;
-          cause = ap (λ o. first_cause o (least (miscredits k (step ∷ h)))) skip ∙ ap (λ ms. first_cause (skipped_to k h) (least ms)) miss ∙ i.cause;
+          cause = ap (λ o. first_cause o (least (miscredits credits k (step ∷ h)))) skip ∙ ap (λ ms. first_cause (skipped_to k h) (least ms)) miss ∙ i.cause;
           channels = each-both-of (λ c. late k c h ≡ late k c g) (IsChannel s.net a) (λ c. late k c (step ∷ h) ≡ late k c g) (data_channels s.net a) (λ c e x. late-same s a k c step h f d r t x ∙ e) i.channels (each-channel s.net a);
         }
 
-kept-from : (s : Setup) (a k n : ℕ) (h : History) → IsMade s a h → TakesFit s a h → DataFalls s a h → lag s.net k a (first n h) ≡ None → IsKept s.net a k (first n h) h
-kept-from s a k n [] m f d q = record { reached = q; value = refl; cause = refl; channels = each-of (λ c. late k c [] ≡ late k c []) (data_channels s.net a) (λ c m. refl) }
-kept-from s a k n (step ∷ h) m f d q = by_cases (cases_lt (length h) n) (kept-from s a k n h m.1 (fit-before s a step h f) (λ c l i t. (d c l i t).1))
+kept-from : (s : Setup) (credits a k n : ℕ) (h : History) → IsMade s a h → TakesFit s a h → DataFalls s a h → lag s.net k a (first n h) ≡ None → IsKept credits s.net a k (first n h) h
+kept-from s credits a k n [] m f d q = record { reached = q; value = refl; cause = refl; channels = each-of (λ c. late k c [] ≡ late k c []) (data_channels s.net a) (λ c m. refl) }
+kept-from s credits a k n (step ∷ h) m f d q = by_cases (cases_lt (length h) n) (kept-from s credits a k n h m.1 (fit-before s a step h f) (λ c l i t. (d c l i t).1))
   where
     whole : length h < n → first n (step ∷ h) ≡ step ∷ h
     whole p = ap (λ b. if b then step ∷ h else first n h) (lt-ltb (length h) n p)
@@ -195,17 +195,17 @@ kept-from s a k n (step ∷ h) m f d q = by_cases (cases_lt (length h) n) (kept-
     past : n ≤ length h → first n (step ∷ h) ≡ first n h
     past p = ap (λ b. if b then step ∷ h else first n h) (le-ltb (length h) n p)
 
-    by_cases : ((length h < n) ⊎ (n ≤ length h)) → (lag s.net k a (first n h) ≡ None → IsKept s.net a k (first n h) h) → IsKept s.net a k (first n (step ∷ h)) (step ∷ h)
-    by_cases (inl p) ih = subst (λ g. IsKept s.net a k g (step ∷ h)) (sym (whole p))
+    by_cases : ((length h < n) ⊎ (n ≤ length h)) → (lag s.net k a (first n h) ≡ None → IsKept credits s.net a k (first n h) h) → IsKept credits s.net a k (first n (step ∷ h)) (step ∷ h)
+    by_cases (inl p) ih = subst (λ g. IsKept credits s.net a k g (step ∷ h)) (sym (whole p))
         (record { reached = subst (λ g. lag s.net k a g ≡ None) (whole p) q; value = refl; cause = refl; channels = each-of (λ c. late k c (step ∷ h) ≡ late k c (step ∷ h)) (data_channels s.net a) (λ c m. refl) })
-    by_cases (inr p) ih = subst (λ g. IsKept s.net a k g (step ∷ h)) (sym (past p)) (kept-step s a k step (first n h) h f d m.0 (ih (subst (λ g. lag s.net k a g ≡ None) (past p) q)))
+    by_cases (inr p) ih = subst (λ g. IsKept credits s.net a k g (step ∷ h)) (sym (past p)) (kept-step s credits a k step (first n h) h f d m.0 (ih (subst (λ g. lag s.net k a g ≡ None) (past p) q)))
 
 -- Once nothing of a unit lags behind k, what its history tells of k stays.
-pub kept : (s : Setup) (lost : Losses) (w : World) (u k n : ℕ) → IsWired s.net → Ran s lost w → lag s.net k u (first n (history w u)) ≡ None → IsKept s.net u k (first n (history w u)) (history w u)
-kept s lost w u k n t r q = kept-from s u k n (history w u) (r.made u) (fit-taken s lost w u r) (λ c l i d. last-never-falls s lost w u c l t r i (stamped (link_of s.net l).sort d)) q
+pub kept : (s : Setup) (lost : Losses) (w : World) (credits u k n : ℕ) → IsWired s.net → Ran s lost w → lag s.net k u (first n (history w u)) ≡ None → IsKept credits s.net u k (first n (history w u)) (history w u)
+kept s lost w credits u k n t r q = kept-from s credits u k n (history w u) (r.made u) (fit-taken s lost w u r) (λ c l i d. last-never-falls s lost w u c l t r i (stamped (link_of s.net l).sort d)) q
 
 -- ... in every longer schedule
-pub kept-ahead : (s : Setup) (lost : Losses) (w : World) (es : List Entry) (u k n : ℕ) → IsWired s.net → Ran s lost w → n ≤ length (history w u) → lag s.net k u (first n (history w u)) ≡ None
-    → IsKept s.net u k (first n (history w u)) (history (run s lost w es) u)
-kept-ahead s lost w es u k n t r p q = let e : first n (history (run s lost w es) u) ≡ first n (history w u) = (extends-run s lost w es u).steps n p in
-    subst (λ g. IsKept s.net u k g (history (run s lost w es) u)) e (kept s lost (run s lost w es) u k n t (kept_by_run s lost (Ran s lost) (ran-turn s lost) w es r) (subst (λ g. lag s.net k u g ≡ None) (sym e) q))
+pub kept-ahead : (s : Setup) (lost : Losses) (w : World) (es : List Entry) (credits u k n : ℕ) → IsWired s.net → Ran s lost w → n ≤ length (history w u) → lag s.net k u (first n (history w u)) ≡ None
+    → IsKept credits s.net u k (first n (history w u)) (history (run s lost w es) u)
+kept-ahead s lost w es credits u k n t r p q = let e : first n (history (run s lost w es) u) ≡ first n (history w u) = (extends-run s lost w es u).steps n p in
+    subst (λ g. IsKept credits s.net u k g (history (run s lost w es) u)) e (kept s lost (run s lost w es) credits u k n t (kept_by_run s lost (Ran s lost) (ran-turn s lost) w es r) (subst (λ g. lag s.net k u g ≡ None) (sym e) q))

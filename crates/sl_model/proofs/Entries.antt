@@ -1,21 +1,25 @@
 -- The entries that a history's calls save are one for each number that it adopted.
-use Rattle.std.proofs.Common.{◌≡◌, ℕ, ◌+◌, ◌-◌, ◌<◌, ◌≤◌, List, [], ◌∷◌, ◌++◌, refl, sym, ap, subst, ◌∙◌, Option, Some, arith, inl, inr}
-use Rattle.std.specs.Prelude.{true, false, Bool, nat_lt, nat_eq, map, unwrap_or, option_and_then, ◌⊎◌, if◌then◌else◌}
-use Rattle.std.proofs.lemmas.Bool.{lt-ltb, le-ltb, eq-eqb, cases_lt}
-use Rattle.std.proofs.lemmas.Bool.Decides.{eqb_tells}
-use Rattle.sl_saves.specs.Calls.{Call, Adopt, Credited, Credit, Save, saves, number, with_credit, IsRising}
+use Rattle.std.proofs.Common.{◌≡◌, ℕ, zero, suc, ◌+◌, ◌-◌, ◌<◌, ◌≤◌, List, [], ◌∷◌, ◌++◌, refl, sym, ap, subst, ◌∙◌, Option, Some, None, arith, inl, inr}
+use Rattle.std.specs.Prelude.{true, false, Bool, nat_lt, nat_le, ◌==◌, ◌||◌, map, take, unwrap_or, option_and_then, ◌⊎◌, if◌then◌else◌}
+use Rattle.std.proofs.lemmas.Bool.{lt-ltb, le-ltb, le-leb, lt-leb, ltb-true, ltb-false, eq-eqb, ne_eqb, cases_lt, cases_Bool, or_right}
+use Rattle.sl_net.specs.declared.input.Packet.{Packet}
+use Rattle.sl_layout.specs.Net.{place_in}
+use Rattle.sl_saves.specs.Calls.{Call, Adopt, Credited, Credit, Save, saves, number, lower, saved_credit, with_credit, IsRising}
+use Rattle.sl_saves.proofs.Chains.{IsChain, chain-saves}
 use Rattle.sl_model.specs.declared.message.Message.{Message}
 use Rattle.sl_model.specs.declared.message.Message.TheVariants.{Data}
 use Rattle.sl_model.specs.declared.message.Step.{Step}
 use Rattle.sl_parts.specs.Lists.{Each}
 use Rattle.sl_parts.proofs.Lists.{each-imp}
+use Rattle.sl_model.specs.Words.{listed}
 use Rattle.sl_model.specs.History.{History, stamp_of, id}
 use Rattle.sl_model.specs.Counting.{packets, bytes}
 use Rattle.sl_model.specs.Cut.{before}
-use Rattle.sl_model.specs.Verdict.{is_old_data}
+use Rattle.sl_model.specs.Verdict.{is_old_data, adopted}
 use Rattle.sl_model.proofs.Prefixes.{id-le, before-same, before-all}
 use Rattle.sl_model.specs.Calls.{credit, credits_in, calls}
-use Rattle.sl_model.specs.Rows.{credits_at, adopted, entry, entries}
+use Rattle.sl_model.specs.Rows.{is_among, or_else, credits_at, foot, feet_in, feet_at, entry, entries}
+use Rattle.sl_model.proofs.Lowest.{Falls, each-take, among-none, lowest-none, lowest-above, each-lowest}
 
 pub map-each : {A B : Type 0} (f g : A → B) (xs : List A) → Each (λ x. f x ≡ g x) xs → map f xs ≡ map g xs
 map-each f g [] h = refl
@@ -74,26 +78,6 @@ rising-calls cs (s ∷ h) = by_cases (cases_lt (id h) (id (s ∷ h))) (rising-ca
     by_cases (inl p) ih = subst IsRising (sym (calls-rise cs s h p)) (omega (arith, p), ih)
     by_cases (inr p) ih = subst IsRising (sym (calls-stay cs s h p)) (rising-credits (credits_in cs (id h) s.choice s.taken) (calls cs h) ih)
 
--- Credits.
-
-pub credits-same : (cs : List ℕ) (k : ℕ) (s : Step) (h : History) → (id (s ∷ h) ≡ k → credits_in cs k s.choice s.taken ≡ []) → credits_at cs k (s ∷ h) ≡ credits_at cs k h
-credits-same cs k s h q = by_tells (eqb_tells (id (s ∷ h)) k)
-  where
-    by_tells : ((nat_eq (id (s ∷ h)) k ≡ true) × (id (s ∷ h) ≡ k)) ⊎ ((nat_eq (id (s ∷ h)) k ≡ false) × (id (s ∷ h) ≡ k → ⊥)) → credits_at cs k (s ∷ h) ≡ credits_at cs k h
-    by_tells (inl p) = rw (p.0, q p.1) refl
-    by_tells (inr p) = rw p.0 refl
-
-pub credits-more : (cs : List ℕ) (k : ℕ) (s : Step) (h : History) → id (s ∷ h) ≡ k → credits_at cs k (s ∷ h) ≡ credits_in cs k s.choice s.taken ++ credits_at cs k h
-credits-more cs k s h p = ap (λ b. if b then credits_in cs k s.choice s.taken ++ credits_at cs k h else credits_at cs k h) (eq-eqb (id (s ∷ h)) k p)
-
-pub credits-none : (cs : List ℕ) (k : ℕ) (h : History) → id h < k → credits_at cs k h ≡ []
-credits-none cs k [] p = refl
-credits-none cs k (s ∷ h) p = credits-same cs k s h (λ e. absurd (omega (arith, e, p))) ∙ credits-none cs k h (omega (arith, p, id-le s h))
-
-pub entry-same : (cs : List ℕ) (k : ℕ) (s : Step) (h : History) → k ≤ id (s ∷ h) → (id (s ∷ h) ≡ k → credits_in cs k s.choice s.taken ≡ []) → entry cs (s ∷ h) k ≡ entry cs h k
-entry-same cs k s h p q = let b = before-same k s h p in let c = credits-same cs k s h q in
-    λ i. record { number = k; by = k - id (b i); packets = packets (b i); bytes = bytes (b i); credits = c i }
-
 -- Adopted numbers.
 
 pub adopted-le : (h : History) → Each (λ j. j ≤ id h) (adopted h)
@@ -129,88 +113,235 @@ pub adopted-none : (h : History) → id h < 1 → adopted h ≡ []
 adopted-none [] p = refl
 adopted-none (s ∷ h) p = adopted-same s h (omega (arith, p)) ∙ adopted-none h (omega (arith, p, id-le s h))
 
--- Entries that a step leaves as they are: all that are there where it raises the id, else all below the id.
+pub adopted-falls : (h : History) → Falls (adopted h)
+adopted-falls [] = tt
+adopted-falls (s ∷ h) = by_cases (cases_lt (id h) (id (s ∷ h))) (adopted-falls h)
+  where
+    by_cases : ((id h < id (s ∷ h)) ⊎ (id (s ∷ h) ≤ id h)) → Falls (adopted h) → Falls (adopted (s ∷ h))
+    by_cases (inl p) ih = subst Falls (sym (adopted-more s h p)) (each-imp (λ j. j ≤ id h) (λ j. j < id (s ∷ h)) (adopted h) (λ j q. omega (arith, q, p)) (adopted-le h), ih)
+    by_cases (inr p) ih = subst Falls (sym (adopted-same s h p)) ih
 
-abbrev pub IsLeft : List ℕ → Step → History → ℕ → Type 0
-IsLeft cs s h j = entry cs (s ∷ h) j ≡ entry cs h j
+-- the last of them, some at most
+pub latest-le : (n : ℕ) (h : History) → Each (λ j. j ≤ id h) (take n (adopted h))
+latest-le n h = each-take (λ j. j ≤ id h) n (adopted h) (adopted-le h)
 
-pub left-rise : (cs : List ℕ) (s : Step) (h : History) → id h < id (s ∷ h) → Each (IsLeft cs s h) (adopted h)
-left-rise cs s h p = each-imp (λ j. j ≤ id h) (IsLeft cs s h) (adopted h)
-    (λ j q. entry-same cs j s h (omega (arith, q, p)) (λ r. absurd (omega (arith, q, r, p)))) (adopted-le h)
+-- Credits. Of the last adopted numbers js each that lies above the stamp gets one.
 
-pub left-below : (cs : List ℕ) (s : Step) (h : History) (js : List ℕ) → Each (λ j. j < id h) js → Each (IsLeft cs s h) js
-left-below cs s h js b = each-imp (λ j. j < id h) (IsLeft cs s h) js
-    (λ j q. entry-same cs j s h (omega (arith, q, id-le s h)) (λ r. absurd (omega (arith, q, r, id-le s h)))) b
+abbrev pub given_in : List ℕ → List ℕ → ℕ → ℕ → Option Message → List Credit
+given_in js cs k c o = if is_among k js then credits_in cs k c o else []
 
--- a number that is just adopted has no credit
-pub rise-none : (cs : List ℕ) (s : Step) (h : History) → id h < id (s ∷ h) → credits_at cs (id (s ∷ h)) (s ∷ h) ≡ []
-rise-none cs s h p = credits-same cs (id (s ∷ h)) s h (λ e. credit-none cs (id (s ∷ h)) s.choice s.taken (let t = rise-stamp s h p in omega (arith, t))) ∙ credits-none cs (id (s ∷ h)) h p
+pub credits-step : (n : ℕ) (cs : List ℕ) (k : ℕ) (s : Step) (h : History) → credits_at n cs k (s ∷ h) ≡ given_in (take n (adopted (s ∷ h))) cs k s.choice s.taken ++ credits_at n cs k h
+credits-step n cs k s h = by_bool (is_among k (take n (adopted (s ∷ h))))
+  where
+    by_bool : (b : Bool) → (if b then credits_in cs k s.choice s.taken ++ credits_at n cs k h else credits_at n cs k h) ≡ (if b then credits_in cs k s.choice s.taken else []) ++ credits_at n cs k h
+    by_bool true = refl
+    by_bool false = refl
+
+given-clear : (js cs : List ℕ) (k c : ℕ) (o : Option Message) → credits_in cs k c o ≡ [] → given_in js cs k c o ≡ []
+given-clear js cs k c o e = by_bool (is_among k js)
+  where
+    by_bool : (b : Bool) → (if b then credits_in cs k c o else []) ≡ []
+    by_bool true = e
+    by_bool false = refl
+
+pub given-none : (js cs : List ℕ) (k c : ℕ) (o : Option Message) → is_among k js ≡ false → given_in js cs k c o ≡ []
+given-none js cs k c o e = ap (λ b. if b then credits_in cs k c o else []) e
+
+pub credits-same : (n : ℕ) (cs : List ℕ) (k : ℕ) (s : Step) (h : History) → credits_in cs k s.choice s.taken ≡ [] → credits_at n cs k (s ∷ h) ≡ credits_at n cs k h
+credits-same n cs k s h e = credits-step n cs k s h ∙ ap (λ xs. xs ++ credits_at n cs k h) (given-clear (take n (adopted (s ∷ h))) cs k s.choice s.taken e)
+
+pub credits-none : (n : ℕ) (cs : List ℕ) (k : ℕ) (h : History) → id h < k → credits_at n cs k h ≡ []
+credits-none n cs k [] p = refl
+credits-none n cs k (s ∷ h) p = credits-step n cs k s h
+    ∙ ap (λ xs. xs ++ credits_at n cs k h) (given-none (take n (adopted (s ∷ h))) cs k s.choice s.taken
+    (among-none k (take n (adopted (s ∷ h))) (each-imp (λ j. j ≤ id (s ∷ h)) (λ j. j < k) (take n (adopted (s ∷ h))) (λ j q. omega (arith, q, p)) (latest-le n (s ∷ h)))))
+    ∙ credits-none n cs k h (omega (arith, p, id-le s h))
+
+-- Feet.
+
+foot-other : (k : ℕ) (o : Option ℕ) → ((f : ℕ) → o ≡ Some f → f ≡ k → ⊥) → is_among k (listed o) ≡ false
+foot-other k None n = refl
+foot-other k (Some f) n = ap (λ b. b || false) (ne_eqb f k (n f refl))
+
+-- a number above all that were adopted is no foot
+feet-past : (js : List ℕ) (k : ℕ) (o : Option Message) → Each (λ j. j < k) js → feet_in js k o ≡ []
+feet-past js k (Some (Data s p)) b = ap (λ b. if b then (k - s) ∷ [] else []) (foot-other k (foot s js)
+    (λ f e q. let l = each-lowest (λ j. j < k) (nat_lt s) js f (each-imp (λ j. j < k) (λ j. nat_lt s j ≡ true → j < k) js (λ j l t. l) b) e in omega (arith, l, q)))
+feet-past js k _ b = refl
+
+pub feet-none : (n k : ℕ) (h : History) → id h < k → feet_at n k h ≡ []
+feet-none n k [] p = refl
+feet-none n k (s ∷ h) p = ap (λ xs. xs ++ feet_at n k h)
+    (feet-past (take n (adopted (s ∷ h))) k s.taken (each-imp (λ j. j ≤ id (s ∷ h)) (λ j. j < k) (take n (adopted (s ∷ h))) (λ j q. omega (arith, q, p)) (latest-le n (s ∷ h))))
+    ∙ feet-none n k h (omega (arith, p, id-le s h))
+
+-- what is no older than all that were adopted has no foot
+feet-clear : (a : ℕ) (js : List ℕ) (k : ℕ) (o : Option Message) → is_old_data a o ≡ false → Each (λ j. j ≤ a) js → feet_in js k o ≡ []
+feet-clear a js k (Some (Data s p)) q b = let l : a ≤ s = ltb-false s a q in
+    ap (λ f. if is_among k (listed f) then (k - s) ∷ [] else []) (lowest-none (nat_lt s) js (each-imp (λ j. j ≤ a) (λ j. nat_lt s j ≡ false) js (λ j r. le-ltb s j (omega (arith, r, l))) b))
+feet-clear a js k _ q b = refl
+
+old-lower : (a k : ℕ) (o : Option Message) → is_old_data a o ≡ false → k ≤ a → is_old_data k o ≡ false
+old-lower a k (Some (Data s p)) q r = let l : a ≤ s = ltb-false s a q in le-ltb s k (omega (arith, l, r))
+old-lower a k _ q r = refl
+
+-- What a step makes of an entry, where js are the last adopted numbers after it.
+
+abbrev pub more : List ℕ → List ℕ → ℕ → Option Message → ℕ → Save → Save
+more js cs c o k e = record e { credits = given_in js cs k c o ++ e.credits; feet = feet_in js k o ++ e.feet }
+
+entry-more : (n : ℕ) (cs : List ℕ) (k : ℕ) (s : Step) (h : History) → k ≤ id (s ∷ h) → entry n cs (s ∷ h) k ≡ more (take n (adopted (s ∷ h))) cs s.choice s.taken k (entry n cs h k)
+entry-more n cs k s h p = let b = before-same k s h p in let c = credits-step n cs k s h in
+    λ i. record { number = k; by = k - id (b i); packets = packets (b i); bytes = bytes (b i); credits = c i; feet = feet_at n k (s ∷ h) }
+
+more-clear : (a : ℕ) (js cs : List ℕ) (c k : ℕ) (o : Option Message) (e : Save) → is_old_data a o ≡ false → k ≤ a → Each (λ j. j ≤ a) js → more js cs c o k e ≡ e
+more-clear a js cs c k o e q p b = let g = given-clear js cs k c o (credit-clear cs k c o (old-lower a k o q p)) in let f = feet-clear a js k o q b in
+    λ i. record e { credits = g i ++ e.credits; feet = f i ++ e.feet }
+
+entry-same : (n : ℕ) (cs : List ℕ) (k : ℕ) (s : Step) (h : History) → k ≤ id (s ∷ h) → is_old_data (id (s ∷ h)) s.taken ≡ false → entry n cs (s ∷ h) k ≡ entry n cs h k
+entry-same n cs k s h p q = entry-more n cs k s h p ∙ more-clear (id (s ∷ h)) (take n (adopted (s ∷ h))) cs s.choice k s.taken (entry n cs h k) q p (latest-le n (s ∷ h))
+
+-- all entries stay where what came is no older than the id
+entries-same : (n : ℕ) (cs : List ℕ) (s : Step) (h : History) → is_old_data (id (s ∷ h)) s.taken ≡ false → map (entry n cs (s ∷ h)) (adopted h) ≡ entries n cs h
+entries-same n cs s h q = map-each (entry n cs (s ∷ h)) (entry n cs h) (adopted h)
+    (each-imp (λ j. j ≤ id h) (λ j. entry n cs (s ∷ h) j ≡ entry n cs h j) (adopted h) (λ j p. entry-same n cs j s h (omega (arith, p, id-le s h)) q) (adopted-le h))
 
 -- The entries.
 
-abbrev saved_as : ℕ → ℕ → ℕ → ℕ → List Credit → Save
-saved_as number by packets bytes credits = record { number = number; by = by; packets = packets; bytes = bytes; credits = credits }
+abbrev saved_as : ℕ → ℕ → ℕ → ℕ → Save
+saved_as number by packets bytes = record { number = number; by = by; packets = packets; bytes = bytes; credits = []; feet = [] }
 
-entries-rise : (cs : List ℕ) (s : Step) (h : History) → id h < id (s ∷ h) → saves (calls cs h) ≡ entries cs h → saves (calls cs (s ∷ h)) ≡ entries cs (s ∷ h)
-entries-rise cs s h p ih = ap saves (calls-rise cs s h p)
-    ∙ (λ i. adopting i ∷ ih i) ∙ ap (λ r. entry cs (s ∷ h) (id (s ∷ h)) ∷ r) others ∙ sym (ap (map (entry cs (s ∷ h))) (adopted-more s h p))
+entries-rise : (n : ℕ) (cs : List ℕ) (s : Step) (h : History) → id h < id (s ∷ h) → saves n (calls cs h) ≡ entries n cs h → saves n (calls cs (s ∷ h)) ≡ entries n cs (s ∷ h)
+entries-rise n cs s h p ih = ap (saves n) (calls-rise cs s h p) ∙ (λ i. adopting i ∷ ih i) ∙ sym (λ i. entry-same n cs (id (s ∷ h)) s h (omega arith) new i ∷ entries-same n cs s h new i)
+    ∙ sym (ap (map (entry n cs (s ∷ h))) (adopted-more s h p))
   where
-    whole : before (id (s ∷ h)) (s ∷ h) ≡ h
-    whole = before-same (id (s ∷ h)) s h (omega arith) ∙ before-all (id (s ∷ h)) h p
+    new : is_old_data (id (s ∷ h)) s.taken ≡ false
+    new = not-old (id (s ∷ h)) s.taken (let t = rise-stamp s h p in omega (arith, t))
 
     number_is : number (calls cs h) + (id (s ∷ h) - id h) ≡ id (s ∷ h)
     number_is = let i = number-calls cs h in omega (arith, i, p)
 
-    adopting : saved_as (number (calls cs h) + (id (s ∷ h) - id h)) (id (s ∷ h) - id h) (packets h) (bytes h) [] ≡ entry cs (s ∷ h) (id (s ∷ h))
-    adopting = let b = sym whole in let c = sym (rise-none cs s h p) in
-        λ i. record { number = number_is i; by = id (s ∷ h) - id (b i); packets = packets (b i); bytes = bytes (b i); credits = c i }
+    adopting : saved_as (number (calls cs h) + (id (s ∷ h) - id h)) (id (s ∷ h) - id h) (packets h) (bytes h) ≡ entry n cs h (id (s ∷ h))
+    adopting = let b = sym (before-all (id (s ∷ h)) h p) in let c = sym (credits-none n cs (id (s ∷ h)) h p) in let f = sym (feet-none n (id (s ∷ h)) h p) in
+        λ i. record { number = number_is i; by = id (s ∷ h) - id (b i); packets = packets (b i); bytes = bytes (b i); credits = c i; feet = f i }
 
-    others : entries cs h ≡ map (entry cs (s ∷ h)) (adopted h)
-    others = sym (map-each (entry cs (s ∷ h)) (entry cs h) (adopted h) (left-rise cs s h p))
+-- A credit to the last m of some entries, the first of which lies above its stamp.
 
--- credits to the last entry
-abbrev pub with_credits : List Credit → List Save → List Save
-with_credits xs [] = []
-with_credits xs (s ∷ ss) = saved_as s.number s.by s.packets s.bytes (xs ++ s.credits) ∷ ss
-
-saves-credits : (xs : List Credit) (cs : List Call) → saves (map Credited xs ++ cs) ≡ with_credits xs (saves cs)
-saves-credits [] cs = with_none (saves cs)
+-- it ends at the first, which is its foot
+stops : (n : ℕ) (cs : List ℕ) (h : History) (c t : ℕ) (p : Packet) (x : ℕ) (js ys : List ℕ) → t < x → Each (λ j. j ≤ t) js → Each (λ y. (y < x) × (given_in (x ∷ js) cs y c (Some (Data t p)) ≡ [])) ys
+    → saved_credit true (credit cs x c t p) (entry n cs h x) ∷ map (entry n cs h) ys ≡ map (λ j. more (x ∷ js) cs c (Some (Data t p)) j (entry n cs h j)) (x ∷ ys)
+stops n cs h c t p x js ys l b e = sym (λ i. first i ∷ others i)
   where
-    with_none : (ss : List Save) → ss ≡ with_credits [] ss
-    with_none [] = refl
-    with_none (s ∷ ss) = refl
-saves-credits (x ∷ xs) cs = ap (with_credit x) (saves-credits xs cs) ∙ with_one (saves cs)
-  where
-    with_one : (ss : List Save) → with_credit x (with_credits xs ss) ≡ with_credits (x ∷ xs) ss
-    with_one [] = refl
-    with_one (s ∷ ss) = refl
+    at : foot t (x ∷ js) ≡ Some x
+    at = (λ i. or_else (lowest-none (nat_lt t) js (each-imp (λ j. j ≤ t) (λ j. nat_lt t j ≡ false) js (λ j q. le-ltb t j q) b) i) (if lt-ltb t x l i then Some x else None))
 
-entries-stay : (cs : List ℕ) (s : Step) (h : History) → id (s ∷ h) ≤ id h → saves (calls cs h) ≡ entries cs h → saves (calls cs (s ∷ h)) ≡ entries cs (s ∷ h)
-entries-stay cs s h p ih = ap saves (calls-stay cs s h p) ∙ saves-credits (credits_in cs (id h) s.choice s.taken) (calls cs h) ∙ ap (with_credits (credits_in cs (id h) s.choice s.taken)) ih
-    ∙ by_place (cases_lt (id h) 1) ∙ sym (ap (map (entry cs (s ∷ h))) (adopted-same s h p))
+    first : more (x ∷ js) cs c (Some (Data t p)) x (entry n cs h x) ≡ saved_credit true (credit cs x c t p) (entry n cs h x)
+    first = (λ i. record (entry n cs h x) {
+      credits = (if eq-eqb x x refl i || is_among x js then (if lt-ltb t x l i then credit cs x c t p ∷ [] else []) else []) ++ credits_at n cs x h;
+      feet = (if is_among x (listed (at i)) then (x - t) ∷ [] else []) ++ feet_at n x h;
+    })
+        ∙ ap (λ b. record (entry n cs h x) { credits = credit cs x c t p ∷ credits_at n cs x h; feet = (if b || false then (x - t) ∷ [] else []) ++ feet_at n x h }) (eq-eqb x x refl)
+
+    others : map (λ j. more (x ∷ js) cs c (Some (Data t p)) j (entry n cs h j)) ys ≡ map (entry n cs h) ys
+    others = map-each (λ j. more (x ∷ js) cs c (Some (Data t p)) j (entry n cs h j)) (entry n cs h) ys
+        (each-imp (λ y. (y < x) × (given_in (x ∷ js) cs y c (Some (Data t p)) ≡ [])) (λ y. more (x ∷ js) cs c (Some (Data t p)) y (entry n cs h y) ≡ entry n cs h y) ys
+        (λ y q. let f = ap (λ o. if is_among y (listed o) then (y - t) ∷ [] else []) at ∙ ap (λ b. if b || false then (y - t) ∷ [] else []) (ne_eqb x y (let r = q.0 in λ z. omega (arith, r, z))) in let g = q.1 in
+        λ i. record (entry n cs h y) { credits = g i ++ credits_at n cs y h; feet = f i ++ feet_at n y h }) e)
+
+-- it goes on below the first, to a foot among the others
+passes : (n : ℕ) (cs : List ℕ) (h : History) (c t : ℕ) (p : Packet) (x f : ℕ) (js ys : List ℕ) → t < x → foot t js ≡ Some f → f < x → Each (λ y. y < x) ys
+    → saved_credit false (credit cs x c t p) (entry n cs h x) ∷ map (λ j. more js cs c (Some (Data t p)) j (entry n cs h j)) ys ≡ map (λ j. more (x ∷ js) cs c (Some (Data t p)) j (entry n cs h j)) (x ∷ ys)
+passes n cs h c t p x f js ys l q b e = sym (λ i. first i ∷ others i)
   where
-    by_place : ((id h < 1) ⊎ (1 ≤ id h)) → with_credits (credits_in cs (id h) s.choice s.taken) (entries cs h) ≡ map (entry cs (s ∷ h)) (adopted h)
-    by_place (inl q) = ap (λ js. with_credits (credits_in cs (id h) s.choice s.taken) (map (entry cs h) js)) (adopted-none h q) ∙ sym (ap (map (entry cs (s ∷ h))) (adopted-none h q))
-    by_place (inr q) = of_top (headed h q)
+    at : foot t (x ∷ js) ≡ Some f
+    at = ap (λ o. or_else o (if nat_lt t x then Some x else None)) q
+
+    first : more (x ∷ js) cs c (Some (Data t p)) x (entry n cs h x) ≡ saved_credit false (credit cs x c t p) (entry n cs h x)
+    first = (λ i. record (entry n cs h x) {
+      credits = (if eq-eqb x x refl i || is_among x js then (if lt-ltb t x l i then credit cs x c t p ∷ [] else []) else []) ++ credits_at n cs x h;
+      feet = (if is_among x (listed (at i)) then (x - t) ∷ [] else []) ++ feet_at n x h;
+    })
+        ∙ ap (λ b. record (entry n cs h x) { credits = credit cs x c t p ∷ credits_at n cs x h; feet = (if b || false then (x - t) ∷ [] else []) ++ feet_at n x h }) (ne_eqb f x (λ z. omega (arith, b, z)))
+
+    others : map (λ j. more (x ∷ js) cs c (Some (Data t p)) j (entry n cs h j)) ys ≡ map (λ j. more js cs c (Some (Data t p)) j (entry n cs h j)) ys
+    others = map-each (λ j. more (x ∷ js) cs c (Some (Data t p)) j (entry n cs h j)) (λ j. more js cs c (Some (Data t p)) j (entry n cs h j)) ys
+        (each-imp (λ y. y < x) (λ y. more (x ∷ js) cs c (Some (Data t p)) y (entry n cs h y) ≡ more js cs c (Some (Data t p)) y (entry n cs h y)) ys
+        (λ y r. let g = ne_eqb x y (λ z. omega (arith, r, z)) in let o = at ∙ sym q in
+        λ i. record (entry n cs h y) { credits = (if g i || is_among y js then credits_in cs y c (Some (Data t p)) else []) ++ credits_at n cs y h; feet = (if is_among y (listed (o i)) then (y - t) ∷ [] else []) ++ feet_at n y h }) e)
+
+written : (n : ℕ) (cs : List ℕ) (h : History) (c t : ℕ) (p : Packet) (m x : ℕ) (ys : List ℕ) → IsChain (map (entry n cs h) (x ∷ ys)) → Falls (x ∷ ys) → t < x
+    → with_credit m (credit cs x c t p) (map (entry n cs h) (x ∷ ys)) ≡ map (λ j. more (take m (x ∷ ys)) cs c (Some (Data t p)) j (entry n cs h j)) (x ∷ ys)
+written n cs h c t p zero x ys ch f l = refl
+written n cs h c t p (suc zero) x ys ch f l = stops n cs h c t p x [] ys l tt
+    (each-imp (λ y. y < x) (λ y. (y < x) × (given_in (x ∷ []) cs y c (Some (Data t p)) ≡ [])) ys
+    (λ y q. (q, given-none (x ∷ []) cs y c (Some (Data t p)) (ap (λ b. b || false) (ne_eqb x y (λ z. omega (arith, q, z)))))) f.0)
+written n cs h c t p (suc (suc m)) x [] ch f l = ap (λ b. if b then saved_credit true (credit cs x c t p) (entry n cs h x) ∷ [] else saved_credit false (credit cs x c t p) (entry n cs h x) ∷ []) (or_right (suc m == 0) (nat_le (x - t) (x - id (before x h)) || true) (or_right (nat_le (x - t) (x - id (before x h))) true refl))
+    ∙ stops n cs h c t p x [] [] l tt tt
+written n cs h c t p (suc (suc m)) x (y ∷ ys) ch f l = by_order (cases_lt t y) (written n cs h c t p (suc m) y ys ch.2 f.1)
+  where
+    by : x - id (before x h) ≡ x - y
+    by = let e : x ≡ y + (x - id (before x h)) = ch.1 in omega (arith, e)
+
+    low : y < x
+    low = f.0.0
+
+    clear : (z : ℕ) → z ≤ t → given_in (x ∷ y ∷ take m ys) cs z c (Some (Data t p)) ≡ []
+    clear z r = given-clear (x ∷ y ∷ take m ys) cs z c (Some (Data t p)) (credit-clear cs z c (Some (Data t p)) (le-ltb t z r))
+
+    by_order : ((t < y) ⊎ (y ≤ t)) → (t < y → with_credit (suc m) (credit cs y c t p) (map (entry n cs h) (y ∷ ys)) ≡ map (λ j. more (y ∷ take m ys) cs c (Some (Data t p)) j (entry n cs h j)) (y ∷ ys))
+        → with_credit (suc (suc m)) (credit cs x c t p) (map (entry n cs h) (x ∷ y ∷ ys)) ≡ map (λ j. more (x ∷ y ∷ take m ys) cs c (Some (Data t p)) j (entry n cs h j)) (x ∷ y ∷ ys)
+    by_order (inr q) ih = ap (λ b. if b then saved_credit true (credit cs x c t p) (entry n cs h x) ∷ map (entry n cs h) (y ∷ ys)
+        else saved_credit false (credit cs x c t p) (entry n cs h x) ∷ with_credit (suc m) (lower (x - id (before x h)) (credit cs x c t p)) (map (entry n cs h) (y ∷ ys)))
+        (or_right (suc m == 0) (nat_le (x - t) (x - id (before x h)) || false) (ap (λ b. b || false) (le-leb (x - t) (x - id (before x h)) (omega (arith, by, q, l, low)))))
+        ∙ stops n cs h c t p x (y ∷ take m ys) (y ∷ ys) l (q, each-take (λ j. j ≤ t) m ys (each-imp (λ j. j < y) (λ j. j ≤ t) ys (λ j r. omega (arith, r, q)) f.1.0))
+        ((low, clear y q), each-imp (λ z. z < y) (λ z. (z < x) × (given_in (x ∷ y ∷ take m ys) cs z c (Some (Data t p)) ≡ [])) ys (λ z r. (omega (arith, r, low), clear z (omega (arith, r, q)))) f.1.0)
+    by_order (inl q) ih = ap (λ b. if b then saved_credit true (credit cs x c t p) (entry n cs h x) ∷ map (entry n cs h) (y ∷ ys)
+        else saved_credit false (credit cs x c t p) (entry n cs h x) ∷ with_credit (suc m) (lower (x - id (before x h)) (credit cs x c t p)) (map (entry n cs h) (y ∷ ys))) (λ i. ne_eqb (suc m) 0 (λ e. omega (arith, e)) i || (lt-leb (x - t) (x - id (before x h)) (omega (arith, by, q, l, low)) i || false))
+        ∙ ap (λ a. saved_credit false (credit cs x c t p) (entry n cs h x) ∷ with_credit (suc m) (record { channel = place_in 0 c cs; age = a; bytes = p.len }) (map (entry n cs h) (y ∷ ys))) (let a : x - t - (x - id (before x h)) ≡ y - t = omega (arith, by, q, low) in a)
+        ∙ ap (λ ss. saved_credit false (credit cs x c t p) (entry n cs h x) ∷ ss) (ih q)
+        ∙ of_foot (lowest-above t y (take m ys) q)
       where
-        n : id (s ∷ h) ≡ id h
-        n = omega (arith, p, id-le s h)
+        of_foot : (g : ℕ) × (foot t (y ∷ take m ys) ≡ Some g)
+            → saved_credit false (credit cs x c t p) (entry n cs h x) ∷ map (λ j. more (y ∷ take m ys) cs c (Some (Data t p)) j (entry n cs h j)) (y ∷ ys)
+            ≡ map (λ j. more (x ∷ y ∷ take m ys) cs c (Some (Data t p)) j (entry n cs h j)) (x ∷ y ∷ ys)
+        of_foot g = passes n cs h c t p x g.0 (y ∷ take m ys) (y ∷ ys) l g.1
+            (each-lowest (λ j. j < x) (nat_lt t) (y ∷ take m ys) g.0 ((λ r. low), each-imp (λ j. j < x) (λ j. nat_lt t j ≡ true → j < x) (take m ys) (λ j r s. r) (each-take (λ j. j < x) m ys f.0.1)) g.1) f.0
 
-        same : before (id h) (s ∷ h) ≡ before (id h) h
-        same = before-same (id h) s h (omega (arith, n))
-
-        crediting : saved_as (id h) (id h - id (before (id h) h)) (packets (before (id h) h)) (bytes (before (id h) h)) (credits_in cs (id h) s.choice s.taken ++ credits_at cs (id h) h) ≡ entry cs (s ∷ h) (id h)
-        crediting = let b = sym same in let c = sym (credits-more cs (id h) s h n) in
-            λ i. record { number = id h; by = id h - id (b i); packets = packets (b i); bytes = bytes (b i); credits = c i }
-
-        of_top : IsHeaded h → with_credits (credits_in cs (id h) s.choice s.taken) (entries cs h) ≡ map (entry cs (s ∷ h)) (adopted h)
-        of_top t = let others = sym (map-each (entry cs (s ∷ h)) (entry cs h) t.rest (left-below cs s h t.rest t.below)) in
-            ap (λ js. with_credits (credits_in cs (id h) s.choice s.taken) (map (entry cs h) js)) t.is ∙ (λ i. crediting i ∷ others i) ∙ sym (ap (map (entry cs (s ∷ h))) t.is)
-
-pub entries-are : (cs : List ℕ) (h : History) → saves (calls cs h) ≡ entries cs h
-entries-are cs [] = refl
-entries-are cs (s ∷ h) = by_cases (cases_lt (id h) (id (s ∷ h))) (entries-are cs h)
+entries-stay : (n : ℕ) (cs : List ℕ) (s : Step) (h : History) → id (s ∷ h) ≤ id h → saves n (calls cs h) ≡ entries n cs h → saves n (calls cs (s ∷ h)) ≡ entries n cs (s ∷ h)
+entries-stay n cs s h p ih = ap (saves n) (calls-stay cs s h p) ∙ by_old (cases_Bool (is_old_data (id h) s.taken))
   where
-    by_cases : ((id h < id (s ∷ h)) ⊎ (id (s ∷ h) ≤ id h)) → saves (calls cs h) ≡ entries cs h → saves (calls cs (s ∷ h)) ≡ entries cs (s ∷ h)
-    by_cases (inl p) ih = entries-rise cs s h p ih
-    by_cases (inr p) ih = entries-stay cs s h p ih
+    level : id (s ∷ h) ≡ id h
+    level = omega (arith, p, id-le s h)
+
+    of_data : (t : ℕ) (d : Packet) → s.taken ≡ Some (Data t d) → t < id h → IsHeaded h → saves n (map Credited (credits_in cs (id h) s.choice s.taken) ++ calls cs h) ≡ entries n cs (s ∷ h)
+    of_data t d e l top = ap (λ o. saves n (map Credited (credits_in cs (id h) s.choice o) ++ calls cs h)) e
+        ∙ ap (λ b. saves n (map Credited (if b then credit cs (id h) s.choice t d ∷ [] else []) ++ calls cs h)) (lt-ltb t (id h) l)
+        ∙ ap (with_credit n (credit cs (id h) s.choice t d)) (ih ∙ ap (map (entry n cs h)) top.is)
+        ∙ written n cs h s.choice t d n (id h) top.rest (subst (λ js. IsChain (map (entry n cs h) js)) top.is (subst IsChain ih (chain-saves n (calls cs h) (rising-calls cs h)))) (subst Falls top.is (adopted-falls h)) l
+        ∙ sym (map-each (entry n cs (s ∷ h)) (λ j. more (take n (id h ∷ top.rest)) cs s.choice (Some (Data t d)) j (entry n cs h j)) (id h ∷ top.rest)
+        (each-imp (λ j. j ≤ id h) (λ j. entry n cs (s ∷ h) j ≡ more (take n (id h ∷ top.rest)) cs s.choice (Some (Data t d)) j (entry n cs h j)) (id h ∷ top.rest)
+        (λ j q. entry-more n cs j s h (omega (arith, q, level)) ∙ (λ i. more (take n (same i)) cs s.choice (e i) j (entry n cs h j))) (subst (Each (λ j. j ≤ id h)) top.is (adopted-le h))))
+        ∙ sym (ap (map (entry n cs (s ∷ h))) same)
+      where
+        same : adopted (s ∷ h) ≡ id h ∷ top.rest
+        same = adopted-same s h p ∙ top.is
+
+    of_taken : (o : Option Message) → s.taken ≡ o → is_old_data (id h) o ≡ true → saves n (map Credited (credits_in cs (id h) s.choice s.taken) ++ calls cs h) ≡ entries n cs (s ∷ h)
+    of_taken (Some (Data t d)) e q = let l : t < id h = ltb-true t (id h) q in of_data t d e l (headed h (omega (arith, l)))
+    of_taken _ e q = absurd cc
+
+    by_old : ((is_old_data (id h) s.taken ≡ true) ⊎ (is_old_data (id h) s.taken ≡ false)) → saves n (map Credited (credits_in cs (id h) s.choice s.taken) ++ calls cs h) ≡ entries n cs (s ∷ h)
+    by_old (inl q) = of_taken s.taken refl q
+    by_old (inr q) = ap (λ xs. saves n (map Credited xs ++ calls cs h)) (credit-clear cs (id h) s.choice s.taken q) ∙ ih
+        ∙ sym (entries-same n cs s h (ap (λ a. is_old_data a s.taken) level ∙ q)) ∙ sym (ap (map (entry n cs (s ∷ h))) (adopted-same s h p))
+
+pub entries-are : (n : ℕ) (cs : List ℕ) (h : History) → saves n (calls cs h) ≡ entries n cs h
+entries-are n cs [] = refl
+entries-are n cs (s ∷ h) = by_cases (cases_lt (id h) (id (s ∷ h))) (entries-are n cs h)
+  where
+    by_cases : ((id h < id (s ∷ h)) ⊎ (id (s ∷ h) ≤ id h)) → saves n (calls cs h) ≡ entries n cs h → saves n (calls cs (s ∷ h)) ≡ entries n cs (s ∷ h)
+    by_cases (inl p) ih = entries-rise n cs s h p ih
+    by_cases (inr p) ih = entries-stay n cs s h p ih
+
+pub entries-chain : (n : ℕ) (cs : List ℕ) (h : History) → IsChain (entries n cs h)
+entries-chain n cs h = subst IsChain (entries-are n cs h) (chain-saves n (calls cs h) (rising-calls cs h))

@@ -1,6 +1,6 @@
 -- Counts and totals of a history stay below the last values of their types.
 use Rattle.std.proofs.Common.{ℕ, suc, ◌+◌, ◌*◌, ◌<◌, ◌≤◌, ◌^◌, List, [], ◌∷◌, ◌++◌, length, sym, subst, Option, Some, None, arith}
-use Rattle.std.specs.Prelude.{true, false, Bool, nat_lt, ◌==◌, if◌then◌else◌, map, unwrap_or, option_map, option_and_then}
+use Rattle.std.specs.Prelude.{true, false, Bool, nat_lt, ◌==◌, if◌then◌else◌, map, take, unwrap_or, option_map, option_and_then}
 use Rattle.std.specs.List.{AllByRecursion}
 use Rattle.sl_net.specs.declared.input.Packet.{Packet}
 use Rattle.sl_saves.specs.declared.entry.Total.{Total}
@@ -11,11 +11,11 @@ use Rattle.sl_model.specs.declared.message.Message.TheVariants.{Data}
 use Rattle.sl_model.specs.declared.message.Step.{Step}
 use Rattle.sl_model.specs.declared.verdict.Cause.{Cause}
 use Rattle.sl_model.specs.declared.verdict.Cause.TheVariants.{Skipped as WasSkipped, Miscredited as WasMiscredited}
-use Rattle.sl_model.specs.History.{History, id, first}
+use Rattle.sl_model.specs.History.{History, first}
 use Rattle.sl_model.specs.Counting.{counted_in, counted, packets, bytes}
-use Rattle.sl_model.specs.Verdict.{cause}
+use Rattle.sl_model.specs.Verdict.{adopted, cause}
 use Rattle.sl_model.specs.Calls.{credit, credits_in}
-use Rattle.sl_model.specs.Rows.{credits_at, told, row}
+use Rattle.sl_model.specs.Rows.{is_among, credits_at, told, row}
 use Rattle.sl_model.specs.Short.{TakesShort}
 use Rattle.sl_model.proofs.Late.{both_totals, step-total}
 
@@ -54,16 +54,16 @@ few-step cs j k c s l = of_taken s.taken l
     of_taken (Some (Data t p)) l = of_bool t p l (nat_lt t k)
     of_taken _ l = record { packets = omega arith; bytes = omega arith }
 
-few-credits : (cs : List ℕ) (j k : ℕ) (h : History) → TakesShort h → IsFew (length h) (total_on j (credits_at cs k h))
-few-credits cs j k [] t = record { packets = omega arith; bytes = omega arith }
-few-credits cs j k (s ∷ h) t = by_bool (id (s ∷ h) == k) (few-credits cs j k h t.1)
+few-credits : (n : ℕ) (cs : List ℕ) (j k : ℕ) (h : History) → TakesShort h → IsFew (length h) (total_on j (credits_at n cs k h))
+few-credits n cs j k [] t = record { packets = omega arith; bytes = omega arith }
+few-credits n cs j k (s ∷ h) t = by_bool (is_among k (take n (adopted (s ∷ h)))) (few-credits n cs j k h t.1)
   where
-    more : IsFew (length h) (total_on j (credits_at cs k h)) → IsFew 1 (total_on j (credits_in cs k s.choice s.taken)) → IsFew (suc (length h)) (both_totals (total_on j (credits_at cs k h)) (total_on j (credits_in cs k s.choice s.taken)))
+    more : IsFew (length h) (total_on j (credits_at n cs k h)) → IsFew 1 (total_on j (credits_in cs k s.choice s.taken)) → IsFew (suc (length h)) (both_totals (total_on j (credits_at n cs k h)) (total_on j (credits_in cs k s.choice s.taken)))
     more a b = let p = a.packets in let q = b.packets in let x = a.bytes in let y = b.bytes in record { packets = omega (arith, p, q); bytes = omega (arith, x, y) }
 
-    by_bool : (b : Bool) → IsFew (length h) (total_on j (credits_at cs k h))
-        → IsFew (suc (length h)) (total_on j (if b then credits_in cs k s.choice s.taken ++ credits_at cs k h else credits_at cs k h))
-    by_bool true ih = subst (IsFew (suc (length h))) (sym (step-total cs j k s.choice s.taken (credits_at cs k h))) (more ih (few-step cs j k s.choice s t.0))
+    by_bool : (b : Bool) → IsFew (length h) (total_on j (credits_at n cs k h))
+        → IsFew (suc (length h)) (total_on j (if b then credits_in cs k s.choice s.taken ++ credits_at n cs k h else credits_at n cs k h))
+    by_bool true ih = subst (IsFew (suc (length h))) (sym (step-total cs j k s.choice s.taken (credits_at n cs k h))) (more ih (few-step cs j k s.choice s t.0))
     by_bool false ih = let p = ih.packets in let x = ih.bytes in record { packets = omega (arith, p); bytes = omega (arith, x) }
 
 -- Rows.
@@ -72,14 +72,14 @@ all-map : {A B : Type 0} (P : B → Type 0) (f : A → B) (xs : List A) → ((x 
 all-map P f [] h = tt
 all-map P f (x ∷ xs) h = (h x, all-map P f xs h)
 
-fits-told : (cs : List ℕ) (k : ℕ) (h : History) (o : Option Cause) → TakesShort h → length h < 2 ^ 40 → IsFitting (told cs k h o)
-fits-told cs k h (Some (WasSkipped j)) t l = tt
-fits-told cs k h (Some (WasMiscredited j)) t l = tt
-fits-told cs k h None t l = all-map (λ t. (t.packets < 2 ^ 64) × (t.bytes < 2 ^ 64)) (λ c. total_on c (credits_at cs k h)) channels
-    (λ j. let f = few-credits cs j k h t in let p = f.packets in let b = f.bytes in (omega (arith, p, l), omega (arith, b, l)))
+fits-told : (n : ℕ) (cs : List ℕ) (k : ℕ) (h : History) (o : Option Cause) → TakesShort h → length h < 2 ^ 40 → IsFitting (told n cs k h o)
+fits-told n cs k h (Some (WasSkipped j)) t l = tt
+fits-told n cs k h (Some (WasMiscredited j)) t l = tt
+fits-told n cs k h None t l = all-map (λ t. (t.packets < 2 ^ 64) × (t.bytes < 2 ^ 64)) (λ c. total_on c (credits_at n cs k h)) channels
+    (λ j. let f = few-credits n cs j k h t in let p = f.packets in let b = f.bytes in (omega (arith, p, l), omega (arith, b, l)))
 
-pub fits-row : (cs : List ℕ) (k : ℕ) (h : History) → TakesShort h → length h < 2 ^ 40 → IsFitting (row cs k h)
-fits-row cs k h t l = fits-told cs k h (cause k h) t l
+pub fits-row : (n : ℕ) (cs : List ℕ) (k : ℕ) (h : History) → TakesShort h → length h < 2 ^ 40 → IsFitting (row n cs k h)
+fits-row n cs k h t l = fits-told n cs k h (cause n k h) t l
 
 -- The first steps.
 

@@ -1,7 +1,7 @@
--- Where a number was not miscredited, what is credited to it on a data channel is what came late there.
+-- Where a number was neither skipped nor miscredited, what is credited to it on a data channel is what came late there.
 use Rattle.std.proofs.Common.{◌≡◌, ℕ, suc, ◌+◌, ◌<◌, ◌≤◌, List, [], ◌∷◌, ◌++◌, refl, sym, ap, ◌∙◌, Option, Some, None, arith, inl, inr}
-use Rattle.std.specs.Prelude.{true, false, Bool, nat_lt, nat_eq, ◌==◌, ◌&&◌, ◌⊎◌, if◌then◌else◌, filter}
-use Rattle.std.proofs.lemmas.Bool.{lt-ltb, eq-eqb, ne_eqb, cases_lt}
+use Rattle.std.specs.Prelude.{true, false, Bool, cond, nat_lt, nat_eq, ◌==◌, ◌&&◌, ◌⊎◌, if◌then◌else◌, filter, take}
+use Rattle.std.proofs.lemmas.Bool.{ltb-true, ltb-false, eq-eqb, ne_eqb, cases_lt, cases_Bool}
 use Rattle.std.proofs.lemmas.Bool.Decides.{eqb_tells}
 use Rattle.sl_layout.specs.Net.{place_in}
 use Rattle.sl_saves.specs.declared.entry.Total.{Total}
@@ -14,14 +14,15 @@ use Rattle.sl_parts.proofs.Lists.{each-of}
 use Rattle.sl_model.specs.Words.{listed, weigh}
 use Rattle.sl_model.specs.History.{History, id, takes}
 use Rattle.sl_model.specs.Cut.{outside, data_count, data_bytes}
-use Rattle.sl_model.specs.Verdict.{is_old_data, miscredits}
+use Rattle.sl_model.specs.Verdict.{is_old_data, adopted, nth_adopted, skipped_to, miscredits}
 use Rattle.sl_model.specs.Late.{is_old}
 use Rattle.sl_net.proofs.ReportWays.{place-same}
 use Rattle.sl_model.proofs.Prefixes.{outside-none, outside-more}
 use Rattle.sl_model.specs.Calls.{credit, credits_in}
-use Rattle.sl_model.specs.Rows.{credits_at}
+use Rattle.sl_model.specs.Rows.{is_among, credits_at}
 use Rattle.sl_model.specs.LateTotal.{late_total}
-use Rattle.sl_model.proofs.Entries.{credits-none, credits-same, credits-more, credit-clear}
+use Rattle.sl_model.proofs.Entries.{adopted-falls, credits-none, credits-same, credit-clear}
+use Rattle.sl_model.proofs.Rows.{nth-take, adopted-at}
 
 -- Places in a list.
 
@@ -125,37 +126,50 @@ of-step cs k ch c (Some (DumpMsg n)) m = no-data k ch c (DumpMsg n) refl refl
 of-step cs k ch c (Some (BeginMsg n)) m = no-data k ch c (BeginMsg n) refl refl
 of-step cs k ch c (Some (DoneMsg u n)) m = no-data k ch c (DoneMsg u n) refl refl
 
--- what has no miscredit takes no old data above k
-none-first : (k : ℕ) (s : Step) (h : History) → miscredits k (s ∷ h) ≡ [] → (miscredits k h ≡ []) × ((is_old_data k s.taken && nat_lt k (id (s ∷ h))) ≡ false)
-none-first k s h q = by_bool (is_old_data k s.taken && nat_lt k (id (s ∷ h))) q
+-- what has no miscredit takes no old data below the n-th adopted number
+none-first : (n k : ℕ) (s : Step) (h : History) → miscredits n k (s ∷ h) ≡ [] → (miscredits n k h ≡ []) × ((is_old_data k s.taken && nat_lt k (nth_adopted n (s ∷ h))) ≡ false)
+none-first n k s h q = by_bool (is_old_data k s.taken && nat_lt k (nth_adopted n (s ∷ h))) q
   where
-    by_bool : (b : Bool) → (if b then id (s ∷ h) ∷ miscredits k h else miscredits k h) ≡ [] → (miscredits k h ≡ []) × (b ≡ false)
+    by_bool : (b : Bool) → cond b (nth_adopted n (s ∷ h) ∷ miscredits n k h) (miscredits n k h) ≡ [] → (miscredits n k h ≡ []) × (b ≡ false)
     by_bool true q = absurd (cc)
     by_bool false q = (q, refl)
 
-left-false : (a b : Bool) → b ≡ true → (a && b) ≡ false → a ≡ false
-left-false true b p r = absurd (cc)
-left-false false b p r = refl
+skip-first : (k : ℕ) (s : Step) (h : History) → skipped_to k (s ∷ h) ≡ None → skipped_to k h ≡ None
+skip-first k s h q = by_bool (nat_lt (id h) k && nat_lt k (id (s ∷ h))) q
+  where
+    by_bool : (b : Bool) → (if b then Some (id (s ∷ h)) else skipped_to k h) ≡ None → skipped_to k h ≡ None
+    by_bool true q = absurd (cc)
+    by_bool false q = q
+
+old-below : (k : ℕ) (o : Option Message) → is_old_data k o ≡ true → 1 ≤ k
+old-below k (Some (Data s p)) q = let l : s < k = ltb-true s k q in omega (arith, l)
+old-below k _ q = absurd cc
+
+-- old data of a number that was not skipped goes to it, where it goes to no n numbers above
+old-given : (n k : ℕ) (s : Step) (h : History) → 1 ≤ n → k ≤ id (s ∷ h) → skipped_to k (s ∷ h) ≡ None → is_old_data k s.taken ≡ true → (is_old_data k s.taken && nat_lt k (nth_adopted n (s ∷ h))) ≡ false
+    → is_among k (take n (adopted (s ∷ h))) ≡ true
+old-given n k s h one p q o r = nth-take n k (adopted (s ∷ h)) one (adopted-falls (s ∷ h)) (adopted-at k (s ∷ h) (old-below k s.taken o) p q)
+    (ltb-false k (nth_adopted n (s ∷ h)) (sym (ap (λ b. b && nat_lt k (nth_adopted n (s ∷ h))) o) ∙ r))
 
 -- a step outside the cut adds what it credits to k
-credits-step : (cs : List ℕ) (j k : ℕ) (s : Step) (h : History) → k ≤ id (s ∷ h) → (is_old_data k s.taken && nat_lt k (id (s ∷ h))) ≡ false
-    → total_on j (credits_at cs k (s ∷ h)) ≡ both_totals (total_on j (credits_at cs k h)) (total_on j (credits_in cs k s.choice s.taken))
-credits-step cs j k s h p r = by_place (cases_lt k (id (s ∷ h)))
+credits-outside : (n : ℕ) (cs : List ℕ) (j k : ℕ) (s : Step) (h : History) → 1 ≤ n → k ≤ id (s ∷ h) → skipped_to k (s ∷ h) ≡ None → (is_old_data k s.taken && nat_lt k (nth_adopted n (s ∷ h))) ≡ false
+    → total_on j (credits_at n cs k (s ∷ h)) ≡ both_totals (total_on j (credits_at n cs k h)) (total_on j (credits_in cs k s.choice s.taken))
+credits-outside n cs j k s h one p q r = by_old (cases_Bool (is_old_data k s.taken))
   where
-    by_place : ((k < id (s ∷ h)) ⊎ (id (s ∷ h) ≤ k)) → total_on j (credits_at cs k (s ∷ h)) ≡ both_totals (total_on j (credits_at cs k h)) (total_on j (credits_in cs k s.choice s.taken))
-    by_place (inr q) = ap (total_on j) (credits-more cs k s h (omega (arith, p, q))) ∙ step-total cs j k s.choice s.taken (credits_at cs k h)
-    by_place (inl q) = let n : credits_in cs k s.choice s.taken ≡ [] = credit-clear cs k s.choice s.taken (left-false (is_old_data k s.taken) (nat_lt k (id (s ∷ h))) (lt-ltb k (id (s ∷ h)) q) r) in
-        ap (total_on j) (credits-same cs k s h (λ e. n)) ∙ with-zero (total_on j (credits_at cs k h)) ∙ ap (λ xs. both_totals (total_on j (credits_at cs k h)) (total_on j xs)) (sym n)
+    by_old : ((is_old_data k s.taken ≡ true) ⊎ (is_old_data k s.taken ≡ false)) → total_on j (credits_at n cs k (s ∷ h)) ≡ both_totals (total_on j (credits_at n cs k h)) (total_on j (credits_in cs k s.choice s.taken))
+    by_old (inl o) = ap (λ b. total_on j (if b then credits_in cs k s.choice s.taken ++ credits_at n cs k h else credits_at n cs k h)) (old-given n k s h one p q o r) ∙ step-total cs j k s.choice s.taken (credits_at n cs k h)
+    by_old (inr o) = let e : credits_in cs k s.choice s.taken ≡ [] = credit-clear cs k s.choice s.taken o in
+        ap (total_on j) (credits-same n cs k s h e) ∙ with-zero (total_on j (credits_at n cs k h)) ∙ ap (λ xs. both_totals (total_on j (credits_at n cs k h)) (total_on j xs)) (sym e)
 
-late-credited : (cs : List ℕ) (k c : ℕ) (h : History) → Member c cs → miscredits k h ≡ [] → total_on (place_in 0 c cs) (credits_at cs k h) ≡ late_total k c h
-late-credited cs k c [] m q = refl
-late-credited cs k c (s ∷ h) m q = by_place (cases_lt (id (s ∷ h)) k) (none-first k s h q) (late-credited cs k c h m)
+late-credited : (n : ℕ) (cs : List ℕ) (k c : ℕ) (h : History) → 1 ≤ n → Member c cs → skipped_to k h ≡ None → miscredits n k h ≡ [] → total_on (place_in 0 c cs) (credits_at n cs k h) ≡ late_total k c h
+late-credited n cs k c [] one m v q = refl
+late-credited n cs k c (s ∷ h) one m v q = by_place (cases_lt (id (s ∷ h)) k) (none-first n k s h q) (late-credited n cs k c h one m (skip-first k s h v))
   where
-    by_place : ((id (s ∷ h) < k) ⊎ (k ≤ id (s ∷ h))) → (miscredits k h ≡ []) × ((is_old_data k s.taken && nat_lt k (id (s ∷ h))) ≡ false)
-        → (miscredits k h ≡ [] → total_on (place_in 0 c cs) (credits_at cs k h) ≡ late_total k c h) → total_on (place_in 0 c cs) (credits_at cs k (s ∷ h)) ≡ late_total k c (s ∷ h)
-    by_place (inl p) r ih = ap (total_on (place_in 0 c cs)) (credits-none cs k (s ∷ h) p) ∙ sym (ap (λ g. old_total k (takes c g)) (outside-none k (s ∷ h) p))
-    by_place (inr p) r ih = credits-step cs (place_in 0 c cs) k s h p r.1 ∙ (λ i. both_totals (ih r.0 i) (of-step cs k s.choice c s.taken m i))
+    by_place : ((id (s ∷ h) < k) ⊎ (k ≤ id (s ∷ h))) → (miscredits n k h ≡ []) × ((is_old_data k s.taken && nat_lt k (nth_adopted n (s ∷ h))) ≡ false)
+        → (miscredits n k h ≡ [] → total_on (place_in 0 c cs) (credits_at n cs k h) ≡ late_total k c h) → total_on (place_in 0 c cs) (credits_at n cs k (s ∷ h)) ≡ late_total k c (s ∷ h)
+    by_place (inl p) r ih = ap (total_on (place_in 0 c cs)) (credits-none n cs k (s ∷ h) p) ∙ sym (ap (λ g. old_total k (takes c g)) (outside-none k (s ∷ h) p))
+    by_place (inr p) r ih = credits-outside n cs (place_in 0 c cs) k s h one p v r.1 ∙ (λ i. both_totals (ih r.0 i) (of-step cs k s.choice c s.taken m i))
         ∙ sym (old-append k (takes c (outside k h)) (taken_by_choice s.choice c s.taken)) ∙ sym (ap (λ g. old_total k (takes c g)) (outside-more k s h p))
 
-pub each-late : (cs : List ℕ) (k : ℕ) (h : History) → miscredits k h ≡ [] → Each (λ c. total_on (place_in 0 c cs) (credits_at cs k h) ≡ late_total k c h) cs
-each-late cs k h q = each-of (λ c. total_on (place_in 0 c cs) (credits_at cs k h) ≡ late_total k c h) cs (λ c m. late-credited cs k c h m q)
+pub each-late : (n : ℕ) (cs : List ℕ) (k : ℕ) (h : History) → 1 ≤ n → skipped_to k h ≡ None → miscredits n k h ≡ [] → Each (λ c. total_on (place_in 0 c cs) (credits_at n cs k h) ≡ late_total k c h) cs
+each-late n cs k h one v q = each-of (λ c. total_on (place_in 0 c cs) (credits_at n cs k h) ≡ late_total k c h) cs (λ c m. late-credited n cs k c h one m v q)

@@ -49,7 +49,7 @@ abbrev pub flow : ℕ → ℕ → ℕ → ℕ → ℕ → Flow
 flow from to count bytes hops = record { from = from; to = to; count = count; bytes = bytes; hops = hops }
 
 abbrev pub setup : Net → ℕ → ℕ → ℕ → List Flow → Setup
-setup net window count retries flows = record { net = net; window = window; count = count; retries = retries; flows = flows; raws = [] }
+setup net window count retries flows = record { net = net; window = window; count = count; retries = retries; credits = 1; flows = flows; raws = [] }
 
 -- one snapshot of the first net with one flow of packets from the first host to the second
 abbrev pub form : ℕ → ℕ → Setup

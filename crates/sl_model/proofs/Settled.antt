@@ -1,6 +1,6 @@
 -- Histories of a world: data comes on data channels, and rows that are collected stay.
 use Rattle.std.proofs.Common.{◌≡◌, ℕ, suc, ◌+◌, ◌<◌, ◌≤◌, List, [], ◌∷◌, ◌++◌, length, refl, sym, ap, subst, ◌∙◌, Some, None, arith, inl, inr}
-use Rattle.std.specs.Prelude.{◌⊎◌, true, false, Bool, ◌==◌, if◌then◌else◌, nat_lt, nat_eq, slice_get, IsTrue}
+use Rattle.std.specs.Prelude.{◌⊎◌, true, false, Bool, if◌then◌else◌, nat_lt, nat_eq, slice_get, take, IsTrue}
 use Rattle.std.proofs.lemmas.Bool.{lt-ltb, le-ltb, cases_lt}
 use Rattle.std.proofs.lemmas.Bool.Decides.{eqb_tells}
 use Rattle.sl_layout.specs.declared.actor.Sort.{Sort}
@@ -19,7 +19,7 @@ use Rattle.sl_model.specs.Setup.{Setup}
 use Rattle.sl_model.specs.World.{Entry, run}
 use Rattle.sl_model.specs.Made.{Took, Acted, IsMade, Ran}
 use Rattle.sl_model.specs.Fit.{fits, fits_link, is_stamped}
-use Rattle.sl_model.specs.Verdict.{is_old_data, lag}
+use Rattle.sl_model.specs.Verdict.{is_old_data, adopted, lag}
 use Rattle.sl_model.proofs.Turns.{kept_by_run}
 use Rattle.sl_model.proofs.Ran.{ran-turn}
 use Rattle.sl_model.proofs.Numbers.{never-falls}
@@ -29,7 +29,7 @@ use Rattle.sl_model.proofs.Floors.{extends-run}
 use Rattle.sl_model.proofs.Prefixes.{id-le}
 use Rattle.sl_model.proofs.Collected.{Reached, reached-of, channel-at, IsChannel, each-channel}
 use Rattle.sl_model.specs.Calls.{credit, credits_in}
-use Rattle.sl_model.specs.Rows.{credits_at, row}
+use Rattle.sl_model.specs.Rows.{is_among, credits_at, row}
 use Rattle.sl_model.proofs.Late.{place-here, place-past}
 use Rattle.sl_model.proofs.Later.{row-stays}
 
@@ -81,13 +81,13 @@ credits-placed s a k step h f (inl t) = subst (λ o. Each (IsPlaced s.net a) (cr
     of_message (Data j p) e = of_data j p e (nat_lt j k)
     of_message _ e = tt
 
-pub all-placed : (s : Setup) (a k : ℕ) (h : History) → IsMade s a h → TakesFit s a h → Each (IsPlaced s.net a) (credits_at (data_channels s.net a) k h)
-all-placed s a k [] m f = tt
-all-placed s a k (step ∷ h) m f = by_bool (id (step ∷ h) == k) (all-placed s a k h m.1 (fit-before s a step h f))
+pub all-placed : (s : Setup) (n a k : ℕ) (h : History) → IsMade s a h → TakesFit s a h → Each (IsPlaced s.net a) (credits_at n (data_channels s.net a) k h)
+all-placed s n a k [] m f = tt
+all-placed s n a k (step ∷ h) m f = by_bool (is_among k (take n (adopted (step ∷ h)))) (all-placed s n a k h m.1 (fit-before s a step h f))
   where
-    by_bool : (b : Bool) → Each (IsPlaced s.net a) (credits_at (data_channels s.net a) k h)
-        → Each (IsPlaced s.net a) (if b then credits_in (data_channels s.net a) k step.choice step.taken ++ credits_at (data_channels s.net a) k h else credits_at (data_channels s.net a) k h)
-    by_bool true ih = each-append (IsPlaced s.net a) (credits_in (data_channels s.net a) k step.choice step.taken) (credits_at (data_channels s.net a) k h) (credits-placed s a k step h f m.0) ih
+    by_bool : (b : Bool) → Each (IsPlaced s.net a) (credits_at n (data_channels s.net a) k h)
+        → Each (IsPlaced s.net a) (if b then credits_in (data_channels s.net a) k step.choice step.taken ++ credits_at n (data_channels s.net a) k h else credits_at n (data_channels s.net a) k h)
+    by_bool true ih = each-append (IsPlaced s.net a) (credits_in (data_channels s.net a) k step.choice step.taken) (credits_at n (data_channels s.net a) k h) (credits-placed s a k step h f m.0) ih
     by_bool false ih = ih
 
 -- Collected rows.
@@ -112,57 +112,57 @@ none-older s a k step h f d r (inl t) = ap (is_old_data k) t.taken ∙ of_messag
         le-ltb j k (omega (arith, new, low, more))
     of_message _ e = refl
 
-record IsSettled (net : Net) (cs : List ℕ) (a k : ℕ) (g h : History) : Type 0 where
+record IsSettled (net : Net) (n : ℕ) (cs : List ℕ) (a k : ℕ) (g h : History) : Type 0 where
   pub reached : Reached net k a h
-  pub same : row cs k h ≡ row cs k g
+  pub same : row n cs k h ≡ row n cs k g
 
-settled-step : (s : Setup) (cs : List ℕ) (a k : ℕ) (step : Step) (g h : History) → TakesFit s a (step ∷ h) → ChannelsRise s a (step ∷ h) → Took s a h step ⊎ Acted s a h step
-    → IsSettled s.net cs a k g h → IsSettled s.net cs a k g (step ∷ h)
-settled-step s cs a k step g h f d t i = let r = i.reached in record {
+settled-step : (s : Setup) (n : ℕ) (cs : List ℕ) (a k : ℕ) (step : Step) (g h : History) → TakesFit s a (step ∷ h) → ChannelsRise s a (step ∷ h) → Took s a h step ⊎ Acted s a h step
+    → IsSettled s.net n cs a k g h → IsSettled s.net n cs a k g (step ∷ h)
+settled-step s n cs a k step g h f d t i = let r = i.reached in record {
   reached = record {
     id_at = omega (arith, r.id_at, id-le step h);
     lasts = each-both-of (λ c. k ≤ last c h) (IsChannel s.net a) (λ c. k ≤ last c (step ∷ h)) (data_channels s.net a)
         (λ c p x. let more : last c h ≤ last c (step ∷ h) = (d c x.link x.into x.data_sort).0 in omega (arith, p, more)) r.lasts (each-channel s.net a);
   };
-  same = row-stays cs k step h r.id_at (none-older s a k step h f d r t) ∙ i.same;
+  same = row-stays n cs k step h r.id_at (none-older s a k step h f d r t) ∙ i.same;
 }
 
-settled-from : (s : Setup) (cs : List ℕ) (a k n : ℕ) (h : History) → IsMade s a h → TakesFit s a h → ChannelsRise s a h → Reached s.net k a (first n h) → IsSettled s.net cs a k (first n h) h
-settled-from s cs a k n [] m f d q = record { reached = q; same = refl }
-settled-from s cs a k n (step ∷ h) m f d q = by_cases (cases_lt (length h) n) (settled-from s cs a k n h m.1 (fit-before s a step h f) (λ c l i t. (d c l i t).1))
+settled-from : (s : Setup) (n : ℕ) (cs : List ℕ) (a k m : ℕ) (h : History) → IsMade s a h → TakesFit s a h → ChannelsRise s a h → Reached s.net k a (first m h) → IsSettled s.net n cs a k (first m h) h
+settled-from s n cs a k m [] i f d q = record { reached = q; same = refl }
+settled-from s n cs a k m (step ∷ h) i f d q = by_cases (cases_lt (length h) m) (settled-from s n cs a k m h i.1 (fit-before s a step h f) (λ c l e t. (d c l e t).1))
   where
-    whole : length h < n → first n (step ∷ h) ≡ step ∷ h
-    whole p = ap (λ b. if b then step ∷ h else first n h) (lt-ltb (length h) n p)
+    whole : length h < m → first m (step ∷ h) ≡ step ∷ h
+    whole p = ap (λ b. if b then step ∷ h else first m h) (lt-ltb (length h) m p)
 
-    past : n ≤ length h → first n (step ∷ h) ≡ first n h
-    past p = ap (λ b. if b then step ∷ h else first n h) (le-ltb (length h) n p)
+    past : m ≤ length h → first m (step ∷ h) ≡ first m h
+    past p = ap (λ b. if b then step ∷ h else first m h) (le-ltb (length h) m p)
 
-    by_cases : ((length h < n) ⊎ (n ≤ length h)) → (Reached s.net k a (first n h) → IsSettled s.net cs a k (first n h) h) → IsSettled s.net cs a k (first n (step ∷ h)) (step ∷ h)
-    by_cases (inl p) ih = subst (λ g. IsSettled s.net cs a k g (step ∷ h)) (sym (whole p)) (record { reached = subst (Reached s.net k a) (whole p) q; same = refl })
-    by_cases (inr p) ih = subst (λ g. IsSettled s.net cs a k g (step ∷ h)) (sym (past p)) (settled-step s cs a k step (first n h) h f d m.0 (ih (subst (Reached s.net k a) (past p) q)))
+    by_cases : ((length h < m) ⊎ (m ≤ length h)) → (Reached s.net k a (first m h) → IsSettled s.net n cs a k (first m h) h) → IsSettled s.net n cs a k (first m (step ∷ h)) (step ∷ h)
+    by_cases (inl p) ih = subst (λ g. IsSettled s.net n cs a k g (step ∷ h)) (sym (whole p)) (record { reached = subst (Reached s.net k a) (whole p) q; same = refl })
+    by_cases (inr p) ih = subst (λ g. IsSettled s.net n cs a k g (step ∷ h)) (sym (past p)) (settled-step s n cs a k step (first m h) h f d i.0 (ih (subst (Reached s.net k a) (past p) q)))
 
-settled : (s : Setup) (lost : Losses) (w : World) (cs : List ℕ) (u k n : ℕ) → IsWired s.net → Ran s lost w → Reached s.net k u (first n (history w u)) → IsSettled s.net cs u k (first n (history w u)) (history w u)
-settled s lost w cs u k n t r q = settled-from s cs u k n (history w u) (r.made u) (fit-taken s lost w u r) (channels-rise s lost w u t r) q
+settled : (s : Setup) (lost : Losses) (w : World) (n : ℕ) (cs : List ℕ) (u k m : ℕ) → IsWired s.net → Ran s lost w → Reached s.net k u (first m (history w u)) → IsSettled s.net n cs u k (first m (history w u)) (history w u)
+settled s lost w n cs u k m t r q = settled-from s n cs u k m (history w u) (r.made u) (fit-taken s lost w u r) (channels-rise s lost w u t r) q
 
 -- Once nothing of a unit lags behind k, the row of k stays.
-pub row-kept : (s : Setup) (lost : Losses) (w : World) (cs : List ℕ) (u k n : ℕ) → IsWired s.net → Ran s lost w → lag s.net k u (first n (history w u)) ≡ None → row cs k (history w u) ≡ row cs k (first n (history w u))
-row-kept s lost w cs u k n t r q = (settled s lost w cs u k n t r (reached-of s.net k u (first n (history w u)) q)).same
+pub row-kept : (s : Setup) (lost : Losses) (w : World) (credits : ℕ) (cs : List ℕ) (u k n : ℕ) → IsWired s.net → Ran s lost w → lag s.net k u (first n (history w u)) ≡ None → row credits cs k (history w u) ≡ row credits cs k (first n (history w u))
+row-kept s lost w credits cs u k n t r q = (settled s lost w credits cs u k n t r (reached-of s.net k u (first n (history w u)) q)).same
 
 -- ... after more of the unit's steps
-pub row-later : (s : Setup) (lost : Losses) (w : World) (cs : List ℕ) (u k n m : ℕ) → IsWired s.net → Ran s lost w → n ≤ m → lag s.net k u (first n (history w u)) ≡ None
-    → row cs k (first m (history w u)) ≡ row cs k (first n (history w u))
-row-later s lost w cs u k n m t r p q = of_reached (reached-of s.net k u (first n (history w u)) q)
+pub row-later : (s : Setup) (lost : Losses) (w : World) (credits : ℕ) (cs : List ℕ) (u k n m : ℕ) → IsWired s.net → Ran s lost w → n ≤ m → lag s.net k u (first n (history w u)) ≡ None
+    → row credits cs k (first m (history w u)) ≡ row credits cs k (first n (history w u))
+row-later s lost w credits cs u k n m t r p q = of_reached (reached-of s.net k u (first n (history w u)) q)
   where
-    of_reached : Reached s.net k u (first n (history w u)) → row cs k (first m (history w u)) ≡ row cs k (first n (history w u))
-    of_reached x = sym ((settled s lost w cs u k m t r (record {
+    of_reached : Reached s.net k u (first n (history w u)) → row credits cs k (first m (history w u)) ≡ row credits cs k (first n (history w u))
+    of_reached x = sym ((settled s lost w credits cs u k m t r (record {
       id_at = let i : id (first n (history w u)) ≤ id (first m (history w u)) = never-falls id n m (history w u) (id-falls (history w u)) p in omega (arith, x.id_at, i);
       lasts = each-both-of (λ c. k ≤ last c (first n (history w u))) (IsChannel s.net u) (λ c. k ≤ last c (first m (history w u))) (data_channels s.net u)
           (λ c b y. let i : last c (first n (history w u)) ≤ last c (first m (history w u)) = never-falls (last c) n m (history w u) (channels-rise s lost w u t r c y.link y.into y.data_sort) p in omega (arith, b, i))
           x.lasts (each-channel s.net u);
-    })).same) ∙ (settled s lost w cs u k n t r x).same
+    })).same) ∙ (settled s lost w credits cs u k n t r x).same
 
 -- ... in every longer schedule
-pub row-ahead : (s : Setup) (lost : Losses) (w : World) (es : List Entry) (cs : List ℕ) (u k n : ℕ) → IsWired s.net → Ran s lost w → n ≤ length (history w u) → lag s.net k u (first n (history w u)) ≡ None
-    → row cs k (history (run s lost w es) u) ≡ row cs k (first n (history w u))
-row-ahead s lost w es cs u k n t r p q = let e : first n (history (run s lost w es) u) ≡ first n (history w u) = (extends-run s lost w es u).steps n p in
-    row-kept s lost (run s lost w es) cs u k n t (kept_by_run s lost (Ran s lost) (ran-turn s lost) w es r) (subst (λ g. lag s.net k u g ≡ None) (sym e) q) ∙ ap (row cs k) e
+pub row-ahead : (s : Setup) (lost : Losses) (w : World) (es : List Entry) (credits : ℕ) (cs : List ℕ) (u k n : ℕ) → IsWired s.net → Ran s lost w → n ≤ length (history w u) → lag s.net k u (first n (history w u)) ≡ None
+    → row credits cs k (history (run s lost w es) u) ≡ row credits cs k (first n (history w u))
+row-ahead s lost w es credits cs u k n t r p q = let e : first n (history (run s lost w es) u) ≡ first n (history w u) = (extends-run s lost w es u).steps n p in
+    row-kept s lost (run s lost w es) credits cs u k n t (kept_by_run s lost (Ran s lost) (ran-turn s lost) w es r) (subst (λ g. lag s.net k u g ≡ None) (sym e) q) ∙ ap (row credits cs k) e

@@ -1,5 +1,5 @@
 -- The totals of a unit's row are the values of its data channels.
-use Rattle.std.proofs.Common.{◌≡◌, ℕ, zero, suc, ◌+◌, ◌<◌, ◌≤◌, List, [], ◌∷◌, ◌++◌, length, refl, sym, ap, subst, ◌∙◌, arith, inl, inr}
+use Rattle.std.proofs.Common.{◌≡◌, ℕ, zero, suc, ◌+◌, ◌<◌, ◌≤◌, List, [], ◌∷◌, ◌++◌, length, refl, sym, ap, subst, ◌∙◌, None, arith, inl, inr}
 use Rattle.std.specs.Prelude.{◌⊎◌, if◌then◌else◌, map, take, replicate, IsTrue}
 use Rattle.std.proofs.lemmas.Bool.{ne_eqb}
 use Rattle.std.proofs.lemmas.Option.{get_or_from_slice_get}
@@ -18,7 +18,7 @@ use Rattle.sl_model.specs.Made.{Ran}
 use Rattle.sl_model.specs.World.{receiver}
 use Rattle.sl_model.specs.Matching.{is_data}
 use Rattle.sl_model.specs.Cut.{channel_value}
-use Rattle.sl_model.specs.Verdict.{miscredits}
+use Rattle.sl_model.specs.Verdict.{skipped_to, miscredits}
 use Rattle.sl_model.specs.Late.{IsLateData}
 use Rattle.sl_saves.specs.Keeping.{no_total}
 use Rattle.sl_model.specs.Findings.{eight_totals, channel_links}
@@ -84,10 +84,10 @@ value-late s lost w k u c n r i = let at : link_at s.net u c ≡ i.link = get_or
     of_late : IsLateData s.net lost w k i.link → channel_value s.net lost w k i.link ≡ late_total k (choice_of s.net i.link) (receiver s.net w i.link)
     of_late x = let p = x.packets in let b = x.bytes in λ j. record { packets = p j; bytes = b j }
 
-pub totals-are : (s : Setup) (lost : Losses) (w : World) (k u : ℕ) → IsWired s.net → Ran s lost w → miscredits k (history w u) ≡ []
-    → totals (credits_at (data_channels s.net u) k (history w u)) ≡ eight_totals (map (channel_value s.net lost w k) (channel_links s.net u))
-totals-are s lost w k u n r q = let cs = data_channels s.net u in let xs = credits_at cs k (history w u) in
-    sym (eight-are cs xs (distinct-channels s.net u) (all-placed s u k (history w u) (r.made u) (fit-taken s lost w u r)))
+pub totals-are : (s : Setup) (lost : Losses) (w : World) (credits k u : ℕ) → IsWired s.net → Ran s lost w → 1 ≤ credits → skipped_to k (history w u) ≡ None → miscredits credits k (history w u) ≡ []
+    → totals (credits_at credits (data_channels s.net u) k (history w u)) ≡ eight_totals (map (channel_value s.net lost w k) (channel_links s.net u))
+totals-are s lost w credits k u n r one v q = let cs = data_channels s.net u in let xs = credits_at credits cs k (history w u) in
+    sym (eight-are cs xs (distinct-channels s.net u) (all-placed s credits u k (history w u) (r.made u) (fit-taken s lost w u r)))
     ∙ sym (ap eight_totals (map-both (channel_value s.net lost w k) (link_at s.net u) (λ c. total_on (place_in 0 c cs) xs) cs
     (each-both-of (IsChannel s.net u) (λ c. total_on (place_in 0 c cs) xs ≡ late_total k c (history w u)) (λ c. channel_value s.net lost w k (link_at s.net u c) ≡ total_on (place_in 0 c cs) xs) cs
-    (λ c i e. value-late s lost w k u c n r i ∙ sym e) (each-channel s.net u) (each-late cs k (history w u) q))))
+    (λ c i e. value-late s lost w k u c n r i ∙ sym e) (each-channel s.net u) (each-late credits cs k (history w u) one v q))))

@@ -1,7 +1,7 @@
 -- The calls of a unit lie within the window.
 use Rattle.std.proofs.Common.{◌≡◌, ℕ, zero, suc, ◌+◌, ◌-◌, ◌<◌, ◌≤◌, List, [], ◌∷◌, ◌++◌, length, refl, sym, ap, subst, ◌∙◌, Option, Some, None, arith, inl, inr}
-use Rattle.std.specs.Prelude.{◌⊎◌, max, true, false, Bool, ◌==◌, if◌then◌else◌, map, drop, nat_lt, nat_eq, slice_get, unwrap_or, IsTrue, option_and_then}
-use Rattle.std.proofs.lemmas.Bool.{lt-ltb, le-ltb, cases_lt}
+use Rattle.std.specs.Prelude.{◌⊎◌, max, true, false, Bool, ◌==◌, if◌then◌else◌, map, drop, ◌&&◌, slice_index_or, nat_lt, nat_eq, slice_get, unwrap_or, IsTrue, option_and_then}
+use Rattle.std.proofs.lemmas.Bool.{lt-ltb, le-ltb, cases_lt, and_left, and_right}
 use Rattle.std.proofs.lemmas.Bool.Decides.{eqb_tells}
 use Rattle.sl_layout.specs.declared.actor.UnitId.{UnitId}
 use Rattle.sl_layout.specs.declared.actor.ActorId.TheVariants.{Unit as OfUnit}
@@ -15,13 +15,14 @@ use Rattle.sl_model.specs.declared.message.Message.{Message}
 use Rattle.sl_model.specs.declared.message.Message.TheVariants.{Data, Probe as ProbeMsg, Init as InitMsg}
 use Rattle.sl_model.specs.declared.message.Step.{Step}
 use Rattle.sl_parts.specs.Lists.{Each, Member}
-use Rattle.sl_parts.proofs.Lists.{each-append}
+use Rattle.sl_parts.proofs.Lists.{each-append, each-imp}
 use Rattle.sl_model.specs.Words.{Rises, listed, numbers}
 use Rattle.sl_model.specs.History.{History, World, Losses, history, stamp_of, stamp_taken, id, last, taken, put}
 use Rattle.sl_model.specs.Setup.{Setup}
 use Rattle.sl_model.specs.Counting.{packets, bytes}
 use Rattle.sl_model.specs.World.{Entry, start, next_step, turn, world, carried, sender, receiver}
 use Rattle.sl_model.specs.Made.{Ran}
+use Rattle.sl_model.specs.Verdict.{is_old_data, adopted, nth_adopted, miscredits}
 use Rattle.sl_model.specs.Fit.{fits, fits_link, is_stamped, stamp}
 use Rattle.sl_model.specs.Window.{on_way, IsInWindow, IsNear, begun}
 use Rattle.sl_net.specs.Ways.{IsInto, HasWays}
@@ -32,7 +33,9 @@ use Rattle.sl_model.proofs.Near.{in-window, near}
 use Rattle.sl_model.specs.Calls.{credit, credits_in, step_calls, calls}
 use Rattle.sl_model.specs.UnitWindow.{IsWithin, IsTakeable}
 use Rattle.sl_model.specs.Turns.{Takes, Acts}
-use Rattle.sl_model.proofs.Entries.{stamp_in}
+use Rattle.sl_model.proofs.Entries.{stamp_in, adopted-le, adopted-falls}
+use Rattle.sl_model.proofs.Lowest.{Falls}
+use Rattle.sl_model.proofs.Rows.{miscredits-none}
 use Rattle.sl_model.proofs.Settled.{IsData, data-fits, is-channel, place-lt}
 use Rattle.sl_model.proofs.Totals.{data-is}
 
@@ -189,29 +192,60 @@ pub next-takeable : (s : Setup) (lost : Losses) (w : World) (u : ℕ) (i : UnitI
 next-takeable s lost w u i step j n r x q (inl t) e = takeable s u step (history w u) t.took.message j (next-is s lost w u i step n r x q t) (ap (option_and_then stamp_of) (sym t.took.taken) ∙ e)
 next-takeable s lost w u i step j n r x q (inr t) e = absurd (let z : None ≡ Some j = ap (option_and_then stamp_of) (sym t.acted.taken) ∙ e in cc)
 
--- The calls of a whole history.
+-- What holds of a whole history.
 
--- a world of a schedule, in which the calls of the unit lie within the window
-record Keeps (s : Setup) (lost : Losses) (u : ℕ) (w : World) : Type 0 where
+-- a world of a schedule, in which P holds of the unit's history
+record Keeps (s : Setup) (lost : Losses) (u : ℕ) (P : History → Type 0) (w : World) : Type 0 where
   pub entries : List Entry
   pub is : world s lost entries ≡ w
-  pub within : Each (IsWithin s.window) (calls (data_channels s.net u) (history w u))
+  pub holds : P (history w u)
 
-keeps-turn : (s : Setup) (lost : Losses) (u : ℕ) (i : UnitId) → IsWired s.net → length (data_channels s.net u) ≤ 8 → actor_of s.net u ≡ OfUnit i → (w : World) (e : Entry) → Keeps s lost u w → Keeps s lost u (turn s lost w e)
-keeps-turn s lost u i n few q w e k = record { entries = k.entries ++ e ∷ []; is = run-append s lost (start s.net) k.entries (e ∷ []) ∙ ap (λ v. turn s lost v e) k.is; within = by_cases (turn-cases s lost w e) }
+-- a step of the unit u in a world of a schedule keeps P
+abbrev KeptByStep : Setup → Losses → ℕ → (History → Type 0) → Type 0
+KeptByStep s lost u P = (w : World) (step : Step) → Ran s lost w → IsInWindow s lost w → Takes s lost w u step ⊎ Acts s w u step → P (history w u) → P (step ∷ history w u)
+
+keeps-turn : (s : Setup) (lost : Losses) (u : ℕ) (P : History → Type 0) → IsWired s.net → KeptByStep s lost u P → (w : World) (e : Entry) → Keeps s lost u P w → Keeps s lost u P (turn s lost w e)
+keeps-turn s lost u P n f w e k = record { entries = k.entries ++ e ∷ []; is = run-append s lost (start s.net) k.entries (e ∷ []) ∙ ap (λ v. turn s lost v e) k.is; holds = by_cases (turn-cases s lost w e) }
   where
-    by_actor : (v : World) (t : Steps s lost w e v) → ((nat_eq u e.0 ≡ true) × (u ≡ e.0)) ⊎ ((nat_eq u e.0 ≡ false) × (u ≡ e.0 → ⊥)) → Each (IsWithin s.window) (calls (data_channels s.net u) (history v u))
-    by_actor v t (inr x) = subst (λ h. Each (IsWithin s.window) (calls (data_channels s.net u) h)) (sym (t.grows.other u x.1)) k.within
-    by_actor v t (inl x) = subst (λ h. Each (IsWithin s.window) (calls (data_channels s.net u) h)) (sym (ap (history v) x.1 ∙ t.grows.same ∙ ap (λ a. t.step ∷ history w a) (sym x.1)))
-        (each-append (IsWithin s.window) (step_calls (data_channels s.net u) (history w u) t.step) (calls (data_channels s.net u) (history w u))
-        (next-calls s lost w u i t.step n (subst (Ran s lost) k.is (ran s lost k.entries)) (subst (IsInWindow s lost) k.is (in-window s lost k.entries n)) few q
-        (subst (λ a. Takes s lost w a t.step ⊎ Acts s w a t.step) (sym x.1) (next-view s lost w e t.step t.next))) k.within)
+    by_actor : (v : World) (t : Steps s lost w e v) → ((nat_eq u e.0 ≡ true) × (u ≡ e.0)) ⊎ ((nat_eq u e.0 ≡ false) × (u ≡ e.0 → ⊥)) → P (history v u)
+    by_actor v t (inr x) = subst P (sym (t.grows.other u x.1)) k.holds
+    by_actor v t (inl x) = subst P (sym (ap (history v) x.1 ∙ t.grows.same ∙ ap (λ a. t.step ∷ history w a) (sym x.1)))
+        (f w t.step (subst (Ran s lost) k.is (ran s lost k.entries)) (subst (IsInWindow s lost) k.is (in-window s lost k.entries n))
+        (subst (λ a. Takes s lost w a t.step ⊎ Acts s w a t.step) (sym x.1) (next-view s lost w e t.step t.next)) k.holds)
 
-    by_cases : (turn s lost w e ≡ w) ⊎ Steps s lost w e (turn s lost w e) → Each (IsWithin s.window) (calls (data_channels s.net u) (history (turn s lost w e) u))
-    by_cases (inl x) = subst (λ v. Each (IsWithin s.window) (calls (data_channels s.net u) (history v u))) (sym x) k.within
+    by_cases : (turn s lost w e ≡ w) ⊎ Steps s lost w e (turn s lost w e) → P (history (turn s lost w e) u)
+    by_cases (inl x) = subst (λ v. P (history v u)) (sym x) k.holds
     by_cases (inr t) = by_actor (turn s lost w e) t (eqb_tells u e.0)
+
+all-kept : (s : Setup) (lost : Losses) (es : List Entry) (u : ℕ) (P : History → Type 0) → IsWired s.net → KeptByStep s lost u P → P [] → P (history (world s lost es) u)
+all-kept s lost es u P n f p = (kept_by_run s lost (Keeps s lost u P) (keeps-turn s lost u P n f) (start s.net) es (record { entries = []; is = refl; holds = subst P (sym (start-empty s.net u)) p })).holds
 
 pub all-within : (s : Setup) (lost : Losses) (es : List Entry) (u : ℕ) (i : UnitId) → IsWired s.net → length (data_channels s.net u) ≤ 8 → actor_of s.net u ≡ OfUnit i
     → Each (IsWithin s.window) (calls (data_channels s.net u) (history (world s lost es) u))
-all-within s lost es u i n few q = (kept_by_run s lost (Keeps s lost u) (keeps-turn s lost u i n few q) (start s.net) es
-    (record { entries = []; is = refl; within = subst (λ h. Each (IsWithin s.window) (calls (data_channels s.net u) h)) (sym (start-empty s.net u)) tt })).within
+all-within s lost es u i n few q = all-kept s lost es u (λ h. Each (IsWithin s.window) (calls (data_channels s.net u) h)) n
+    (λ w step r x t k. each-append (IsWithin s.window) (step_calls (data_channels s.net u) (history w u) step) (calls (data_channels s.net u) (history w u)) (next-calls s lost w u i step n r x few q t) k) tt
+
+-- With as many credits as the window has numbers none is miscredited.
+
+nth-low : (k m a : ℕ) (js : List ℕ) → Falls js → Each (λ j. j ≤ a) js → k < slice_index_or js m 0 → slice_index_or js m 0 + m ≤ a
+nth-low k m a [] f e p = absurd (omega (arith, p))
+nth-low k zero a (x ∷ xs) f e p = let b = e.0 in omega (arith, b)
+nth-low k (suc m) a (x ∷ xs) f e p = let b = e.0 in let l = nth-low k m (x - 1) xs f.1 (each-imp (λ y. y < x) (λ y. y ≤ x - 1) xs (λ y q. omega (arith, q)) f.0) p in omega (arith, b, l, p)
+
+-- a step by which data comes with a stamp at most the window, and so the credits, from the id
+none-next : (window n k c : ℕ) (o : Option Message) (step : Step) (h : History) → window ≤ n → step.taken ≡ o → ((j : ℕ) → stamp_taken step ≡ Some j → IsTakeable window c h j)
+    → (is_old_data k o && nat_lt k (nth_adopted n (step ∷ h))) ≡ false
+none-next window n k c (Some (Data t p)) step h m e f = by_order (cases_lt t k) (cases_lt k (nth_adopted n (step ∷ h)))
+  where
+    by_order : ((t < k) ⊎ (k ≤ t)) → ((k < nth_adopted n (step ∷ h)) ⊎ (nth_adopted n (step ∷ h) ≤ k)) → (nat_lt t k && nat_lt k (nth_adopted n (step ∷ h))) ≡ false
+    by_order (inr q) o = and_left (nat_lt t k) (nat_lt k (nth_adopted n (step ∷ h))) (le-ltb t k q)
+    by_order (inl q) (inr r) = and_right (nat_lt t k) (nat_lt k (nth_adopted n (step ∷ h))) (le-ltb k (nth_adopted n (step ∷ h)) r)
+    by_order (inl q) (inl r) = absurd (let b = (f t (ap (option_and_then stamp_of) e)).below in
+        let l = nth-low k (n - 1) (id (step ∷ h)) (adopted (step ∷ h)) (adopted-falls (step ∷ h)) (adopted-le (step ∷ h)) r in
+        let z : stamp_in step.taken ≡ t = ap stamp_in e in omega (arith, m, b, l, z, q, r))
+none-next window n k c _ step h m e f = refl
+
+pub none-miscredited : (s : Setup) (lost : Losses) (es : List Entry) (u k : ℕ) (i : UnitId) → IsWired s.net → actor_of s.net u ≡ OfUnit i → s.window ≤ s.credits → miscredits s.credits k (history (world s lost es) u) ≡ []
+none-miscredited s lost es u k i n q m = all-kept s lost es u (λ h. miscredits s.credits k h ≡ []) n
+    (λ w step r x t e. miscredits-none s.credits k step (history w u) (none-next s.window s.credits k step.choice step.taken step (history w u) m refl
+    (λ j z. next-takeable s lost w u i step j n r x q t z)) ∙ e) refl

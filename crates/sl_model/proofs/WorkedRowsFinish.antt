@@ -50,8 +50,8 @@ abbrev Ends : Setup → Losses → List Entry → Type 0
 Ends s lost es = (fs : List Entry) × IsEnded s lost es (kept s lost es ++ fs)
 
 -- any flows and raw frames, any loss of initiations on one link, any schedule
-ends-a : (count retries : ℕ) (flows : List Flow) (raws : List RawPart) (es : List Entry) → Ends (record { net = net_a; window = 3; count = count; retries = retries; flows = flows; raws = raws }) (drop_one 11 1) es
-ends-a count retries flows raws es = ends-well (record { net = net_a; window = 3; count = count; retries = retries; flows = flows; raws = raws }) (drop_one 11 1) es nets-a lost-init (omega arith)
+ends-a : (count retries : ℕ) (flows : List Flow) (raws : List RawPart) (es : List Entry) → Ends (record { net = net_a; window = 3; count = count; retries = retries; credits = 1; flows = flows; raws = raws }) (drop_one 11 1) es
+ends-a count retries flows raws es = ends-well (record { net = net_a; window = 3; count = count; retries = retries; credits = 1; flows = flows; raws = raws }) (drop_one 11 1) es nets-a lost-init (omega arith)
 
 -- two devices joined by a cable, and three in a line
 ends-c : (count retries : ℕ) (flows : List Flow) (es : List Entry) → Ends (setup net_c 1 count retries flows) no_loss es

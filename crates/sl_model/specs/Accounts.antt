@@ -1,7 +1,7 @@
 -- Findings from accounts of the units, with no history in sight. An account of a unit has its id, the last-seen numbers of its data channels
 -- in order, its floor, and the rows of 1, 2, .. up to the least of the id and these numbers.
---     account net u h     the account that a history gives of the unit u
---     accounts net w      those of all units, by what the observer knows of them
+--     account n net u h   the account that a history gives of the unit u, where a data packet is credited to n numbers at most
+--     accounts n net w    those of all units, by what the observer knows of them
 --     finding_by n xs k   the finding of k by accounts, where n snapshots were issued
 use Rattle.std.specs.Prelude.{ℕ, ◌-◌, List, [], map, nat_lt, nat_le, ◌==◌, if◌then◌else◌, Option, Some, None, slice_get, unwrap_or, option_and_then}
 use Rattle.sl_parts.specs.Parts.{numbers_from}
@@ -29,16 +29,16 @@ pub record Account : Type 0 where
   pub floor : ℕ
   pub rows : List Saved
 
-abbrev pub account : Net → ℕ → History → Account
-account net u h = record {
+abbrev pub account : ℕ → Net → ℕ → History → Account
+account n net u h = record {
   id = id h;
   last = map (λ c. last c h) (data_channels net u);
   floor = floor_of net u h;
-  rows = map (λ k. row (data_channels net u) k h) (numbers_from 1 (upto_of net u h));
+  rows = map (λ k. row n (data_channels net u) k h) (numbers_from 1 (upto_of net u h));
 }
 
-abbrev pub accounts : Net → World → List Account
-accounts net w = map (λ u. account net u (collected net w u)) (units net)
+abbrev pub accounts : ℕ → Net → World → List Account
+accounts n net w = map (λ u. account n net u (collected net w u)) (units net)
 
 -- What an account says of k.
 

@@ -21,7 +21,7 @@ pub record IsBrought (net : Net) (window u : ℕ) (h : History) (m n : ℕ) : Ty
   -- the id lies less than the window above each number that was not collected
   pub near : (k : ℕ) → upto_of net u (first m h) < k → id (first n h) < k + window
   -- and the rows that were collected stay
-  pub stays : (cs : List ℕ) (k : ℕ) → k ≤ upto_of net u (first m h) → row cs k (first n h) ≡ row cs k (first m h)
+  pub stays : (credits : ℕ) (cs : List ℕ) (k : ℕ) → k ≤ upto_of net u (first m h) → row credits cs k (first n h) ≡ row credits cs k (first m h)
   -- the id and each last-seen number, of a data channel and of initiations, lie from what was known to the window above it
   pub id_raised : IsRaised window (id (first m h)) (id (first n h))
   pub lasts_raised : Each (λ c. IsRaised window (last c (first m h)) (last c (first n h))) (data_channels net u)

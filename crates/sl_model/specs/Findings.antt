@@ -43,8 +43,8 @@ abbrev pub rows_for : Net → Losses → World → ℕ → Verdict → List Row
 rows_for net lost w k Consistent = map (row net lost w k) (units net)
 rows_for net lost w k _ = []
 
-abbrev pub finding : Net → Losses → World → ℕ → Finding
-finding net lost w k = record { k = k; verdict = verdict net w k; rows = rows_for net lost w k (verdict net w k) }
+abbrev pub finding : ℕ → Net → Losses → World → ℕ → Finding
+finding n net lost w k = record { k = k; verdict = verdict n net w k; rows = rows_for net lost w k (verdict n net w k) }
 
 -- Drops, over the ingress units.
 
@@ -85,7 +85,7 @@ findings_in s lost w = record {
   issued = issued s.net (observer w);
   floor = floor s.net w;
   resent = resent s.net (observer w);
-  list = map (finding s.net lost w) (numbers_from 1 s.count);
+  list = map (finding s.credits s.net lost w) (numbers_from 1 s.count);
   sent = map (sent_by s.net w) (hosts s.net);
   delivered = map (delivered_to w) (hosts s.net);
   drops = drops_of s.net w;

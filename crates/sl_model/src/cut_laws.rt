@@ -110,7 +110,7 @@ pub fn uncollected_numbers_are_near()
 pub fn collected_rows_stay()
     ensures { (s : Setup) (lost : Losses) (es fs : List Entry) (u k n : ℕ) → IsNet s.net → n ≤ length (history (world s lost es) u)
         → lag s.net k u (first n (history (world s lost es) u)) ≡ None
-        → IsKept s.net u k (first n (history (world s lost es) u)) (history (world s lost (es ++ fs)) u) }
+        → IsKept s.credits s.net u k (first n (history (world s lost es) u)) (history (world s lost (es ++ fs)) u) }
 {
     nets_are_wired()
 }
@@ -118,7 +118,7 @@ pub fn collected_rows_stay()
 /// The verdict on a number up to the floor is the one from what the observer knows of the units.
 pub fn collected_verdicts_are_known()
     ensures { (s : Setup) (lost : Losses) (es : List Entry) (k : ℕ) → IsNet s.net → k ≤ floor s.net (world s lost es)
-        → known_verdict s.net (world s lost es) k ≡ verdict s.net (world s lost es) k }
+        → known_verdict s.credits s.net (world s lost es) k ≡ verdict s.credits s.net (world s lost es) k }
 {
     nets_are_wired()
 }
@@ -126,7 +126,7 @@ pub fn collected_verdicts_are_known()
 /// The verdict on a number up to the floor stays what it is in every longer schedule.
 pub fn collected_verdicts_stay()
     ensures { (s : Setup) (lost : Losses) (es fs : List Entry) (k : ℕ) → IsNet s.net → k ≤ floor s.net (world s lost es)
-        → verdict s.net (world s lost (es ++ fs)) k ≡ verdict s.net (world s lost es) k }
+        → verdict s.credits s.net (world s lost (es ++ fs)) k ≡ verdict s.credits s.net (world s lost es) k }
 {
     nets_are_wired()
 }
@@ -135,7 +135,7 @@ pub fn collected_verdicts_stay()
 /// observer knows of the units.
 pub fn finished_verdicts_are_known()
     ensures { (s : Setup) (lost : Losses) (es : List Entry) (k : ℕ) → IsNet s.net → IsFinished s lost (world s lost es)
-        → k ≤ issued s.net (observer (world s lost es)) → known_verdict s.net (world s lost es) k ≡ verdict s.net (world s lost es) k }
+        → k ≤ issued s.net (observer (world s lost es)) → known_verdict s.credits s.net (world s lost es) k ≡ verdict s.credits s.net (world s lost es) k }
 {
     nets_are_wired()
 }

@@ -80,12 +80,12 @@ pub fn dones_bring_rows()
 /// A view that shows the calls of the steps that news of a unit tells, with as many slots as the
 /// window or more, is read as the rows of the numbers that the news brings.
 pub fn brought_rows_are_read()
-    ensures live { (net : Net) (window u : ℕ) (h : History) (m n : ℕ) (cs : List ℕ) (view : View) (k : ℕ) → IsBrought net window u h m n
-        → IsShown view (calls cs (first n h)) → window ≤ length view.slots → upto_of net u (first m h) < k → k ≤ upto_of net u (first n h)
+    ensures live { (net : Net) (window u : ℕ) (h : History) (m n credits : ℕ) (cs : List ℕ) (view : View) (k : ℕ) → IsBrought net window u h m n
+        → IsShown credits view (calls cs (first n h)) → window ≤ length view.slots → upto_of net u (first m h) < k → k ≤ upto_of net u (first n h)
         → IsLive view (id (first n h)) k }
-    ensures read { (net : Net) (window u : ℕ) (h : History) (m n : ℕ) (cs : List ℕ) (view : View) (k : ℕ) → IsBrought net window u h m n
-        → IsShown view (calls cs (first n h)) → window ≤ length view.slots → upto_of net u (first m h) < k → k ≤ upto_of net u (first n h)
-        → read view (id (first n h)) k ≡ held_saved (row cs k (first n h)) }
+    ensures read { (net : Net) (window u : ℕ) (h : History) (m n credits : ℕ) (cs : List ℕ) (view : View) (k : ℕ) → IsBrought net window u h m n
+        → 1 ≤ credits → IsShown credits view (calls cs (first n h)) → window ≤ length view.slots → upto_of net u (first m h) < k → k ≤ upto_of net u (first n h)
+        → read view (id (first n h)) k ≡ held_saved (row credits cs k (first n h)) }
 {
     shown_is_live();
     shown_is_read()

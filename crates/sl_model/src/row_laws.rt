@@ -1,7 +1,7 @@
 // Laws of worlds, over all schedules and losses: the calls of units, the rows that are collected
 // of them, and the findings that these give. The functions do nothing: their contracts are the
 // laws, and the proofs are in proofs/. Most call the law that nets are wired.
-ghost use Rattle.std.specs.Prelude.{◌≡◌, ℕ, ◌^◌, ◌<◌, ◌≤◌, List, ◌++◌, length, map, Some, None};
+ghost use Rattle.std.specs.Prelude.{◌≡◌, ℕ, ◌^◌, ◌<◌, ◌≤◌, List, [], ◌++◌, length, map, Some, None};
 ghost use Rattle.sl_layout.specs.declared.actor.UnitId.{UnitId};
 ghost use Rattle.sl_layout.specs.declared.actor.ActorId.TheVariants.{Unit as OfUnit};
 ghost use Rattle.sl_parts.specs.Parts.{numbers_from};
@@ -16,7 +16,7 @@ ghost use Rattle.sl_model.specs.Counting.{counted};
 ghost use Rattle.sl_model.specs.Setup.{Setup};
 ghost use Rattle.sl_model.specs.Knowledge.{observer, issued, floor, collected, upto_of};
 ghost use Rattle.sl_model.specs.World.{Entry, next_step, world};
-ghost use Rattle.sl_model.specs.Verdict.{cause, lag};
+ghost use Rattle.sl_model.specs.Verdict.{miscredits, cause, lag};
 ghost use Rattle.sl_model.specs.End.{IsFinished};
 ghost use Rattle.sl_model.specs.Findings.{finding, findings};
 ghost use Rattle.sl_model.specs.Findings.{row as world_row};
@@ -62,8 +62,16 @@ pub fn packets_are_short()
 /// holds the row as it is.
 pub fn rows_are_held()
     ensures { (s : Setup) (lost : Losses) (es : List Entry) (cs : List ℕ) (u k n : ℕ) → SendsShort s → length es < 2 ^ 40
-        → held_saved (row cs k (first n (history (world s lost es) u))) ≡ row cs k (first n (history (world s lost es) u)) }
+        → held_saved (row s.credits cs k (first n (history (world s lost es) u))) ≡ row s.credits cs k (first n (history (world s lost es) u)) }
 {}
+
+/// Where a data packet is credited to as many numbers as the window has, no number is miscredited.
+pub fn enough_credits_miscredit_nothing()
+    ensures { (s : Setup) (lost : Losses) (es : List Entry) (u k : ℕ) (i : UnitId) → IsNet s.net → actor_of s.net u ≡ OfUnit i
+        → s.window ≤ s.credits → miscredits s.credits k (history (world s lost es) u) ≡ [] }
+{
+    nets_are_wired()
+}
 
 /// Once the id and the data last-seen numbers of a unit have reached k, the row of k stays what it
 /// is after more of its steps, and in every longer schedule. So does the row of each number that
@@ -71,13 +79,13 @@ pub fn rows_are_held()
 pub fn rows_are_final()
     ensures later { (s : Setup) (lost : Losses) (es : List Entry) (cs : List ℕ) (u k n m : ℕ) → IsNet s.net → n ≤ m
         → lag s.net k u (first n (history (world s lost es) u)) ≡ None
-        → row cs k (first m (history (world s lost es) u)) ≡ row cs k (first n (history (world s lost es) u)) }
+        → row s.credits cs k (first m (history (world s lost es) u)) ≡ row s.credits cs k (first n (history (world s lost es) u)) }
     ensures ahead { (s : Setup) (lost : Losses) (es fs : List Entry) (cs : List ℕ) (u k n : ℕ) → IsNet s.net
         → n ≤ length (history (world s lost es) u) → lag s.net k u (first n (history (world s lost es) u)) ≡ None
-        → row cs k (history (world s lost (es ++ fs)) u) ≡ row cs k (first n (history (world s lost es) u)) }
+        → row s.credits cs k (history (world s lost (es ++ fs)) u) ≡ row s.credits cs k (first n (history (world s lost es) u)) }
     ensures collected { (s : Setup) (lost : Losses) (es : List Entry) (cs : List ℕ) (u k : ℕ) (i : UnitId) → IsNet s.net → actor_of s.net u ≡ OfUnit i
         → k ≤ upto_of s.net u (collected s.net (world s lost es) u)
-        → row cs k (collected s.net (world s lost es) u) ≡ row cs k (history (world s lost es) u) }
+        → row s.credits cs k (collected s.net (world s lost es) u) ≡ row s.credits cs k (history (world s lost es) u) }
 {
     nets_are_wired()
 }
@@ -85,9 +93,10 @@ pub fn rows_are_final()
 /// A row says why its number is inconsistent, if it is, and else the counts of the unit and the
 /// values of its data channels.
 pub fn rows_are_of_the_world()
-    ensures causes { (cs : List ℕ) (k : ℕ) (h : History) → cause_in (row cs k h) ≡ cause k h }
-    ensures values { (s : Setup) (lost : Losses) (es : List Entry) (k u : ℕ) → IsNet s.net → cause k (history (world s lost es) u) ≡ None
-        → value_row (Some (row (data_channels s.net u) k (history (world s lost es) u))) ≡ world_row s.net lost (world s lost es) k u }
+    ensures causes { (n : ℕ) (cs : List ℕ) (k : ℕ) (h : History) → cause_in (row n cs k h) ≡ cause n k h }
+    ensures values { (s : Setup) (lost : Losses) (es : List Entry) (k u : ℕ) → IsNet s.net → 1 ≤ s.credits
+        → cause s.credits k (history (world s lost es) u) ≡ None
+        → value_row (Some (row s.credits (data_channels s.net u) k (history (world s lost es) u))) ≡ world_row s.net lost (world s lost es) k u }
 {
     nets_are_wired()
 }
@@ -95,12 +104,14 @@ pub fn rows_are_of_the_world()
 /// The findings by what the observer knows of the units, their ids, last-seen numbers, floors and
 /// rows, are those of the world: up to the floor at any time, and in a finished world all.
 pub fn accounts_give_findings()
-    ensures collected { (s : Setup) (lost : Losses) (es : List Entry) (k : ℕ) → IsNet s.net → 1 ≤ k → k ≤ floor s.net (world s lost es)
-        → finding_by (issued s.net (observer (world s lost es))) (accounts s.net (world s lost es)) k ≡ finding s.net lost (world s lost es) k }
-    ensures finished { (s : Setup) (lost : Losses) (es : List Entry) (k : ℕ) → IsNet s.net → IsFinished s lost (world s lost es) → 1 ≤ k
-        → finding_by (issued s.net (observer (world s lost es))) (accounts s.net (world s lost es)) k ≡ finding s.net lost (world s lost es) k }
-    ensures list { (s : Setup) (lost : Losses) (es : List Entry) → IsNet s.net → IsFinished s lost (world s lost es)
-        → map (finding_by (issued s.net (observer (world s lost es))) (accounts s.net (world s lost es))) (numbers_from 1 s.count)
+    ensures collected { (s : Setup) (lost : Losses) (es : List Entry) (k : ℕ) → IsNet s.net → 1 ≤ s.credits → 1 ≤ k → k ≤ floor s.net (world s lost es)
+        → finding_by (issued s.net (observer (world s lost es))) (accounts s.credits s.net (world s lost es)) k
+        ≡ finding s.credits s.net lost (world s lost es) k }
+    ensures finished { (s : Setup) (lost : Losses) (es : List Entry) (k : ℕ) → IsNet s.net → 1 ≤ s.credits → IsFinished s lost (world s lost es) → 1 ≤ k
+        → finding_by (issued s.net (observer (world s lost es))) (accounts s.credits s.net (world s lost es)) k
+        ≡ finding s.credits s.net lost (world s lost es) k }
+    ensures list { (s : Setup) (lost : Losses) (es : List Entry) → IsNet s.net → 1 ≤ s.credits → IsFinished s lost (world s lost es)
+        → map (finding_by (issued s.net (observer (world s lost es))) (accounts s.credits s.net (world s lost es))) (numbers_from 1 s.count)
         ≡ (findings s lost es).list }
 {
     nets_are_wired();

@@ -1,6 +1,6 @@
 // Laws of one unit's history and of what it saves. The functions do nothing: their contracts are
 // the laws, and the proofs are in proofs/. cs are the unit's data channels, as choices.
-ghost use Rattle.std.specs.Prelude.{◌≡◌, ℕ, ◌+◌, ◌-◌, ◌*◌, ◌^◌, ◌<◌, ◌≤◌, List, [], ◌∷◌, length, Some, false};
+ghost use Rattle.std.specs.Prelude.{◌≡◌, ℕ, ◌+◌, ◌-◌, ◌*◌, ◌^◌, ◌<◌, ◌≤◌, List, [], ◌∷◌, length, Some, None, false};
 ghost use Rattle.sl_net.specs.declared.input.Packet.{Packet};
 ghost use Rattle.sl_layout.specs.Net.{place_in};
 ghost use Rattle.sl_saves.specs.declared.entry.View.{View};
@@ -13,7 +13,7 @@ ghost use Rattle.sl_parts.specs.Lists.{Each};
 ghost use Rattle.sl_model.specs.History.{History, id};
 ghost use Rattle.sl_model.specs.Counting.{packets, bytes};
 ghost use Rattle.sl_model.specs.Fit.{stamp};
-ghost use Rattle.sl_model.specs.Verdict.{is_old_data, miscredits};
+ghost use Rattle.sl_model.specs.Verdict.{is_old_data, skipped_to, nth_adopted, miscredits};
 ghost use Rattle.sl_model.specs.Calls.{calls, credit};
 ghost use Rattle.sl_model.specs.Rows.{row, entries, credits_at};
 ghost use Rattle.sl_model.specs.Short.{TakesShort};
@@ -41,34 +41,41 @@ pub fn calls_lead_to_id()
 /// What the calls of a history save is an entry for each number that it adopted: how far it lies
 /// above the number before, what was counted before, and what was credited to it.
 pub fn entries_are_values()
-    ensures { (cs : List ℕ) (h : History) → saves (calls cs h) ≡ entries cs h }
+    ensures { (n : ℕ) (cs : List ℕ) (h : History) → saves n (calls cs h) ≡ entries n cs h }
 {}
 
 /// What the calls of a history saved for a number up to its id is the row of this number.
 pub fn saved_is_row()
-    ensures { (cs : List ℕ) (h : History) (k : ℕ) → 1 ≤ k → k ≤ id h → saved k (saves (calls cs h)) ≡ row cs k h }
+    ensures { (n : ℕ) (cs : List ℕ) (h : History) (k : ℕ) → 1 ≤ n → 1 ≤ k → k ≤ id h → saved k (saves n (calls cs h)) ≡ row n cs k h }
 {}
 
 /// The row of a number up to the id stays what it is where no data packet with a stamp below it is
 /// taken.
 pub fn row_stays()
-    ensures { (cs : List ℕ) (k : ℕ) (s : Step) (h : History) → k ≤ id h → is_old_data k s.taken ≡ false → row cs k (s ∷ h) ≡ row cs k h }
+    ensures { (n : ℕ) (cs : List ℕ) (k : ℕ) (s : Step) (h : History) → k ≤ id h → is_old_data k s.taken ≡ false
+        → row n cs k (s ∷ h) ≡ row n cs k h }
 {}
 
-/// Where a number was not miscredited, what was credited to it on a data channel is what came
-/// there outside its cut with stamps below it.
+/// The last number that a unit adopted is its id. So where a data packet is credited to one number
+/// alone, a number is miscredited by the ids at which a data packet with a stamp below it came.
+pub fn one_credit_is_the_id()
+    ensures { (h : History) → nth_adopted 1 h ≡ id h }
+{}
+
+/// Where a number was neither skipped nor miscredited, what was credited to it on a data channel is
+/// what came there outside its cut with stamps below it.
 pub fn late_is_credited()
-    ensures { (cs : List ℕ) (k : ℕ) (h : History) → miscredits k h ≡ []
-        → Each (λ c. total_on (place_in 0 c cs) (credits_at cs k h) ≡ late_total k c h) cs }
+    ensures { (n : ℕ) (cs : List ℕ) (k : ℕ) (h : History) → 1 ≤ n → skipped_to k h ≡ None → miscredits n k h ≡ []
+        → Each (λ c. total_on (place_in 0 c cs) (credits_at n cs k h) ≡ late_total k c h) cs }
 {}
 
 /// A view that shows the calls of a history is read as its rows, for each number up to its id that
 /// lies less than the view's size below it.
 pub fn read_is_row()
-    ensures held { (cs : List ℕ) (h : History) (view : View) (k : ℕ) → IsShown view (calls cs h) → 1 ≤ k → k ≤ id h
-        → id h < k + length view.slots → read view (id h) k ≡ held_saved (row cs k h) }
-    ensures fitting { (cs : List ℕ) (h : History) (view : View) (k : ℕ) → IsShown view (calls cs h) → 1 ≤ k → k ≤ id h
-        → id h < k + length view.slots → IsFitting (row cs k h) → read view (id h) k ≡ row cs k h }
+    ensures held { (n : ℕ) (cs : List ℕ) (h : History) (view : View) (k : ℕ) → 1 ≤ n → IsShown n view (calls cs h) → 1 ≤ k → k ≤ id h
+        → id h < k + length view.slots → read view (id h) k ≡ held_saved (row n cs k h) }
+    ensures fitting { (n : ℕ) (cs : List ℕ) (h : History) (view : View) (k : ℕ) → 1 ≤ n → IsShown n view (calls cs h) → 1 ≤ k → k ≤ id h
+        → id h < k + length view.slots → IsFitting (row n cs k h) → read view (id h) k ≡ row n cs k h }
 {
     shown_is_read()
 }
@@ -78,5 +85,5 @@ pub fn read_is_row()
 pub fn counts_fit()
     ensures packets { (h : History) → packets h ≤ length h }
     ensures bytes { (h : History) → TakesShort h → bytes h ≤ 65535 * length h }
-    ensures rows { (cs : List ℕ) (k : ℕ) (h : History) → TakesShort h → length h < 2 ^ 40 → IsFitting (row cs k h) }
+    ensures rows { (n : ℕ) (cs : List ℕ) (k : ℕ) (h : History) → TakesShort h → length h < 2 ^ 40 → IsFitting (row n cs k h) }
 {}

@@ -5,7 +5,8 @@
 pub enum Cause {
     /// The unit went from a lower number to this one.
     Skipped { to: u64 },
-    /// The unit took an older data packet when its id was this number.
+    /// The unit took a data packet from before the snapshot, which was credited to later numbers
+    /// alone. This is the least of them.
     Miscredited { by: u64 },
 }
 

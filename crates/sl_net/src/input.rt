@@ -5,8 +5,9 @@ use sl_parts::Bytes;
 use std::marker::Model;
 
 /// The snapshot table: `width` is the bits of a wrapped id, `window` and `ring` the sizes of the
-/// observer's window and of a unit's ring, `count` how many snapshots are to be taken, and
-/// `retries` how often an initiation may be repeated in all.
+/// observer's window and of a unit's ring, `count` how many snapshots are to be taken, `retries`
+/// how often an initiation may be repeated in all, and `credits` to how many saved numbers a data
+/// packet in flight is credited at most.
 #[derive(Clone, Copy, Debug, PartialEq, Eq)]
 pub struct Snapshot {
     pub width: u8,
@@ -14,6 +15,7 @@ pub struct Snapshot {
     pub ring: u16,
     pub count: u64,
     pub retries: u64,
+    pub credits: u8,
 }
 
 /// One loss by name: the `n`-th put on a link, from 1.

@@ -40,7 +40,7 @@ heard-told c (s ∷ h) = by_bool (s.choice == c) s.taken (heard-told c h) ∙ sy
 
 -- a message stands for what it stands for, also where other things were told of other units
 pub retold : (net : Net) (sizes : Sizes) (us : ℕ → History) (a : ℕ) (told now : ℕ → ℕ) (m : Message) (x : Msg) → ((place n : ℕ) → m ≡ DoneMsg place n → told place ≡ now place) → IsMessage net sizes us a told m x → IsMessage net sizes us a now m x
-retold net sizes us a told now (DoneMsg place n) x h i = let u : ℕ = slice_index (units net) place in subst (λ k. SaysDone net u (first k (us u)) (first n (us u)) x) (h place n refl) i
+retold net sizes us a told now (DoneMsg place n) x h i = let u : ℕ = slice_index (units net) place in subst (λ k. SaysDone sizes.credits net u (first k (us u)) (first n (us u)) x) (h place n refl) i
 retold net sizes us a told now _ x h i = i
 
 -- Growing histories.
@@ -79,8 +79,8 @@ pub message-grown : (net : Net) (sizes : Sizes) (w v : World) (b : ℕ) (step : 
     → IsMessage net sizes (history w) a told m x → IsMessage net sizes (history v) a told m x
 message-grown net sizes w v b step a told (DumpMsg n) x g t i s = subst (λ h. SaysDump net sizes a h x) (first-same w v b step a n g (i.dump n refl)) s
 message-grown net sizes w v b step a told (DoneMsg place n) x g t i s = let u : ℕ = slice_index (units net) place in
-    subst (λ h. SaysDone net u (first (told place) (history v u)) h x) (first-same w v b step u n g (i.done place n (done-itself place n)))
-    (subst (λ h. SaysDone net u h (first n (history w u)) x) (first-same w v b step u (told place) g (t place)) s)
+    subst (λ h. SaysDone sizes.credits net u (first (told place) (history v u)) h x) (first-same w v b step u n g (i.done place n (done-itself place n)))
+    (subst (λ h. SaysDone sizes.credits net u h (first n (history w u)) x) (first-same w v b step u (told place) g (t place)) s)
 message-grown net sizes w v b step a told _ x g t i s = s
 
 pub queue-grown : (net : Net) (sizes : Sizes) (w v : World) (b : ℕ) (step : Step) (a : ℕ) (told : ℕ → ℕ) (ms : List Message) (xs : List Msg) → GrowsAt w v b step → Told net (history w) told → Each (IsThere net (history w) a) ms

@@ -188,18 +188,18 @@ watched-as s table w (HostNode o) h = absurd h
 first-actor : (net : Net) → IsNet net → (actor_of net 0 ≡ Observer) × (0 < length net.actors)
 first-actor net n = subst (λ m. (actor_of m 0 ≡ Observer) × (0 < length m.actors)) (sym n.made) (refl, omega arith)
 
-unit-collected : (net : Net) (u : ℕ) (g : History) → length (data_channels net u) ≤ 8 → HasRows net u (unit_of net u g)
-unit-collected net u g few = record {
+unit-collected : (credits : ℕ) (net : Net) (u : ℕ) (g : History) → length (data_channels net u) ≤ 8 → HasRows net u (unit_of credits net u g)
+unit-collected credits net u g few = record {
   channels = refl;
-  rows = length-map (numbers_from 1 (upto_of net u g)) (λ k. held_saved (row (data_channels net u) k g)) ∙ length_numbers 1 (upto_of net u g)
-      ∙ sym (ap (fold min (unit_of net u g).id) (channels-are net u g few));
+  rows = length-map (numbers_from 1 (upto_of net u g)) (λ k. held_saved (row credits (data_channels net u) k g)) ∙ length_numbers 1 (upto_of net u g)
+      ∙ sym (ap (fold min (unit_of credits net u g).id) (channels-are net u g few));
 }
 
 has-collected : (net : Net) (table : Snapshot) (w : World) → IsWired net → HasAllRows net (observer_of net table w)
-has-collected net table w n = let f = λ (u : ℕ). unit_of net u (collected net w u) in record {
+has-collected net table w n = let f = λ (u : ℕ). unit_of table.credits net u (collected net w u) in record {
   count = length-map (units net) f;
   each = λ place p. let t = unit-at net place p in let u = get_or (units net) place 0 in
-      subst (HasRows net u) (sym (get_or-map f (units net) place 0 (new_unit 0 0) p)) (unit-collected net u (collected net w u) (n.few_channels u t.0 t.1));
+      subst (HasRows net u) (sym (get_or-map f (units net) place 0 (new_unit 0 0) p)) (unit-collected table.credits net u (collected net w u) (n.few_channels u t.0 t.1));
 }
 
 -- A scene that stands for the world of a schedule.

@@ -7,7 +7,7 @@ use Rattle.sl_parts.specs.Lists.{Each}
 use Rattle.sl_net.specs.declared.input.Snapshot.{Snapshot}
 use Rattle.sl_form.specs.declared.path.TableName.TheVariants.{Top}
 use Rattle.sl_form.specs.declared.path.TableName.TheVariants as table
-use Rattle.sl_form.specs.declared.path.Key.TheVariants.{Device, Cable, Host, Flow, Raw, Bits, Window, Ring, Count, Retries, Seed, Crossbar, Init, Notice, Drop, Link, N, From, To, Bytes, Hops, Hex}
+use Rattle.sl_form.specs.declared.path.Key.TheVariants.{Device, Cable, Host, Flow, Raw, Bits, Window, Ring, Count, Retries, Credits, Seed, Crossbar, Init, Notice, Drop, Link, N, From, To, Bytes, Hops, Hex}
 use Rattle.sl_read.specs.declared.flow.FlowRow.{FlowRow}
 use Rattle.sl_read.specs.declared.raw.RawRow.{RawRow}
 use Rattle.sl_read.specs.declared.loss.DropRow.{DropRow}
@@ -27,15 +27,16 @@ use Rattle.sl_read.proofs.Steps.{bind_ok, same_ok, not_held, and_then_some, map_
 
 snapshot_ok : (ms : Members) (s : Snapshot) → snapshot_of ms ≡ Ok s → IsSnapshot s
 snapshot_ok ms s h =
-    let a = bind_ok (only table.Snapshot (Bits ∷ Window ∷ Ring ∷ Count ∷ Retries ∷ []) ms) _ s h in
+    let a = bind_ok (only table.Snapshot (Bits ∷ Window ∷ Ring ∷ Count ∷ Retries ∷ Credits ∷ []) ms) _ s h in
     let bits = number_then table.Snapshot Bits 1 8 ms _ s a.2 in
     let window = number_then table.Snapshot Window 1 (2 ^ bits.0 - 1) ms _ s bits.3 in
     let ring = number_then table.Snapshot Ring window.0 (2 ^ bits.0) ms _ s window.3 in
     let count = number_then table.Snapshot Count 0 1000 ms _ s ring.3 in
-    let retries = option_then table.Snapshot Retries 100 ms _ s count.3 in
+    let retries = option_then table.Snapshot Retries 0 100 ms _ s (omega arith) count.3 in
+    let credits = option_then table.Snapshot Credits 1 4 ms _ s (omega arith) retries.3 in
     let few : window.0 < 2 ^ bits.0 = omega (arith, window.1, window.2) in
-    subst IsSnapshot (same_ok _ s retries.2)
-    (record { some_bits = bits.1; few_bits = bits.2; some_window = window.1; few_window = few; some_ring = ring.1; few_ring = ring.2; count = count.2; retries = retries.1 })
+    subst IsSnapshot (same_ok _ s credits.3)
+    (record { some_bits = bits.1; few_bits = bits.2; some_window = window.1; few_window = few; some_ring = ring.1; few_ring = ring.2; count = count.2; retries = retries.2; some_credits = credits.1; few_credits = credits.2 })
 
 pub record IsDropRow (d : DropRow) : Type 0 where
   pub some : 1 ≤ d.n
@@ -65,19 +66,19 @@ few_ok ds es h =
 loss_ok : (ms : Members) (l : LossRow) → loss_of ms ≡ Ok l → IsLossRow l
 loss_ok ms l h =
     let a = bind_ok (only table.Loss (Seed ∷ Cable ∷ Crossbar ∷ Init ∷ Notice ∷ Drop ∷ []) ms) _ l h in
-    let seed = option_then table.Loss Seed 9223372036854775807 ms _ l a.2 in
-    let cable = option_then table.Loss Cable 1000 ms _ l seed.2 in
-    let crossbar = option_then table.Loss Crossbar 1000 ms _ l cable.2 in
-    let init = option_then table.Loss Init 1000 ms _ l crossbar.2 in
-    let notice = option_then table.Loss Notice 1000 ms _ l init.2 in
-    let tables = bind_ok (drops_at ms) _ l notice.2 in
+    let seed = option_then table.Loss Seed 0 9223372036854775807 ms _ l (omega arith) a.2 in
+    let cable = option_then table.Loss Cable 0 1000 ms _ l (omega arith) seed.3 in
+    let crossbar = option_then table.Loss Crossbar 0 1000 ms _ l (omega arith) cable.3 in
+    let init = option_then table.Loss Init 0 1000 ms _ l (omega arith) crossbar.3 in
+    let notice = option_then table.Loss Notice 0 1000 ms _ l (omega arith) init.3 in
+    let tables = bind_ok (drops_at ms) _ l notice.3 in
     let drops = bind_ok (rows table.Loss Drop drop_of 0 tables.0) _ l tables.2 in
     let listed = bind_ok (optional_tables table.Loss Drop ms) few_drops tables.0 tables.1 in
     let few = few_ok listed.0 tables.0 listed.2 in
     let r = rows_ok table.Loss Drop drop_of IsDropRow drop_ok 0 tables.0 drops.0 drops.1 in
-    let low : seed.0 < 2 ^ 63 = omega (arith, seed.1) in
+    let low : seed.0 < 2 ^ 63 = omega (arith, seed.2) in
     let short : length drops.0 ≤ 1000 = omega (arith, few, r.1) in
-    subst IsLossRow (same_ok _ l drops.2) (record { seed = low; cable = cable.1; crossbar = crossbar.1; init = init.1; notice = notice.1; few = short; drops = r.0 })
+    subst IsLossRow (same_ok _ l drops.2) (record { seed = low; cable = cable.2; crossbar = crossbar.2; init = init.2; notice = notice.2; few = short; drops = r.0 })
 
 any_loss_ok : (o : Option Members) (l : LossRow) → any_loss_of o ≡ Ok l → IsLossRow l
 any_loss_ok None l h = subst IsLossRow (same_ok (record { seed = 0; cable = 0; crossbar = 0; init = 0; notice = 0; drops = [] }) l h) (record { seed = omega arith; cable = omega arith; crossbar = omega arith; init = omega arith; notice = omega arith; few = omega arith; drops = tt })

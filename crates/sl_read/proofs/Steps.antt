@@ -83,12 +83,12 @@ required_ok t k low high ms n h = by_value (get_key k ms) h
     by_value None h = absurd (cc)
     by_value (Some d) h = number_ok (at t k) low high d n h
 
-pub optional_ok : (t : TableName) (k : Key) (high : ℕ) (ms : Members) (n : ℕ) → optional_number t k high ms ≡ Ok n → n ≤ high
-optional_ok t k high ms n h = by_value (get_key k ms) h
+pub optional_ok : (t : TableName) (k : Key) (low high : ℕ) (ms : Members) (n : ℕ) → low ≤ high → optional_number t k low high ms ≡ Ok n → (low ≤ n) × (n ≤ high)
+optional_ok t k low high ms n some h = by_value (get_key k ms) h
   where
-    by_value : (o : Option Data) → optional (at t k) 0 (λ p. number p 0 high) o ≡ Ok n → n ≤ high
-    by_value None h = let e : 0 ≡ n = same_ok 0 n h in omega arith
-    by_value (Some d) h = (number_ok (at t k) 0 high d n h).1
+    by_value : (o : Option Data) → optional (at t k) low (λ p. number p low high) o ≡ Ok n → (low ≤ n) × (n ≤ high)
+    by_value None h = let e : low ≡ n = same_ok low n h in (omega (arith, e), omega (arith, e, some))
+    by_value (Some d) h = number_ok (at t k) low high d n h
 
 -- a number, and what comes after it
 pub number_then : {B : Type 0} (t : TableName) (k : Key) (low high : ℕ) (ms : Members) (f : ℕ → Result B Refusal) (y : B) → (required_number t k low high ms >>= f) ≡ Ok y → (n : ℕ) × (low ≤ n) × (n ≤ high) × (f n ≡ Ok y)
@@ -97,10 +97,12 @@ number_then t k low high ms f y h =
     let r = required_ok t k low high ms a.0 a.1 in
     (a.0, r.0, r.1, a.2)
 
-pub option_then : {B : Type 0} (t : TableName) (k : Key) (high : ℕ) (ms : Members) (f : ℕ → Result B Refusal) (y : B) → (optional_number t k high ms >>= f) ≡ Ok y → (n : ℕ) × (n ≤ high) × (f n ≡ Ok y)
-option_then t k high ms f y h =
-    let a = bind_ok (optional_number t k high ms) f y h in
-    (a.0, optional_ok t k high ms a.0 a.1, a.2)
+pub option_then : {B : Type 0} (t : TableName) (k : Key) (low high : ℕ) (ms : Members) (f : ℕ → Result B Refusal) (y : B) → low ≤ high
+    → (optional_number t k low high ms >>= f) ≡ Ok y → (n : ℕ) × (low ≤ n) × (n ≤ high) × (f n ≡ Ok y)
+option_then t k low high ms f y some h =
+    let a = bind_ok (optional_number t k low high ms) f y h in
+    let r = optional_ok t k low high ms a.0 some a.1 in
+    (a.0, r.0, r.1, a.2)
 
 -- Lists.
 

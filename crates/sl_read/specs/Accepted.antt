@@ -26,6 +26,8 @@ pub record IsSnapshot (s : Snapshot) : Type 0 where
   pub few_ring : s.ring ≤ 2 ^ s.width
   pub count : s.count ≤ 1000
   pub retries : s.retries ≤ 100
+  pub some_credits : 1 ≤ s.credits
+  pub few_credits : s.credits ≤ 4
 
 -- a put on a link of the net on which messages may be lost
 pub record IsDrop (net : Net) (d : Drop1) : Type 0 where

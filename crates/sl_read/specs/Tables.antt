@@ -5,7 +5,7 @@ use Rattle.toml.specs.Data.{Items, no_items, item, Members}
 use Rattle.sl_parts.specs.declared.parts.DevicePart.{DevicePart}
 use Rattle.sl_net.specs.declared.input.Snapshot.{Snapshot}
 use Rattle.sl_form.specs.declared.path.TableName.TheVariants as table
-use Rattle.sl_form.specs.declared.path.Key.TheVariants.{Name, Ports, A, B, At, Bits, Window, Ring, Count, Retries, Seed, Cable, Crossbar, Init, Notice, Drop, Link, N, From, To, Bytes, Hops, Hex, Entries}
+use Rattle.sl_form.specs.declared.path.Key.TheVariants.{Name, Ports, A, B, At, Bits, Window, Ring, Count, Retries, Credits, Seed, Cable, Crossbar, Init, Notice, Drop, Link, N, From, To, Bytes, Hops, Hex, Entries}
 use Rattle.sl_form.specs.declared.refusal.Refusal.{Refusal}
 use Rattle.sl_form.specs.declared.refusal.Refusal.TheVariants.{Range}
 use Rattle.sl_read.specs.declared.cable.CableRow.{CableRow}
@@ -43,13 +43,14 @@ host_of i ms = do
 
 abbrev pub snapshot_of : Members → Result Snapshot Refusal
 snapshot_of ms = do
-  _ ← only table.Snapshot (Bits ∷ Window ∷ Ring ∷ Count ∷ Retries ∷ []) ms
+  _ ← only table.Snapshot (Bits ∷ Window ∷ Ring ∷ Count ∷ Retries ∷ Credits ∷ []) ms
   bits ← required_number table.Snapshot Bits 1 8 ms
   window ← required_number table.Snapshot Window 1 (2 ^ bits - 1) ms
   ring ← required_number table.Snapshot Ring window (2 ^ bits) ms
   count ← required_number table.Snapshot Count 0 1000 ms
-  retries ← optional_number table.Snapshot Retries 100 ms
-  Ok (record { width = bits; window = window; ring = ring; count = count; retries = retries })
+  retries ← optional_number table.Snapshot Retries 0 100 ms
+  credits ← optional_number table.Snapshot Credits 1 4 ms
+  Ok (record { width = bits; window = window; ring = ring; count = count; retries = retries; credits = credits })
 
 abbrev pub drop_of : ℕ → Members → Result DropRow Refusal
 drop_of i ms = do
@@ -72,11 +73,11 @@ drops_at ms = optional_tables table.Loss Drop ms >>= few_drops
 abbrev pub loss_of : Members → Result LossRow Refusal
 loss_of ms = do
   _ ← only table.Loss (Seed ∷ Cable ∷ Crossbar ∷ Init ∷ Notice ∷ Drop ∷ []) ms
-  seed ← optional_number table.Loss Seed 9223372036854775807 ms
-  cable ← optional_number table.Loss Cable 1000 ms
-  crossbar ← optional_number table.Loss Crossbar 1000 ms
-  init ← optional_number table.Loss Init 1000 ms
-  notice ← optional_number table.Loss Notice 1000 ms
+  seed ← optional_number table.Loss Seed 0 9223372036854775807 ms
+  cable ← optional_number table.Loss Cable 0 1000 ms
+  crossbar ← optional_number table.Loss Crossbar 0 1000 ms
+  init ← optional_number table.Loss Init 0 1000 ms
+  notice ← optional_number table.Loss Notice 0 1000 ms
   tables ← drops_at ms
   drops ← rows table.Loss Drop drop_of 0 tables
   Ok (record { seed = seed; cable = cable; crossbar = crossbar; init = init; notice = notice; drops = drops })

@@ -77,11 +77,11 @@ fn loss_of(alloc: Global, table: &Table) -> Result<LossRow, ReadError>
         ],
         table,
     )?;
-    let seed = optional_number(table, at, Key::Seed, 9_223_372_036_854_775_807)?;
-    let cable = optional_number(table, at, Key::Cable, 1000)?;
-    let crossbar = optional_number(table, at, Key::Crossbar, 1000)?;
-    let init = optional_number(table, at, Key::Init, 1000)?;
-    let notice = optional_number(table, at, Key::Notice, 1000)?;
+    let seed = optional_number(table, at, Key::Seed, 0, 9_223_372_036_854_775_807)?;
+    let cable = optional_number(table, at, Key::Cable, 0, 1000)?;
+    let crossbar = optional_number(table, at, Key::Crossbar, 0, 1000)?;
+    let init = optional_number(table, at, Key::Init, 0, 1000)?;
+    let notice = optional_number(table, at, Key::Notice, 0, 1000)?;
     let values = drops_at(table)?;
     let drops = rows::<DropRow>(alloc, at, Key::Drop, values)?;
     Ok(LossRow {

@@ -24,7 +24,14 @@ pub fn read_snapshot(table: &Table) -> Result<Snapshot, Refusal>
     let at = TableName::Snapshot;
     only(
         at,
-        &[Key::Bits, Key::Window, Key::Ring, Key::Count, Key::Retries],
+        &[
+            Key::Bits,
+            Key::Window,
+            Key::Ring,
+            Key::Count,
+            Key::Retries,
+            Key::Credits,
+        ],
         table,
     )?;
     let bits = required_number(table, at, Key::Bits, 1, 8)?;
@@ -32,12 +39,14 @@ pub fn read_snapshot(table: &Table) -> Result<Snapshot, Refusal>
     let window = required_number(table, at, Key::Window, 1, ids - 1)?;
     let ring = required_number(table, at, Key::Ring, window, ids)?;
     let count = required_number(table, at, Key::Count, 0, 1000)?;
-    let retries = optional_number(table, at, Key::Retries, 100)?;
+    let retries = optional_number(table, at, Key::Retries, 0, 100)?;
+    let credits = optional_number(table, at, Key::Credits, 1, 4)?;
     Ok(Snapshot {
         width: bits as u8,
         window: window as u16,
         ring: ring as u16,
         count,
         retries,
+        credits: credits as u8,
     })
 }

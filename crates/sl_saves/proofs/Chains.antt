@@ -1,10 +1,10 @@
 -- Entries whose numbers rise: the least of those that pass a test is the oldest of them.
-use Rattle.std.proofs.Common.{◌≡◌, ℕ, ◌+◌, ◌<◌, ◌≤◌, List, [], ◌∷◌, refl, sym, ap, ◌∙◌, Option, Some, None, arith}
-use Rattle.std.specs.Prelude.{cond, true, false, Bool, nat_lt, filter, unwrap_or, max, ◌||◌}
+use Rattle.std.proofs.Common.{◌≡◌, ℕ, zero, suc, ◌+◌, ◌<◌, ◌≤◌, List, [], ◌∷◌, refl, sym, ap, subst, ◌∙◌, Option, Some, None, arith}
+use Rattle.std.specs.Prelude.{cond, true, false, Bool, nat_lt, nat_le, ◌==◌, filter, unwrap_or, max, ◌||◌}
 use Rattle.std.specs.List.{list_any, AllByRecursion}
 use Rattle.std.proofs.lemmas.Bool.{le-leb}
 use Rattle.std.proofs.lemmas.Bool.Decides.{nat_tests}
-use Rattle.sl_saves.specs.Calls.{Save, Call, Adopt, Credited, Credit, saves, number, with_credit, IsRising, least_save, lesser, number_or, greatest}
+use Rattle.sl_saves.specs.Calls.{Save, Call, Adopt, Credited, Credit, saves, number, with_credit, saved_credit, lower, is_empty, IsRising, least_save, lesser, number_or, greatest}
 
 -- the last number of entries
 abbrev pub top : List Save → ℕ
@@ -60,20 +60,30 @@ any-greatest d [] = grind (arith, nat_tests)
 any-greatest d (x ∷ xs) = lt-max d x (greatest xs) ∙ ap (λ b. nat_lt d x || b) (any-greatest d xs)
 
 -- What calls save is a chain.
-top-credit : (c : Credit) (ss : List Save) → top (with_credit c ss) ≡ top ss
-top-credit c [] = refl
-top-credit c (s ∷ ss) = refl
 
-pub top-number : (cs : List Call) → top (saves cs) ≡ number cs
-top-number [] = refl
-top-number (Adopt by packets bytes ∷ cs) = refl
-top-number (Credited c ∷ cs) = top-credit c (saves cs) ∙ top-number cs
+top-credit : (n : ℕ) (c : Credit) (ss : List Save) → top (with_credit n c ss) ≡ top ss
+top-credit zero c ss = refl
+top-credit (suc n) c [] = refl
+top-credit (suc n) c (s ∷ ss) = elim (n == 0 || (nat_le c.age s.by || is_empty ss)) as
+    (λ b. top (cond b (saved_credit true c s ∷ ss) (saved_credit false c s ∷ with_credit n (lower s.by c) ss)) ≡ s.number) [ true ↦ refl | false ↦ refl ]
 
-chain-credit : (c : Credit) (ss : List Save) → IsChain ss → IsChain (with_credit c ss)
-chain-credit c [] h = h
-chain-credit c (s ∷ ss) h = h
+pub top-number : (n : ℕ) (cs : List Call) → top (saves n cs) ≡ number cs
+top-number n [] = refl
+top-number n (Adopt by packets bytes ∷ cs) = refl
+top-number n (Credited c ∷ cs) = top-credit n c (saves n cs) ∙ top-number n cs
 
-pub chain-saves : (cs : List Call) → IsRising cs → IsChain (saves cs)
-chain-saves [] h = tt
-chain-saves (Adopt by packets bytes ∷ cs) h = (h.0, ap (λ n. n + by) (sym (top-number cs)), chain-saves cs h.1)
-chain-saves (Credited c ∷ cs) h = chain-credit c (saves cs) (chain-saves cs h)
+chain-credit : (n : ℕ) (c : Credit) (ss : List Save) → IsChain ss → IsChain (with_credit n c ss)
+chain-credit zero c ss h = h
+chain-credit (suc n) c [] h = h
+chain-credit (suc n) c (s ∷ ss) h = elim (n == 0 || (nat_le c.age s.by || is_empty ss)) as
+    (λ b. IsChain (cond b (saved_credit true c s ∷ ss) (saved_credit false c s ∷ with_credit n (lower s.by c) ss)))
+    [ true ↦ h | false ↦ (h.0, h.1 ∙ ap (λ m. m + s.by) (sym (top-credit n (lower s.by c) ss)), chain-credit n (lower s.by c) ss h.2) ]
+
+pub chain-saves : (n : ℕ) (cs : List Call) → IsRising cs → IsChain (saves n cs)
+chain-saves n [] h = tt
+chain-saves n (Adopt by packets bytes ∷ cs) h = (h.0, ap (λ m. m + by) (sym (top-number n cs)), chain-saves n cs h.1)
+chain-saves n (Credited c ∷ cs) h = chain-credit n c (saves n cs) (chain-saves n cs h)
+
+-- no number of theirs lies above theirs
+pub saves-below : (n : ℕ) (cs : List Call) → IsRising cs → AllByRecursion (λ t. t.number ≤ number cs) (saves n cs)
+saves-below n cs h = subst (λ m. AllByRecursion (λ t. t.number ≤ m) (saves n cs)) (top-number n cs) (chain-below (saves n cs) (chain-saves n cs h))

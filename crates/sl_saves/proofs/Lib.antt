@@ -1,6 +1,5 @@
 pub mod Chains
 pub mod Held
-pub mod PastEntries
 pub mod Places
 pub mod Rings
 pub mod Walks

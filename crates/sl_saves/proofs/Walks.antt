@@ -6,9 +6,9 @@ use Rattle.std.proofs.lemmas.Bool.{lt-ltb, le-ltb, eq-eqb, ne_eqb, cases_order}
 use Rattle.sl_saves.specs.declared.entry.Slot.{Slot}
 use Rattle.sl_saves.specs.declared.entry.View.{View}
 use Rattle.sl_saves.specs.declared.entry.Saved.TheVariants.{Skipped}
-use Rattle.sl_saves.specs.Calls.{Save, Call, saves, number, saved, judged, find, least_save, number_or, is_above, is_miscredit, ages}
+use Rattle.sl_saves.specs.Calls.{Save, Call, saves, number, saved, judged, find, least_save, number_or, is_above, is_miscredit}
 use Rattle.sl_saves.specs.Views.{Place, path, slot_of, slot_in, place_below, no_slot, IsSeen, IsShown, IsLive, find_place, last_place, is_bad, place_number_or, answer, read, held_saved}
-use Rattle.sl_saves.proofs.Chains.{top, IsChain, least-older, any-greatest, chain-below, chain-older, chain-saves, top-number, all-weaken}
+use Rattle.sl_saves.proofs.Chains.{top, IsChain, least-older, any-greatest, chain-older, chain-saves, saves-below, top-number, all-weaken}
 use Rattle.sl_saves.proofs.Places.{below-mod}
 
 -- the slots that are read are those of the entries
@@ -87,8 +87,8 @@ bad-upto k (s ∷ ss) c = by_order (cases_order s.number k) (bad-upto k ss c.2)
     by_order (inr (inl q)) ih = let nb = none-older k s ss c (omega (arith, q)) in
         rw (lt-ltb s.number k q, le-ltb k s.number (omega (arith, q)), nb.1) refl
     by_order (inr (inr q)) ih =
-        rw (le-ltb s.number k (omega (arith, q)), ne_eqb s.number k (λ p. omega (arith, p, q)), lt-ltb k s.number q, any-greatest (s.number - k) (ages s))
-        (last-by (list_any (λ a. nat_lt (s.number - k) a) (ages s)) (filter (is_bad k) (upto k ss)) (is_miscredit k) s ss c ih)
+        rw (le-ltb s.number k (omega (arith, q)), ne_eqb s.number k (λ p. omega (arith, p, q)), lt-ltb k s.number q, any-greatest (s.number - k) s.feet)
+        (last-by (list_any (λ a. nat_lt (s.number - k) a) s.feet) (filter (is_bad k) (upto k ss)) (is_miscredit k) s ss c ih)
 
 -- where k was not saved, the last place of all is that of the least entry above it
 last-upto : (k : ℕ) (ss : List Save) → IsChain ss → find k ss ≡ None → last_place (upto k ss) ≡ option_map place_of (least_save (filter (is_above k) ss))
@@ -141,21 +141,21 @@ seen-looked view id k (s ∷ ss) a l b h = (
   seen-looked view id k ss a l b.1 h.1,
 )
 
-shown-looked : (view : View) (calls : List Call) (k : ℕ) → IsShown view calls → number calls < k + length view.slots → IsLooked (slot_in view (number calls)) k (saves calls)
-shown-looked view calls k s l = seen-looked view (number calls) k (saves calls) s.at l
-    (subst (λ n. AllByRecursion (λ t. t.number ≤ n) (saves calls)) (top-number calls) (chain-below (saves calls) (chain-saves calls s.rising))) s.seen
+shown-looked : (n : ℕ) (view : View) (calls : List Call) (k : ℕ) → IsShown n view calls → number calls < k + length view.slots → IsLooked (slot_in view (number calls)) k (saves n calls)
+shown-looked n view calls k s l = seen-looked view (number calls) k (saves n calls) s.at l (saves-below n calls s.rising) s.seen
 
-pub shown-read : (view : View) (calls : List Call) (k : ℕ) → IsShown view calls → 1 ≤ k → k ≤ number calls → number calls < k + length view.slots
-    → read view (number calls) k ≡ held_saved (saved k (saves calls))
-shown-read view calls k s one h l = subst (λ n. k ≤ n → (let ps = path (suc (n - k)) (slot_in view (number calls)) n k in answer (find_place k ps) (last_place (filter (is_bad k) ps)) (last_place ps)) ≡ held_saved (saved k (saves calls)))
-    (top-number calls) (looked-saved (slot_in view (number calls)) k (saves calls) (chain-saves calls s.rising) (shown-looked view calls k s l) one) h
+pub shown-read : (n : ℕ) (view : View) (calls : List Call) (k : ℕ) → IsShown n view calls → 1 ≤ k → k ≤ number calls → number calls < k + length view.slots
+    → read view (number calls) k ≡ held_saved (saved k (saves n calls))
+shown-read n view calls k s one h l =
+    subst (λ m. k ≤ m → (let ps = path (suc (m - k)) (slot_in view (number calls)) m k in answer (find_place k ps) (last_place (filter (is_bad k) ps)) (last_place ps)) ≡ held_saved (saved k (saves n calls)))
+    (top-number n calls) (looked-saved (slot_in view (number calls)) k (saves n calls) (chain-saves n calls s.rising) (shown-looked n view calls k s l) one) h
 
-pub shown-live : (view : View) (calls : List Call) (k : ℕ) → IsShown view calls → 1 ≤ k → k ≤ number calls → number calls < k + length view.slots → IsLive view (number calls) k
-shown-live view calls k s one h l = subst (λ n. k ≤ n → AllByRecursion (λ p. 1 ≤ p.slot.back) (path (suc (n - k)) (slot_in view (number calls)) n k)) (top-number calls)
-    (λ q. subst (AllByRecursion (λ p. 1 ≤ p.slot.back)) (sym (path-upto (suc (top (saves calls) - k)) (slot_in view (number calls)) k (saves calls) (chain-saves calls s.rising)
-    (shown-looked view calls k s l) one (omega (arith, q)))) (live-upto k (saves calls) (chain-saves calls s.rising))) h
+pub shown-live : (n : ℕ) (view : View) (calls : List Call) (k : ℕ) → IsShown n view calls → 1 ≤ k → k ≤ number calls → number calls < k + length view.slots → IsLive view (number calls) k
+shown-live n view calls k s one h l = subst (λ m. k ≤ m → AllByRecursion (λ p. 1 ≤ p.slot.back) (path (suc (m - k)) (slot_in view (number calls)) m k)) (top-number n calls)
+    (λ q. subst (AllByRecursion (λ p. 1 ≤ p.slot.back)) (sym (path-upto (suc (top (saves n calls) - k)) (slot_in view (number calls)) k (saves n calls) (chain-saves n calls s.rising)
+    (shown-looked n view calls k s l) one (omega (arith, q)))) (live-upto k (saves n calls) (chain-saves n calls s.rising))) h
 
 -- the same of an id that is the number
-pub read-as : (view : View) (calls : List Call) (id k : ℕ) → number calls ≡ id → IsShown view calls → 1 ≤ k → k ≤ id → id < k + length view.slots
-    → read view id k ≡ held_saved (saved k (saves calls))
-read-as view calls id k e s one = subst (λ n. k ≤ n → n < k + length view.slots → read view n k ≡ held_saved (saved k (saves calls))) e (shown-read view calls k s one)
+pub read-as : (n : ℕ) (view : View) (calls : List Call) (id k : ℕ) → number calls ≡ id → IsShown n view calls → 1 ≤ k → k ≤ id → id < k + length view.slots
+    → read view id k ≡ held_saved (saved k (saves n calls))
+read-as n view calls id k e s one = subst (λ m. k ≤ m → m < k + length view.slots → read view m k ≡ held_saved (saved k (saves n calls))) e (shown-read n view calls k s one)

@@ -1,6 +1,7 @@
 -- What a unit saved, as the calls that made it say. A unit saves its counters when it adopts a number, and credits the
--- data packets that were in flight for it (Yaseen, Sonchack and Liu 2018). Calls and entries stand newest first.
-use Rattle.std.specs.Prelude.{ℕ, ◌+◌, ◌-◌, ◌≤◌, max, Bool, ◌&&◌, List, [], ◌∷◌, map, filter, nat_lt, nat_le, ◌==◌, if◌then◌else◌, Option, Some, None}
+-- data packets that were in flight for it to the last numbers that it saved, to so many of them at most (Yaseen, Sonchack
+-- and Liu 2018). Calls and entries stand newest first.
+use Rattle.std.specs.Prelude.{ℕ, zero, suc, ◌+◌, ◌-◌, ◌≤◌, max, Bool, true, false, ◌&&◌, ◌||◌, List, [], ◌∷◌, map, filter, nat_lt, nat_le, ◌==◌, if◌then◌else◌, Option, Some, None}
 use Rattle.std.specs.List.{list_any}
 use Rattle.sl_saves.specs.declared.entry.Total.{Total}
 use Rattle.sl_saves.specs.declared.entry.Saved.{Saved}
@@ -17,13 +18,15 @@ pub data Call : Type 0 where
   Adopt : ℕ → ℕ → ℕ → Call
   Credited : Credit → Call
 
--- an entry: its number, how far it lies above the number before, the counters given, and the credits that belong to it
+-- an entry: its number, how far it lies above the number before, the counters given, the credits that belong to it, each with its age from
+-- this number, and the ages of those whose foot it is
 pub record Save : Type 0 where
   pub number : ℕ
   pub by : ℕ
   pub packets : ℕ
   pub bytes : ℕ
   pub credits : List Credit
+  pub feet : List ℕ
 
 -- the number that calls lead to
 abbrev pub number : List Call → ℕ
@@ -31,16 +34,38 @@ number [] = 0
 number (Adopt by packets bytes ∷ cs) = number cs + by
 number (Credited c ∷ cs) = number cs
 
--- a credit belongs to the number at which it came, and to none before any is saved
-abbrev pub with_credit : Credit → List Save → List Save
-with_credit c [] = []
-with_credit c (s ∷ ss) = record s { credits = c ∷ s.credits } ∷ ss
+-- Of the last n of some entries a credit belongs to those that lie above its stamp, and the least of these is its foot. A credit whose stamp
+-- lies `age` below an entry lies above no entry before it where that one is `age` or more below, or is not there.
 
--- the entries that calls save
-abbrev pub saves : List Call → List Save
-saves [] = []
-saves (Adopt by packets bytes ∷ cs) = record { number = number cs + by; by = by; packets = packets; bytes = bytes; credits = [] } ∷ saves cs
-saves (Credited c ∷ cs) = with_credit c (saves cs)
+abbrev pub is_empty : {A : Type 0} → List A → Bool
+is_empty [] = true
+is_empty (x ∷ xs) = false
+
+-- a credit as it is seen from a number that lies so much lower
+abbrev pub lower : ℕ → Credit → Credit
+lower by c = record c { age = c.age - by }
+
+-- A credit is written into the last entry, which is its foot or not, and if not, goes on to the entry before. `by` tells how far that one lies
+-- below, and `write` what becomes of an entry.
+abbrev pub written_to : {A : Type 0} → (A → ℕ) → (Bool → Credit → A → A) → ℕ → Credit → List A → List A
+written_to by write zero c xs = xs
+written_to by write (suc n) c [] = []
+written_to by write (suc n) c (x ∷ xs) = if n == 0 || (nat_le c.age (by x) || is_empty xs) then write true c x ∷ xs
+    else write false c x ∷ written_to by write n (lower (by x) c) xs
+
+abbrev pub saved_credit : Bool → Credit → Save → Save
+saved_credit is_foot c s = record s { credits = c ∷ s.credits; feet = if is_foot then c.age ∷ s.feet else s.feet }
+
+-- a credit to n entries at most
+abbrev pub with_credit : ℕ → Credit → List Save → List Save
+with_credit n c ss = written_to (λ s. s.by) saved_credit n c ss
+
+-- the entries that calls save, where each credit goes to n entries at most
+abbrev pub saves : ℕ → List Call → List Save
+saves n [] = []
+saves n (Adopt by packets bytes ∷ cs) =
+    record { number = number cs + by; by = by; packets = packets; bytes = bytes; credits = []; feet = [] } ∷ saves n cs
+saves n (Credited c ∷ cs) = with_credit n c (saves n cs)
 
 -- each adoption is by one at least
 abbrev pub IsRising : List Call → Type 0
@@ -65,10 +90,6 @@ channels = 0 ∷ 1 ∷ 2 ∷ 3 ∷ 4 ∷ 5 ∷ 6 ∷ 7 ∷ []
 abbrev pub totals : List Credit → List Total
 totals cs = map (λ c. total_on c cs) channels
 
--- the ages of the credits by which an entry miscredits older numbers
-abbrev pub ages : Save → List ℕ
-ages s = map (λ c. c.age) s.credits
-
 abbrev pub greatest : List ℕ → ℕ
 greatest [] = 0
 greatest (x ∷ xs) = max x (greatest xs)
@@ -76,9 +97,9 @@ greatest (x ∷ xs) = max x (greatest xs)
 abbrev pub is_above : ℕ → Save → Bool
 is_above k s = nat_lt k s.number
 
--- whether it lies above k and has a credit that is older than k
+-- whether it lies above k and is the foot of a credit that is older than k
 abbrev pub is_miscredit : ℕ → Save → Bool
-is_miscredit k s = is_above k s && list_any (λ a. nat_lt (s.number - k) a) (ages s)
+is_miscredit k s = is_above k s && list_any (λ a. nat_lt (s.number - k) a) s.feet
 
 -- the entry of a number
 abbrev pub find : ℕ → List Save → Option Save
@@ -101,7 +122,7 @@ number_or n (Some s) = s.number
 -- from the entry of k, the least miscredit of k, and the least entry above k
 abbrev pub judged : Option Save → Option Save → Option Save → Saved
 judged None o above = Skipped (number_or 0 above)
-judged (Some s) (Some b) above = Miscredited b.number (greatest (ages b))
+judged (Some s) (Some b) above = Miscredited b.number (greatest b.feet)
 judged (Some s) None above = Value s.packets s.bytes (totals s.credits)
 
 -- what entries say of the number k: skipped, else miscredited by the least, else its value

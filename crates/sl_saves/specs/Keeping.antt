@@ -1,11 +1,11 @@
 -- What an adoption and a credit make of the view of a ring, and of a list of all entries.
-use Rattle.std.specs.Prelude.{◌≡◌, ℕ, ◌+◌, ◌-◌, ◌%◌, ◌≤◌, min, max, List, [], ◌∷◌, ◌++◌, length, map, reverse, replicate, drop, nat_lt, if◌then◌else◌, slice_index_or, slice_set}
+use Rattle.std.specs.Prelude.{◌≡◌, ℕ, zero, suc, ◌+◌, ◌-◌, ◌%◌, ◌≤◌, min, max, Bool, true, false, ◌||◌, List, [], ◌∷◌, ◌++◌, length, map, reverse, replicate, drop, nat_lt, nat_le, ◌==◌, if◌then◌else◌, slice_index_or, slice_set}
 use Rattle.sl_saves.specs.declared.entry.Total.{Total}
 use Rattle.sl_saves.specs.declared.entry.Slot.{Slot}
 use Rattle.sl_saves.specs.declared.entry.View.{View}
 use Rattle.sl_saves.specs.declared.entries.Entry.{Entry}
-use Rattle.sl_saves.specs.Calls.{Call, Credit, Save, number, saves, IsRising, totals}
-use Rattle.sl_saves.specs.Views.{last_count, slot_of, free_slot, no_slot}
+use Rattle.sl_saves.specs.Calls.{Call, Credit, Save, number, saves, lower, written_to, IsRising, totals}
+use Rattle.sl_saves.specs.Views.{last_count, slot_of, free_slot, no_slot, place_below}
 
 -- the place that lies `by` above another, in a ring of some size
 abbrev pub place_above : ℕ → ℕ → ℕ → ℕ
@@ -26,14 +26,27 @@ grown bytes t = record { packets = min (t.packets + 1) last_count; bytes = min (
 abbrev pub no_total : Total
 no_total = record { packets = 0; bytes = 0 }
 
-abbrev pub slot_credited : Credit → Slot → Slot
-slot_credited c s = record s {
+-- a slot to which a credit is written, which is its foot or not
+abbrev pub slot_credited : Bool → Credit → Slot → Slot
+slot_credited is_foot c s = record s {
   inflight = slice_set s.inflight c.channel (grown c.bytes (slice_index_or s.inflight c.channel no_total));
-  reach = max s.reach c.age;
+  reach = if is_foot then max s.reach c.age else s.reach;
 }
 
-abbrev pub view_credited : Credit → View → View
-view_credited c view = record view { slots = slice_set view.slots view.at (slot_credited c (slice_index_or view.slots view.at no_slot)) }
+-- A credit to n slots at most, from one place on. It ends where the slot before lies at or below the stamp, or nothing is saved there.
+
+abbrev pub is_last : ℕ → Credit → ℕ → List Slot → Bool
+is_last n c place slots = let back = (slice_index_or slots place no_slot).back in
+    n == 0 || (nat_le c.age back || (slice_index_or slots (place_below (length slots) place back) no_slot).back == 0)
+
+abbrev pub slots_credited : ℕ → Credit → ℕ → List Slot → List Slot
+slots_credited zero c place slots = slots
+slots_credited (suc n) c place slots = let s = slice_index_or slots place no_slot in
+    if is_last n c place slots then slice_set slots place (slot_credited true c s)
+    else slots_credited n (lower s.back c) (place_below (length slots) place s.back) (slice_set slots place (slot_credited false c s))
+
+abbrev pub view_credited : ℕ → Credit → View → View
+view_credited n c view = record view { slots = slots_credited n c view.at view.slots }
 
 -- A list of all entries, oldest first, with the number that it has come to, for views of so many slots.
 
@@ -49,13 +62,15 @@ list_adopted by packets bytes l =
 abbrev pub no_entry : Entry
 no_entry = record { number = 0; slot = no_slot }
 
--- a credit goes to the last entry, if there is one
-abbrev pub last_credited : Credit → List Entry → List Entry
-last_credited c es = let e = slice_index_or es (length es - 1) no_entry in
-    slice_set es (length es - 1) (record e { slot = slot_credited c e.slot })
+abbrev pub entry_credited : Bool → Credit → Entry → Entry
+entry_credited is_foot c e = record e { slot = slot_credited is_foot c e.slot }
 
-abbrev pub list_credited : Credit → Listed → Listed
-list_credited c l = record l { entries = last_credited c l.entries }
+-- a credit goes to n of the last entries at most
+abbrev pub entries_credited : ℕ → Credit → List Entry → List Entry
+entries_credited n c es = reverse (written_to (λ e. e.slot.back) entry_credited n c (reverse es))
+
+abbrev pub list_credited : ℕ → Credit → Listed → Listed
+list_credited n c l = record l { entries = entries_credited n c l.entries }
 
 -- numbered slots written into a ring, later ones over earlier ones
 abbrev pub written : List Slot → List Entry → List Slot
@@ -69,9 +84,9 @@ list_view l = record { at = l.last % l.size; slots = written (replicate l.size f
 abbrev pub entry_of : Save → Entry
 entry_of s = record { number = s.number; slot = slot_of s }
 
--- it holds what calls saved
-pub record IsListed (l : Listed) (calls : List Call) : Type 0 where
+-- it holds what calls saved, with credits to n entries at most
+pub record IsListed (n : ℕ) (l : Listed) (calls : List Call) : Type 0 where
   pub rising : IsRising calls
   pub some : 1 ≤ l.size
   pub last : l.last ≡ number calls
-  pub entries : l.entries ≡ reverse (map entry_of (saves calls))
+  pub entries : l.entries ≡ reverse (map entry_of (saves n calls))

@@ -1,5 +1,4 @@
 pub mod Calls
-pub mod Entries
 pub mod Keeping
 pub mod Lists
 pub mod Rings

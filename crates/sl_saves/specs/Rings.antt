@@ -11,3 +11,6 @@ ring_window r = r.window
 
 abbrev pub ring_size : RingSaves → ℕ
 ring_size r = length r.view.slots
+
+abbrev pub ring_credits : RingSaves → ℕ
+ring_credits r = r.credits

@@ -6,7 +6,7 @@ use Rattle.sl_saves.specs.declared.entry.Slot.{Slot}
 use Rattle.sl_saves.specs.declared.entry.View.{View}
 use Rattle.sl_saves.specs.declared.entry.Saved.{Saved}
 use Rattle.sl_saves.specs.declared.entry.Saved.TheVariants.{Value, Skipped, Miscredited}
-use Rattle.sl_saves.specs.Calls.{Call, Save, number, saves, IsRising, totals, greatest, ages}
+use Rattle.sl_saves.specs.Calls.{Call, Save, number, saves, IsRising, totals, greatest}
 
 -- Totals stay at the last value of their type.
 
@@ -33,7 +33,7 @@ IsFitting (Miscredited by reach) = Unit {0}
 
 -- an entry as a slot
 abbrev pub slot_of : Save → Slot
-slot_of s = record { packets = s.packets; bytes = s.bytes; inflight = map held (totals s.credits); back = s.by; reach = greatest (ages s) }
+slot_of s = record { packets = s.packets; bytes = s.bytes; inflight = map held (totals s.credits); back = s.by; reach = greatest s.feet }
 
 -- a slot in which nothing is saved
 abbrev pub free_slot : Slot
@@ -47,12 +47,14 @@ no_slot = record { packets = 0; bytes = 0; inflight = []; back = 0; reach = 0 }
 abbrev pub IsSeen : List Slot → ℕ → Save → Type 0
 IsSeen slots id s = id < s.number + length slots → slice_index_or slots (s.number % length slots) no_slot ≡ slot_of s
 
--- a view shows what calls saved: `at` is the last number's slot, and each entry less than a ring below it stands in its slot
-pub record IsShown (view : View) (calls : List Call) : Type 0 where
+-- a view shows what calls saved, with credits to n entries at most: `at` is the last number's slot, each entry less than a ring below it stands
+-- in its slot, and nothing is saved in the slot of 0 before a ring of numbers has come
+pub record IsShown (n : ℕ) (view : View) (calls : List Call) : Type 0 where
   pub rising : IsRising calls
   pub some : 1 ≤ length view.slots
   pub at : view.at ≡ number calls % length view.slots
-  pub seen : AllByRecursion (IsSeen view.slots (number calls)) (saves calls)
+  pub seen : AllByRecursion (IsSeen view.slots (number calls)) (saves n calls)
+  pub start : number calls < length view.slots → (slice_index_or view.slots 0 no_slot).back ≡ 0
 
 -- The walk. It knows the slot of a number by how far the number lies below the id, whose slot is `at`.
 

@@ -1,7 +1,7 @@
 // Totals, slots, views and answers.
 ghost use Rattle.std.specs.Prelude.{◌≡◌, ◌<◌, ◌≤◌, ◌^◌, length, replicate, slice_index_or, slice_set, IfOk};
 
-use crate::place::place_above;
+use crate::place::{place_above, place_below};
 use sl_machine::Memory;
 use std::alloc::Global;
 use std::marker::Model;
@@ -26,7 +26,7 @@ pub struct Slot {
     pub inflight: [Total; 8],
     /// How far the number lies above the one saved before. 0 where nothing is saved here.
     pub back: u16,
-    /// The greatest age that was credited, 0 where none was.
+    /// The greatest age of a credit whose foot the number is, 0 where there is none.
     pub reach: u16,
 }
 
@@ -45,8 +45,8 @@ pub enum Saved {
     Skipped {
         to: u64,
     },
-    /// An older packet was credited to a number above it: `by` is the least such number, `reach`
-    /// the greatest age that was credited there.
+    /// A number above it is the foot of an older packet: `by` is the least such number, `reach`
+    /// the greatest age of a packet whose foot it is.
     Miscredited {
         by: u64,
         reach: u16,
@@ -110,21 +110,24 @@ impl Slot {
         }
     }
 
-    /// Adds a data packet in flight.
-    pub(crate) fn credit(&mut self, channel: u32, age: u16, bytes: u64)
+    /// Adds a data packet in flight, whose foot it is or not.
+    pub(crate) fn credit(&mut self, is_foot: bool, channel: u32, age: u16, bytes: u64)
         requires { channel < 8 }
-        ensures { self.new ≡ slot_credited (record { channel = channel; age = age; bytes = bytes }) self.old }
+        ensures { self.new ≡ slot_credited is_foot (record { channel = channel; age = age; bytes = bytes }) self.old }
     {
         let total = &mut self.inflight[channel as usize];
         total.packets = total.packets.saturating_add(1);
         total.bytes = total.bytes.saturating_add(bytes);
-        self.reach = self.reach.max(age);
+        if is_foot {
+            self.reach = self.reach.max(age);
+        }
     }
 }
 
 impl Slots {
     ghost use Rattle.sl_saves.specs.Views.{free_slot, no_slot};
-    ghost use Rattle.sl_saves.specs.Keeping.{slot_credited};
+    ghost use Rattle.std.specs.Prelude.{ℕ};
+    ghost use Rattle.sl_saves.specs.Keeping.{slot_credited, slots_credited, is_last};
 
     /// So many slots in which nothing is saved.
     pub(crate) fn free(alloc: Global, size: u16) -> Result<Slots, Memory>
@@ -181,13 +184,51 @@ impl Slots {
         self.items[place] = slot;
     }
 
-    /// Adds a data packet in flight to a slot.
-    pub(crate) fn credit(&mut self, place: usize, channel: u32, age: u16, bytes: u64)
+    /// Adds a data packet in flight to a slot, which is its foot or not.
+    fn credit(&mut self, place: usize, is_foot: bool, channel: u32, age: u16, bytes: u64)
         requires place { place < length self.old }
         requires channel { channel < 8 }
-        ensures { self.new ≡ slice_set self.old place (slot_credited (record { channel = channel; age = age; bytes = bytes }) (slice_index_or self.old place no_slot)) }
+        ensures { self.new ≡ slice_set self.old place
+            (slot_credited is_foot (record { channel = channel; age = age; bytes = bytes }) (slice_index_or self.old place no_slot)) }
     {
-        self.items[place].credit(channel, age, bytes);
+        self.items[place].credit(is_foot, channel, age, bytes);
+    }
+
+    /// Whether a credit ends at a place, where it may go to `left` slots more.
+    fn is_last(&self, place: usize, left: u8, age: u16) -> bool
+        requires place { place < length self.now }
+        requires age { age ≤ length self.now }
+        ensures { (channel bytes : ℕ) → result ≡ is_last left (record { channel = channel; age = age; bytes = bytes }) place self.now }
+    {
+        let back = self.get(place).back;
+        left == 0
+            || age <= back
+            || self.get(place_below(self.len(), place, back as usize)).back == 0
+    }
+
+    /// Adds a data packet in flight to the slots from a place on, to so many at most.
+    fn credit_from(&mut self, place: usize, credits: u8, channel: u32, age: u16, bytes: u64)
+        requires place { place < length self.old }
+        requires channel { channel < 8 }
+        requires age { age ≤ length self.old }
+        ensures value { self.new ≡ slots_credited credits (record { channel = channel; age = age; bytes = bytes }) place self.old }
+        ensures size { length self.new ≡ length self.old }
+    {
+        let size = self.len();
+        let mut place = place;
+        let mut age = age;
+        let mut left = credits;
+        while left > 0 {
+            left -= 1;
+            let back = self.get(place).back;
+            let is_foot = self.is_last(place, left, age);
+            self.credit(place, is_foot, channel, age, bytes);
+            if is_foot {
+                return;
+            }
+            age -= back;
+            place = place_below(size, place, back as usize);
+        }
     }
 }
 
@@ -207,12 +248,15 @@ impl View {
         self.at = place as u16;
     }
 
-    /// Adds a data packet in flight to the id's slot.
-    pub(crate) fn credit(&mut self, channel: u32, age: u16, bytes: u64)
+    /// Adds a data packet in flight to the slots of the last numbers, to so many at most.
+    pub(crate) fn credit(&mut self, credits: u8, channel: u32, age: u16, bytes: u64)
         requires at { self.old.at < length self.old.slots }
         requires channel { channel < 8 }
-        ensures { self.new ≡ view_credited (record { channel = channel; age = age; bytes = bytes }) self.old }
+        requires age { age ≤ length self.old.slots }
+        ensures value { self.new ≡ view_credited credits (record { channel = channel; age = age; bytes = bytes }) self.old }
+        ensures size { length self.new.slots ≡ length self.old.slots }
     {
-        self.slots.credit(self.at as usize, channel, age, bytes);
+        self.slots
+            .credit_from(self.at as usize, credits, channel, age, bytes);
     }
 }

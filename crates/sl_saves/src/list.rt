@@ -2,7 +2,7 @@
 ghost use Rattle.std.specs.Prelude.{◌≡◌, ◌+◌, ◌-◌, ◌*◌, ◌%◌, ◌^◌, ◌<◌, ◌≤◌, length, replicate, drop, [], IfOk};
 ghost use Rattle.sl_saves.specs.Views.{free_slot};
 
-use crate::entries::{Entries, Entry};
+use crate::entries::{Entry, credit_entries};
 use crate::entry::{Slot, Slots, View};
 use crate::keep::Saves;
 use crate::place::place_above;
@@ -17,32 +17,40 @@ const MOST_ENTRIES: usize = 140_737_488_355_328;
 pub struct ListSaves {
     window: u16,
     ring: u16,
+    credits: u8,
     number: u64,
-    entries: Entries,
+    entries: Vec<Entry>,
     ghost least: { 1 ≤ window },
     ghost most: { window ≤ ring },
-    ghost low: { number ≤ 65535 * length entries.list },
-    ghost few: { length entries.list ≤ 140737488355328 },
+    ghost some: { 1 ≤ credits },
+    ghost few: { credits ≤ 4 },
+    ghost low: { number ≤ 65535 * length entries.items },
+    ghost short: { length entries.items ≤ 140737488355328 },
 }
 
 impl ListSaves {
     ghost use Rattle.sl_saves.specs.Keeping.{IsListed, list_view};
-    ghost use Rattle.sl_saves.specs.Lists.{list_kept, list_window, list_size};
+    ghost use Rattle.sl_saves.specs.Lists.{list_kept, list_window, list_size, list_credits};
 
-    /// Saved entries at the number 0, with nothing saved, whose views have `ring` slots.
-    pub fn new(alloc: Global, window: u16, ring: u16) -> Result<ListSaves, Memory>
+    /// Saved entries at the number 0, with nothing saved, whose views have `ring` slots. A credit
+    /// goes to the last `credits` entries at most.
+    pub fn new(alloc: Global, window: u16, ring: u16, credits: u8) -> Result<ListSaves, Memory>
         requires least { 1 ≤ window }
         requires most { window ≤ ring }
+        requires some { 1 ≤ credits }
+        requires few { credits ≤ 4 }
         ensures kept { IfOk result (λ saves. list_kept saves ≡ record { size = ring; last = 0; entries = [] }) }
-        ensures shows { IfOk result (λ saves. IsListed (list_kept saves) []) }
+        ensures shows { IfOk result (λ saves. IsListed credits (list_kept saves) []) }
         ensures window { IfOk result (λ saves. list_window saves ≡ window) }
         ensures size { IfOk result (λ saves. list_size saves ≡ ring) }
+        ensures credits { IfOk result (λ saves. list_credits saves ≡ credits) }
     {
         Ok(ListSaves {
             window,
             ring,
+            credits,
             number: 0,
-            entries: Entries::new(alloc),
+            entries: Vec::new(alloc),
         })
     }
 
@@ -75,16 +83,16 @@ fn place_from(size: usize, number: u64, place: usize, to: u64) -> usize
 }
 
 /// Writes the entries from a place on into a ring of slots, later ones over earlier ones.
-fn write_entries(slots: &mut Slots, entries: &Entries, from: usize)
+fn write_entries(slots: &mut Slots, entries: &[Entry], from: usize)
     requires some { 1 ≤ length slots.old }
     requires small { length slots.old < 2 ^ 32 }
-    ensures { slots.new ≡ written slots.old (drop from entries.now.list) }
+    ensures { slots.new ≡ written slots.old (drop from entries.now) }
 {
     let size = slots.len();
     let mut number = 0;
     let mut place = 0;
     for i in from..entries.len() {
-        let entry = entries.get(i);
+        let entry = entries[i];
         place = place_from(size, number, place, entry.number);
         number = entry.number;
         slots.set(place, entry.slot);
@@ -93,7 +101,7 @@ fn write_entries(slots: &mut Slots, entries: &Entries, from: usize)
 
 impl Saves for ListSaves {
     ghost use Rattle.sl_saves.specs.Keeping.{Listed, IsListed, list_adopted, list_credited, list_view};
-    ghost use Rattle.sl_saves.specs.Lists.{list_kept, list_window, list_size, ListHasRoom};
+    ghost use Rattle.sl_saves.specs.Lists.{list_kept, list_window, list_size, list_credits, ListHasRoom};
 
     ghost Kept = { Listed };
 
@@ -111,29 +119,31 @@ impl Saves for ListSaves {
 
     ghost size = { list_size };
 
+    ghost credits = { list_credits };
+
     ghost has_room = { ListHasRoom };
 
     fn ready(&mut self) -> Result<(), Memory> {
         if self.entries.len() >= MOST_ENTRIES {
             return Err(Memory);
         }
-        self.entries.make_room()
+        Ok(self.entries.reserve(1)?)
     }
 
     fn adopt(&mut self, by: u16, packets: u64, bytes: u64) {
         self.number += u64::from(by);
-        self.entries.push(Entry {
+        self.entries.push_reserved(Entry {
             number: self.number,
             slot: Slot::adopted(by, packets, bytes),
         });
     }
 
     fn credit(&mut self, channel: u32, age: u16, bytes: u64) {
-        self.entries.credit(channel, age, bytes);
+        credit_entries(&mut self.entries, self.credits, channel, age, bytes);
     }
 
     fn view(&self) -> Result<View, Memory> {
-        let slots = Slots::free(self.entries.allocator(), self.ring)?;
+        let slots = Slots::free(*self.entries.allocator(), self.ring)?;
         let mut view = View { at: 0, slots };
         self.write(&mut view);
         Ok(view)

@@ -1,5 +1,5 @@
 // The walk back over a view.
-ghost use Rattle.std.specs.Prelude.{◌≡◌, List, ◌+◌, ◌-◌, ◌<◌, ◌≤◌, ◌↔◌, length, IsSome, IfSome, Some, None, nat_lt, if◌then◌else◌};
+ghost use Rattle.std.specs.Prelude.{◌≡◌, ℕ, List, ◌+◌, ◌-◌, ◌<◌, ◌≤◌, ◌↔◌, length, IsSome, IfSome, Some, None, nat_lt, if◌then◌else◌};
 ghost use Rattle.sl_saves.specs.Calls.{Call, number, saves, saved};
 ghost use Rattle.sl_saves.specs.Walks.{stopped};
 ghost use Rattle.sl_saves.specs.Views.{place_below, IsLive, IsShown, IsFitting, held_saved, read};
@@ -75,9 +75,10 @@ pub fn read_saved(view: &View, id: u64, k: u64) -> Saved
     ensures walk { result ≡ read view.now id k }
 
     // It is what the calls saved that the view shows, with totals that stay at their last value.
-    ensures saved { (calls : List Call) → IsShown view.now calls → number calls ≡ id → result ≡ held_saved (saved k (saves calls)) }
-    ensures fitting { (calls : List Call) → IsShown view.now calls → number calls ≡ id
-        → IsFitting (saved k (saves calls)) → result ≡ saved k (saves calls) }
+    ensures saved { (n : ℕ) (calls : List Call) → IsShown n view.now calls → number calls ≡ id
+        → result ≡ held_saved (saved k (saves n calls)) }
+    ensures fitting { (n : ℕ) (calls : List Call) → IsShown n view.now calls → number calls ≡ id
+        → IsFitting (saved k (saves n calls)) → result ≡ saved k (saves n calls) }
 {
     match try_read_saved(view, id, k) {
         Some(saved) => saved,

@@ -10,29 +10,37 @@ use std::alloc::Global;
 #[derive(Drop)]
 pub struct RingSaves {
     window: u16,
+    credits: u8,
     view: View,
     ghost least: { 1 ≤ window },
     ghost most: { window ≤ length view.slots },
+    ghost some: { 1 ≤ credits },
+    ghost few: { credits ≤ 4 },
     ghost at: { view.at < length view.slots },
     ghost size: { length view.slots < 2 ^ 16 },
 }
 
 impl RingSaves {
     ghost use Rattle.sl_saves.specs.Views.{IsShown, free_slot};
-    ghost use Rattle.sl_saves.specs.Rings.{ring_view, ring_window, ring_size};
+    ghost use Rattle.sl_saves.specs.Rings.{ring_view, ring_window, ring_size, ring_credits};
 
-    /// Saved entries at the number 0, with nothing saved, in a ring of `ring` slots.
-    pub fn new(alloc: Global, window: u16, ring: u16) -> Result<RingSaves, Memory>
+    /// Saved entries at the number 0, with nothing saved, in a ring of `ring` slots. A credit goes
+    /// to the last `credits` entries at most.
+    pub fn new(alloc: Global, window: u16, ring: u16, credits: u8) -> Result<RingSaves, Memory>
         requires least { 1 ≤ window }
         requires most { window ≤ ring }
+        requires some { 1 ≤ credits }
+        requires few { credits ≤ 4 }
         ensures view { IfOk result (λ saves. ring_view saves ≡ record { at = 0; slots = replicate ring free_slot }) }
-        ensures shows { IfOk result (λ saves. IsShown (ring_view saves) []) }
+        ensures shows { IfOk result (λ saves. IsShown credits (ring_view saves) []) }
         ensures window { IfOk result (λ saves. ring_window saves ≡ window) }
         ensures size { IfOk result (λ saves. ring_size saves ≡ ring) }
+        ensures credits { IfOk result (λ saves. ring_credits saves ≡ credits) }
     {
         let slots = Slots::free(alloc, ring)?;
         Ok(RingSaves {
             window,
+            credits,
             view: View { at: 0, slots },
         })
     }
@@ -42,7 +50,7 @@ impl Saves for RingSaves {
     ghost use Rattle.sl_saves.specs.declared.entry.View.{View};
     ghost use Rattle.sl_saves.specs.Views.{IsShown};
     ghost use Rattle.sl_saves.specs.Keeping.{view_adopted, view_credited};
-    ghost use Rattle.sl_saves.specs.Rings.{ring_view, ring_window, ring_size};
+    ghost use Rattle.sl_saves.specs.Rings.{ring_view, ring_window, ring_size, ring_credits};
 
     ghost Kept = { View };
 
@@ -60,6 +68,8 @@ impl Saves for RingSaves {
 
     ghost size = { ring_size };
 
+    ghost credits = { ring_credits };
+
     ghost has_room = { λ _. Unit {0} };
 
     fn ready(&mut self) -> Result<(), Memory> {
@@ -71,7 +81,7 @@ impl Saves for RingSaves {
     }
 
     fn credit(&mut self, channel: u32, age: u16, bytes: u64) {
-        self.view.credit(channel, age, bytes);
+        self.view.credit(self.credits, channel, age, bytes);
     }
 
     fn view(&self) -> Result<View, Memory> {

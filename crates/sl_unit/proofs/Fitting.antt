@@ -152,13 +152,13 @@ frame_fits s taken None h = refl
 frame_fits s taken (Some f) h = h f.0.kind f.0.id f.1
 
 cable_fits : (i : ℕ) (s : UnitState) (k : Kind) (stamp : Wid) (p : Packet) → is_fitting (length s.wires.exits) (by_cable i s k stamp p).puts ≡ true
-cable_fits i s Carried stamp p = let x = read s (Upstream i) stamp in let r = after_data i x p s.registers in stamped_fits s x (routed s.wires p r) (routed_fit s.wires p r)
+cable_fits i s Carried stamp p = let x = read s (Upstream i) stamp in let r = after_data s.credits i x p s.registers in stamped_fits s x (routed s.wires p r) (routed_fit s.wires p r)
 cable_fits i s Probe stamp p = let x = read s (Upstream i) stamp in stamped_fits s x (absorbed (after_stamp (Upstream i) x s.registers)) (none_fit s.wires)
 cable_fits i s Plain stamp p = refl
 cable_fits i s InitKind stamp p = refl
 
 crossbar_fits : (i : ℕ) (own : Bool) (s : UnitState) (k : Kind) (stamp : Wid) (p : Packet) → is_fitting (length s.wires.exits) (by_crossbar i own s k stamp p).puts ≡ true
-crossbar_fits i own s Carried stamp p = let x = read s (Upstream i) stamp in let r = after_data i x p s.registers in stamped_fits s x (passed s.wires p r) (passed_fit s.wires p r)
+crossbar_fits i own s Carried stamp p = let x = read s (Upstream i) stamp in let r = after_data s.credits i x p s.registers in stamped_fits s x (passed s.wires p r) (passed_fit s.wires p r)
 crossbar_fits i own s Probe stamp p = let x = read s (Upstream i) stamp in let r = after_stamp (Upstream i) x s.registers in stamped_fits s x (probed s.wires own r) (probed_fit s.wires own r)
 crossbar_fits i own s Plain stamp p = refl
 crossbar_fits i own s InitKind stamp p = refl

@@ -68,7 +68,7 @@ wires_of net a ports bits =
     record { device = device_of (actor_of net a); port = port_of (actor_of net a); entrances = entrances_of net a; exits = exits_of net a; ports = ports; bits = bits; actions = 0 }
 
 abbrev pub first_state : Wires → Snapshot → UnitState
-first_state wires n = record { wires = wires; window = n.window; registers = first_registers n.ring }
+first_state wires n = record { wires = wires; window = n.window; credits = n.credits; registers = first_registers n.ring }
 
 abbrev pub ingress_state : Net → ℕ → Snapshot → UnitState
 ingress_state net a n = first_state (wires_of net a (ports_of net (device_of (actor_of net a))) n.width) n
@@ -84,3 +84,5 @@ pub record IsRanged (n : Snapshot) : Type 0 where
   pub some_window : 1 ≤ n.window
   pub few_window : n.window < modulus n.width
   pub some_ring : n.window ≤ n.ring
+  pub some_credits : 1 ≤ n.credits
+  pub few_credits : n.credits ≤ 4

@@ -67,10 +67,10 @@ is_near window x = nat_le x.ahead window && (nat_le (rise x) window && nat_le (a
 abbrev pub adopted : Reading → Registers → Registers
 adopted x r = if nat_lt 0 (rise x) then record r { id = x.stamp; saved = view_adopted (rise x) r.packets r.bytes r.saved } else r
 
--- a data packet with an older stamp was in flight, and is credited at the id
-abbrev pub credited : ℕ → Reading → ℕ → Registers → Registers
-credited channel x bytes r =
-    if nat_lt 0 (age x) then record r { saved = view_credited (record { channel = channel; age = age x; bytes = bytes }) r.saved } else r
+-- a data packet with an older stamp was in flight, and is credited to n saved numbers at most, from the id down
+abbrev pub credited : ℕ → ℕ → Reading → ℕ → Registers → Registers
+credited n channel x bytes r =
+    if nat_lt 0 (age x) then record r { saved = view_credited n (record { channel = channel; age = age x; bytes = bytes }) r.saved } else r
 
 abbrev pub seen : Channel → Wid → Registers → Registers
 seen Cpu stamp r = record r { cpu = stamp }
@@ -83,8 +83,8 @@ counted bytes r = record r { packets = more r.packets 1; bytes = more r.bytes by
 abbrev pub after_stamp : Channel → Reading → Registers → Registers
 after_stamp channel x r = seen channel x.stamp (adopted x r)
 
-abbrev pub after_data : ℕ → Reading → Packet → Registers → Registers
-after_data channel x p r = counted p.len (seen (Upstream channel) x.stamp (credited channel x p.len (adopted x r)))
+abbrev pub after_data : ℕ → ℕ → Reading → Packet → Registers → Registers
+after_data n channel x p r = counted p.len (seen (Upstream channel) x.stamp (credited n channel x p.len (adopted x r)))
 
 abbrev pub dump_of : Registers → Dump
 dump_of r = record { id = r.id; cpu = r.cpu; last = r.last; view = r.saved }

@@ -2,7 +2,7 @@
 use Rattle.std.specs.Prelude.{◌≡◌, ℕ, true, List, length}
 use Rattle.std.specs.List.{All}
 use Rattle.sl_layout.specs.declared.actor.Sort.TheVariants.{Dump as DumpSort}
-use Rattle.sl_saves.specs.Rings.{ring_view}
+use Rattle.sl_saves.specs.Rings.{ring_view, ring_credits}
 use Rattle.sl_wire.specs.declared.message.Dump.{Dump}
 use Rattle.sl_unit.specs.declared.wires.Way.TheVariants.{All as AllOf}
 use Rattle.sl_unit.specs.declared.registers.Registers.{Registers as Declared}
@@ -23,8 +23,12 @@ registers_of r = record {
   saved = ring_view r.saves;
 }
 
+-- to how many saved numbers it credits a data packet at most
+abbrev pub credits_of : Declared → ℕ
+credits_of r = ring_credits r.saves
+
 abbrev pub state_of : Wires → Declared → UnitState
-state_of wires r = record { wires = wires; window = r.window; registers = registers_of r }
+state_of wires r = record { wires = wires; window = r.window; credits = credits_of r; registers = registers_of r }
 
 -- there are as many dumps of the registers as there are links of dumps
 pub record HasDumps (w : Wires) (r : Registers) (dumps : List Dump) : Type 0 where

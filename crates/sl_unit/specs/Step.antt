@@ -29,6 +29,7 @@ use Rattle.sl_unit.specs.Registers.{Registers, more, read_on, is_near, counted, 
 pub record UnitState : Type 0 where
   pub wires : Wires
   pub window : ℕ
+  pub credits : ℕ
   pub registers : Registers
 
 -- a message on each link of a way
@@ -111,7 +112,7 @@ of_host s None = ignored s
 
 -- a data packet or a probe from the cable
 abbrev pub cable_data : UnitState → ℕ → Packet → Reading → After UnitState Msg
-cable_data s i p x = stamped s x (routed s.wires p (after_data i x p s.registers))
+cable_data s i p x = stamped s x (routed s.wires p (after_data s.credits i x p s.registers))
 
 abbrev pub cable_probe : UnitState → ℕ → Reading → After UnitState Msg
 cable_probe s i x = stamped s x (absorbed (after_stamp (Upstream i) x s.registers))
@@ -123,7 +124,7 @@ by_cable i s _ stamp p = ignored s
 
 -- a data packet or a probe from an ingress unit
 abbrev pub crossbar_data : UnitState → ℕ → Packet → Reading → After UnitState Msg
-crossbar_data s i p x = stamped s x (passed s.wires p (after_data i x p s.registers))
+crossbar_data s i p x = stamped s x (passed s.wires p (after_data s.credits i x p s.registers))
 
 abbrev pub crossbar_probe : UnitState → ℕ → Bool → Reading → After UnitState Msg
 crossbar_probe s i own x = stamped s x (probed s.wires own (after_stamp (Upstream i) x s.registers))

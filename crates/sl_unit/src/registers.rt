@@ -90,16 +90,19 @@ pub struct Registers {
 }
 
 impl Registers {
-    ghost use Rattle.sl_unit.specs.Room.{registers_of};
+    ghost use Rattle.sl_unit.specs.Room.{registers_of, credits_of};
 
     /// The registers of a new unit.
-    pub fn new(alloc: Global, window: u16, ring: u16) -> Result<Registers, Memory>
+    pub fn new(alloc: Global, window: u16, ring: u16, credits: u8) -> Result<Registers, Memory>
         requires least { 1 ≤ window }
         requires most { window ≤ ring }
+        requires some_credits { 1 ≤ credits }
+        requires few_credits { credits ≤ 4 }
         ensures first { IfOk result (λ r. registers_of r ≡ first_registers ring) }
         ensures window { IfOk result (λ r. r.window ≡ window) }
+        ensures credits { IfOk result (λ r. credits_of r ≡ credits) }
     {
-        let saves = RingSaves::new(alloc, window, ring)?;
+        let saves = RingSaves::new(alloc, window, ring, credits)?;
         Ok(Registers {
             window,
             id: Wid { raw: 0 },
@@ -143,6 +146,7 @@ impl Registers {
         requires near { rise reading ≤ self.old.window }
         ensures registers { registers_of self.new ≡ adopted reading (registers_of self.old) }
         ensures window { self.new.window ≡ self.old.window }
+        ensures credits { credits_of self.new ≡ credits_of self.old }
     {
         let rise = reading.rise();
         if rise > 0 {
@@ -155,8 +159,9 @@ impl Registers {
     fn credit(&mut self, channel: u32, reading: Reading, bytes: u16)
         requires channel { channel < 8 }
         requires near { age reading ≤ self.old.window }
-        ensures registers { registers_of self.new ≡ credited channel reading bytes (registers_of self.old) }
+        ensures registers { registers_of self.new ≡ credited (credits_of self.old) channel reading bytes (registers_of self.old) }
         ensures window { self.new.window ≡ self.old.window }
+        ensures credits { credits_of self.new ≡ credits_of self.old }
     {
         let age = reading.age();
         if age > 0 {
@@ -169,6 +174,7 @@ impl Registers {
         requires { IsChannel channel }
         ensures registers { registers_of self.new ≡ seen channel stamp (registers_of self.old) }
         ensures window { self.new.window ≡ self.old.window }
+        ensures credits { credits_of self.new ≡ credits_of self.old }
     {
         match channel {
             Channel::Cpu => self.cpu = stamp,
@@ -180,6 +186,7 @@ impl Registers {
     pub fn count(&mut self, bytes: u16)
         ensures registers { registers_of self.new ≡ counted bytes (registers_of self.old) }
         ensures window { self.new.window ≡ self.old.window }
+        ensures credits { credits_of self.new ≡ credits_of self.old }
     {
         self.packets = self.packets.saturating_add(1);
         self.bytes = self.bytes.saturating_add(u64::from(bytes));
@@ -191,6 +198,7 @@ impl Registers {
         requires near { rise reading ≤ self.old.window }
         ensures registers { registers_of self.new ≡ after_stamp channel reading (registers_of self.old) }
         ensures window { self.new.window ≡ self.old.window }
+        ensures credits { credits_of self.new ≡ credits_of self.old }
     {
         self.adopt(reading);
         self.see(channel, reading.stamp);
@@ -201,8 +209,9 @@ impl Registers {
         requires channel { channel < 8 }
         requires above { rise reading ≤ self.old.window }
         requires below { age reading ≤ self.old.window }
-        ensures registers { registers_of self.new ≡ after_data channel reading packet.now (registers_of self.old) }
+        ensures registers { registers_of self.new ≡ after_data (credits_of self.old) channel reading packet.now (registers_of self.old) }
         ensures window { self.new.window ≡ self.old.window }
+        ensures credits { credits_of self.new ≡ credits_of self.old }
     {
         self.adopt(reading);
         self.credit(channel, reading, packet.len);
@@ -214,6 +223,7 @@ impl Registers {
     pub fn count_bad(&mut self)
         ensures registers { registers_of self.new ≡ record (registers_of self.old) { bad = more self.old.bad 1 } }
         ensures window { self.new.window ≡ self.old.window }
+        ensures credits { credits_of self.new ≡ credits_of self.old }
     {
         self.bad = self.bad.saturating_add(1);
     }
@@ -222,6 +232,7 @@ impl Registers {
     pub fn count_expired(&mut self)
         ensures registers { registers_of self.new ≡ record (registers_of self.old) { expired = more self.old.expired 1 } }
         ensures window { self.new.window ≡ self.old.window }
+        ensures credits { credits_of self.new ≡ credits_of self.old }
     {
         self.expired = self.expired.saturating_add(1);
     }
@@ -230,6 +241,7 @@ impl Registers {
     pub fn count_noroute(&mut self)
         ensures registers { registers_of self.new ≡ record (registers_of self.old) { noroute = more self.old.noroute 1 } }
         ensures window { self.new.window ≡ self.old.window }
+        ensures credits { credits_of self.new ≡ credits_of self.old }
     {
         self.noroute = self.noroute.saturating_add(1);
     }

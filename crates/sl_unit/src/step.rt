@@ -4,7 +4,7 @@ ghost use Rattle.sl_wire.specs.declared.message.Msg.TheVariants.{Poll, Notice};
 ghost use Rattle.sl_wire.specs.Carried.{bytes_on, frame_on};
 ghost use Rattle.sl_unit.specs.Wires.{outs};
 ghost use Rattle.sl_unit.specs.Step.{data_frame, probe_frame, routed, passed, probed, initiated, plain_packet, send, take_at, from_host, cable_data, cable_probe, by_cable, crossbar_data, crossbar_probe, by_crossbar, initiation, by_init};
-ghost use Rattle.sl_unit.specs.Room.{registers_of, state_of, HasDumps};
+ghost use Rattle.sl_unit.specs.Room.{registers_of, credits_of, state_of, HasDumps};
 ghost use Rattle.sl_unit.specs.Notes.{message_of};
 
 use crate::puts::{Note, put_dumps, put_on};
@@ -68,6 +68,7 @@ fn route(wires: &Wires, registers: &mut Registers, packet: Packet, out: &mut Out
     ensures registers { registers_of registers.new ≡ (routed wires.now packet (registers_of registers.old)).state }
     ensures puts { out.new.items ≡ (routed wires.now packet (registers_of registers.old)).puts }
     ensures window { registers.new.window ≡ registers.old.window }
+    ensures credits { credits_of registers.new ≡ credits_of registers.old }
     ensures room { out.new.room ≡ out.old.room }
 {
     if packet.hops == 0 {

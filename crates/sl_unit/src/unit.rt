@@ -53,7 +53,7 @@ impl Unit {
         ensures state { IfOk result (λ unit. unit_state unit ≡ first_state wires snapshot.now) }
         ensures ready { IfOk result (λ unit. unit_ready unit ≡ None) }
     {
-        let registers = Registers::new(alloc, snapshot.window, snapshot.ring)?;
+        let registers = Registers::new(alloc, snapshot.window, snapshot.ring, snapshot.credits)?;
         Ok(Unit {
             prepared: None,
             dumps: Vec::new(alloc),

@@ -2,10 +2,19 @@
 use Rattle.std.specs.Prelude.{ℕ}
 use Rattle.sl_net.specs.declared.input.Snapshot.{Snapshot}
 
--- how many bits an id has, and how many slots a ring
+-- how many bits an id has, how many slots a ring, and to how many saved numbers a data packet in flight is credited at most
 pub record Sizes : Type 0 where
   pub bits : ℕ
   pub ring : ℕ
+  pub credits : ℕ
 
 abbrev pub sizes_of : Snapshot → Sizes
-sizes_of table = record { bits = table.width; ring = table.ring }
+sizes_of table = record { bits = table.width; ring = table.ring; credits = table.credits }
+
+-- those by which dumps are read
+pub record Lengths : Type 0 where
+  pub bits : ℕ
+  pub ring : ℕ
+
+abbrev pub lengths : Sizes → Lengths
+lengths sizes = record { bits = sizes.bits; ring = sizes.ring }

@@ -6,4 +6,4 @@ use Rattle.std.specs.Prelude.{map}
 use Rattle.sl_cut.proofs.gather.finding_list.Given as goal
 
 abbrev pub invariant-loop-done : goal.invariant-loop-done
-invariant-loop-done l = l.items.items ≡ map (finding l.input.net (losses l.input) l.world) (numbers_from 1 l.done)
+invariant-loop-done l = l.items.items ≡ map (finding l.input.snapshot.credits l.input.net (losses l.input) l.world) (numbers_from 1 l.done)

@@ -9,5 +9,5 @@ use Rattle.sl_model.proofs.Collected.{kept-ahead}
 
 pub returns : goal.returns
 returns c s lost es fs u k n t p q =
-    subst (λ v. IsKept s.net u k (first n (history (world s lost es) u)) (history v u)) (sym (run-append s lost (start s.net) es fs))
-    (kept-ahead s lost (world s lost es) fs u k n (c.nets_are_wired.ensures s.net t) (ran s lost es) p q)
+    subst (λ v. IsKept s.credits s.net u k (first n (history (world s lost es) u)) (history v u)) (sym (run-append s lost (start s.net) es fs))
+    (kept-ahead s lost (world s lost es) fs s.credits u k n (c.nets_are_wired.ensures s.net t) (ran s lost es) p q)

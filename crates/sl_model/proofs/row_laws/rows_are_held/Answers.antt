@@ -12,4 +12,4 @@ use Rattle.sl_model.proofs.row_laws.rows_are_held.Goals as goal
 
 pub returns : goal.returns
 returns c s lost es cs u k n t l = let w = world s lost es in let h = history w u in
-    held-fitting (row cs k (first n h)) (fits-row cs k (first n h) (first-short n h (all-short s lost es u t)) (omega (arith, l, first-le n h, history_size w u, world_size s lost w es refl)))
+    held-fitting (row s.credits cs k (first n h)) (fits-row s.credits cs k (first n h) (first-short n h (all-short s lost es u t)) (omega (arith, l, first-le n h, history_size w u, world_size s lost w es refl)))

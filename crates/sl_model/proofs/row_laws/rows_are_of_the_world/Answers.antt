@@ -7,4 +7,4 @@ pub returns-clause-causes : goal.returns-clause-causes
 returns-clause-causes c = cause-row
 
 pub returns-clause-values : goal.returns-clause-values
-returns-clause-values c s lost es k u n e = value-is s lost (world s lost es) k u (c.nets_are_wired.ensures s.net n) (ran s lost es) e
+returns-clause-values c s lost es k u n some e = value-is s lost (world s lost es) k u (c.nets_are_wired.ensures s.net n) (ran s lost es) some e

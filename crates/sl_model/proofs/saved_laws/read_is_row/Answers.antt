@@ -7,13 +7,13 @@ use Rattle.sl_model.proofs.Rows.{saved-is-row}
 use Rattle.sl_model.proofs.saved_laws.read_is_row.Goals as goal
 
 pub returns-clause-held : goal.returns-clause-held
-returns-clause-held c cs h view k s one p l =
-    subst (λ n. k ≤ n → n < k + length view.slots → read view n k ≡ held_saved (saved k (saves (calls cs h)))) (number-calls cs h)
-    (λ p l. c.shown_is_read.ensures.held view (calls cs h) k s one p l) p l
-    ∙ ap held_saved (saved-is-row cs h k one p)
+returns-clause-held c n cs h view k some s one p l =
+    subst (λ m. k ≤ m → m < k + length view.slots → read view m k ≡ held_saved (saved k (saves n (calls cs h)))) (number-calls cs h)
+    (λ p l. c.shown_is_read.ensures.held n view (calls cs h) k s one p l) p l
+    ∙ ap held_saved (saved-is-row n cs h k some one p)
 
 pub returns-clause-fitting : goal.returns-clause-fitting
-returns-clause-fitting c cs h view k s one p l f =
-    subst (λ n. k ≤ n → n < k + length view.slots → read view n k ≡ saved k (saves (calls cs h))) (number-calls cs h)
-    (λ q m. c.shown_is_read.ensures.fitting view (calls cs h) k s one q m (subst IsFitting (sym (saved-is-row cs h k one p)) f)) p l
-    ∙ saved-is-row cs h k one p
+returns-clause-fitting c n cs h view k some s one p l f =
+    subst (λ m. k ≤ m → m < k + length view.slots → read view m k ≡ saved k (saves n (calls cs h))) (number-calls cs h)
+    (λ q m. c.shown_is_read.ensures.fitting n view (calls cs h) k s one q m (subst IsFitting (sym (saved-is-row n cs h k some one p)) f)) p l
+    ∙ saved-is-row n cs h k some one p

@@ -28,7 +28,7 @@ returns c lost h finished = let i = c.args.input.now in
     let es = schedule_of v.book in
     let watched = observed_as c.worlds_take_turns.ensures i lost v h o c.observer-observer.ensures in
     let few = few_entries c.worlds_take_turns.ensures i lost v h c.requires.book in
-    let list = c.observers_give_findings.ensures.list s lost i.snapshot es o h.runnable.net h.runnable.short few watched finished in
+    let list = c.observers_give_findings.ensures.list s lost i.snapshot es o h.runnable.net h.runnable.is_table h.runnable.short few watched finished in
     let same : told c.input.inside.net c.input.inside.snapshot.count v o ≡ findings s lost es = ap (λ (j : Input). told j.net j.snapshot.count v o) c.input.view_is
     ∙ told_is c.worlds_take_turns.ensures s i.snapshot lost es v h.runnable.net h.image o (c.observers_tell.ensures.floor s lost i.snapshot es o watched) (c.observers_tell.ensures.issued s lost i.snapshot es o watched)
     (c.observers_tell.ensures.resent s lost i.snapshot es o watched) list in

@@ -5,7 +5,7 @@ pub returns-clause-first : goal.returns-clause-first
 returns-clause-first c = ring-first
 
 pub returns-clause-adopted : goal.returns-clause-adopted
-returns-clause-adopted c by packets bytes view calls one most s = ring-adopt view by packets bytes calls one most s
+returns-clause-adopted c n by packets bytes view = ring-adopt n view by packets bytes
 
 pub returns-clause-credited : goal.returns-clause-credited
-returns-clause-credited c x view calls b s = ring-credit view x calls b s
+returns-clause-credited c n x view = ring-credit n view x

@@ -8,4 +8,4 @@ pub returns-clause-held : goal.returns-clause-held
 returns-clause-held c = shown-read
 
 pub returns-clause-fitting : goal.returns-clause-fitting
-returns-clause-fitting c view calls k s one h l f = shown-read view calls k s one h l ∙ held-fitting (saved k (saves calls)) f
+returns-clause-fitting c n view calls k s one h l f = shown-read n view calls k s one h l ∙ held-fitting (saved k (saves n calls)) f

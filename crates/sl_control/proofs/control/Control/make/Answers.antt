@@ -8,8 +8,8 @@ use Rattle.sl_control.specs.Joined.{IsJoined}
 use Rattle.sl_control.proofs.Joining.{joined}
 use Rattle.sl_control.proofs.control.Control.make.Goals as goal
 
-pub invariant_of-result : goal.invariant_of-result
-invariant_of-result c =
+pub invariant_of-result-2 : goal.invariant_of-result-2
+invariant_of-result-2 c =
     let net = c.args.net.now in
     let a = c.args.actor in
     let done = slice_index_or (outs_of net a Done) 0 0 in

@@ -8,5 +8,6 @@ pub returns-clause-kept : goal.returns-clause-kept
 returns-clause-kept c = search rules
 
 pub returns-clause-shows : goal.returns-clause-shows
-returns-clause-shows c calls s =
-    subst (λ l. IsListed l (Adopt c.args.by c.args.packets c.args.bytes ∷ calls)) (sym (returns-clause-kept c)) (list-adopt c.args.by c.args.packets c.args.bytes _ calls c.requires.least s)
+returns-clause-shows c calls s = let n = c.args.self.now.credits in
+    subst (λ l. IsListed n l (Adopt c.args.by c.args.packets c.args.bytes ∷ calls)) (sym (returns-clause-kept c))
+    (list-adopt n c.args.by c.args.packets c.args.bytes _ calls c.requires.least s)

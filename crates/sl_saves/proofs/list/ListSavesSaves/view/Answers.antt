@@ -2,13 +2,13 @@ use Rattle.sl_saves.proofs.Lists.{list-shown, length-view}
 use Rattle.sl_saves.proofs.list.ListSavesSaves.view.Goals as goal
 
 pub returns-clause-slots : goal.returns-clause-slots
-returns-clause-slots c = length-view c.args.self.now.ring c.args.self.now.entries.list
+returns-clause-slots c = length-view c.args.self.now.ring c.args.self.now.entries.items
 
 pub returns-clause-shows : goal.returns-clause-shows
-returns-clause-shows c = list-shown _
+returns-clause-shows c = list-shown c.args.self.now.credits _
 
 pub returns-in_err-slots-clause-slots : goal.returns-in_err-slots-clause-slots
-returns-in_err-slots-clause-slots c = length-view c.args.self.now.ring c.args.self.now.entries.list
+returns-in_err-slots-clause-slots c = length-view c.args.self.now.ring c.args.self.now.entries.items
 
 pub returns-in_err-slots-clause-shows : goal.returns-in_err-slots-clause-shows
-returns-in_err-slots-clause-shows c = list-shown _
+returns-in_err-slots-clause-shows c = list-shown c.args.self.now.credits _

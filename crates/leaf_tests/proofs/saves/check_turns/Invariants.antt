@@ -1,7 +1,7 @@
 use Rattle.std.proofs.Common.{◌≡◌, length}
 use Rattle.sl_saves.specs.Lists.{list_window, list_size}
 use Rattle.sl_saves.specs.Rings.{ring_window, ring_size}
-use Rattle.leaf_tests.proofs.saves.list_and_ring_are_read_alike.Given as goal
+use Rattle.leaf_tests.proofs.saves.check_turns.Given as goal
 
 abbrev pub invariant-loop : goal.invariant-loop
 invariant-loop g l = record {

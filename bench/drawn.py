@@ -37,7 +37,8 @@ def without_script(dice):
         "cable = [" + ", ".join(cables) + "]",
         "host = [" + ", ".join(f'{{name = "{name}", at = "{at}"}}' for name, at in hosts) + "]",
         "flow = [" + ", ".join(flows) + "]",
-        f"snapshot = {{bits = {bits}, window = {window}, ring = {ring}, count = {dice.randint(0, 4)}, retries = {dice.randint(0, 2)}}}",
+        f"snapshot = {{bits = {bits}, window = {window}, ring = {ring}, count = {dice.randint(0, 4)}, retries = {dice.randint(0, 2)}, "
+        f"credits = {dice.randint(1, 4)}}}",
     ]
     if dice.random() < 0.4:
         rates = ", ".join(f"{kind} = {dice.choice((0, 0, 20, 200))}" for kind in ("cable", "crossbar", "init", "notice"))

@@ -25,6 +25,7 @@ MEANINGS = {
     "snapshot.ring": "the slots in which a unit saves its counts",
     "snapshot.count": "how many snapshots are to be taken",
     "snapshot.retries": "how often an initiation may be repeated",
+    "snapshot.credits": "to how many saved entries a packet in flight is credited",
     "loss.seed": "the seed of the generator that decides what is lost",
     "loss.cable": "how many of a thousand messages a cable loses",
     "loss.crossbar": "how many of a thousand messages a crossbar link loses",

@@ -162,7 +162,7 @@ class Drawing:
             turn = next(t for t in self.skips if t.actor == v.unit)
             return f"At turn {turn.place + 1} {v.unit} goes from {turn.before} to {turn.id}: it saves nothing for {k}."
         if v.verdict == "miscredited":
-            turn = next(t for t in self.late if t.actor == v.unit and t.id == v.other)
+            turn = next(t for t in self.late if t.actor == v.unit and t.written == v.other)
             sent = f"a packet that {turn.took.link.source} sent when it was at {turn.took.stamp}"
             return f"At turn {turn.place + 1} {v.unit}, at {turn.id} already, takes {sent}: it is missing from {k}."
         if v.verdict == "pending" and v.channel == "id":

@@ -53,6 +53,7 @@ TABLES = {
         Key("ring", "number"),
         Key("count", "number", False, 0, 1000),
         Key("retries", "number", True, 0, 100),
+        Key("credits", "number", True, 1, 4),
     ),
     "loss": keys(Key("seed", "number", True, 0, SEEDS), *RATES, Key("drop", "tables", True)),
     "drop": keys(Key("link", "text"), Key("n", "number", False, 1, 1_000_000_000)),
@@ -96,7 +97,7 @@ class Input:
     def __init__(self, doc):
         self.doc, self.net = doc, Net(doc)
         self.flows, self.raws = doc.get("flow", []), doc.get("raw", [])
-        self.snapshot = {"retries": 0, **doc["snapshot"]}
+        self.snapshot = {"retries": 0, "credits": 1, **doc["snapshot"]}
         self.loss = {"seed": 0, **dict.fromkeys(LOSSY, 0), "drop": [], **doc.get("loss", {})}
         self.entries = doc.get("script", {}).get("entries", [])
 

@@ -55,11 +55,15 @@ class Losses:
 
 
 class Turn:
-    """One turn: its actor and choice, what it took and put, and a unit's number before and after it."""
+    """One turn: its actor and choice, what it took and put, and a unit's number before and after it.
+
+    `written` is the least of the last numbers that the unit saved, as many as a packet is credited to; 0 while it has
+    saved fewer.
+    """
 
     def __init__(self, place, actor, choice):
         self.place, self.actor, self.choice = place, actor, choice
-        self.took, self.puts, self.before, self.id = None, [], 0, 0
+        self.took, self.puts, self.before, self.id, self.written = None, [], 0, 0, 0
 
 
 class World:
@@ -70,6 +74,8 @@ class World:
         self.losses = Losses(source.loss, net)
         self.turns, self.messages = [], []
         self.ids = {u: 0 for u in net.units}
+        self.credits = source.snapshot["credits"]
+        self.adopted = {u: [] for u in net.units}
         self.last = {}
         self.counted = {u: [] for u in net.units}
         self.polled = {u: False for u in net.units}
@@ -111,6 +117,10 @@ class World:
             turn.took.take = turn
             getattr(self, "take_" + words[0])(turn, link, turn.took)
         turn.id = self.ids.get(actor, 0)
+        if turn.id > turn.before:
+            self.adopted[actor].append(turn.id)
+        if len(self.adopted.get(actor, [])) >= self.credits:
+            turn.written = self.adopted[actor][-self.credits]
         self.turns.append(turn)
 
     def put(self, turn, links, kind, stamp=None, packet=None):
@@ -216,14 +226,14 @@ class World:
         return [t for t in self.turns if t.before < k < t.id]
 
     def late(self, k):
-        """The turns that take a data packet from before k when their unit is above k."""
+        """The turns that take a data packet from before k and credit it to numbers above k alone."""
         return [
             t
             for t in self.turns
             if t.took is not None
             and t.took.kind == "data"
             and t.took.link.sort in ("cable", "crossbar")
-            and t.took.stamp < k < t.id
+            and t.took.stamp < k < t.written
         ]
 
     def lag(self, unit, k):
@@ -245,7 +255,7 @@ class World:
         skips, late = self.skips(k), self.late(k)
         for unit in self.net.units:
             jump = min((t.id for t in skips if t.actor == unit), default=None)
-            credit = min((t.id for t in late if t.actor == unit), default=None)
+            credit = min((t.written for t in late if t.actor == unit), default=None)
             if jump is not None:
                 line = f"snapshot {k} inconsistent {unit} skipped to {jump}"
                 return Snapshot(k, "skipped", unit, "", jump, line=line)

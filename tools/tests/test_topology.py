@@ -79,7 +79,7 @@ class Shapes(unittest.TestCase):
             "--every",
             3,
         )
-        self.assertEqual(source.snapshot, {"bits": 3, "window": 4, "ring": 6, "count": 5, "retries": 3})
+        self.assertEqual(source.snapshot, {"bits": 3, "window": 4, "ring": 6, "count": 5, "retries": 3, "credits": 1})
         self.assertEqual((source.loss["seed"], source.loss["init"], source.loss["cable"]), (9, 7, 0))
         self.assertEqual(source.entries[:3], ["pass 2", "pass 3", "observer issue"])
         self.assertEqual(len(source.entries), 11)

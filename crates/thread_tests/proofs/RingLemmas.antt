@@ -1,14 +1,16 @@
 -- A wiring in a ring is sound.
-use Rattle.std.proofs.Common.{◌≡◌, ℕ, zero, suc, ◌+◌, ◌-◌, ◌<◌, ◌≤◌, ◌^◌, ◌==◌, ◌≢◌, List, [], ◌∷◌, length, map, replicate, refl, ap, sym, ◌∙◌, arith, inl, inr, if◌then◌else◌}
+use Rattle.std.proofs.Common.{◌≡◌, ℕ, zero, suc, ◌+◌, ◌-◌, ◌<◌, ◌≤◌, ◌^◌, ◌==◌, ◌≢◌, List, [], ◌∷◌, length, map, get_or, replicate, refl, ap, sym, ◌∙◌, subst, arith, inl, inr, if◌then◌else◌}
 use Rattle.std.specs.Prelude.{slice_index}
+use Rattle.std.specs.List.{All}
 use Rattle.std.proofs.lemmas.Bool.{cases_eq}
 use Rattle.std.proofs.lemmas.Bool.Decides.{nat_tests}
 use Rattle.std.proofs.lemmas.Grind.{common_steps}
-use Rattle.std.proofs.lemmas.List.{get_or-replicate, length-replicate}
-use Rattle.sl_machine.specs.Machine.{Counts}
+use Rattle.std.proofs.lemmas.List.{get_or-map, get_or-replicate, length-map, length-replicate}
+use Rattle.sl_machine.specs.Machine.{Counts, IsChoice}
 use Rattle.sl_machine.specs.Plan.{Plan, IsSound, link_in, link_out, link_at}
 use Rattle.sl_machine.specs.Fit.{HasCounts}
 use Rattle.sl_machine.specs.declared.wiring.Link.{Link}
+use Rattle.sl_threads.specs.Threads.{ArePlans}
 use Rattle.thread_tests.specs.Ring.{next, AreInRing, IsRing}
 
 abbrev ring_link : ℕ → ℕ → Link
@@ -116,3 +118,28 @@ ring_fits counts plan machines count is long ring =
       outs_are = ones_of (λ a. (counts a).outs) machines count (λ x. ap (λ (n : Counts). n.outs) (is x)) long ∙ sym ring.outs;
       actions_are = ones_of (λ a. (counts a).actions) machines count (λ x. ap (λ (n : Counts). n.actions) (is x)) long ∙ sym ring.actions;
     }
+
+-- plans of two choices for machines of two choices
+pub ring_plans : {A P : Type 0} (counts : A → Counts) (list : P → List ℕ) (machines : List A) (plans : List P) → ((x : A) → counts x ≡ record { ins = 1; outs = 1; actions = 1 }) → length plans ≡ length machines
+    → All (λ p. list p ≡ 0 ∷ 1 ∷ []) plans → ArePlans (map counts machines) (map list plans)
+ring_plans {A} {P} counts list machines plans is long alike = record {
+  each = length-map plans list ∙ long ∙ sym (length-map machines counts);
+  choices = λ i n low k d within.
+      let here : i < length machines = subst (λ (m : ℕ). i < m) (length-map machines counts) low in
+      let there : i < length plans = subst (λ (m : ℕ). i < m) (sym long) here in
+      let m = some_of machines i here in
+      let p = some_of plans i there in
+      let has : get_or (map counts machines) i n ≡ record { ins = 1; outs = 1; actions = 1 } = get_or-map counts machines i m n here ∙ is (get_or machines i m) in
+      let plan : get_or (map list plans) i [] ≡ 0 ∷ 1 ∷ [] = get_or-map list plans i p [] there ∙ alike i p there in
+      subst (λ (c : Counts). IsChoice c (get_or (get_or (map list plans) i []) k d)) (sym has)
+      (subst (λ (ps : List ℕ). get_or ps k d < 2) (sym plan) (below_two k d (subst (λ (ps : List ℕ). k < length ps) plan within)));
+}
+  where
+    below_two : (k d : ℕ) → k < 2 → get_or (0 ∷ 1 ∷ []) k d < 2
+    below_two zero d low = omega arith
+    below_two (suc zero) d low = omega arith
+    below_two (suc (suc k)) d low = absurd (omega (arith, low))
+
+    some_of : {X : Type 0} (xs : List X) (i : ℕ) → i < length xs → X
+    some_of [] i low = absurd (omega (arith, low))
+    some_of (x ∷ xs) i low = x

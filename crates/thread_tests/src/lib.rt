@@ -2,6 +2,7 @@
 #![tactic(auto)]
 
 #[cfg(test)]
+mod machines;
 mod passer;
 #[cfg(test)]
 mod ring;

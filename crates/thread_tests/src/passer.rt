@@ -16,7 +16,9 @@ pub struct Passer {
 
 impl Passer {
     /// One that sends so many tokens, each for so many hops after the first.
-    pub fn new(hops: u32, left: u32) -> Passer {
+    pub fn new(hops: u32, left: u32) -> Passer
+        ensures { result ≡ record { hops = hops; left = left; seen = 0; prepared = None } }
+    {
         Passer {
             hops,
             left,
@@ -27,11 +29,13 @@ impl Passer {
 }
 
 impl Machine for Passer {
+    ghost use Rattle.thread_tests.specs.Ring.{PasserState, passer_state};
+
     type Msg = u32;
 
-    ghost State = { ℕ × ℕ × ℕ };
+    ghost State = { PasserState };
 
-    ghost state = { λ p. (p.hops, p.left, p.seen) };
+    ghost state = { passer_state };
 
     ghost rules = { record {
       take = λ s link m. record { state = (s.0, s.1, min (s.2 + 1) (2 ^ 32 - 1)); puts = if m == 0 then [] else (0, m - 1) ∷ [] };

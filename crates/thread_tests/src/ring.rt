@@ -4,7 +4,7 @@ ghost use Rattle.std.specs.List.{All};
 ghost use Rattle.sl_machine.specs.Machine.{Counts};
 ghost use Rattle.sl_loss.specs.Loss.{IsFresh};
 ghost use Rattle.sl_actor.specs.Held.{held};
-ghost use Rattle.thread_tests.specs.Ring.{next, AreInRing, IsRing};
+ghost use Rattle.thread_tests.specs.Ring.{next, AreInRing, IsRing, passer_state};
 
 use crate::passer::Passer;
 use sl_actor::{Actor, make_actors};
@@ -37,7 +37,7 @@ fn ring_links(alloc: Global, count: u32) -> Result<Vec<Link>, AllocError>
     Ok(links)
 }
 
-fn ring_wiring(alloc: Global, count: u32) -> Result<Wiring, AllocError>
+pub fn ring_wiring(alloc: Global, count: u32) -> Result<Wiring, AllocError>
     ensures { IfOk result (λ w. IsRing count w) }
 {
     Ok(Wiring {
@@ -48,25 +48,39 @@ fn ring_wiring(alloc: Global, count: u32) -> Result<Wiring, AllocError>
     })
 }
 
-/// Machines of which the first sends so many tokens, each to all others.
-fn machines(alloc: Global, count: u32, tokens: u32) -> Result<Vec<Passer>, AllocError>
-    ensures { IfOk result (λ v. length v.items ≡ count) }
+/// Machines of which the first sends so many tokens, each to all others, twice the same.
+pub fn machines(
+    alloc: Global,
+    count: u32,
+    tokens: u32,
+) -> Result<(Vec<Passer>, Vec<Passer>), AllocError>
+    ensures each { IfOk result (λ v. length v.0.items ≡ count) }
+    ensures alike { IfOk result (λ v. map passer_state v.1.items ≡ map passer_state v.0.items) }
 {
+    let hops = count.saturating_sub(2);
     let mut machines = Vec::new(alloc);
+    let mut alike = Vec::new(alloc);
     for actor in 0..count {
         let left = if actor == 0 { tokens } else { 0 };
-        machines.push(Passer::new(count.saturating_sub(2), left))?;
+        machines.push(Passer::new(hops, left))?;
+        alike.push(Passer::new(hops, left))?;
     }
-    Ok(machines)
+    Ok((machines, alike))
 }
 
-fn no_losses(alloc: Global, count: u32) -> Result<Vec<Option<Loss>>, AllocError>
+/// The losses of a ring's links: the first link loses these puts.
+pub fn losses(alloc: Global, count: u32, drops: &[u64]) -> Result<Vec<Option<Loss>>, Memory>
     ensures length { IfOk result (λ v. length v.items ≡ count) }
     ensures fresh { IfOk result (λ v. All IsFresh v.items) }
 {
     let mut losses: Vec<Option<Loss>> = Vec::new(alloc);
-    for _ in 0..count {
-        losses.push(None)?;
+    for link in 0..count {
+        let loss = if link == 0 {
+            Some(Loss::new(alloc, 1, 0, 0, drops)?)
+        } else {
+            None
+        };
+        losses.push(loss)?;
     }
     Ok(losses)
 }
@@ -74,7 +88,7 @@ fn no_losses(alloc: Global, count: u32) -> Result<Vec<Option<Loss>>, AllocError>
 /// Actors in a ring, of which the first sends so many tokens, each to all others.
 pub fn ring(alloc: Global, count: u32, tokens: u32) -> Result<Vec<Actor<Passer>>, Memory> {
     let wiring = ring_wiring(alloc, count)?;
-    let machines = machines(alloc, count, tokens)?;
-    let losses = no_losses(alloc, count)?;
+    let (machines, _alike) = machines(alloc, count, tokens)?;
+    let losses = losses(alloc, count, &[])?;
     make_actors(alloc, machines, &wiring, losses, CAPACITY)
 }

@@ -1,12 +1,15 @@
 // Actors in a line: a host, two relays and a host.
-ghost use Rattle.std.specs.Prelude.{◌≡◌, ◌+◌, ◌≤◌, IfOk};
+ghost use Rattle.std.specs.Prelude.{◌≡◌, ◌+◌, ◌≤◌, map, IfOk};
+ghost use Rattle.sl_machine.specs.Fit.{HasCounts};
 ghost use Rattle.sl_actor.specs.Held.{held};
 ghost use Rattle.world_tests.specs.Plans.{in_line};
+ghost use Rattle.world_tests.specs.Relays.{relay_state, relay_counts, states_in_line, AreUnderWay};
 
 use crate::relay::{Relay, link};
 use sl_actor::{Actor, FreeGate, Gate, Moved, Rest, make_actors};
 use sl_loss::Loss;
 use sl_machine::{Memory, Wiring};
+use sl_merge::made_actors_are_wired;
 use std::alloc::{AllocError, Global};
 use std::sync::Wait;
 use std::test::Fail;
@@ -23,22 +26,34 @@ pub fn line_wiring(alloc: Global) -> Result<Wiring, AllocError>
     })
 }
 
-/// The first host has three tokens, and the relays' link loses these puts.
-pub fn actors_in_line(alloc: Global, drops: &[u64]) -> Result<Vec<Actor<Relay>>, Memory> {
-    let loss = Loss::new(alloc, 1, 1, 0, drops)?;
-    let wiring = line_wiring(alloc)?;
-    let machines = vec![in alloc;
+/// Machines in a line, of which the first has three tokens.
+pub fn machines_in_line(alloc: Global) -> Result<Vec<Relay>, AllocError>
+    ensures states { IfOk result (λ v. map relay_state v.items ≡ states_in_line) }
+    ensures counts { IfOk result (λ v. HasCounts relay_counts in_line v.items) }
+{
+    Ok(vec![in alloc;
         Relay::new(0, 1, 1, 3),
         Relay::new(1, 1, 0, 0),
         Relay::new(1, 1, 0, 0),
         Relay::new(1, 0, 0, 0),
-    ]?;
+    ]?)
+}
+
+/// The first host has three tokens, and the relays' link loses these puts.
+pub fn actors_in_line(alloc: Global, drops: &[u64]) -> Result<Vec<Actor<Relay>>, Memory>
+    ensures { IfOk result (λ v. AreUnderWay (map held v.items)) }
+{
+    made_actors_are_wired::<Relay>();
+    let loss = Loss::new(alloc, 1, 1, 0, drops)?;
+    let wiring = line_wiring(alloc)?;
+    let machines = machines_in_line(alloc)?;
     let losses = vec![in alloc; None, Some(loss), None]?;
-    make_actors(alloc, machines, &wiring, losses, 1)
+    let actors = make_actors(alloc, machines, &wiring, losses, 1)?;
+    Ok(actors)
 }
 
 /// How many choices an actor has.
-fn choices_of(actor: &Actor<Relay>) -> u32
+pub fn choices_of(actor: &Actor<Relay>) -> u32
     ensures { result ≤ (held actor.now).counts.ins + (held actor.now).counts.actions }
 {
     actor.machine().choices()

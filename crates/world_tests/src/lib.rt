@@ -7,7 +7,6 @@ mod actor;
 mod link;
 #[cfg(test)]
 mod merge;
-#[cfg(test)]
 mod relay;
 #[cfg(test)]
 mod rounds;

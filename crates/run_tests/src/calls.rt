@@ -1,4 +1,5 @@
 // Calls below the top call, each by itself: the schedule of a script, settling, and a trace.
+ghost use Rattle.std.specs.Prelude.{IfOk};
 ghost use Rattle.sl_emul.specs.Run.{CanRun};
 
 use sl_emul::first_world;
@@ -64,6 +65,18 @@ fn scripts_are_expanded(rt: HostRuntime) -> Result<(), Fail> {
     Ok(())
 }
 
+/// An input that was read can run.
+#[tactic(auto, using(sl_app::proofs::RunLemmas::runnable))]
+pub fn runnable(alloc: Global, text: &str) -> Result<Input, Fail>
+    ensures { IfOk result CanRun }
+{
+    passes_are_choices();
+    match read_input(alloc, text.as_bytes()) {
+        Ok(input) => Ok(input),
+        Err(_) => Err("refused".into()),
+    }
+}
+
 /// How many turns settling takes from the start, and then the greatest number issued and that up
 /// to which all units are collected.
 fn settled_from_start(alloc: Global, input: &Input) -> Result<(u64, u64, u64), Fail>
@@ -75,13 +88,8 @@ fn settled_from_start(alloc: Global, input: &Input) -> Result<(u64, u64, u64), F
     Ok((world.entries(), observer.issued(), observer.floor()))
 }
 
-#[tactic(auto, using(sl_app::proofs::RunLemmas::runnable))]
 fn settled(alloc: Global, text: &str) -> Result<(u64, u64, u64), Fail> {
-    passes_are_choices();
-    match read_input(alloc, text.as_bytes()) {
-        Ok(input) => settled_from_start(alloc, &input),
-        Err(_) => Err("refused".into()),
-    }
+    settled_from_start(alloc, &runnable(alloc, text)?)
 }
 
 /// Settling takes 36 turns: an issue, a Begin, an injecting and three that take the packet, two

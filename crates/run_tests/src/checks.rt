@@ -1,7 +1,10 @@
 // Checks of streams, and beside them how whole histories end.
+ghost use Rattle.sl_emul.specs.Run.{CanRun};
+
+use crate::calls::runnable;
 use sl_check::{CheckFault, Checked, check_bytes, read_claim};
 use sl_cut::{Ending, ending_of};
-use sl_read::read_input;
+use sl_net::Input;
 use std::alloc::{AllocError, Global};
 use std::test::Fail;
 
@@ -24,17 +27,70 @@ const TURNS_BETWEEN: &str =
 /// The last one.
 const LAST_TURN: &str = "observer done:a\n";
 
-/// A claim in which the host sent so many frames, with a trace that says so many turns.
-fn claim(
-    alloc: Global,
+/// A claim, and what is found of it: how many frames the host sent, how many turns the trace says,
+/// the first turn and the last, the answer of the check, and how its schedule ends.
+struct Case {
     sent: u32,
     count: u32,
-    first: &str,
-    last: &str,
-) -> Result<String, AllocError> {
+    first: &'static str,
+    last: &'static str,
+    answer: Checked,
+    ending: Option<Ending>,
+}
+
+/// What is printed of a run, and then claims that were changed at one place.
+static CASES: [Case; 5] = [
+    Case {
+        sent: 0,
+        count: 12,
+        first: "observer issue",
+        last: LAST_TURN,
+        answer: Checked::Yes,
+        ending: Some(Ending::Finished),
+    },
+    Case {
+        sent: 0,
+        count: 11,
+        first: "observer issue",
+        last: "",
+        answer: Checked::NoFinished,
+        ending: Some(Ending::Unfinished),
+    },
+    Case {
+        sent: 0,
+        count: 12,
+        first: "observer issue",
+        last: "",
+        answer: Checked::NoTrace,
+        ending: None,
+    },
+    Case {
+        sent: 0,
+        count: 12,
+        first: "observer resend",
+        last: LAST_TURN,
+        answer: Checked::NoLegal(1),
+        ending: Some(Ending::Idle(1)),
+    },
+    Case {
+        sent: 1,
+        count: 12,
+        first: "observer issue",
+        last: LAST_TURN,
+        answer: Checked::NoReport,
+        ending: Some(Ending::Finished),
+    },
+];
+
+fn cases() -> &'static [Case] {
+    &CASES
+}
+
+/// The text of a claim.
+fn text_of(alloc: Global, case: &Case) -> Result<String, AllocError> {
     format!(in alloc;
         "{}host h0 sent {} delivered 0\n{}trace {}\n{}\n{}{}",
-        UP_TO_HOSTS, sent, FROM_DROPS, count, first, TURNS_BETWEEN, last
+        UP_TO_HOSTS, case.sent, FROM_DROPS, case.count, case.first, TURNS_BETWEEN, case.last
     )
 }
 
@@ -48,62 +104,56 @@ fn answer(alloc: Global, mark: &str, claim: &str) -> Result<Option<Checked>, Fai
     }
 }
 
-/// What is printed of a run is right.
-#[test]
-fn a_printed_run_is_right(rt: HostRuntime) -> Result<(), Fail> {
-    let whole = claim(rt.alloc(), 0, 12, "observer issue", LAST_TURN)?;
-    assert_eq!(rt; answer(rt.alloc(), "---\n", &whole)?, Some(Checked::Yes));
-    assert_eq!(rt; answer(rt.alloc(), "", &whole)?, None);
-    Ok(())
-}
-
-/// A claim that was changed at one place is answered by what is wrong there.
-#[test]
-fn changed_claims_are_wrong(rt: HostRuntime) -> Result<(), Fail> {
-    let short = claim(rt.alloc(), 0, 11, "observer issue", "")?;
-    assert_eq!(rt;
-        answer(rt.alloc(), "---\n", &short)?,
-        Some(Checked::NoFinished)
-    );
-    let count = claim(rt.alloc(), 0, 12, "observer issue", "")?;
-    assert_eq!(rt;
-        answer(rt.alloc(), "---\n", &count)?,
-        Some(Checked::NoTrace)
-    );
-    let idle = claim(rt.alloc(), 0, 12, "observer resend", LAST_TURN)?;
-    assert_eq!(rt;
-        answer(rt.alloc(), "---\n", &idle)?,
-        Some(Checked::NoLegal(1))
-    );
-    let sent = claim(rt.alloc(), 1, 12, "observer issue", LAST_TURN)?;
-    assert_eq!(rt;
-        answer(rt.alloc(), "---\n", &sent)?,
-        Some(Checked::NoReport)
-    );
-    Ok(())
-}
-
 /// How the schedule of a claim ends, from whole histories.
-#[tactic(auto, using(sl_app::proofs::RunLemmas::addressed))]
-fn ending(alloc: Global, claim: &str) -> Result<Option<Ending>, Fail> {
-    let Ok(input) = read_input(alloc, ONE_PORT.as_bytes()) else {
-        return Err("refused".into());
-    };
-    let Some(claim) = read_claim(alloc, &input.net, claim.as_bytes())? else {
-        return Ok(None);
-    };
-    let ending = ending_of(alloc, &input, claim.schedule.as_slice())?;
-    Ok(Some(ending))
+fn ending(alloc: Global, input: &Input, claim: &str) -> Result<Option<Ending>, Fail>
+    requires { CanRun input.now }
+{
+    match read_claim(alloc, &input.net, claim.as_bytes())? {
+        Some(claim) => Ok(Some(ending_of(alloc, input, claim.schedule.as_slice())?)),
+        None => Ok(None),
+    }
 }
 
+/// What is found of a claim.
+fn found(alloc: Global, case: &Case) -> Result<(Option<Checked>, Option<Ending>), Fail> {
+    let claim = text_of(alloc, case)?;
+    let input = runnable(alloc, ONE_PORT)?;
+    let answer = answer(alloc, "---\n", &claim)?;
+    let ending = ending(alloc, &input, &claim)?;
+    Ok((answer, ending))
+}
+
+/// The place of the first claim of which something else is found.
+fn first_wrong(alloc: Global) -> Result<Option<usize>, Fail> {
+    for (i, case) in cases().iter().enumerate() {
+        if found(alloc, case)? != (Some(case.answer), case.ending) {
+            return Ok(Some(i));
+        }
+    }
+    Ok(None)
+}
+
+/// A run that is printed is right, and a claim that was changed is answered by what is wrong there.
 /// Whole histories end as the nodes do.
 #[test]
-fn histories_end_alike(rt: HostRuntime) -> Result<(), Fail> {
-    let whole = claim(rt.alloc(), 0, 12, "observer issue", LAST_TURN)?;
-    assert_eq!(rt; ending(rt.alloc(), &whole)?, Some(Ending::Finished));
-    let short = claim(rt.alloc(), 0, 11, "observer issue", "")?;
-    assert_eq!(rt; ending(rt.alloc(), &short)?, Some(Ending::Unfinished));
-    let idle = claim(rt.alloc(), 0, 12, "observer resend", LAST_TURN)?;
-    assert_eq!(rt; ending(rt.alloc(), &idle)?, Some(Ending::Idle(1)));
+fn claims_are_checked(rt: HostRuntime) -> Result<(), Fail> {
+    let wrong = first_wrong(rt.alloc())?;
+    assert_eq!(rt; wrong, None);
+    Ok(())
+}
+
+/// The answer for what is printed of a run, without the mark before it.
+fn answer_without_mark(alloc: Global) -> Result<Option<Checked>, Fail> {
+    match cases().first() {
+        Some(case) => answer(alloc, "", &text_of(alloc, case)?),
+        None => Err("no case".into()),
+    }
+}
+
+/// Without its mark a stream isn't checked.
+#[test]
+fn a_mark_is_needed(rt: HostRuntime) -> Result<(), Fail> {
+    let answer = answer_without_mark(rt.alloc())?;
+    assert_eq!(rt; answer, None);
     Ok(())
 }

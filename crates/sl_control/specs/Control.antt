@@ -24,13 +24,14 @@ use Rattle.sl_control.specs.declared.known.Numbers.{Numbers}
 use Rattle.sl_control.specs.Rows.{span, seen_on, is_sized, is_readable, row}
 
 -- how a control plane is joined: the choices by which it takes Begins and sweeps; the places among its outgoing links of those for
--- initiations, ports ascending, and for Dones; and the sizes by which the dumps of its units are read
+-- initiations, ports ascending, and for Dones; the sizes by which the dumps of its units are read; and the version of its frames
 pub record ControlWires : Type 0 where
   pub begin : ℕ
   pub sweep : ℕ
   pub inits : List ℕ
   pub done : ℕ
   pub sizes : Lengths
+  pub version : ℕ
 
 pub record ControlState : Type 0 where
   pub wires : ControlWires
@@ -137,13 +138,13 @@ with_units s rs = record { wires = s.wires; units = rs }
 abbrev pub asked_all : Option ℕ → ControlState → After ControlState Msg
 asked_all o s = record { state = with_units s (map (ask_by o) s.units); puts = flat_map (ask_puts o) s.units }
 
--- the initiation of a number, with its wrapped id
-abbrev pub initiation : ℕ → ℕ → Msg
-initiation bits k = framed (init_header (wid bits k)) no_packet
+-- the initiation of a number, with its wrapped id, in a version of the frame
+abbrev pub initiation : ℕ → ℕ → ℕ → Msg
+initiation bits version k = framed version (init_header (wid bits k)) no_packet
 
 -- a message that its choice doesn't carry, and a dump that isn't taken, change nothing
 abbrev pub control_take : ControlState → ℕ → Msg → After ControlState Msg
-control_take s c (BeginMsg k) = record { state = s; puts = cond (c == s.wires.begin) (send_all (initiation s.wires.sizes.bits k) s.wires.inits) [] }
+control_take s c (BeginMsg k) = record { state = s; puts = cond (c == s.wires.begin) (send_all (initiation s.wires.sizes.bits s.wires.version k) s.wires.inits) [] }
 control_take s c NoticeMsg = asked_all (Some c) s
 control_take s c (DumpMsg d) = record { state = with_units s (map (dump_by s.wires.sizes c d) s.units); puts = flat_map (dump_puts s.wires.sizes s.wires.done c d) s.units }
 control_take s c _ = record { state = s; puts = [] }

@@ -38,6 +38,7 @@ control_wires net a sizes = record {
   inits = outs_of net a Init;
   done = slice_index_or (outs_of net a Done) 0 0;
   sizes = lengths sizes;
+  version = sizes.version;
 }
 
 -- a unit from which no dump came

@@ -6,7 +6,7 @@ ghost use Rattle.sl_control.specs.Wires.{control_of, first_control, control_coun
 
 use crate::blanks::Blanks;
 use crate::known::Known;
-use crate::units::{answer_all, ask_all, is_swept, put_inits};
+use crate::units::{answer_all, ask_all, initiation, is_swept, put_inits};
 use crate::wires::{control_of, done_of, inits_of, units_of};
 use sl_ids::Width;
 use sl_machine::{Machine, Memory, Outputs};
@@ -27,6 +27,7 @@ pub struct Control {
     inits: Vec<u32>,
     done: u32,
     width: Width,
+    version: u8,
     ring: u16,
     units: Vec<Known>,
     blanks: Blanks,
@@ -42,7 +43,7 @@ impl Model for Control {
     ghost Value = { ControlView };
 
     ghost view = { λ a. record {
-      state = record { wires = record { begin = 0; sweep = a.links; inits = a.inits.items; done = a.done; sizes = record { bits = a.width.bits; ring = a.ring } }; units = a.units.items };
+      state = record { wires = record { begin = 0; sweep = a.links; inits = a.inits.items; done = a.done; sizes = record { bits = a.width.bits; ring = a.ring }; version = a.version }; units = a.units.items };
       counts = record { ins = a.links; outs = a.outs; actions = 1 };
       ready = a.prepared;
     } };
@@ -89,6 +90,7 @@ impl Control {
             inits: inits_of(alloc, net, actor)?,
             done: done_of(alloc, net, actor)?,
             width,
+            version: snapshot.version,
             ring: snapshot.ring,
             units: units_of(alloc, net, actor)?,
             blanks: Blanks::new(alloc),
@@ -123,7 +125,10 @@ impl Machine for Control {
     fn take(&mut self, link: u32, m: Msg, out: &mut Outputs<Msg>) {
         self.prepared = None;
         match m {
-            Msg::Begin(number) => put_inits(&self.inits, link == BEGIN, self.width, number, out),
+            Msg::Begin(number) => {
+                let frame = initiation(self.width, self.version, number);
+                put_inits(&self.inits, link == BEGIN, frame, out);
+            }
             Msg::Notice => ask_all(&mut self.units, Some(link), out),
             Msg::Dump(dump) => {
                 answer_all(

@@ -13,7 +13,7 @@ use sl_ids::{Width, wrap};
 use sl_machine::Outputs;
 use sl_net::Packet;
 use sl_saves::View;
-use sl_wire::{Dump, Frame, Header, Kind, Msg, encode};
+use sl_wire::{Dump, Frame, Header, Kind, Msg, frame_of};
 
 /// What notices by this choice, or without one a sweep, do to the units.
 pub fn ask_all(units: &mut Vec<Known>, notice: Option<u32>, out: &mut Outputs<Msg>)
@@ -35,8 +35,8 @@ pub fn is_swept(units: &[Known]) -> bool
 }
 
 /// The frame of the initiation of a number.
-fn initiation(width: Width, number: u64) -> Frame
-    ensures { Msg.Frame result ≡ initiation width.bits number }
+pub fn initiation(width: Width, version: u8, number: u64) -> Frame
+    ensures { Msg.Frame result ≡ initiation width.bits version number }
 {
     let header = Header {
         kind: Kind::Init,
@@ -50,17 +50,16 @@ fn initiation(width: Width, number: u64) -> Frame
         len: 0,
         hops: 0,
     };
-    encode(width, &header, &packet)
+    frame_of(version, &header, &packet)
 }
 
-/// Puts the initiation of a number on each of these links where it passes.
-pub fn put_inits(outs: &[u32], passes: bool, width: Width, number: u64, out: &mut Outputs<Msg>)
+/// Puts a frame on each of these links where it passes.
+pub fn put_inits(outs: &[u32], passes: bool, frame: Frame, out: &mut Outputs<Msg>)
     requires { length out.old.items + length outs.now ≤ out.old.room }
-    ensures puts { out.new.items ≡ out.old.items ++ cond passes (send_all (initiation width.bits number) outs.now) [] }
+    ensures puts { out.new.items ≡ out.old.items ++ cond passes (send_all (Msg.Frame frame) outs.now) [] }
     ensures room { out.new.room ≡ out.old.room }
 {
     if passes {
-        let frame = initiation(width, number);
         for link in outs {
             out.put(*link, Msg::Frame(frame));
         }

@@ -41,7 +41,7 @@ leaf_port i p = record { device = 2 + i; port = p }
 
 -- two cables a leaf, the first to the first spine and the second to the second
 abbrev pub cable : ℕ → CablePart
-cable c = record { a = leaf_port (c / 2) (2 + c % 2); b = spine_port (c % 2) (c / 2) }
+cable c = record { a = leaf_port (c / 2) (2 + c % 2); b = spine_port (c % 2) (c / 2); version = 1 }
 
 -- two hosts a leaf
 abbrev pub host : ℕ → HostPart
@@ -63,7 +63,7 @@ abbrev pub by_parity : ℕ → ℕ → ℕ → ℕ
 by_parity n even odd = if n % 2 == 0 then even else odd
 
 abbrev pub snapshot : ℕ → Snapshot
-snapshot n = record { width = 2; window = by_parity n 1 3; ring = by_parity n 1 3; count = 5; retries = 3; credits = 1 }
+snapshot n = record { width = 2; window = by_parity n 1 3; ring = by_parity n 1 3; count = 5; retries = 3; credits = 1; version = 1 }
 
 abbrev pub loss : ℕ → LossSpec
 loss n = record { seed = n; cable = by_parity n 0 5; crossbar = by_parity n 0 1; init = by_parity n 0 20; notice = by_parity n 0 20; drops = [] }
@@ -89,6 +89,7 @@ pub record IsSample (input : Input) : Type 0 where
   pub net : input.net ≡ net_of input.net.parts
   pub right : fault_of input.net.parts ≡ None
   pub hosts : length input.net.parts.hosts ≤ 16
+  pub cables : All (λ c. c.version ≡ 1) input.net.parts.cables
   pub bits : input.snapshot.width ≡ 2
   pub some_window : 1 ≤ input.snapshot.window
   pub few_window : input.snapshot.window < 4
@@ -96,6 +97,7 @@ pub record IsSample (input : Input) : Type 0 where
   pub count : input.snapshot.count ≡ 5
   pub retries : input.snapshot.retries ≡ 3
   pub credits : input.snapshot.credits ≡ 1
+  pub version : input.snapshot.version ≡ 1
   pub flows : All (IsSampleFlow input.net.parts) input.flows
   pub few_packets : sum_by (λ f. f.count) input.flows ≤ 5120
   pub raws : input.raws ≡ []

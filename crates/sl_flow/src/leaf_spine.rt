@@ -79,6 +79,7 @@ fn cable(c: u32) -> CablePart
     CablePart {
         a: leaf_port(c / 2, 2 + c % 2),
         b: spine_port(c % 2, c / 2),
+        version: 1,
     }
 }
 

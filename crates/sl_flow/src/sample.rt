@@ -82,6 +82,7 @@ pub fn snapshot(n: u64) -> Snapshot
         count: 5,
         retries: 3,
         credits: 1,
+        version: 1,
     }
 }
 

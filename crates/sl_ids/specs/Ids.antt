@@ -4,7 +4,7 @@ use Rattle.std.specs.Prelude.{ℕ, ◌+◌, ◌-◌, ◌%◌, ◌^◌}
 
 -- how many bits they have at most
 abbrev pub most_bits : ℕ
-most_bits = 8
+most_bits = 16
 
 -- how many wrapped ids there are
 abbrev pub modulus : ℕ → ℕ

@@ -44,7 +44,7 @@ sent-if net sizes us a told false ps xs h = tt
 
 -- Initiations.
 
-pub sent-inits : (net : Net) (sizes : Sizes) (us : ℕ → History) (a : ℕ) (told : ℕ → ℕ) (k : ℕ) (ls : List ℕ) → AreSent net sizes us a told (send_all (InitMsg k) ls) (send_each (initiation sizes.bits k) (map (out_of net) ls))
+pub sent-inits : (net : Net) (sizes : Sizes) (us : ℕ → History) (a : ℕ) (told : ℕ → ℕ) (k : ℕ) (ls : List ℕ) → AreSent net sizes us a told (send_all (InitMsg k) ls) (send_each (initiation sizes.bits sizes.version k) (map (out_of net) ls))
 sent-inits net sizes us a told k [] = tt
 sent-inits net sizes us a told k (l ∷ ls) = ((refl, refl), sent-inits net sizes us a told k ls)
 

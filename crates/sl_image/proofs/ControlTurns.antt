@@ -70,8 +70,8 @@ take-begin net sizes us ws a d k b step z q t i o e p = record {
         (each-of (λ l. known_of net us a (serving net a l) ≡ known_of net ws a (serving net a l)) (links_out net a Poll) (λ l m. begin-one net us ws a d l k b step z q t m i o e p));
   };
   sent = let c : step.choice ≡ 0 = z.begin_first a step.choice k i o in
-      subst (λ y. AreSent net sizes ws a (told_at net us a) step.puts (cond y (send_each (initiation sizes.bits b) (outs_of net a Init)) [])) (sym (eq-eqb step.choice 0 c))
-      (subst (λ ps. AreSent net sizes ws a (told_at net us a) ps (send_each (initiation sizes.bits b) (outs_of net a Init))) (sym p) (sent-inits net sizes ws a (told_at net us a) b (links_out net a Init)));
+      subst (λ y. AreSent net sizes ws a (told_at net us a) step.puts (cond y (send_each (initiation sizes.bits sizes.version b) (outs_of net a Init)) [])) (sym (eq-eqb step.choice 0 c))
+      (subst (λ ps. AreSent net sizes ws a (told_at net us a) ps (send_each (initiation sizes.bits sizes.version b) (outs_of net a Init))) (sym p) (sent-inits net sizes ws a (told_at net us a) b (links_out net a Init)));
 }
 
 take-notice : (net : Net) (sizes : Sizes) (us ws : ℕ → History) (a d k : ℕ) (step : Step) → IsWired net → actor_of net a ≡ Control d → Turns us ws a step → Each (λ l. IsAsked (serving net a l) (us a)) (links_out net a Poll)

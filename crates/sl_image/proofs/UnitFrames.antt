@@ -1,5 +1,5 @@
 -- Plain frames are the same by their fields and by their columns.
-use Rattle.std.proofs.Common.{◌≡◌, ℕ, ◌+◌, ◌*◌, List, [], ◌∷◌, length, refl, sym, ap, ◌∙◌, Some, None, arith, inl, inr}
+use Rattle.std.proofs.Common.{◌≡◌, ℕ, ◌+◌, ◌-◌, ◌*◌, List, [], ◌∷◌, length, refl, sym, ap, ◌∙◌, Some, None, arith, inl, inr}
 use Rattle.std.specs.Prelude.{◌⊎◌, true, false, Bool, not, ◌&&◌, ◌||◌, ◌==◌, if◌then◌else◌, take, drop, slice_index, slice_range, Result, Ok, Err}
 use Rattle.std.specs.List.{list_all}
 use Rattle.std.proofs.lemmas.Bool.{eq-eqb, ne_eqb}
@@ -10,10 +10,10 @@ use Rattle.sl_wire.specs.declared.frame.Kind.{Kind}
 use Rattle.sl_wire.specs.declared.frame.Kind.TheVariants.{Plain, Carried, Probe, Init}
 use Rattle.sl_wire.specs.declared.frame.Header.{Header}
 use Rattle.sl_wire.specs.declared.frame.WireFault.{WireFault}
-use Rattle.sl_wire.specs.declared.frame.WireFault.TheVariants.{E1, E2, E3, E4}
+use Rattle.sl_wire.specs.declared.frame.WireFault.TheVariants.{E1, E2, E3, E4, E5}
 use Rattle.sl_wire.specs.declared.message.Msg.TheVariants.{Frame, Wire}
 use Rattle.sl_wire.specs.Carried.{bytes_on, carrying, framed}
-use Rattle.sl_wire.specs.Frames.{plain_header, frame, decoded, kind_of, kind_decoded, id_fits, channel_fits, packet_fits, number, packet_of, header_of, all_zero}
+use Rattle.sl_wire.specs.Frames.{plain_header, frame, decoded, kind_of, kind_decoded, columns_decoded, check_decoded, version_fits, id_fits, channel_fits, packet_fits, number, id_in, check_in, reserved_in, packet_of, header_of, all_zero}
 use Rattle.sl_unit.specs.Step.{plain_of, plain_packet}
 use Rattle.sl_wire.specs.Frames.{plain_frame as wire_frame}
 use Rattle.sl_model.specs.Frame.{plain_frame, packet_at, number_at}
@@ -23,7 +23,7 @@ pub frame-is : (p : Packet) → wire_frame p ≡ plain_frame p
 unfolding frame plain_frame
 frame-is p = refl
 
-pub carried-plain : (p : Packet) → framed plain_header p ≡ carrying (plain_frame p)
+pub carried-plain : (p : Packet) → framed 1 plain_header p ≡ carrying (plain_frame p)
 unfolding frame plain_frame
 carried-plain p = refl
 
@@ -58,18 +58,23 @@ number-zero a b = by_tells (eqb_tells a 0) (eqb_tells b 0)
 
 -- Frames of other kinds hold no plain packet.
 
-abbrev read : Bool → Bool → Bool → Result (Header × Packet) WireFault → Result (Header × Packet) WireFault
+abbrev read : Bool → Bool → Bool → Result (ℕ × Header × Packet) WireFault → Result (ℕ × Header × Packet) WireFault
 read version id rest r = if version then if id then Err E3 else if rest then Err E4 else r else Err E2
 
-read-none : (v a b : Bool) (r : Result (Header × Packet) WireFault) → plain_of r ≡ None → plain_of (read v a b r) ≡ None
+read-none : (v a b : Bool) (r : Result (ℕ × Header × Packet) WireFault) → plain_of r ≡ None → plain_of (read v a b r) ≡ None
 read-none true true b r n = refl
 read-none true false true r n = refl
 read-none true false false r n = n
 read-none false a b r n = refl
 
-of-kind : (bits : ℕ) (bytes : List ℕ) (k : Kind) → plain_of (Ok (header_of k bytes, packet_of bytes)) ≡ None → plain_of (kind_decoded bits bytes (Some k)) ≡ None
-of-kind bits bytes k n = read-none (slice_index bytes 15 == 1) (not (id_fits bits k (number (slice_index bytes 2) (slice_index bytes 3))))
-    (not (channel_fits k (slice_index bytes 1)) || (not (packet_fits k bytes) || not (all_zero (slice_range bytes 16 24)))) (Ok (header_of k bytes, packet_of bytes)) n
+unchecked : (b : Bool) (r : Result (ℕ × Header × Packet) WireFault) → plain_of r ≡ None → plain_of (if b then Err E5 else r) ≡ None
+unchecked true r n = refl
+unchecked false r n = n
+
+of-kind : (bits : ℕ) (bytes : List ℕ) (k : Kind) → plain_of (Ok (slice_index bytes 15, header_of k bytes, packet_of bytes)) ≡ None → plain_of (kind_decoded bits bytes (Some k)) ≡ None
+of-kind bits bytes k n = read-none (version_fits k (slice_index bytes 15)) (not (id_fits bits (slice_index bytes 15) k (id_in bytes)))
+    (not (channel_fits k (slice_index bytes 1)) || (not (packet_fits k bytes) || not (all_zero (reserved_in (slice_index bytes 15) bytes)))) (check_decoded bytes (slice_index bytes 15) k)
+    (unchecked ((slice_index bytes 15 == 2) && not (check_in bytes == 65535 - id_in bytes)) (Ok (slice_index bytes 15, header_of k bytes, packet_of bytes)) n)
 
 other-kind : (bits : ℕ) (bytes : List ℕ) (x y z : Bool) → plain_of (kind_decoded bits bytes (if x then Some Carried else if y then Some Probe else if z then Some Init else None)) ≡ None
 other-kind bits bytes true y z = of-kind bits bytes Carried refl
@@ -79,8 +84,8 @@ other-kind bits bytes false false false = refl
 
 -- Frames of the plain kind.
 
-read-some : (h : Header) (p : Packet) → plain_of (Ok (h, p)) ≡ Some p → (a b c v z : Bool)
-    → plain_of (read v (not (b && c)) (not a || (not true || not z)) (Ok (h, p))) ≡ (if (a && (b && (c && true))) && (v && z) then Some p else None)
+read-some : (h : Header) (p : Packet) → plain_of (Ok (1, h, p)) ≡ Some p → (a b c v z : Bool)
+    → plain_of (read v (not (b && c)) (not a || (not true || not z)) (Ok (1, h, p))) ≡ (if (a && (b && (c && true))) && (v && z) then Some p else None)
 read-some h p e true true true true true = e
 read-some h p e true true true true false = refl
 read-some h p e true true true false true = refl
@@ -114,9 +119,18 @@ read-some h p e false false false true false = refl
 read-some h p e false false false false true = refl
 read-some h p e false false false false false = refl
 
+-- a plain frame is of version 1 alone
+one-version : (bits : ℕ) (bytes : List ℕ) (v : ℕ) → plain_of (if v == 1 then columns_decoded bits bytes v Plain else Err E2) ≡ plain_of (if v == 1 then columns_decoded bits bytes 1 Plain else Err E2)
+one-version bits bytes v = by_tells (eqb_tells v 1)
+  where
+    by_tells : (((v == 1) ≡ true) × (v ≡ 1)) ⊎ (((v == 1) ≡ false) × (v ≡ 1 → ⊥)) → plain_of (if v == 1 then columns_decoded bits bytes v Plain else Err E2) ≡ plain_of (if v == 1 then columns_decoded bits bytes 1 Plain else Err E2)
+    by_tells (inl q) = ap (λ w. plain_of (if v == 1 then columns_decoded bits bytes w Plain else Err E2)) q.1
+    by_tells (inr q) = ap (λ b. plain_of (if b then columns_decoded bits bytes v Plain else Err E2)) q.0 ∙ sym (ap (λ b. plain_of (if b then columns_decoded bits bytes 1 Plain else Err E2)) q.0)
+
 plain-kind : (bits : ℕ) (bytes : List ℕ) → plain_of (kind_decoded bits bytes (Some Plain))
     ≡ (if ((slice_index bytes 1 == 0) && ((slice_index bytes 2 == 0) && ((slice_index bytes 3 == 0) && true))) && ((slice_index bytes 15 == 1) && all_zero (slice_range bytes 16 24)) then Some (packet_of bytes) else None)
-plain-kind bits bytes = ap (λ n. plain_of (read (slice_index bytes 15 == 1) (not n) (not (slice_index bytes 1 == 0) || (not true || not (all_zero (slice_range bytes 16 24)))) (Ok (header_of Plain bytes, packet_of bytes)))) (number-zero (slice_index bytes 2) (slice_index bytes 3))
+plain-kind bits bytes = one-version bits bytes (slice_index bytes 15)
+    ∙ ap (λ n. plain_of (read (slice_index bytes 15 == 1) (not n) (not (slice_index bytes 1 == 0) || (not true || not (all_zero (slice_range bytes 16 24)))) (Ok (1, header_of Plain bytes, packet_of bytes)))) (number-zero (slice_index bytes 2) (slice_index bytes 3))
     ∙ read-some (header_of Plain bytes) (packet_of bytes) refl (slice_index bytes 1 == 0) (slice_index bytes 2 == 0) (slice_index bytes 3 == 0) (slice_index bytes 15 == 1) (all_zero (slice_range bytes 16 24))
 
 -- The bytes of both.

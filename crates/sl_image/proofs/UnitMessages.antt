@@ -36,7 +36,7 @@ use Rattle.sl_model.specs.Frame.{packet_of, plain_frame}
 use Rattle.sl_model.specs.Puts.{send_all, route, route_frame, notice_puts}
 use Rattle.sl_model.specs.Calls.{calls}
 use Rattle.sl_model.specs.UnitWindow.{IsTakeable}
-use Rattle.sl_image.specs.Messages.{AreSent, IsDumpOf}
+use Rattle.sl_image.specs.Messages.{AreSent, IsDumpOf, version_from}
 use Rattle.sl_image.specs.UnitImage.{IsUnitOf, Keeps, dropped}
 use Rattle.sl_image.proofs.UnitFrames.{carried-plain, plain-is}
 use Rattle.sl_image.proofs.UnitReads.{reading, near-is}
@@ -115,7 +115,7 @@ cable-data net table u d p us told c k q ps h saved g m out =
     of_moves : Moves net (sizes_of table) u (taking c (Data k q) ps ∷ h) (bad h) (expired h) (noroute net.parts d h) (after_data table.credits (place net u c) (reading_at table c k h) q (regs_at net table.width u d Ingress h saved))
         → Ends net table u (unit_at d p Ingress) us told (taking c (Data k q) ps ∷ h) (route net u d (id (taking c (Data k q) ps ∷ h)) q ++ (notice_puts net u (last c h) (Some k) ++ []))
         (cable_data (state_at net table u d Ingress h saved) (place net u c) q (reading_at table c k h))
-    of_moves v = of_routes v (routes net (sizes_of table) us told u d (taking c (Data k q) ps ∷ h) (bad h) (expired h) (noroute net.parts d h) v.saved q table
+    of_moves v = of_routes v (routes net us told u d (taking c (Data k q) ps ∷ h) (bad h) (expired h) (noroute net.parts d h) v.saved q table
         (omega (arith, g.few, tally-le (λ s. is_expired (counted s)) h)) (omega (arith, g.few, tally-le (λ s. is_noroute net.parts d (counted s)) h)))
 
 pub cable-probe : (net : Net) (table : Snapshot) (u d p : ℕ) (us : ℕ → History) (told : ℕ → ℕ) (c k : ℕ) (ps : List Put) (h : History) (saved : View)
@@ -154,7 +154,7 @@ init-stamp net table u d p us told c k ps h saved g m out =
         (stands net table u d p Ingress (taking c (InitMsg k) ps ∷ h) (bad h) (expired h) (noroute net.parts d h)
         (after_stamp Cpu (reading_at table c k h) (regs_at net table.width u d Ingress h saved)) g.actor v x y z)
         (sort-sent net (sizes_of table) us u told (ProbeMsg (id (taking c (InitMsg k) ps ∷ h))) (probe_frame (wires_at net u d Ingress table) (after_stamp Cpu (reading_at table c k h) (regs_at net table.width u d Ingress h saved))) CrossbarSort (wires_at net u d Ingress table) refl
-        (ap (λ r. framed (probe_header r.id (port_of (actor_of net u))) no_packet) v.is))
+        (ap (λ r. framed (version_from net (sizes_of table) u) (probe_header r.id (port_of (actor_of net u))) no_packet) v.is))
 
 -- Data packets and probes of the crossbar.
 
@@ -176,9 +176,9 @@ crossbar-data net table u d p us told c k own q ps h saved g m out = of_moves (d
         refl t.order refl (near-is table.width table.window c k h t)
         (stands net table u d p Egress (taking c (Data k q) ps ∷ h) 0 0 0 (after_data table.credits (place net u c) (reading_at table c k h) q (regs_at net table.width u d Egress h saved)) g.actor v refl refl refl)
         (sent-append net (sizes_of table) us u told (send_all (Data (id (taking c (Data k q) ps ∷ h)) q) (links_out net u CableSort)) (send_all (HostMsg (plain_frame q)) (links_out net u ToHost))
-        (send (wires_at net u d Egress table) (All CableSort) (data_frame (wires_at net u d Egress table) (after_data table.credits (place net u c) (reading_at table c k h) q (regs_at net table.width u d Egress h saved)) q)) (send (wires_at net u d Egress table) (All ToHost) (framed plain_header q))
-        (sort-sent net (sizes_of table) us u told (Data (id (taking c (Data k q) ps ∷ h)) q) (data_frame (wires_at net u d Egress table) (after_data table.credits (place net u c) (reading_at table c k h) q (regs_at net table.width u d Egress h saved)) q) CableSort (wires_at net u d Egress table) refl (ap (λ r. framed (carried_header r.id (port_of (actor_of net u))) q) v.is))
-        (sort-sent net (sizes_of table) us u told (HostMsg (plain_frame q)) (framed plain_header q) ToHost (wires_at net u d Egress table) refl (carried-plain q)))
+        (send (wires_at net u d Egress table) (All CableSort) (data_frame (wires_at net u d Egress table) (after_data table.credits (place net u c) (reading_at table c k h) q (regs_at net table.width u d Egress h saved)) q)) (send (wires_at net u d Egress table) (All ToHost) (framed 1 plain_header q))
+        (sort-sent net (sizes_of table) us u told (Data (id (taking c (Data k q) ps ∷ h)) q) (data_frame (wires_at net u d Egress table) (after_data table.credits (place net u c) (reading_at table c k h) q (regs_at net table.width u d Egress h saved)) q) CableSort (wires_at net u d Egress table) refl (ap (λ r. framed (version_from net (sizes_of table) u) (carried_header r.id (port_of (actor_of net u))) q) v.is))
+        (sort-sent net (sizes_of table) us u told (HostMsg (plain_frame q)) (framed 1 plain_header q) ToHost (wires_at net u d Egress table) refl (carried-plain q)))
 
 pub crossbar-probe : (net : Net) (table : Snapshot) (u d p : ℕ) (us : ℕ → History) (told : ℕ → ℕ) (c k : ℕ) (own : Bool) (ps : List Put) (h : History) (saved : View)
     → IsGiven net table u d p Egress c h saved (ProbeMsg k) → Member c (data_channels net u) → (Member c (choices_of net u InitSort) → ⊥)
@@ -198,7 +198,7 @@ crossbar-probe net table u d p us told c k own ps h saved g m out = of_moves (pr
         refl t.order refl (near-is table.width table.window c k h t)
         (stands net table u d p Egress (taking c (ProbeMsg k) ps ∷ h) 0 0 0 (after_stamp (Upstream (place net u c)) (reading_at table c k h) (regs_at net table.width u d Egress h saved)) g.actor v refl refl refl)
         (sent-if net (sizes_of table) us u told own (send_all (ProbeMsg (id (taking c (ProbeMsg k) ps ∷ h))) (links_out net u CableSort)) (send (wires_at net u d Egress table) (All CableSort) (probe_frame (wires_at net u d Egress table) (after_stamp (Upstream (place net u c)) (reading_at table c k h) (regs_at net table.width u d Egress h saved))))
-        (sort-sent net (sizes_of table) us u told (ProbeMsg (id (taking c (ProbeMsg k) ps ∷ h))) (probe_frame (wires_at net u d Egress table) (after_stamp (Upstream (place net u c)) (reading_at table c k h) (regs_at net table.width u d Egress h saved))) CableSort (wires_at net u d Egress table) refl (ap (λ r. framed (probe_header r.id (port_of (actor_of net u))) no_packet) v.is)))
+        (sort-sent net (sizes_of table) us u told (ProbeMsg (id (taking c (ProbeMsg k) ps ∷ h))) (probe_frame (wires_at net u d Egress table) (after_stamp (Upstream (place net u c)) (reading_at table c k h) (regs_at net table.width u d Egress h saved))) CableSort (wires_at net u d Egress table) refl (ap (λ r. framed (version_from net (sizes_of table) u) (probe_header r.id (port_of (actor_of net u))) no_packet) v.is)))
 
 -- Frames of the host.
 
@@ -254,7 +254,7 @@ host-frame net table u d p us told c bs ps h saved g = subst (λ o. Ends net tab
         let x : more (packets h) 1 ≡ packets (taking c (HostMsg bs) ps ∷ h) = (let z = ap one_of e in omega (arith, z, rp)) in
         let y : more (bytes h) q.len ≡ bytes (taking c (HostMsg bs) ps ∷ h) = (let z = ap long_of e in omega (arith, z, rb)) in
         let v = quiet-moves net (sizes_of table) u c (HostMsg bs) ps h (bad h) (expired h) (noroute net.parts d h) (more (packets h) 1) (more (bytes h) q.len) saved refl refl x y g.keeps in
-        of_routes q e v (routes net (sizes_of table) us told u d (taking c (HostMsg bs) ps ∷ h) (bad h) (expired h) (noroute net.parts d h) v.saved q table e_room n_room)
+        of_routes q e v (routes net us told u d (taking c (HostMsg bs) ps ∷ h) (bad h) (expired h) (noroute net.parts d h) v.saved q table e_room n_room)
 
     by_packet : (o : Option Packet) → packet_of bs ≡ o
         → Ends net table u (unit_at d p Ingress) us told (taking c (HostMsg bs) ps ∷ h) (route_frame net u d (id (taking c (HostMsg bs) ps ∷ h)) (packet_of bs) ++ []) (from_host (state_at net table u d Ingress h saved) o)

@@ -35,12 +35,12 @@ use Rattle.sl_model.specs.Puts.{unit_puts, is_own_port}
 use Rattle.sl_model.specs.World.{taking}
 use Rattle.sl_model.specs.Fit.{fits, fits_link}
 use Rattle.sl_model.proofs.Collected.{IsChannel, each-channel}
-use Rattle.sl_image.specs.Messages.{IsMessage}
+use Rattle.sl_image.specs.Messages.{CarryIds, IsMessage, version_from}
 use Rattle.sl_model.proofs.Settled.{is-channel}
 use Rattle.sl_model.specs.UnitWindow.{IsTakeable}
 use Rattle.sl_image.proofs.UnitLasts.{wids-at, first-only}
 use Rattle.sl_image.proofs.UnitFrames.{bytes-carried}
-use Rattle.sl_image.proofs.UnitReads.{Distances, ReadsFrames, reads, reads-carried, reads-probe, reads-init}
+use Rattle.sl_image.proofs.UnitReads.{Distances, ReadsFrames, reads, reads-carried, reads-probe, reads-init, version-carries}
 use Rattle.sl_image.proofs.UnitRegisters.{HasChannels}
 use Rattle.sl_image.proofs.UnitTurns.{wires_at, Ends}
 use Rattle.sl_image.proofs.UnitMessages.{IsGiven, unit_at, state_at, reading_at, place, host-frame, cable-data, cable-probe, init-stamp, crossbar-data, crossbar-probe, poll-dump}
@@ -78,6 +78,7 @@ pub record Given (net : Net) (table : Snapshot) : Type 0 where
   pub frames : ReadsFrames
   pub wide : table.window < modulus table.width
   pub ports : (a : ℕ) → port_of (actor_of net a) < 8
+  pub carried : CarryIds net table
 
 module _ (net : Net) (table : Snapshot) (w : Given net table) (u d p : ℕ) (side : Side) (c a : ℕ) (h : History) (saved : View) where
   abbrev now : UnitState
@@ -91,24 +92,24 @@ module _ (net : Net) (table : Snapshot) (w : Given net table) (u d p : ℕ) (sid
   init-read j chans t m = reads w.distances table.width table.window c j h Cpu now.registers w.wide t (ap (wid table.width) (first-only (choices_of net u Init) c h m chans.inits)) refl
 
   cable-data-taken : (j : ℕ) (q : Packet) → HasChannels net u → IsTakeable table.window c h j → Member c (data_channels net u)
-      → take_at (from.Cable (place net u c)) now (framed (carried_header (wid table.width j) (port_of (actor_of net a))) q) ≡ cable_data now (place net u c) q (reading_at table c j h)
-  cable-data-taken j q chans t m = ap (of_frame now (by_cable (place net u c) now)) (reads-carried w.frames table.width j (port_of (actor_of net a)) q (w.ports a)) ∙ ap (cable_data now (place net u c) q) (channel-read j chans t m)
+      → take_at (from.Cable (place net u c)) now (framed (version_from net (sizes_of table) a) (carried_header (wid table.width j) (port_of (actor_of net a))) q) ≡ cable_data now (place net u c) q (reading_at table c j h)
+  cable-data-taken j q chans t m = ap (of_frame now (by_cable (place net u c) now)) (reads-carried w.frames table.width (version_from net (sizes_of table) a) j (version-carries net table w.carried a) (port_of (actor_of net a)) q (w.ports a)) ∙ ap (cable_data now (place net u c) q) (channel-read j chans t m)
 
   cable-probe-taken : (j : ℕ) → HasChannels net u → IsTakeable table.window c h j → Member c (data_channels net u)
-      → take_at (from.Cable (place net u c)) now (framed (probe_header (wid table.width j) (port_of (actor_of net a))) no_packet) ≡ cable_probe now (place net u c) (reading_at table c j h)
-  cable-probe-taken j chans t m = ap (of_frame now (by_cable (place net u c) now)) (reads-probe w.frames table.width j (port_of (actor_of net a)) (w.ports a)) ∙ ap (cable_probe now (place net u c)) (channel-read j chans t m)
+      → take_at (from.Cable (place net u c)) now (framed (version_from net (sizes_of table) a) (probe_header (wid table.width j) (port_of (actor_of net a))) no_packet) ≡ cable_probe now (place net u c) (reading_at table c j h)
+  cable-probe-taken j chans t m = ap (of_frame now (by_cable (place net u c) now)) (reads-probe w.frames table.width (version_from net (sizes_of table) a) j (version-carries net table w.carried a) (port_of (actor_of net a)) (w.ports a)) ∙ ap (cable_probe now (place net u c)) (channel-read j chans t m)
 
   crossbar-data-taken : (own : Bool) (j : ℕ) (q : Packet) → HasChannels net u → IsTakeable table.window c h j → Member c (data_channels net u)
-      → take_at (from.Crossbar (place net u c) own) now (framed (carried_header (wid table.width j) (port_of (actor_of net a))) q) ≡ crossbar_data now (place net u c) q (reading_at table c j h)
-  crossbar-data-taken own j q chans t m = ap (of_frame now (by_crossbar (place net u c) own now)) (reads-carried w.frames table.width j (port_of (actor_of net a)) q (w.ports a)) ∙ ap (crossbar_data now (place net u c) q) (channel-read j chans t m)
+      → take_at (from.Crossbar (place net u c) own) now (framed (version_from net (sizes_of table) a) (carried_header (wid table.width j) (port_of (actor_of net a))) q) ≡ crossbar_data now (place net u c) q (reading_at table c j h)
+  crossbar-data-taken own j q chans t m = ap (of_frame now (by_crossbar (place net u c) own now)) (reads-carried w.frames table.width (version_from net (sizes_of table) a) j (version-carries net table w.carried a) (port_of (actor_of net a)) q (w.ports a)) ∙ ap (crossbar_data now (place net u c) q) (channel-read j chans t m)
 
   crossbar-probe-taken : (own : Bool) (j : ℕ) → HasChannels net u → IsTakeable table.window c h j → Member c (data_channels net u)
-      → take_at (from.Crossbar (place net u c) own) now (framed (probe_header (wid table.width j) (port_of (actor_of net a))) no_packet) ≡ crossbar_probe now (place net u c) own (reading_at table c j h)
-  crossbar-probe-taken own j chans t m = ap (of_frame now (by_crossbar (place net u c) own now)) (reads-probe w.frames table.width j (port_of (actor_of net a)) (w.ports a)) ∙ ap (crossbar_probe now (place net u c) own) (channel-read j chans t m)
+      → take_at (from.Crossbar (place net u c) own) now (framed (version_from net (sizes_of table) a) (probe_header (wid table.width j) (port_of (actor_of net a))) no_packet) ≡ crossbar_probe now (place net u c) own (reading_at table c j h)
+  crossbar-probe-taken own j chans t m = ap (of_frame now (by_crossbar (place net u c) own now)) (reads-probe w.frames table.width (version_from net (sizes_of table) a) j (version-carries net table w.carried a) (port_of (actor_of net a)) (w.ports a)) ∙ ap (crossbar_probe now (place net u c) own) (channel-read j chans t m)
 
   init-taken : (j : ℕ) → HasChannels net u → IsTakeable table.window c h j → Member c (choices_of net u Init)
-      → take_at from.Init now (framed (init_header (wid table.width j)) no_packet) ≡ initiation now (reading_at table c j h)
-  init-taken j chans t m = ap (of_frame now (by_init now)) (reads-init w.frames table.width j) ∙ ap (initiation now) (init-read j chans t m)
+      → take_at from.Init now (framed table.version (init_header (wid table.width j)) no_packet) ≡ initiation now (reading_at table c j h)
+  init-taken j chans t m = ap (of_frame now (by_init now)) (reads-init w.frames table.width table.version j w.carried.snapshot) ∙ ap (initiation now) (init-read j chans t m)
 
   host-taken : (bs : List ℕ) → take_at from.Host now (carrying bs) ≡ from_host now (plain_packet table.width bs)
   host-taken bs = ap (of_host now) (bytes-carried bs)

@@ -29,7 +29,7 @@ use Rattle.sl_unit.specs.declared.registers.Reading.{Reading}
 use Rattle.sl_unit.specs.Wires.{Wires, port_to}
 use Rattle.sl_unit.specs.Registers.{Registers, more, is_near}
 use Rattle.sl_layout.specs.Devices.{device_of}
-use Rattle.sl_unit.specs.Made.{port_of, entrances_of, exits_of, ports_of}
+use Rattle.sl_unit.specs.Made.{port_of, entrances_of, exits_of, ports_of, version_of}
 use Rattle.sl_unit.specs.declared.wires.Way.TheVariants.{All}
 use Rattle.sl_unit.specs.Step.{UnitState, onward, routed, stamped, notices, ignored, send}
 use Rattle.sl_model.specs.declared.message.Message.TheVariants.{Data, Notice as NoticeMsg}
@@ -37,7 +37,7 @@ use Rattle.sl_model.specs.declared.message.Put.{Put}
 use Rattle.sl_model.specs.History.{History, id}
 use Rattle.sl_model.specs.Puts.{send_all, route, notice_puts}
 use Rattle.sl_model.specs.Puts.{onward as puts_onward}
-use Rattle.sl_image.specs.Messages.{AreSent}
+use Rattle.sl_image.specs.Messages.{AreSent, version_from}
 use Rattle.sl_image.specs.UnitImage.{IsUnitOf, new_state}
 use Rattle.sl_image.proofs.UnitRegisters.{regs}
 use Rattle.sl_image.proofs.UnitSent.{sent-append, sent-nil, sort-sent, toward-sent, sent-unless}
@@ -51,14 +51,14 @@ ports_by net d Egress = []
 -- the links of a unit of the device d
 abbrev pub wires_at : Net → ℕ → ℕ → Side → Snapshot → Wires
 wires_at net u d side n =
-    record { device = d; port = port_of (actor_of net u); entrances = entrances_of net u; exits = exits_of net u; ports = ports_by net d side; bits = n.width; actions = 0 }
+    record { device = d; port = port_of (actor_of net u); entrances = entrances_of net u; exits = exits_of net u; ports = ports_by net d side; bits = n.width; version = version_of net.parts.cables n.version (actor_of net u); actions = 0 }
 
 pub wires-are : (net : Net) (u : ℕ) (i : UnitId) (n : Snapshot) → actor_of net u ≡ OfUnit i → (new_state net u n i.side).wires ≡ wires_at net u i.device i.side n
 wires-are net u i n q = by_side i.side
   where
     by_side : (side : Side) → (new_state net u n side).wires ≡ wires_at net u i.device side n
-    by_side Ingress = λ j. record { device = device_of (q j); port = port_of (actor_of net u); entrances = entrances_of net u; exits = exits_of net u; ports = ports_of net (device_of (q j)); bits = n.width; actions = 0 }
-    by_side Egress = λ j. record { device = device_of (q j); port = port_of (actor_of net u); entrances = entrances_of net u; exits = exits_of net u; ports = []; bits = n.width; actions = 0 }
+    by_side Ingress = λ j. record { device = device_of (q j); port = port_of (actor_of net u); entrances = entrances_of net u; exits = exits_of net u; ports = ports_of net (device_of (q j)); bits = n.width; version = version_of net.parts.cables n.version (actor_of net u); actions = 0 }
+    by_side Egress = λ j. record { device = device_of (q j); port = port_of (actor_of net u); entrances = entrances_of net u; exits = exits_of net u; ports = []; bits = n.width; version = version_of net.parts.cables n.version (actor_of net u); actions = 0 }
 
 -- a host past the last has no port
 no-port : (parts : Parts) (d host : ℕ) → length parts.hosts ≤ host → next_port parts d host ≡ None
@@ -85,30 +85,30 @@ pub record Routes (net : Net) (sizes : Sizes) (us : ℕ → History) (told : ℕ
   pub state : a.state ≡ regs net sizes.bits u h b (one_if (p.hops == 0) + e) (one_if (not (p.hops == 0) && is_none (next_port net.parts d p.dst)) + n) saved
   pub sent : AreSent net sizes us u told (route net u d (id h) p) a.puts
 
-pub routes : (net : Net) (sizes : Sizes) (us : ℕ → History) (told : ℕ → ℕ) (u d : ℕ) (h : History) (b e n : ℕ) (saved : View) (p : Packet) (t : Snapshot) → e + 1 < 2 ^ 64 → n + 1 < 2 ^ 64
-    → Routes net sizes us told u d h b e n saved p (routed (wires_at net u d Ingress t) p (regs net sizes.bits u h b e n saved))
-routes net sizes us told u d h b e n saved p t room more_room = of_port (by_hops (p.hops == 0) (next_port net.parts d p.dst))
+pub routes : (net : Net) (us : ℕ → History) (told : ℕ → ℕ) (u d : ℕ) (h : History) (b e n : ℕ) (saved : View) (p : Packet) (t : Snapshot) → e + 1 < 2 ^ 64 → n + 1 < 2 ^ 64
+    → Routes net (sizes_of t) us told u d h b e n saved p (routed (wires_at net u d Ingress t) p (regs net t.width u h b e n saved))
+routes net us told u d h b e n saved p t room more_room = of_port (by_hops (p.hops == 0) (next_port net.parts d p.dst))
   where
     by_hops : (z : Bool) (o : Option ℕ)
-        → ((if z then record { state = record (regs net sizes.bits u h b e n saved) { expired = more e 1 }; puts = [] } else onward (wires_at net u d Ingress t) p (regs net sizes.bits u h b e n saved) o).state
-        ≡ regs net sizes.bits u h b (one_if z + e) (one_if (not z && is_none o) + n) saved)
-        × AreSent net sizes us u told (if z then [] else puts_onward net u d (id h) (record p { hops = p.hops - 1 }) o)
-        (if z then record { state = record (regs net sizes.bits u h b e n saved) { expired = more e 1 }; puts = [] } else onward (wires_at net u d Ingress t) p (regs net sizes.bits u h b e n saved) o).puts
-    by_hops true o = let x : more e 1 ≡ 1 + e = omega (arith, room) in let y : n ≡ 0 + n = omega arith in (λ j. regs net sizes.bits u h b (x j) (y j) saved, tt)
-    by_hops false None = let x : e ≡ 0 + e = omega arith in let y : more n 1 ≡ 1 + n = omega (arith, more_room) in (λ j. regs net sizes.bits u h b (x j) (y j) saved, tt)
+        → ((if z then record { state = record (regs net t.width u h b e n saved) { expired = more e 1 }; puts = [] } else onward (wires_at net u d Ingress t) p (regs net t.width u h b e n saved) o).state
+        ≡ regs net t.width u h b (one_if z + e) (one_if (not z && is_none o) + n) saved)
+        × AreSent net (sizes_of t) us u told (if z then [] else puts_onward net u d (id h) (record p { hops = p.hops - 1 }) o)
+        (if z then record { state = record (regs net t.width u h b e n saved) { expired = more e 1 }; puts = [] } else onward (wires_at net u d Ingress t) p (regs net t.width u h b e n saved) o).puts
+    by_hops true o = let x : more e 1 ≡ 1 + e = omega (arith, room) in let y : n ≡ 0 + n = omega arith in (λ j. regs net t.width u h b (x j) (y j) saved, tt)
+    by_hops false None = let x : e ≡ 0 + e = omega arith in let y : more n 1 ≡ 1 + n = omega (arith, more_room) in (λ j. regs net t.width u h b (x j) (y j) saved, tt)
     by_hops false (Some port) = let x : e ≡ 0 + e = omega arith in let y : n ≡ 0 + n = omega arith in (
-      λ j. regs net sizes.bits u h b (x j) (y j) saved,
-      toward-sent net sizes us u told (Data (id h) (record p { hops = p.hops - 1 })) (framed (carried_header (wid sizes.bits (id h)) (port_of (actor_of net u))) (record p { hops = p.hops - 1 })) d port (wires_at net u d Ingress t) refl refl,
+      λ j. regs net t.width u h b (x j) (y j) saved,
+      toward-sent net (sizes_of t) us u told (Data (id h) (record p { hops = p.hops - 1 })) (framed (version_from net (sizes_of t) u) (carried_header (wid t.width (id h)) (port_of (actor_of net u))) (record p { hops = p.hops - 1 })) d port (wires_at net u d Ingress t) refl refl,
     )
 
-    of_port : ((if p.hops == 0 then record { state = record (regs net sizes.bits u h b e n saved) { expired = more e 1 }; puts = [] } else onward (wires_at net u d Ingress t) p (regs net sizes.bits u h b e n saved) (next_port net.parts d p.dst)).state
-        ≡ regs net sizes.bits u h b (one_if (p.hops == 0) + e) (one_if (not (p.hops == 0) && is_none (next_port net.parts d p.dst)) + n) saved)
-        × AreSent net sizes us u told (if p.hops == 0 then [] else puts_onward net u d (id h) (record p { hops = p.hops - 1 }) (next_port net.parts d p.dst))
-        (if p.hops == 0 then record { state = record (regs net sizes.bits u h b e n saved) { expired = more e 1 }; puts = [] } else onward (wires_at net u d Ingress t) p (regs net sizes.bits u h b e n saved) (next_port net.parts d p.dst)).puts
-        → Routes net sizes us told u d h b e n saved p (routed (wires_at net u d Ingress t) p (regs net sizes.bits u h b e n saved))
+    of_port : ((if p.hops == 0 then record { state = record (regs net t.width u h b e n saved) { expired = more e 1 }; puts = [] } else onward (wires_at net u d Ingress t) p (regs net t.width u h b e n saved) (next_port net.parts d p.dst)).state
+        ≡ regs net t.width u h b (one_if (p.hops == 0) + e) (one_if (not (p.hops == 0) && is_none (next_port net.parts d p.dst)) + n) saved)
+        × AreSent net (sizes_of t) us u told (if p.hops == 0 then [] else puts_onward net u d (id h) (record p { hops = p.hops - 1 }) (next_port net.parts d p.dst))
+        (if p.hops == 0 then record { state = record (regs net t.width u h b e n saved) { expired = more e 1 }; puts = [] } else onward (wires_at net u d Ingress t) p (regs net t.width u h b e n saved) (next_port net.parts d p.dst)).puts
+        → Routes net (sizes_of t) us told u d h b e n saved p (routed (wires_at net u d Ingress t) p (regs net t.width u h b e n saved))
     of_port x = let q = port-is net u d p.dst t in record {
-      state = ap (λ o. (if p.hops == 0 then record { state = record (regs net sizes.bits u h b e n saved) { expired = more e 1 }; puts = [] } else onward (wires_at net u d Ingress t) p (regs net sizes.bits u h b e n saved) o).state) q ∙ x.0;
-      sent = subst (λ o. AreSent net sizes us u told (route net u d (id h) p) (if p.hops == 0 then record { state = record (regs net sizes.bits u h b e n saved) { expired = more e 1 }; puts = [] } else onward (wires_at net u d Ingress t) p (regs net sizes.bits u h b e n saved) o).puts) (sym q) x.1;
+      state = ap (λ o. (if p.hops == 0 then record { state = record (regs net t.width u h b e n saved) { expired = more e 1 }; puts = [] } else onward (wires_at net u d Ingress t) p (regs net t.width u h b e n saved) o).state) q ∙ x.0;
+      sent = subst (λ o. AreSent net (sizes_of t) us u told (route net u d (id h) p) (if p.hops == 0 then record { state = record (regs net t.width u h b e n saved) { expired = more e 1 }; puts = [] } else onward (wires_at net u d Ingress t) p (regs net t.width u h b e n saved) o).puts) (sym q) x.1;
     }
 
 -- A stamp.

@@ -30,7 +30,7 @@ use Rattle.sl_model.specs.Counting.{counted_in, packets, bytes}
 use Rattle.sl_model.specs.Puts.{puts_of, unit_puts, action}
 use Rattle.sl_model.specs.World.{Entry, start, taking, next_step, turn, world}
 use Rattle.sl_model.specs.Fit.{fits_link}
-use Rattle.sl_image.specs.Messages.{IsMessage, AreSent}
+use Rattle.sl_image.specs.Messages.{CarryIds, IsMessage, AreSent}
 use Rattle.sl_model.specs.Short.{TakesShort}
 use Rattle.sl_model.specs.Turns.{Takes, Acts, TakesTurns}
 use Rattle.sl_model.specs.UnitWindow.{IsTakeable}
@@ -111,10 +111,10 @@ is-given s table lost es u c i step m st given wired t holds few q n e stands = 
     len = subst (λ o. unwrap_or (option_map (λ p. p.len) (option_and_then counted_in o)) 0 < 2 ^ 16) e (subst TakesShort new (given.short (es ++ (u, c) ∷ []))).0
 
 pub takes-follow : (s : Setup) (table : Snapshot) (lost : Losses) (es : List Entry) (u c : ℕ) (i : UnitId) (step : Step) (m : Message) (x : Msg) (st : UnitState) (vs : ℕ → History) (a : ℕ) (was told : ℕ → ℕ)
-    → Given s lost es u step → IsWired s.net → s.window ≡ table.window → table.window < modulus table.width → table.window ≤ table.ring → length es < 2 ^ 40
+    → Given s lost es u step → IsWired s.net → s.window ≡ table.window → table.window < modulus table.width → table.window ≤ table.ring → CarryIds s.net table → length es < 2 ^ 40
     → actor_of s.net u ≡ OfUnit i → next_step s lost (world s lost es) (u, c) ≡ Some step → step.taken ≡ Some m → IsMessage s.net (sizes_of table) vs a was m x → IsUnitOf s.net table u i (history (world s lost es) u) st
     → UnitSimulates s.net table u i (λ b. history (turn s lost (world s lost es) (u, c)) b) told step.puts (unit_take st c x)
-takes-follow s table lost es u c i step m x st vs a was told given wired t wide holds few q n e y stands = of_turn (is-turn given.turns s lost es u c i step m q n e)
+takes-follow s table lost es u c i step m x st vs a was told given wired t wide holds carried few q n e y stands = of_turn (is-turn given.turns s lost es u c i step m q n e)
   where
     state : st ≡ state_at s.net table u i.device i.side (history (world s lost es) u) st.registers.saved
     state = let w = stands.wires ∙ wires-are s.net u i table q in let v = stands.window in let n = stands.credits in let r = regs-is s.net (sizes_of table) u i (history (world s lost es) u) st.registers stands.registers in
@@ -128,7 +128,7 @@ takes-follow s table lost es u c i step m x st vs a was told given wired t wide 
     of_turn z =
         let now : history (turn s lost (world s lost es) (u, c)) u ≡ taking c m (unit_puts s.net u i (history (world s lost es) u) c z.link m) ∷ history (world s lost es) u =
         (given.turns.grows s lost es (u, c) step n).same ∙ ap (λ v. v ∷ history (world s lost es) u) z.step_is in
-        let ends = goes s.net wired.ways table (record { distances = given.distances; frames = given.frames; wide = wide; ports = port-few s.net wired }) u i.device i.port i.side (λ b. history (turn s lost (world s lost es) (u, c)) b) vs told was a c z.link (history (world s lost es) u) st.registers.saved m x
+        let ends = goes s.net wired.ways table (record { distances = given.distances; frames = given.frames; wide = wide; ports = port-few s.net wired; carried = carried }) u i.device i.port i.side (λ b. history (turn s lost (world s lost es) (u, c)) b) vs told was a c z.link (history (world s lost es) u) st.registers.saved m x
         (is-given s table lost es u c i step m st given wired t holds few q n e stands) z.into (receives_it z.link z.into) z.fits y now in
         subst (λ st. UnitSimulates s.net table u i (λ b. history (turn s lost (world s lost es) (u, c)) b) told step.puts (unit_take st c x)) (sym state)
         (record {

@@ -1,12 +1,15 @@
--- What the messages of machines stand for: a stamp is a wrapped id in a frame, with the sender's port. us gives the history of each actor, sizes are those of what dumps hold.
+-- What the messages of machines stand for: a stamp is a wrapped id in a frame, with the sender's port; a frame on a cable has the version
+-- of that cable, and on another stamped link that of the snapshot table. us gives the history of each actor, sizes are those of what dumps hold.
 --     HoldWindow window sizes             what sizes must be for the numbers of a window
+--     CarryIds net table                  frames carry all ids of the snapshot table's width on each link
 --     numbers_after net u g               the numbers that a unit u has after its history g
 --     IsDumpOf net sizes u g d            d has the registers of the unit u after its history g
 --     IsDoneOf n net u before now d       d brings, over what was known of the unit u before, what is known now, with credits to n saved numbers
 --     IsMessage net sizes us a told m x   x stands for the message m that the actor a puts
 --     AreSent net sizes us a told ps xs   the puts of a machine stand for those of a step
 -- told gives for the place of each unit how many of its steps were told before.
-use Rattle.std.specs.Prelude.{◌≡◌, ℕ, ◌<◌, ◌≤◌, List, [], ◌∷◌, ◌++◌, map, take, length, replicate, slice_index, slice_get, option_map, unwrap_or}
+use Rattle.std.specs.Prelude.{◌≡◌, ℕ, ◌<◌, ◌≤◌, List, [], ◌∷◌, ◌++◌, map, take, length, replicate, slice_index, slice_get, option_map, unwrap_or, IsTrue}
+use Rattle.std.specs.List.{All}
 use Rattle.sl_ids.specs.Ids.{most_bits, modulus}
 use Rattle.sl_ids.specs.Wids.{wid}
 use Rattle.sl_layout.specs.declared.actor.Sort.TheVariants.{Init as InitSort}
@@ -14,14 +17,15 @@ use Rattle.sl_layout.specs.Net.{Net, actor_of, units, unit_place, data_channels,
 use Rattle.sl_layout.specs.Wires.{out_of}
 use Rattle.sl_saves.specs.declared.entry.Saved.{Saved}
 use Rattle.sl_saves.specs.Views.{IsShown, held_saved}
-use Rattle.sl_wire.specs.Frames.{carried_header, probe_header, init_header, no_packet}
+use Rattle.sl_net.specs.declared.input.Snapshot.{Snapshot}
+use Rattle.sl_wire.specs.Frames.{carries, carried_header, probe_header, init_header, no_packet}
 use Rattle.sl_wire.specs.Carried.{framed, carrying}
 use Rattle.sl_wire.specs.declared.message.Dump.{Dump}
 use Rattle.sl_wire.specs.declared.message.Done.{Done}
 use Rattle.sl_wire.specs.declared.message.Msg.{Msg}
 use Rattle.sl_wire.specs.declared.message.Msg.TheVariants as wire
 use Rattle.sl_wire.specs.Sizes.{Sizes}
-use Rattle.sl_unit.specs.Made.{port_of}
+use Rattle.sl_unit.specs.Made.{port_of, version_of}
 use Rattle.sl_control.specs.declared.known.Numbers.{Numbers}
 use Rattle.sl_control.specs.Rows.{span}
 use Rattle.sl_model.specs.declared.message.Message.{Message}
@@ -49,6 +53,11 @@ pub record HoldWindow (window : ℕ) (sizes : Sizes) : Type 0 where
   pub few_bits : sizes.bits ≤ most_bits
   pub apart : window < modulus sizes.bits
   pub room : window ≤ sizes.ring
+
+-- the frames of each version that is in use carry all ids
+pub record CarryIds (net : Net) (n : Snapshot) : Type 0 where
+  pub snapshot : IsTrue (carries n.width n.version)
+  pub cables : All (λ c. IsTrue (carries n.width c.version)) net.parts.cables
 
 abbrev pub numbers_after : Net → ℕ → History → Numbers
 numbers_after net u g = record { id = id g; cpu = cpu_last net u g; last = eight (lasts net u g) }
@@ -82,11 +91,15 @@ pub record SaysDone (n : ℕ) (net : Net) (u : ℕ) (before now : History) (x : 
   pub is : x ≡ wire.Done done
   pub of : IsDoneOf n net u before now done
 
+-- the version of the frames that an actor sends to units
+abbrev pub version_from : Net → Sizes → ℕ → ℕ
+version_from net sizes a = version_of net.parts.cables sizes.version (actor_of net a)
+
 abbrev pub IsMessage : Net → Sizes → (ℕ → History) → ℕ → (ℕ → ℕ) → Message → Msg → Type 0
 IsMessage net sizes us a told (Host bytes) x = x ≡ carrying bytes
-IsMessage net sizes us a told (Data s p) x = x ≡ framed (carried_header (wid sizes.bits s) (port_of (actor_of net a))) p
-IsMessage net sizes us a told (Probe s) x = x ≡ framed (probe_header (wid sizes.bits s) (port_of (actor_of net a))) no_packet
-IsMessage net sizes us a told (Init s) x = x ≡ framed (init_header (wid sizes.bits s)) no_packet
+IsMessage net sizes us a told (Data s p) x = x ≡ framed (version_from net sizes a) (carried_header (wid sizes.bits s) (port_of (actor_of net a))) p
+IsMessage net sizes us a told (Probe s) x = x ≡ framed (version_from net sizes a) (probe_header (wid sizes.bits s) (port_of (actor_of net a))) no_packet
+IsMessage net sizes us a told (Init s) x = x ≡ framed sizes.version (init_header (wid sizes.bits s)) no_packet
 IsMessage net sizes us a told Poll x = x ≡ wire.Poll
 IsMessage net sizes us a told Notice x = x ≡ wire.Notice
 IsMessage net sizes us a told (DumpMsg n) x = SaysDump net sizes a (first n (us a)) x

@@ -23,7 +23,7 @@ use Rattle.sl_model.specs.Setup.{Setup}
 use Rattle.sl_model.specs.Knowledge.{observer, known, issued, resent, collected, upto_of, floor_of, unit_floor}
 use Rattle.sl_model.specs.Rows.{row}
 use Rattle.sl_model.specs.Accounts.{Account}
-use Rattle.sl_image.specs.Messages.{eight, lasts}
+use Rattle.sl_image.specs.Messages.{CarryIds, eight, lasts}
 use Rattle.sl_image.specs.Simulates.{Simulates, ActSimulates}
 
 -- the rows are those of the numbers that are collected, as slots hold them
@@ -60,8 +60,8 @@ ObserverActSimulates net table sizes v told ps o = ActSimulates (IsObserverOf ne
 abbrev pub known_at : World → ℕ → ℕ
 known_at w place = known place (observer w)
 
--- the table is that of the setup, a wrapped id stands for one number of a window, a ring holds a window, and a data packet in flight is
--- credited to one number at least
+-- the table is that of the setup, a wrapped id stands for one number of a window, a ring holds a window, a data packet in flight is
+-- credited to one number at least, and the frames on each link carry all ids
 pub record IsTableOf (s : Setup) (table : Snapshot) : Type 0 where
   pub window : table.window ≡ s.window
   pub count : table.count ≡ s.count
@@ -71,6 +71,7 @@ pub record IsTableOf (s : Setup) (table : Snapshot) : Type 0 where
   pub few_bits : table.width ≤ most_bits
   pub apart : table.window < modulus table.width
   pub room : table.window ≤ table.ring
+  pub carried : CarryIds s.net table
 
 abbrev pub account_of : UnitState → Account
 account_of x = record { id = x.id; last = take x.channels x.last; floor = x.floor; rows = x.rows }

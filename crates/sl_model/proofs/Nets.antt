@@ -23,7 +23,7 @@ abbrev pub host : List ℕ → PortRef → HostPart
 host name at = record { name = name; at = at }
 
 abbrev pub cable : PortRef → PortRef → CablePart
-cable a b = record { a = a; b = b }
+cable a b = record { a = a; b = b; version = 1 }
 
 abbrev pub net_a : Net
 net_a = net_of (record { devices = device (codes "a") 2 ∷ []; cables = []; hosts = host (codes "h0") (port 0 0) ∷ host (codes "h1") (port 0 1) ∷ [] })

@@ -6,8 +6,9 @@ use std::marker::Model;
 
 /// The snapshot table: `width` is the bits of a wrapped id, `window` and `ring` the sizes of the
 /// observer's window and of a unit's ring, `count` how many snapshots are to be taken, `retries`
-/// how often an initiation may be repeated in all, and `credits` to how many saved numbers a data
-/// packet in flight is credited at most.
+/// how often an initiation may be repeated in all, `credits` to how many saved numbers a data
+/// packet in flight is credited at most, and `version` the version, 1 or 2, of the frames that are
+/// sent on crossbars and as initiations.
 #[derive(Clone, Copy, Debug, PartialEq, Eq)]
 pub struct Snapshot {
     pub width: u8,
@@ -16,6 +17,7 @@ pub struct Snapshot {
     pub count: u64,
     pub retries: u64,
     pub credits: u8,
+    pub version: u8,
 }
 
 /// One loss by name: the `n`-th put on a link, from 1.

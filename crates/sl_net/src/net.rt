@@ -3,7 +3,7 @@ ghost use Rattle.std.specs.Prelude.{◌≡◌, ◌≢◌, ◌<◌, ◌≤◌, No
 ghost use Rattle.std.specs.List.{All};
 ghost use Rattle.sl_machine.specs.Plan.{IsSound};
 ghost use Rattle.sl_parts.specs.Fault.{fault_of};
-ghost use Rattle.sl_parts.specs.Valid.{IsValid};
+ghost use Rattle.sl_parts.specs.Valid.{AreVersioned, IsValid};
 ghost use Rattle.sl_layout.specs.Net.{net_of, actor_of, link_of, links_into, links_from, units, unit_place};
 ghost use Rattle.sl_layout.specs.Roster.{IsActor};
 ghost use Rattle.sl_layout.specs.Wires.{HasEnds};
@@ -71,6 +71,7 @@ fn assemble(alloc: Global, layout: Layout) -> Result<Net, AllocError>
 impl Net {
     /// The net of these parts, or the first reason why they are none.
     pub fn build(alloc: Global, parts: Parts) -> Result<Net, NetFault>
+        requires versions { AreVersioned parts.cables }
         ensures net { IfOk result (λ net. net ≡ net_of parts) }
         ensures right { OnOk result (fault_of parts ≡ None) }
         ensures fault { IfErr result (λ e. e ≢ NetFault.Memory → fault_of parts ≡ Some e) }

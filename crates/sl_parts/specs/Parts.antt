@@ -27,6 +27,11 @@ abbrev pub other_end : List CablePart → PortRef → Option PortRef
 other_end [] p = None
 other_end (c ∷ cs) p = if same_port c.a p then Some c.b else if same_port c.b p then Some c.a else other_end cs p
 
+-- the version of the frames on the cable at this port, and another where there is none
+abbrev pub version_at : ℕ → List CablePart → PortRef → ℕ
+version_at other [] p = other
+version_at other (c ∷ cs) p = if same_port c.a p || same_port c.b p then c.version else version_at other cs p
+
 -- the place of the host at this port
 abbrev pub host_from : ℕ → List HostPart → PortRef → Option ℕ
 host_from n [] p = None

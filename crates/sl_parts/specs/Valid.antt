@@ -1,6 +1,7 @@
 -- Parts that a net can be built from, in the net's own words.
-use Rattle.std.specs.Prelude.{ℕ, ◌<◌, ◌≤◌, length}
+use Rattle.std.specs.Prelude.{ℕ, ◌<◌, ◌≤◌, List, length}
 use Rattle.std.specs.List.{All}
+use Rattle.sl_parts.specs.declared.parts.CablePart.{CablePart}
 use Rattle.sl_parts.specs.declared.parts.PortRef.{PortRef}
 use Rattle.sl_parts.specs.Parts.{Parts, ports_of}
 
@@ -8,6 +9,10 @@ use Rattle.sl_parts.specs.Parts.{Parts, ports_of}
 pub record IsPort (parts : Parts) (p : PortRef) : Type 0 where
   pub device : p.device < length parts.devices
   pub port : p.port < ports_of parts p.device
+
+-- there are two versions of frames
+abbrev pub AreVersioned : List CablePart → Type 0
+AreVersioned cables = All (λ c. (1 ≤ c.version) × (c.version ≤ 2)) cables
 
 -- few devices with few ports, and cables and hosts at these ports
 pub record IsValid (parts : Parts) : Type 0 where

@@ -16,11 +16,12 @@ pub struct DevicePart {
     pub ports: u32,
 }
 
-/// A cable between two ports.
+/// A cable between two ports. The frames of data packets and probes on it are of `version`, 1 or 2.
 #[derive(Clone, Copy, Debug, PartialEq, Eq)]
 pub struct CablePart {
     pub a: PortRef,
     pub b: PortRef,
+    pub version: u8,
 }
 
 /// A host: its name and the port that it stands at.

@@ -26,6 +26,7 @@ use Rattle.sl_unit.specs.Step.{UnitState, counts_of}
 use Rattle.sl_layout.specs.Devices.{device_of}
 use Rattle.sl_unit.specs.Made.{wires_of, entrance_by, exit_by, ports_of, ingress_state, egress_state}
 use Rattle.sl_host.specs.Host.{host_counts}
+use Rattle.sl_net.specs.declared.input.Snapshot.{Snapshot}
 use Rattle.sl_proto.specs.declared.node.Node.{Node}
 use Rattle.sl_proto.specs.Nodes.{UnitNode, node_state, node_counts, node_ready}
 use Rattle.sl_proto.specs.Built.{counts_at, first_unit, first_at, AreNodes}
@@ -35,8 +36,8 @@ pub place_is : (net : Net) (a : ℕ) (x : ActorId) → net ≡ net_of net.parts 
 place_is net a x made = subst (λ n. a < length n.actors → actor_of n a ≡ x → place_of x n.actors ≡ a) (sym made)
     (λ low q. ap (λ y. place_of y (actors_of net.parts)) (sym q) ∙ place-at net.parts a low)
 
-pub unit_fits : (net : Net) (a : ℕ) (u : UnitId) (ports : List (Option ℕ)) (bits : ℕ) → actor_of net a ≡ OfUnit u → counts_of (wires_of net a ports bits) ≡ counts_at net a
-unit_fits net a u ports bits q =
+pub unit_fits : (net : Net) (a : ℕ) (u : UnitId) (ports : List (Option ℕ)) (n : Snapshot) → actor_of net a ≡ OfUnit u → counts_of (wires_of net a ports n) ≡ counts_at net a
+unit_fits net a u ports n q =
     let ins : length (map (entrance_by net a) (below (length (links_into net a)))) ≡ length (links_into net a) =
     length-map (below (length (links_into net a))) (entrance_by net a) ∙ length_numbers 0 (length (links_into net a)) in
     let outs : length (map (exit_by net) (links_from net a)) ≡ length (links_from net a) = length-map (links_from net a) (exit_by net) in
@@ -46,10 +47,10 @@ unit_fits net a u ports bits q =
 pub unit_counts_are : (input : Input) (a : ℕ) (u : UnitId) (side : Side) (s : UnitState) → actor_of input.net a ≡ OfUnit u → UnitNode s ≡ first_unit input a side → counts_of s.wires ≡ counts_at input.net a
 unit_counts_are input a u Ingress s q e =
     let z : s ≡ ingress_state input.net a input.snapshot = cc in
-    ap (λ t. counts_of t.wires) z ∙ unit_fits input.net a u (ports_of input.net (device_of (actor_of input.net a))) input.snapshot.width q
+    ap (λ t. counts_of t.wires) z ∙ unit_fits input.net a u (ports_of input.net (device_of (actor_of input.net a))) input.snapshot q
 unit_counts_are input a u Egress s q e =
     let z : s ≡ egress_state input.net a input.snapshot = cc in
-    ap (λ t. counts_of t.wires) z ∙ unit_fits input.net a u [] input.snapshot.width q
+    ap (λ t. counts_of t.wires) z ∙ unit_fits input.net a u [] input.snapshot q
 
 pub host_fits : (net : Net) (a h : ℕ) → IsWired net → a < length net.actors → actor_of net a ≡ OfHost h → host_counts ≡ counts_at net a
 host_fits net a h t low q =

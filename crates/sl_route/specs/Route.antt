@@ -13,7 +13,7 @@ abbrev pub Walk : Type 0
 Walk = List CablePart
 
 abbrev pub turned : CablePart → CablePart
-turned c = record { a = c.b; b = c.a }
+turned c = record { a = c.b; b = c.a; version = c.version }
 
 -- the cables at a device, each turned so that it begins there; one with both ends there stands twice
 abbrev pub cables_from : Parts → ℕ → List CablePart

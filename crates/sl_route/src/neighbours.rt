@@ -40,6 +40,7 @@ fn turned(cable: CablePart) -> CablePart
     CablePart {
         a: cable.b,
         b: cable.a,
+        version: cable.version,
     }
 }
 

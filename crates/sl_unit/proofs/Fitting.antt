@@ -113,12 +113,12 @@ routed_fit w p r = by_hops (p.hops == 0) (by_port (port_to w p.dst))
 passed_fit : (w : Wires) (p : Packet) (r : Registers) → IsFit w (passed w p r).puts
 passed_fit w p r =
     let packets = send w (All sort.Cable) (data_frame w r p) in
-    let frames = send w (All sort.ToHost) (framed plain_header p) in
+    let frames = send w (All sort.ToHost) (framed 1 plain_header p) in
     let notes = send w (All sort.Notice) Notice in record {
-      alone = two_fit w (All sort.Cable) (All sort.ToHost) (data_frame w r p) (framed plain_header p) refl;
+      alone = two_fit w (All sort.Cable) (All sort.ToHost) (data_frame w r p) (framed 1 plain_header p) refl;
       noticed = subst (λ ps. is_fitting (length w.exits) ps ≡ true) (sym (append_assoc packets frames notes))
-          (way_first w (All sort.Cable) (data_frame w r p) (frames ++ notes) (two_fit w (All sort.ToHost) (All sort.Notice) (framed plain_header p) Notice refl)
-          (λ o t. on_append o frames notes (way_absent w (All sort.Cable) (All sort.ToHost) (framed plain_header p) refl o t) (way_absent w (All sort.Cable) (All sort.Notice) Notice refl o t)));
+          (way_first w (All sort.Cable) (data_frame w r p) (frames ++ notes) (two_fit w (All sort.ToHost) (All sort.Notice) (framed 1 plain_header p) Notice refl)
+          (λ o t. on_append o frames notes (way_absent w (All sort.Cable) (All sort.ToHost) (framed 1 plain_header p) refl o t) (way_absent w (All sort.Cable) (All sort.Notice) Notice refl o t)));
     }
 
 probed_fit : (w : Wires) (own : Bool) (r : Registers) → IsFit w (probed w own r).puts

@@ -105,9 +105,9 @@ routed_few w p r = by_hops (p.hops == 0) (by_port (port_to w p.dst))
 pub passed_few : (w : Wires) (p : Packet) (r : Registers) → length (passed w p r).puts + length (outs (All sort.Notice) w.exits) ≤ length w.exits
 passed_few w p r = let packets = outs (All sort.Cable) w.exits in let frames = outs (All sort.ToHost) w.exits in omega (
   arith,
-  length-append (send_all (data_frame w r p) packets) (send_all (framed plain_header p) frames),
+  length-append (send_all (data_frame w r p) packets) (send_all (framed 1 plain_header p) frames),
   length_sent (data_frame w r p) packets,
-  length_sent (framed plain_header p) frames,
+  length_sent (framed 1 plain_header p) frames,
   three_ways (All sort.Cable) (All sort.ToHost) (All sort.Notice) w.exits refl refl refl,
 )
 

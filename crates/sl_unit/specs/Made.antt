@@ -1,6 +1,7 @@
 -- A unit of a net. a is its actor's number.
 use Rattle.std.specs.Prelude.{ℕ, ◌<◌, ◌≤◌, Bool, false, List, [], length, map, Option, Some, None, slice_index}
 use Rattle.sl_layout.specs.declared.actor.Side.{Side}
+use Rattle.sl_layout.specs.declared.actor.Side.TheVariants.{Ingress, Egress}
 use Rattle.sl_layout.specs.declared.actor.ActorId.{ActorId}
 use Rattle.sl_layout.specs.declared.actor.ActorId.TheVariants.{Unit as OfUnit}
 use Rattle.sl_layout.specs.declared.actor.Sort.{Sort}
@@ -8,7 +9,8 @@ use Rattle.sl_layout.specs.declared.actor.Sort.TheVariants.{FromHost, Cable as C
 use Rattle.sl_layout.specs.Devices.{device_of}
 use Rattle.sl_net.specs.declared.input.Snapshot.{Snapshot}
 use Rattle.sl_ids.specs.Ids.{most_bits, modulus}
-use Rattle.sl_parts.specs.Parts.{below}
+use Rattle.sl_parts.specs.declared.parts.CablePart.{CablePart}
+use Rattle.sl_parts.specs.Parts.{below, version_at}
 use Rattle.sl_layout.specs.Net.{Net, same_actor, ingress, actor_of, link_of, link_at, links_into, links_from, place_in, data_channels, units}
 use Rattle.sl_route.specs.Route.{next_port}
 use Rattle.sl_unit.specs.declared.wires.Entrance.{Entrance}
@@ -63,19 +65,37 @@ exits_of net a = map (exit_by net) (links_from net a)
 abbrev pub ports_of : Net → ℕ → List (Option ℕ)
 ports_of net d = map (next_port net.parts d) (below (length net.parts.hosts))
 
-abbrev pub wires_of : Net → ℕ → List (Option ℕ) → ℕ → Wires
-wires_of net a ports bits =
-    record { device = device_of (actor_of net a); port = port_of (actor_of net a); entrances = entrances_of net a; exits = exits_of net a; ports = ports; bits = bits; actions = 0 }
+-- that of its cable of an egress unit
+abbrev pub version_on : List CablePart → ℕ → ℕ → ℕ → Side → ℕ
+version_on cables version device port Ingress = version
+version_on cables version device port Egress = version_at version cables (record { device = device; port = port })
+
+-- the version of the frames that an actor sends to units, where the snapshot table has another: what leaves an egress unit goes on its cable
+abbrev pub version_of : List CablePart → ℕ → ActorId → ℕ
+version_of cables version (OfUnit u) = version_on cables version u.device u.port u.side
+version_of cables version _ = version
+
+abbrev pub wires_of : Net → ℕ → List (Option ℕ) → Snapshot → Wires
+wires_of net a ports n = record {
+  device = device_of (actor_of net a);
+  port = port_of (actor_of net a);
+  entrances = entrances_of net a;
+  exits = exits_of net a;
+  ports = ports;
+  bits = n.width;
+  version = version_of net.parts.cables n.version (actor_of net a);
+  actions = 0;
+}
 
 abbrev pub first_state : Wires → Snapshot → UnitState
 first_state wires n = record { wires = wires; window = n.window; credits = n.credits; registers = first_registers n.ring }
 
 abbrev pub ingress_state : Net → ℕ → Snapshot → UnitState
-ingress_state net a n = first_state (wires_of net a (ports_of net (device_of (actor_of net a))) n.width) n
+ingress_state net a n = first_state (wires_of net a (ports_of net (device_of (actor_of net a))) n) n
 
 -- an egress unit routes nothing
 abbrev pub egress_state : Net → ℕ → Snapshot → UnitState
-egress_state net a n = first_state (wires_of net a [] n.width) n
+egress_state net a n = first_state (wires_of net a [] n) n
 
 -- a snapshot table within the ranges that machines need
 pub record IsRanged (n : Snapshot) : Type 0 where

@@ -38,10 +38,10 @@ send w way m = send_all m (outs way w.exits)
 
 -- what a unit sends on: a data packet and a probe, with its id and port
 abbrev pub data_frame : Wires → Registers → Packet → Msg
-data_frame w r p = framed (carried_header r.id w.port) p
+data_frame w r p = framed w.version (carried_header r.id w.port) p
 
 abbrev pub probe_frame : Wires → Registers → Msg
-probe_frame w r = framed (probe_header r.id w.port) no_packet
+probe_frame w r = framed w.version (probe_header r.id w.port) no_packet
 
 -- Plain frames.
 
@@ -49,8 +49,8 @@ abbrev pub if_plain : Kind → Packet → Option Packet
 if_plain Plain p = Some p
 if_plain _ p = None
 
-abbrev pub plain_of : Result (Header × Packet) WireFault → Option Packet
-plain_of (Ok read) = if_plain read.0.kind read.1
+abbrev pub plain_of : Result (ℕ × Header × Packet) WireFault → Option Packet
+plain_of (Ok read) = if_plain read.1.kind read.2
 plain_of (Err fault) = None
 
 -- the packet of which the bytes are the plain frame
@@ -79,7 +79,7 @@ absorbed r = record { state = r; puts = [] }
 
 -- an egress unit sends a packet on its cable, or to its host without the stamp
 abbrev pub passed : Wires → Packet → Registers → After Registers Msg
-passed w p r = record { state = r; puts = send w (All CableSort) (data_frame w r p) ++ send w (All ToHost) (framed plain_header p) }
+passed w p r = record { state = r; puts = send w (All CableSort) (data_frame w r p) ++ send w (All ToHost) (framed 1 plain_header p) }
 
 -- and a probe from the ingress unit of its own port on its cable
 abbrev pub probed : Wires → Bool → Registers → After Registers Msg

@@ -13,7 +13,7 @@ use Rattle.sl_unit.specs.declared.wires.Way.{Way}
 use Rattle.sl_unit.specs.declared.wires.Way.TheVariants.{All, Toward}
 
 -- its device and port; what comes by each choice; each outgoing link by its number; the next port to each host; the bits of wrapped ids;
--- and how many own actions it has
+-- the version of the frames that it sends to other units; and how many own actions it has
 pub record Wires : Type 0 where
   pub device : ℕ
   pub port : ℕ
@@ -21,6 +21,7 @@ pub record Wires : Type 0 where
   pub exits : List Exit
   pub ports : List (Option ℕ)
   pub bits : ℕ
+  pub version : ℕ
   pub actions : ℕ
 
 abbrev pub entrance_at : Wires → ℕ → Entrance

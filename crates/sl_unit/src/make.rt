@@ -2,14 +2,18 @@
 ghost use Rattle.std.specs.Prelude.{◌≡◌, ◌<◌, ◌≤◌, ◌^◌, ◌++◌, OnOk, IfOk, IsSome, length};
 ghost use Rattle.std.specs.List.{All};
 ghost use Rattle.sl_layout.specs.Net.{actor_of, choices_of, data_channels, place_in};
+ghost use Rattle.sl_ids.specs.Ids.{most_bits};
+ghost use Rattle.sl_parts.specs.Parts.{version_at};
 ghost use Rattle.sl_route.specs.Routes.{IsRoutesOf};
 ghost use Rattle.sl_unit.specs.Wires.{IsSmall};
 ghost use Rattle.sl_layout.specs.Devices.{device_of};
-ghost use Rattle.sl_unit.specs.Made.{side_of, port_of, is_own, entrance, entrances_of, exits_of, ports_of, wires_of};
+ghost use Rattle.sl_unit.specs.Made.{side_of, port_of, is_own, entrance, entrances_of, exits_of, ports_of, version_of, wires_of};
 
 use crate::wires::{Entrance, Exit, Wires};
 use sl_ids::Width;
-use sl_net::{ActorId, Net, Side, Sort, nets_are_wired, push_if};
+use sl_net::{
+    ActorId, CablePart, Net, PortRef, Side, Snapshot, Sort, nets_are_wired, push_if,
+};
 use sl_route::Routes;
 use std::alloc::{AllocError, Global};
 
@@ -162,27 +166,66 @@ pub fn list_ports(
     Ok(ports)
 }
 
+/// The version of the frames on the cable at a port, and another where there is none.
+fn version_at(other: u8, cables: &[CablePart], port: PortRef) -> u8
+    ensures { result ≡ version_at other cables.now port }
+{
+    for cable in cables {
+        if cable.a == port || cable.b == port {
+            return cable.version;
+        }
+    }
+    other
+}
+
+/// The version of the frames that an actor sends to units.
+fn version_of(cables: &[CablePart], version: u8, actor: ActorId) -> u8
+    ensures { result ≡ version_of cables.now version actor }
+{
+    match actor {
+        ActorId::Unit(unit) => match unit.side {
+            Side::Ingress => version,
+            Side::Egress => {
+                let port = PortRef {
+                    device: unit.device,
+                    port: unit.port,
+                };
+                version_at(version, cables, port)
+            }
+        },
+        _ => version,
+    }
+}
+
 /// The links of a unit, with the next ports to hosts.
 pub fn make_wires(
     alloc: Global,
     net: &Net,
     actor: u32,
     ports: Vec<Option<u8>>,
-    width: Width,
+    snapshot: &Snapshot,
 ) -> Result<Wires, AllocError>
     requires actor { actor < length net.now.actors }
     requires unit { IsSome (side_of (actor_of net.now actor)) }
-    ensures { IfOk result (λ wires. wires ≡ wires_of net.now actor ports.items width.bits) }
+    requires some_bits { 1 ≤ snapshot.now.width }
+    requires few_bits { snapshot.now.width ≤ most_bits }
+    ensures { IfOk result (λ wires. wires ≡ wires_of net.now actor ports.items snapshot.now) }
 {
+    let unit = net.actor(actor);
+    let version = version_of(&net.parts().cables, snapshot.version, unit);
+    let width = Width {
+        bits: snapshot.width,
+    };
     let entrances = list_entrances(alloc, net, actor)?;
     let exits = list_exits(alloc, net, actor)?;
     Ok(Wires {
-        device: device_of(net.actor(actor)),
+        device: device_of(unit),
         port: port_of(net, actor),
         entrances,
         exits,
         ports,
         width,
+        version,
         actions: 0,
     })
 }

@@ -31,7 +31,7 @@ fn data_note(wires: &Wires, registers: &Registers, packet: &Packet) -> Note
     ensures { message_of result ≡ data_frame wires.now (registers_of registers.now) packet.now }
 {
     let header = header_of(wires, registers, Kind::Carried);
-    Note::Frame(frame_of(&header, packet))
+    Note::Frame(frame_of(wires.version(), &header, packet))
 }
 
 /// A probe to another unit.
@@ -46,7 +46,7 @@ fn probe_note(wires: &Wires, registers: &Registers) -> Note
         len: 0,
         hops: 0,
     };
-    Note::Frame(frame_of(&header, &packet))
+    Note::Frame(frame_of(wires.version(), &header, &packet))
 }
 
 /// Puts a notice where the last-seen id of a channel changes.
@@ -116,7 +116,7 @@ fn plain_packet(width: Width, bytes: &[u8]) -> Option<Packet>
     ensures { result ≡ plain_packet width.bits bytes.now }
 {
     match decode(width, bytes) {
-        Ok((header, packet)) => match header.kind {
+        Ok((_version, header, packet)) => match header.kind {
             Kind::Plain => Some(packet),
             _ => None,
         },

@@ -79,11 +79,8 @@ impl Unit {
     {
         let actor = net.unit_actor(unit);
         let device = device_of(net.actor(actor));
-        let width = Width {
-            bits: snapshot.width,
-        };
         let ports = list_ports(alloc, net, routes, device)?;
-        let wires = make_wires(alloc, net, actor, ports, width)?;
+        let wires = make_wires(alloc, net, actor, ports, snapshot)?;
         Unit::make(alloc, wires, snapshot)
     }
 
@@ -96,10 +93,7 @@ impl Unit {
         ensures ready { IfOk result (λ made. unit_ready made ≡ None) }
     {
         let actor = net.unit_actor(unit);
-        let width = Width {
-            bits: snapshot.width,
-        };
-        let wires = make_wires(alloc, net, actor, Vec::new(alloc), width)?;
+        let wires = make_wires(alloc, net, actor, Vec::new(alloc), snapshot)?;
         Unit::make(alloc, wires, snapshot)
     }
 

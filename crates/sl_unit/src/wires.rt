@@ -84,6 +84,8 @@ pub struct Wires {
     pub ports: Vec<Option<u8>>,
     /// The width of wrapped ids.
     pub width: Width,
+    /// The version of the frames that it sends to other units.
+    pub version: u8,
     /// How many own actions it has, which is none.
     pub actions: u32,
 }
@@ -93,9 +95,9 @@ impl Model for Wires {
 
     ghost Value = { Wires };
 
-    ghost view = { λ w. record { device = w.device; port = w.port; entrances = w.entrances.items; exits = w.exits.items; ports = w.ports.items; bits = w.width.bits; actions = w.actions } };
+    ghost view = { λ w. record { device = w.device; port = w.port; entrances = w.entrances.items; exits = w.exits.items; ports = w.ports.items; bits = w.width.bits; version = w.version; actions = w.actions } };
 
-    ghost invariant = { λ w. IsUsable (record { device = w.device; port = w.port; entrances = w.entrances.items; exits = w.exits.items; ports = w.ports.items; bits = w.width.bits; actions = w.actions }) };
+    ghost invariant = { λ w. IsUsable (record { device = w.device; port = w.port; entrances = w.entrances.items; exits = w.exits.items; ports = w.ports.items; bits = w.width.bits; version = w.version; actions = w.actions }) };
 }
 
 impl Wires {
@@ -137,6 +139,13 @@ impl Wires {
         ensures { result.bits ≡ self.now.bits }
     {
         self.width
+    }
+
+    /// The version of the frames that it sends to other units.
+    pub fn version(&self) -> u8
+        ensures { result ≡ self.now.version }
+    {
+        self.version
     }
 
     /// The next port to a host.

@@ -1,6 +1,6 @@
 // Frames as bytes, and bytes as frames.
 ghost use Rattle.std.specs.Prelude.{◌≡◌, ℕ, ◌/◌, ◌%◌, length, IfOk, Ok};
-ghost use Rattle.sl_wire.specs.Frames.{kind_of, kind_byte, channel_fits, id_fits, number, wide_number, all_zero, packet_of, packet_fits, frame, plain_header, plain_frame, decoded, IsCanonical, IsFrame};
+ghost use Rattle.sl_wire.specs.Frames.{kind_of, kind_byte, channel_fits, version_fits, id_fits, check_of, number, wide_number, all_zero, packet_of, packet_fits, frame, plain_header, plain_frame, decoded, IsCanonical, IsFrame};
 
 use sl_ids::{Wid, Width};
 use sl_net::Packet;
@@ -41,70 +41,80 @@ pub struct Frame {
 pub enum WireFault {
     /// There are not 24 bytes.
     E1,
-    /// Byte 0 is no kind, or byte 15 is no version.
+    /// Byte 0 is no kind, or byte 15 is no version that the kind has.
     E2,
-    /// The id has more bits than ids have, or is not 0 in a plain frame.
+    /// The id has more bits than ids have or than the version carries, or is not 0 in a plain frame.
     E3,
-    /// Another byte has a value that the kind doesn't allow.
+    /// Another byte but those of the check has a value that the kind and the version don't allow.
     E4,
+    /// The check of version 2 is not 65535 less the id.
+    E5,
 }
 
-/// The bytes of the header and the packet.
+/// The bytes of the header and the packet in this version of the frame.
 #[tactic(auto, unfolding(crate::specs::Frames::frame))]
-pub fn encode(width: Width, header: &Header, packet: &Packet) -> Frame
-    requires { IsCanonical width.bits header.now packet.now }
-    ensures frame { IsFrame width.bits result.bytes header.now packet.now }
-    ensures back { decoded width.bits result.bytes ≡ Ok (header.now, packet.now) }
+pub fn encode(width: Width, version: u8, header: &Header, packet: &Packet) -> Frame
+    requires { IsCanonical width.bits version header.now packet.now }
+    ensures frame { IsFrame width.bits result.bytes version header.now packet.now }
+    ensures back { decoded width.bits result.bytes ≡ Ok (version, header.now, packet.now) }
 {
-    frame_of(header, packet)
+    frame_of(version, header, packet)
 }
 
 /// The plain frame of a packet. It is the same at each width of ids.
 pub fn plain_frame(packet: &Packet) -> Frame
     ensures bytes { result.bytes ≡ plain_frame packet.now }
-    ensures frame { (bits : ℕ) → IsFrame bits result.bytes plain_header packet.now }
+    ensures frame { (bits : ℕ) → IsFrame bits result.bytes 1 plain_header packet.now }
 {
     let header = Header {
         kind: Kind::Plain,
         id: Wid { raw: 0 },
         channel: 0,
     };
-    frame_of(&header, packet)
+    frame_of(1, &header, packet)
 }
 
-/// The header and packet of which the bytes are the frame, or the first fault of E1 to E4.
+/// The version, header and packet of which the bytes are the frame, or the first fault of E1 to E5.
 #[tactic(auto, unfolding(crate::specs::Frames::decoded))]
-pub fn decode(width: Width, bytes: &[u8]) -> Result<(Header, Packet), WireFault>
+pub fn decode(width: Width, bytes: &[u8]) -> Result<(u8, Header, Packet), WireFault>
     ensures value { result ≡ decoded width.bits bytes.now }
-    ensures frame { IfOk result (λ read. IsFrame width.bits bytes.now read.0 read.1) }
+    ensures frame { IfOk result (λ read. IsFrame width.bits bytes.now read.0 read.1 read.2) }
 {
     if bytes.len() != 24 {
         return Err(WireFault::E1);
     }
+    let version = bytes[15];
     let kind = match kind_of(bytes[0]) {
-        Some(kind) if bytes[15] == 1 => kind,
+        Some(kind) if version_fits(kind, version) => kind,
         _ => return Err(WireFault::E2),
     };
     let raw = number(bytes[2], bytes[3]);
-    if !id_fits(width, kind, raw) {
+    if !id_fits(width, version, kind, raw) {
         return Err(WireFault::E3);
     }
     let channel = bytes[1];
-    if !channel_fits(kind, channel) || !packet_fits(kind, bytes) || !all_zero(&bytes[16..24]) {
+    let reserved = if version == 2 { 18 } else { 16 };
+    if !channel_fits(kind, channel)
+        || !packet_fits(kind, bytes)
+        || !all_zero(&bytes[reserved..24])
+    {
         return Err(WireFault::E4);
+    }
+    if version == 2 && number(bytes[16], bytes[17]) != 65535 - raw {
+        return Err(WireFault::E5);
     }
     let header = Header {
         kind,
         id: Wid { raw },
         channel,
     };
-    Ok((header, packet_of(bytes)))
+    Ok((version, header, packet_of(bytes)))
 }
 
-/// The bytes of any header and packet.
+/// The bytes of any header and packet in any version.
 #[tactic(auto, unfolding(crate::specs::Frames::frame))]
-pub fn frame_of(header: &Header, packet: &Packet) -> Frame
-    ensures { result.bytes ≡ frame header.now packet.now }
+pub fn frame_of(version: u8, header: &Header, packet: &Packet) -> Frame
+    ensures { result.bytes ≡ frame version header.now packet.now }
 {
     let id = header.id.raw;
     let src = packet.src;
@@ -112,6 +122,7 @@ pub fn frame_of(header: &Header, packet: &Packet) -> Frame
     let front = (packet.seq / 65536) as u16;
     let back = (packet.seq % 65536) as u16;
     let len = packet.len;
+    let check = check_of(version, id);
     let bytes = [
         kind_byte(header.kind),
         header.channel,
@@ -128,9 +139,9 @@ pub fn frame_of(header: &Header, packet: &Packet) -> Frame
         high(len),
         low(len),
         packet.hops,
-        1,
-        0,
-        0,
+        version,
+        high(check),
+        low(check),
         0,
         0,
         0,
@@ -193,13 +204,28 @@ fn channel_fits(kind: Kind, channel: u8) -> bool
     }
 }
 
-fn id_fits(width: Width, kind: Kind, id: u16) -> bool
-    ensures { result ≡ id_fits width.bits kind id }
+fn version_fits(kind: Kind, version: u8) -> bool
+    ensures { result ≡ version_fits kind version }
+{
+    match kind {
+        Kind::Plain => version == 1,
+        _ => version == 1 || version == 2,
+    }
+}
+
+fn id_fits(width: Width, version: u8, kind: Kind, id: u16) -> bool
+    ensures { result ≡ id_fits width.bits version kind id }
 {
     match kind {
         Kind::Plain => id == 0,
-        _ => u32::from(id) < width.modulus(),
+        _ => u32::from(id) < width.modulus() && (version == 2 || id < 256),
     }
+}
+
+fn check_of(version: u8, id: u16) -> u16
+    ensures { result ≡ check_of version id }
+{
+    if version == 2 { 65535 - id } else { 0 }
 }
 
 fn packet_fits(kind: Kind, bytes: &[u8]) -> bool

@@ -101,12 +101,13 @@ impl Msg {
         }
     }
 
-    /// The header and the packet of which it carries the frame, with ids of this width.
+    /// The header and the packet of which it carries the frame in either version, with ids of this
+    /// width.
     pub fn frame(&self, width: Width) -> Option<(Header, Packet)>
         ensures { result ≡ frame_on width.bits self.now }
     {
         match decode(width, self.bytes()?) {
-            Ok(read) => Some(read),
+            Ok((_version, header, packet)) => Some((header, packet)),
             Err(_) => None,
         }
     }

@@ -6,7 +6,7 @@ use Rattle.sl_image.proofs.UnitWorlds.{takes-follow, unit-takes}
 use Rattle.sl_image.proofs.units.units_take_messages.Goals as goal
 
 pub returns-clause-follows : goal.returns-clause-follows
-returns-clause-follows c s table lost es u k a i step m x state us was told net t wide holds short few q n e y z =
+returns-clause-follows c s table lost es u k a i step m x state us was told net t wide holds carried short few q n e y z =
     takes-follow s table lost es u k i step m x state us a was told (record {
       turns = c.worlds_take_turns.ensures;
       near = λ j d. c.stamps_are_in_window.ensures s lost es (u, k) i step j net q n d;
@@ -15,7 +15,7 @@ returns-clause-follows c s table lost es u k a i step m x state us was told net 
       few_bytes = c.counts_fit.ensures.bytes;
       distances = c.distances_are_differences.ensures;
       frames = c.one_frame.ensures.read;
-    }) (c.nets_are_wired.ensures s.net net) t wide holds few q n e y z
+    }) (c.nets_are_wired.ensures s.net net) t wide holds carried few q n e y z
 
 pub returns-clause-choice : goal.returns-clause-choice
 returns-clause-choice c s lost es u k step n = c.worlds_take_turns.ensures.choice s lost (world s lost es) (u, k) step n

@@ -9,7 +9,7 @@ use Rattle.sl_parts.proofs.Tables.{cable_clash, cable_fits, cable_added}
 use Rattle.sl_parts.proofs.ports.join_cables.Goals as goal
 
 abbrev none : CablePart
-none = record { a = record { device = 0; port = 0 }; b = record { device = 0; port = 0 } }
+none = record { a = record { device = 0; port = 0 }; b = record { device = 0; port = 0 }; version = 0 }
 
 pub returns-then-not-add_cable-clause-err : goal.returns-then-not-add_cable-clause-err
 returns-then-not-add_cable-clause-err c = λ _.

@@ -79,7 +79,7 @@ returns c s table lost r = record {
         leaves s table w v a step (Control d) (as_node ControlNode (control_take o k x)) q g.stands
         (put-by-told s.net (sizes_of table) (history v) a (told_at s.net (history w) a) (history w a) step.puts (control_take o k x).puts (step-dones turns c.links_pass_messages.ensures s lost w a d k step reported wired (turns.ran s lost es) q next) g.sent)
     takes es a k l step m x few next into taken msg (OfUnit i) q (UnitNode o) st = let w = world s lost es in let v = turn s lost w (a, k) in
-        let g = λ (told : ℕ → ℕ). c.units_take_messages.ensures.follows s table lost es a k (link_of s.net l).from i step m x o (history w) (told_by k (history w a)) told r.net (sym r.is_table.window) r.is_table.apart r.is_table.room r.short few q next taken msg st in
+        let g = λ (told : ℕ → ℕ). c.units_take_messages.ensures.follows s table lost es a k (link_of s.net l).from i step m x o (history w) (told_by k (history w a)) told r.net (sym r.is_table.window) r.is_table.apart r.is_table.room r.is_table.carried r.short few q next taken msg st in
         leaves s table w v a step (OfUnit i) (as_node UnitNode (unit_rules.take o k x)) q (g untold).stands (put-by-any s.net (sizes_of table) (history v) a (history w a) step.puts (unit_rules.take o k x).puts (λ told. (g told).sent))
     takes es a k l step m x few next into taken msg (OfHost i) q (HostNode o) st = let w = world s lost es in let v = turn s lost w (a, k) in
         let g = λ (told : ℕ → ℕ). c.hosts_take.ensures s lost es a k i (sizes_of table) (link_of s.net l).from told (told_by k (history w a)) step m x o r.net (is-host a i (turns.within s lost w (a, k) step next) q) few st next taken msg in

@@ -9,7 +9,7 @@ use Rattle.sl_route.proofs.Graphs.{IsJoined, all-joined, listed_of, table-more}
 use Rattle.sl_route.proofs.neighbours.list_neighbours.Goals as goal
 
 abbrev none : CablePart
-none = record { a = record { device = 0; port = 0 }; b = record { device = 0; port = 0 } }
+none = record { a = record { device = 0; port = 0 }; b = record { device = 0; port = 0 }; version = 0 }
 
 pub neighbour_by-requires : goal.neighbour_by-requires
 neighbour_by-requires c =

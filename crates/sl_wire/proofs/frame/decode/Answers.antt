@@ -8,4 +8,4 @@ unfolding decoded
 returns-clause-value c = search rules
 
 pub returns-clause-frame : goal.returns-clause-frame
-returns-clause-frame c = frame-spelled _ _ _ _ (λ i. (c.type_inv.bytes i).fits) (sym (returns-clause-value c))
+returns-clause-frame c = frame-spelled _ _ _ _ _ (λ i. (c.type_inv.bytes i).fits) (sym (returns-clause-value c))

@@ -2,7 +2,8 @@ use Rattle.std.proofs.Common.{◌++◌, [], ℕ, List, Some, ap, subst, sym, ◌
 use Rattle.std.specs.Prelude.{flat_map, cond, ◌==◌}
 use Rattle.sl_control.specs.declared.known.Known.{Known}
 use Rattle.sl_machine.specs.Machine.{send_all}
-use Rattle.sl_control.specs.Control.{ControlView, ask_puts, dump_puts, initiation}
+use Rattle.sl_wire.specs.declared.message.Msg.TheVariants.{Frame}
+use Rattle.sl_control.specs.Control.{ControlView, ask_puts, dump_puts}
 use Rattle.sl_control.specs.Joined.{IsJoined}
 use Rattle.sl_control.proofs.Fitting.{asked-joined, answered-joined, inits-fit, asks-fit, answers-fit, added-to-none, room-for-two}
 use Rattle.sl_control.proofs.control.ControlMachine.take.Goals as goal
@@ -11,7 +12,7 @@ pub returns-in-Begin-clause-fitting : goal.returns-in-Begin-clause-fitting
 returns-in-Begin-clause-fitting c =
     let s = c.self.inside in
     let first = c.args.link == 0 in
-    let init = initiation s.width.bits c.in-Begin.number in
+    let init = Frame c.initiation-frame.result in
     added-to-none c.args.self.now.counts.outs s.outs c.args.out.now.items c.put_inits.new.out.items (cond first (send_all init s.inits.items) [])
     (ap (λ (v : ControlView). v.counts.outs) c.self.view_is) c.requires.empty
     (c.put_inits.ensures.puts ∙ ap (λ (os : List ℕ). c.args.out.now.items ++ cond first (send_all init os) []) c.deref.ensures.value)

@@ -10,10 +10,12 @@ use Rattle.std.proofs.lemmas.List.Elements.{All-get_or, All-from_get_or}
 use Rattle.sl_parts.specs.declared.fault.NetFault.{NetFault}
 use Rattle.sl_net.specs.declared.input.Flow.{Flow}
 use Rattle.sl_parts.specs.Text.{IsName, is_name_byte}
+use Rattle.sl_parts.specs.declared.parts.CablePart.{CablePart}
 use Rattle.sl_parts.specs.Parts.{below}
 use Rattle.sl_parts.specs.Fault.{fault_of}
+use Rattle.sl_parts.specs.Valid.{AreVersioned}
 use Rattle.sl_parts.proofs.Lists.{number_at, length_numbers, length_below, at_below}
-use Rattle.sl_flow.specs.Sample.{IsSampleFlow, IsSample, leaf_count, leaf_spine, host_count, host, flow, by_parity, sample_parts}
+use Rattle.sl_flow.specs.Sample.{IsSampleFlow, IsSample, leaf_count, leaf_spine, host_count, host, cable, flow, by_parity, sample_parts}
 
 -- a test that the numbers below some number pass
 each_below : (test : ℕ → Bool) (count n : ℕ) → list_all test (below count) ≡ true → n < count → test n ≡ true
@@ -47,6 +49,9 @@ has_no_fault k = is_none (fault_of (leaf_spine (2 + k)))
 none_have_faults : list_all has_no_fault (below 7) ≡ true
 unfolding has_no_fault digits
 none_have_faults = refl
+
+pub versioned : (n : ℕ) → AreVersioned (leaf_spine (leaf_count n)).cables
+versioned n = made_below (λ (c : CablePart). (1 ≤ c.version) × (c.version ≤ 2)) cable (2 * leaf_count n) (λ i l. (omega arith, omega arith))
 
 pub no_fault : (n : ℕ) → fault_of (leaf_spine (leaf_count n)) ≡ None
 unfolding has_no_fault

@@ -3,6 +3,7 @@ ghost use Rattle.std.specs.Prelude.{◌≡◌, ◌<◌, ◌≤◌, ◌+◌, ◌*
 ghost use Rattle.sl_parts.specs.Text.{IsName};
 ghost use Rattle.sl_parts.specs.Parts.{below};
 ghost use Rattle.sl_parts.specs.Fault.{fault_of};
+ghost use Rattle.sl_parts.specs.Valid.{AreVersioned};
 ghost use Rattle.sl_layout.specs.Net.{net_of};
 ghost use Rattle.sl_flow.specs.Sample.{spine, leaf, devices, spine_port, leaf_port, cable, host, leaf_spine};
 
@@ -134,7 +135,8 @@ pub fn leaf_spine(alloc: Global, leaves: u32) -> Result<Parts, AllocError>
 
 /// The net of parts that have no fault.
 pub fn built(alloc: Global, parts: Parts) -> Result<Net, AllocError>
-    requires { fault_of parts ≡ None }
+    requires versions { AreVersioned parts.cables }
+    requires right { fault_of parts ≡ None }
     ensures { IfOk result (λ net. net ≡ net_of parts) }
 {
     match Net::build(alloc, parts) {

@@ -100,7 +100,7 @@ pub fn loss(alloc: Global, n: u64) -> LossSpec
     }
 }
 
-#[tactic(auto, using(crate::proofs::SampleLemmas::no_fault))]
+#[tactic(auto, using(crate::proofs::SampleLemmas::no_fault, crate::proofs::SampleLemmas::versioned))]
 fn input(alloc: Global, n: u64) -> Result<Input, AllocError>
     requires { n ≤ 64 }
     ensures { IfOk result (λ input. input ≡ sample_parts n) }

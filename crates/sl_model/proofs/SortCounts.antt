@@ -1,7 +1,8 @@
--- How many links of initiations, cables and crossbars a net has at most: only units take from these, and each port has few of them.
-use Rattle.std.proofs.Common.{◌*◌, ◌+◌, ◌≤◌, List, None, Option, Some, ap, length, refl, sym, ℕ, ◌∙◌, ◌∷◌, ◌≡◌, arith, []}
+-- How many links of initiations, cables and crossbars a net has at most beside its units: only units take from these, and each port has two
+-- units and few of them.
+use Rattle.std.proofs.Common.{◌*◌, ◌+◌, ◌≤◌, List, None, Option, Some, ap, get_or, length, refl, suc, sym, ℕ, ◌∙◌, ◌∷◌, ◌≡◌, arith, []}
 use Rattle.std.specs.Prelude.{Bool, false, filter, flat_map, if◌then◌else◌, map, slice_get}
-use Rattle.sl_layout.specs.Net.{Incoming, Net, actors_of, egress, from_host_or_cable, from_outside, incoming, ingress, link_numbers, link_of, links_to, net_of, place_of, same_sort, to_host, units_of}
+use Rattle.sl_layout.specs.Net.{Incoming, Net, actor_of, actors_of, egress, from_host_or_cable, from_outside, incoming, ingress, is_unit, link_numbers, link_of, links_to, net_of, nobody, place_of, same_sort, to_host, units, units_of}
 use Rattle.sl_parts.specs.Parts.{Parts, below, host_at, other_end, used_ports}
 use Rattle.sl_net.specs.Wired.{IsWired}
 use Rattle.sl_layout.specs.declared.actor.ActorId.{ActorId}
@@ -13,10 +14,11 @@ use Rattle.sl_parts.specs.declared.parts.HostPart.{HostPart}
 use Rattle.sl_parts.specs.declared.parts.PortRef.{PortRef}
 use Rattle.sl_model.specs.Bound.{links_of_sort}
 use Rattle.sl_model.specs.Words.{tally, weigh}
-use Rattle.sl_parts.proofs.Lists.{length_numbers}
+use Rattle.sl_parts.proofs.Lists.{numbers-suc}
 use Rattle.std.proofs.lemmas.List.{length-map}
+use Rattle.std.proofs.lemmas.Simd.{map-map}
 use Rattle.sl_model.proofs.Priced.{weigh-map}
-use Rattle.sl_model.proofs.Sums.{tally-is, weigh-append, weigh-each, weigh-flat, weigh-nothing, weigh-same-each}
+use Rattle.sl_model.proofs.Sums.{tally-is, weigh-append, weigh-at-most, weigh-each, weigh-flat, weigh-nothing, weigh-ones-is, weigh-same-each, weigh-times}
 use Rattle.sl_model.proofs.BoundedTurns.{mul-right}
 
 abbrev is_of : Sort → Incoming → Bool
@@ -57,16 +59,19 @@ record IsOfUnits (parts : Parts) (t : Sort) (most : ℕ) : Type 0 where
   host : (h : ℕ) → taken parts t (OfHost h) ≤ 0
   port : (d p : ℕ) → taken parts t (ingress d p) + taken parts t (egress d p) ≤ most
 
-few-taken : (parts : Parts) (t : Sort) (most : ℕ) → IsWired (net_of parts) → IsOfUnits parts t most → links_of_sort (net_of parts) t ≤ (most * 8) * 64
+-- the used ports of all devices
+abbrev ports_in : Parts → ℕ
+ports_in parts = weigh (λ d. length (used_ports parts d)) (below (length parts.devices))
+
+few-taken : (parts : Parts) (t : Sort) (most : ℕ) → IsWired (net_of parts) → IsOfUnits parts t most → links_of_sort (net_of parts) t ≤ most * ports_in parts
 few-taken parts t most v u = omega (
   arith,
   links-counted parts v t,
   u.observer,
   weigh-append f devices hosts,
   weigh-flat f (λ d. Control d ∷ units_of parts d) (below (length parts.devices)),
-  weigh-each (λ d. weigh f (Control d ∷ units_of parts d)) (most * 8) (below (length parts.devices)) at_device,
-  length_numbers 0 (length parts.devices),
-  mul-right (length (below (length parts.devices))) 64 (most * 8) (omega (arith, length_numbers 0 (length parts.devices), v.valid.devices)),
+  weigh-at-most (λ d. weigh f (Control d ∷ units_of parts d)) (λ d. most * length (used_ports parts d)) (below (length parts.devices)) at_device,
+  weigh-times most (λ d. length (used_ports parts d)) (below (length parts.devices)),
   weigh-map f OfHost (below (length parts.hosts)),
   weigh-nothing (λ h. f (OfHost h)) (below (length parts.hosts)) u.host,
 )
@@ -80,13 +85,45 @@ few-taken parts t most v u = omega (
     hosts : List ActorId
     hosts = map OfHost (below (length parts.hosts))
 
-    at_device : (d : ℕ) → weigh f (Control d ∷ units_of parts d) ≤ most * 8
+    at_device : (d : ℕ) → weigh f (Control d ∷ units_of parts d) ≤ most * length (used_ports parts d)
     at_device d = omega (
       arith,
       u.control d,
       weigh-flat f (λ p. ingress d p ∷ egress d p ∷ []) (used_ports parts d),
       weigh-each (λ p. weigh f (ingress d p ∷ egress d p ∷ [])) most (used_ports parts d) (λ p. omega (arith, u.port d p)),
-      mul-right (length (used_ports parts d)) 8 most (v.few_used d),
+    )
+
+-- Each used port has two units.
+
+-- the actors by their numbers
+pub all_at : (xs : List ActorId) (d : ActorId) → map (λ i. get_or xs i d) (below (length xs)) ≡ xs
+all_at [] d = refl
+all_at (x ∷ xs) d = ap (λ ns. x ∷ map (λ i. get_or (x ∷ xs) i d) ns) (numbers-suc 0 (length xs)) ∙ ap (λ r. x ∷ r) (map-map (λ i. get_or (x ∷ xs) i d) (λ i. suc i) (below (length xs)) ∙ all_at xs d)
+
+two-each : (parts : Parts) → 2 * ports_in parts ≤ length (units (net_of parts))
+two-each parts = omega (
+  arith,
+  tally-is (λ a. is_unit (actor_of net a)) (below (length net.actors)),
+  weigh-map f (actor_of net) (below (length net.actors)),
+  ap (weigh f) (all_at net.actors nobody),
+  weigh-append f (flat_map (λ d. Control d ∷ units_of parts d) (below (length parts.devices))) (map OfHost (below (length parts.hosts))),
+  weigh-flat f (λ d. Control d ∷ units_of parts d) (below (length parts.devices)),
+  weigh-at-most (λ d. 2 * length (used_ports parts d)) (λ d. weigh f (Control d ∷ units_of parts d)) (below (length parts.devices)) at_device,
+  weigh-times 2 (λ d. length (used_ports parts d)) (below (length parts.devices)),
+)
+  where
+    net : Net
+    net = net_of parts
+
+    f : ActorId → ℕ
+    f a = if is_unit a then 1 else 0
+
+    at_device : (d : ℕ) → 2 * length (used_ports parts d) ≤ weigh f (Control d ∷ units_of parts d)
+    at_device d = omega (
+      arith,
+      weigh-flat f (λ p. ingress d p ∷ egress d p ∷ []) (used_ports parts d),
+      weigh-times 2 (λ p. 1) (used_ports parts d),
+      weigh-ones-is (used_ports parts d),
     )
 
 -- Where the sort isn't that of a link to the observer, a control plane or a host.
@@ -154,7 +191,7 @@ port-takes parts t d p outside k v h = omega (
 
 few-of-sort : (parts : Parts) (t : Sort) (outside : ℕ) → IsWired (net_of parts) → IsData t
     → ((x : Option ℕ) (y : Option PortRef) → tally (is_of t) (from_host_or_cable x y) ≤ outside)
-    → links_of_sort (net_of parts) t ≤ ((outside + one (same_sort Init t) + one (same_sort Crossbar t) * 8) * 8) * 64
+    → links_of_sort (net_of parts) t ≤ (outside + one (same_sort Init t) + one (same_sort Crossbar t) * 8) * ports_in parts
 few-of-sort parts t outside v k h = few-taken parts t (outside + one (same_sort Init t) + one (same_sort Crossbar t) * 8) v (record {
   observer = no-observer parts t k;
   control = no-control parts t k;
@@ -162,24 +199,36 @@ few-of-sort parts t outside v k h = few-taken parts t (outside + one (same_sort 
   port = λ d p. port-takes parts t d p outside k v h;
 })
 
-pub few-inits : (parts : Parts) → IsWired (net_of parts) → links_of_sort (net_of parts) Init ≤ 512
-few-inits parts v = few-of-sort parts Init 0 v (record { begin = refl; notice = refl; dump = refl; done = refl; to_host = refl; poll = refl }) outside
+pub few-inits : (parts : Parts) → IsWired (net_of parts) → 2 * links_of_sort (net_of parts) Init ≤ 1 * length (units (net_of parts))
+few-inits parts v = omega (
+  arith,
+  two-each parts,
+  few-of-sort parts Init 0 v (record { begin = refl; notice = refl; dump = refl; done = refl; to_host = refl; poll = refl }) outside,
+)
   where
     outside : (x : Option ℕ) (y : Option PortRef) → tally (is_of Init) (from_host_or_cable x y) ≤ 0
     outside (Some h) y = omega arith
     outside None (Some q) = omega arith
     outside None None = omega arith
 
-pub few-crossings : (parts : Parts) → IsWired (net_of parts) → links_of_sort (net_of parts) Crossbar ≤ 4096
-few-crossings parts v = few-of-sort parts Crossbar 0 v (record { begin = refl; notice = refl; dump = refl; done = refl; to_host = refl; poll = refl }) outside
+pub few-crossings : (parts : Parts) → IsWired (net_of parts) → 2 * links_of_sort (net_of parts) Crossbar ≤ 8 * length (units (net_of parts))
+few-crossings parts v = omega (
+  arith,
+  two-each parts,
+  few-of-sort parts Crossbar 0 v (record { begin = refl; notice = refl; dump = refl; done = refl; to_host = refl; poll = refl }) outside,
+)
   where
     outside : (x : Option ℕ) (y : Option PortRef) → tally (is_of Crossbar) (from_host_or_cable x y) ≤ 0
     outside (Some h) y = omega arith
     outside None (Some q) = omega arith
     outside None None = omega arith
 
-pub few-cables : (parts : Parts) → IsWired (net_of parts) → links_of_sort (net_of parts) Cable ≤ 512
-few-cables parts v = few-of-sort parts Cable 1 v (record { begin = refl; notice = refl; dump = refl; done = refl; to_host = refl; poll = refl }) outside
+pub few-cables : (parts : Parts) → IsWired (net_of parts) → 2 * links_of_sort (net_of parts) Cable ≤ 1 * length (units (net_of parts))
+few-cables parts v = omega (
+  arith,
+  two-each parts,
+  few-of-sort parts Cable 1 v (record { begin = refl; notice = refl; dump = refl; done = refl; to_host = refl; poll = refl }) outside,
+)
   where
     outside : (x : Option ℕ) (y : Option PortRef) → tally (is_of Cable) (from_host_or_cable x y) ≤ 1
     outside (Some h) y = omega arith

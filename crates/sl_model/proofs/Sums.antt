@@ -1,5 +1,5 @@
 -- Sums and lengths of lists.
-use Rattle.std.proofs.Common.{◌*◌, ◌+◌, ◌++◌, ◌<◌, ◌==◌, List, ap, eq-eqb, inl, inr, length, not, refl, subst, suc, sym, zero, ℕ, ◌∙◌, ◌∷◌, ◌≡◌, ◌≤◌, arith, []}
+use Rattle.std.proofs.Common.{◌*◌, ◌+◌, ◌++◌, ◌<◌, mul-add, ◌==◌, List, ap, eq-eqb, inl, inr, length, not, refl, subst, suc, sym, zero, ℕ, ◌∙◌, ◌∷◌, ◌≡◌, ◌≤◌, arith, []}
 use Rattle.std.specs.Prelude.{Bool, cond, false, filter, flat_map, map, nat_eq, true, ◌⊎◌, if◌then◌else◌}
 use Rattle.std.proofs.lemmas.Bool.{cases_lt}
 use Rattle.std.proofs.lemmas.Bool.Decides.{eqb_tells}
@@ -36,6 +36,10 @@ weigh-below f g (x ∷ xs) h = omega (arith, h.0, weigh-below f g xs h.1)
 pub weigh-each : {A : Type 0} (f : A → ℕ) (n : ℕ) (xs : List A) → ((x : A) → f x ≤ n) → weigh f xs ≤ n * length xs
 weigh-each f n [] h = omega arith
 weigh-each f n (x ∷ xs) h = let e : n * suc (length xs) ≡ n + n * length xs = omega arith in omega (arith, h x, weigh-each f n xs h, e)
+
+pub weigh-times : {A : Type 0} (m : ℕ) (f : A → ℕ) (xs : List A) → weigh (λ x. m * f x) xs ≡ m * weigh f xs
+weigh-times m f [] = omega arith
+weigh-times m f (x ∷ xs) = omega (arith, weigh-times m f xs, mul-add m (f x) (weigh f xs))
 
 pub weigh-zero : (f : ℕ → ℕ) (xs : List ℕ) (x : ℕ) → weigh f xs ≡ 0 → Member x xs → f x ≡ 0
 weigh-zero f [] x h m = absurd m

@@ -3,6 +3,7 @@
 // the proofs are in proofs/.
 ghost use Rattle.std.specs.Prelude.{◌≡◌, ℕ, suc, ◌+◌, ◌*◌, ◌^◌, ◌<◌, ◌≤◌, List, [], ◌++◌, map, length, Some, IsSome};
 ghost use Rattle.std.specs.List.{sum};
+ghost use Rattle.sl_layout.specs.Net.{units};
 ghost use Rattle.sl_net.specs.Input.{Input};
 ghost use Rattle.sl_net.specs.Wired.{IsNet};
 ghost use Rattle.sl_model.specs.declared.message.Step.{Step};
@@ -94,13 +95,14 @@ pub fn input_bound_is_enough_fuel()
 
 /// Within the limits of inputs the bound is below 2^27.
 pub fn bounds_are_small()
-    ensures { (s : Setup) (sweeps : ℕ) → IsNet s.net → s.count ≤ 1000 → s.retries ≤ 100 → frame_count s ≤ 200000
-        → sweeps ≤ 2 ^ 20 → bound_of s sweeps < 2 ^ 27 }
+    ensures { (s : Setup) (sweeps : ℕ) → IsNet s.net → s.count ≤ 100000 → s.count * length (units s.net) ≤ 1024000
+        → s.retries ≤ 100 → frame_count s ≤ 200000 → sweeps ≤ 2 ^ 20 → bound_of s sweeps < 2 ^ 27 }
 {}
 
 /// So is the bound of an input with at most 2^20 script entries: no more of them are sweeps.
 pub fn input_bounds_are_small()
-    ensures { (i : Input) → IsNet i.net → i.snapshot.count ≤ 1000 → i.snapshot.retries ≤ 100
+    ensures { (i : Input) → IsNet i.net → i.snapshot.count ≤ 100000 → i.snapshot.count * length (units i.net) ≤ 1024000
+        → i.snapshot.retries ≤ 100
         → sum (map (λ f. f.count) i.flows) + length i.raws ≤ 200000 → length i.script ≤ 2 ^ 20 → input_bound i < 2 ^ 27 }
 {}
 

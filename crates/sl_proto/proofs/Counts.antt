@@ -22,6 +22,7 @@ use Rattle.sl_net.specs.Ways.{HasWays}
 use Rattle.sl_layout.proofs.Actors.{place-at}
 use Rattle.sl_parts.proofs.Lists.{numbers-suc, length_numbers, map_below_more}
 use Rattle.std.proofs.lemmas.Simd.{map-map}
+use Rattle.sl_model.proofs.SortCounts.{all_at}
 use Rattle.sl_unit.specs.Step.{UnitState, counts_of}
 use Rattle.sl_layout.specs.Devices.{device_of}
 use Rattle.sl_unit.specs.Made.{wires_of, entrance_by, exit_by, ports_of, ingress_state, egress_state}
@@ -61,10 +62,6 @@ host_fits net a h t low q =
     λ i. record { ins = ins i; outs = outs i; actions = actions i }
 
 -- The numbers of all of them.
-
-all_at : (xs : List ActorId) (d : ActorId) → map (λ i. get_or xs i d) (below (length xs)) ≡ xs
-all_at [] d = refl
-all_at (x ∷ xs) d = ap (λ ns. x ∷ map (λ i. get_or (x ∷ xs) i d) ns) (numbers-suc 0 (length xs)) ∙ ap (λ r. x ∷ r) (map-map (λ i. get_or (x ∷ xs) i d) (λ i. suc i) (below (length xs)) ∙ all_at xs d)
 
 pub fits_of : (net : Net) (nodes : List Node) → map node_counts nodes ≡ map (counts_at net) (below (length net.actors)) → HasCounts node_counts (plan_of net) nodes
 fits_of net nodes h =

@@ -4,10 +4,12 @@ use std::test::Fail;
 
 #[test]
 fn wrapped_ids(rt: HostRuntime) -> Result<(), Fail> {
-    for bits in [0, 9, 255] {
+    for bits in [0, 17, 255] {
         assert!(rt; Width::new(bits).is_none(), "{bits} bits");
     }
-    assert!(rt; Width::new(1).is_some() && Width::new(8).is_some());
+    for bits in [1, 8, 9, 16] {
+        assert!(rt; Width::new(bits).is_some(), "{bits} bits");
+    }
     let width = Width::new(2).ok_or("two bits")?;
     let one = wrap(width, 1);
     let three = wrap(width, 3);

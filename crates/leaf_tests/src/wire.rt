@@ -1,5 +1,7 @@
 // Frames and the bytes that are refused, the least last-seen id, and messages between threads.
-ghost use Rattle.std.specs.Prelude.{◌<◌};
+ghost use Rattle.std.specs.Prelude.{◌<◌, IsTrue};
+ghost use Rattle.sl_wire.specs.declared.frame.Kind.TheVariants.{Carried};
+ghost use Rattle.sl_wire.specs.Frames.{stamp_fits, version_fits};
 
 use sl_ids::{Wid, Width};
 use sl_net::Packet;
@@ -13,6 +15,12 @@ use std::test::Fail;
 const CARRIED: [u8; 24] = [
     0x01, 0x01, 0x00, 0x03, 0x00, 0x00, 0x00, 0x01, 0x00, 0x00, 0x00, 0x02, 0x00, 0x64, 0x07, 0x01,
     0x00, 0x00, 0x00, 0x00, 0x00, 0x00, 0x00, 0x00,
+];
+
+/// The carried frame in version 2, whose check is 65535 less its id.
+const CHECKED: [u8; 24] = [
+    0x01, 0x01, 0x00, 0x03, 0x00, 0x00, 0x00, 0x01, 0x00, 0x00, 0x00, 0x02, 0x00, 0x64, 0x07, 0x02,
+    0xff, 0xfc, 0x00, 0x00, 0x00, 0x00, 0x00, 0x00,
 ];
 
 const PLAIN: [u8; 24] = [
@@ -42,6 +50,7 @@ const EMPTY: Packet = Packet {
 #[test]
 fn frames_and_back(rt: HostRuntime) -> Result<(), Fail> {
     let width = Width::new(2).ok_or("two bits")?;
+    let wide = Width::new(16).ok_or("sixteen bits")?;
     let first = Packet {
         src: 0,
         dst: 1,
@@ -56,44 +65,46 @@ fn frames_and_back(rt: HostRuntime) -> Result<(), Fail> {
         len: 100,
         hops: 8,
     };
-    for (bytes, kind, id, channel, packet) in [
-        (CARRIED, Kind::Carried, 3, 1, first),
-        (PLAIN, Kind::Plain, 0, 0, second),
-        (PROBE, Kind::Probe, 1, 0, EMPTY),
-        (INITIATION, Kind::Init, 1, 255, EMPTY),
+    for (bits, version, bytes, kind, id, channel, packet) in [
+        (width, 1, CARRIED, Kind::Carried, 3, 1, first),
+        (width, 1, PLAIN, Kind::Plain, 0, 0, second),
+        (width, 1, PROBE, Kind::Probe, 1, 0, EMPTY),
+        (width, 1, INITIATION, Kind::Init, 1, 255, EMPTY),
+        (wide, 2, CHECKED, Kind::Carried, 3, 1, first),
     ] {
         let header = Header {
             kind,
             id: Wid { raw: id },
             channel,
         };
-        assert_eq!(rt; decode(width, &bytes), Ok((header, packet)));
+        assert_eq!(rt; decode(bits, &bytes), Ok((version, header, packet)));
     }
     let header = Header {
         kind: Kind::Carried,
         id: Wid { raw: 3 },
         channel: 1,
     };
-    assert_eq!(rt; encode(width, &header, &first).bytes, CARRIED);
+    assert_eq!(rt; encode(width, 1, &header, &first).bytes, CARRIED);
+    assert_eq!(rt; encode(wide, 2, &header, &first).bytes, CHECKED);
     let header = Header {
         kind: Kind::Plain,
         id: Wid { raw: 0 },
         channel: 0,
     };
-    assert_eq!(rt; encode(width, &header, &second).bytes, PLAIN);
+    assert_eq!(rt; encode(width, 1, &header, &second).bytes, PLAIN);
     assert_eq!(rt; plain_frame(&second).bytes, PLAIN);
     let header = Header {
         kind: Kind::Probe,
         id: Wid { raw: 1 },
         channel: 0,
     };
-    assert_eq!(rt; encode(width, &header, &EMPTY).bytes, PROBE);
+    assert_eq!(rt; encode(width, 1, &header, &EMPTY).bytes, PROBE);
     let header = Header {
         kind: Kind::Init,
         id: Wid { raw: 1 },
         channel: 255,
     };
-    assert_eq!(rt; encode(width, &header, &EMPTY).bytes, INITIATION);
+    assert_eq!(rt; encode(width, 1, &header, &EMPTY).bytes, INITIATION);
     Ok(())
 }
 
@@ -117,16 +128,62 @@ fn changed(mut bytes: [u8; 24], place: usize, byte: u8) -> [u8; 24]
 #[test]
 fn refused_bytes(rt: HostRuntime) -> Result<(), Fail> {
     let width = Width::new(2).ok_or("two bits")?;
+    let wide = Width::new(16).ok_or("sixteen bits")?;
     assert_eq!(rt; decode(width, &CARRIED[..23]), Err(WireFault::E1));
-    for (bytes, fault) in [
-        (changed(CARRIED, 0, 0x04), WireFault::E2),
-        (changed(CARRIED, 3, 0x04), WireFault::E3),
-        (changed(PLAIN, 3, 0x01), WireFault::E3),
-        (changed(PLAIN, 16, 0x01), WireFault::E4),
-        (changed(PROBE, 14, 0x01), WireFault::E4),
-        (changed(CARRIED, 1, 0x08), WireFault::E4),
+    for (bits, bytes, fault) in [
+        (width, changed(CARRIED, 0, 0x04), WireFault::E2),
+        (width, changed(CARRIED, 3, 0x04), WireFault::E3),
+        (width, changed(PLAIN, 3, 0x01), WireFault::E3),
+        (width, changed(PLAIN, 16, 0x01), WireFault::E4),
+        (width, changed(PROBE, 14, 0x01), WireFault::E4),
+        (width, changed(CARRIED, 1, 0x08), WireFault::E4),
+        (wide, changed(CHECKED, 17, 0xfb), WireFault::E5),
+        (width, changed(PLAIN, 15, 0x02), WireFault::E2),
+        // an id of nine bits in version 1, and a check and a reserved byte that are both wrong
+        (wide, changed(CARRIED, 2, 0x01), WireFault::E3),
+        (
+            wide,
+            changed(changed(CHECKED, 17, 0xfb), 23, 0x01),
+            WireFault::E4,
+        ),
     ] {
-        assert_eq!(rt; decode(width, &bytes), Err(fault));
+        assert_eq!(rt; decode(bits, &bytes), Err(fault));
+    }
+    Ok(())
+}
+
+/// Whether a carried frame with this id is read as what it was made of, which is written as the same
+/// bytes.
+fn comes_back(width: Width, version: u8, id: u16) -> bool
+    requires version { IsTrue (version_fits Carried version) }
+    requires id { IsTrue (stamp_fits width.bits version id) }
+{
+    let header = Header {
+        kind: Kind::Carried,
+        id: Wid { raw: id },
+        channel: 1,
+    };
+    let frame = encode(width, version, &header, &EMPTY);
+    match decode(width, &frame.bytes) {
+        Ok((found, read, packet)) => {
+            found == version
+                && read == header
+                && encode(width, found, &read, &packet).bytes == frame.bytes
+        }
+        Err(_) => false,
+    }
+}
+
+/// Each id of 8 bits in version 1 and each of 16 bits in version 2.
+#[test]
+fn all_ids_come_back(rt: HostRuntime) -> Result<(), Fail> {
+    let narrow = Width::new(8).ok_or("eight bits")?;
+    let wide = Width::new(16).ok_or("sixteen bits")?;
+    for id in 0..=255 {
+        assert!(rt; comes_back(narrow, 1, id), "{id} in version 1");
+    }
+    for id in 0..=u16::MAX {
+        assert!(rt; comes_back(wide, 2, id), "{id} in version 2");
     }
     Ok(())
 }

@@ -195,9 +195,7 @@ fn sent<T: Send>(value: T) -> T {
 
 #[test]
 fn messages_go_to_other_threads(rt: HostRuntime) -> Result<(), Fail> {
-    let slots = Slots {
-        items: Vec::new(rt.alloc()),
-    };
+    let slots = Slots::new(Vec::new(rt.alloc()));
     let none = Wid { raw: 0 };
     let dump = Dump {
         id: none,

@@ -88,7 +88,7 @@ fn polled(alloc: Global, unit: &mut Bench<Unit>) -> Result<Boxed<Dump>, Fail> {
 
 /// What a view at the number `id` says of `k`.
 fn saved(view: &View, id: u64, k: u64) -> Option<Saved> {
-    let slots = view.slots.items.len() as u64;
+    let slots = view.slots.len() as u64;
     if k < 1 || k > id || id - k >= slots || u64::from(view.at) >= slots {
         return None;
     }
@@ -158,8 +158,8 @@ fn is_blank(dump: &Dump) -> bool {
         && dump.cpu.raw == 0
         && dump.view.at == 0
         && dump.last.iter().all(|last| last.raw == 0)
-        && dump.view.slots.items.len() == 2
-        && dump.view.slots.items.iter().all(|slot| slot.back == 0)
+        && dump.view.slots.len() == 2
+        && (0..2usize).all(|place| dump.view.slots.get(place).back == 0)
 }
 
 /// Whether a new unit has blank registers.

@@ -6,7 +6,7 @@ ghost use Rattle.std.specs.Vec.{vec_capacity};
 ghost use Rattle.sl_saves.specs.Views.{read};
 ghost use Rattle.sl_control.specs.Rows.{span, seen_on, is_sized, is_readable, row};
 
-use sl_saves::{Saved, Slots, View, try_read_saved};
+use sl_saves::{Saved, View, try_read_saved};
 
 /// The last-seen id of a channel among so many, 0 past them.
 fn seen_at(count: u32, last: &[u64; 8], channel: u32) -> u64
@@ -36,17 +36,11 @@ pub fn seen_on(count: u32, last: &[u64; 8]) -> [u64; 8]
     ]
 }
 
-fn size(slots: &Slots) -> usize
-    ensures { result ≡ length slots.now }
-{
-    slots.items.len()
-}
-
 /// Whether a view has the size of a ring, and its place lies in it.
 pub fn is_sized(ring: u16, view: &View) -> bool
     ensures { result ≡ is_sized ring view.now }
 {
-    let size = size(&view.slots);
+    let size = view.slots.len();
     (view.at as usize) < size && size == ring as usize
 }
 
@@ -58,7 +52,7 @@ fn read_one(view: &View, id: u64, k: u64) -> Option<Saved>
     ensures some { is_some result ≡ is_readable view.now id k }
     ensures value { IfSome result (λ saved. saved ≡ read view.now id k) }
 {
-    if id - k < size(&view.slots) as u64 {
+    if id - k < view.slots.len() as u64 {
         try_read_saved(view, id, k)
     } else {
         None

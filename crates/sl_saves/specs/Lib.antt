@@ -2,5 +2,6 @@ pub mod Calls
 pub mod Keeping
 pub mod Lists
 pub mod Rings
+pub mod Shares
 pub mod Views
 pub mod Walks

@@ -1,10 +1,8 @@
-// Totals, slots, views and answers.
-ghost use Rattle.std.specs.Prelude.{◌≡◌, ◌<◌, ◌≤◌, ◌^◌, length, replicate, slice_index_or, slice_set, IfOk};
+// Totals, saved slots, views and answers.
+ghost use Rattle.std.specs.Prelude.{◌≡◌, ◌<◌, ◌≤◌, ◌^◌, length};
 
 use crate::place::{place_above, place_below};
-use sl_machine::Memory;
-use std::alloc::Global;
-use std::marker::Model;
+use crate::slots::Slots;
 
 /// Packets and bytes of a channel that were in flight.
 #[derive(Clone, Copy, Debug, PartialEq, Eq)]
@@ -51,22 +49,6 @@ pub enum Saved {
         by: u64,
         reach: u16,
     },
-}
-
-/// A list of slots.
-#[derive(Debug, Drop)]
-pub struct Slots {
-    /// The slots in order.
-    pub items: Vec<Slot>,
-}
-
-impl Model for Slots {
-    ghost use Rattle.std.specs.Prelude.{List};
-    ghost use Rattle.sl_saves.specs.declared.entry.Slot.{Slot};
-
-    ghost Value = { List Slot };
-
-    ghost view = { λ s. s.items.items };
 }
 
 /// The slots of a ring, as they are read.
@@ -120,114 +102,6 @@ impl Slot {
         total.bytes = total.bytes.saturating_add(bytes);
         if is_foot {
             self.reach = self.reach.max(age);
-        }
-    }
-}
-
-impl Slots {
-    ghost use Rattle.sl_saves.specs.Views.{free_slot, no_slot};
-    ghost use Rattle.std.specs.Prelude.{ℕ};
-    ghost use Rattle.sl_saves.specs.Keeping.{slot_credited, slots_credited, is_last};
-
-    /// So many slots in which nothing is saved.
-    pub(crate) fn free(alloc: Global, size: u16) -> Result<Slots, Memory>
-        ensures { IfOk result (λ slots. slots ≡ replicate size free_slot) }
-    {
-        let items = vec![in alloc; Slot::free(); size as usize]?;
-        Ok(Slots { items })
-    }
-
-    /// How many there are.
-    pub(crate) fn len(&self) -> usize
-        ensures { result ≡ length self.now }
-    {
-        self.items.len()
-    }
-
-    /// The slot at a place.
-    pub(crate) fn get(&self, place: usize) -> &Slot
-        requires { place < length self.now }
-        ensures { result.now ≡ slice_index_or self.now place no_slot }
-    {
-        &self.items[place]
-    }
-
-    /// A copy of the slots.
-    pub(crate) fn copy(&self) -> Result<Slots, Memory>
-        ensures { IfOk result (λ slots. slots ≡ self.now) }
-    {
-        let alloc = *self.items.allocator();
-        let items = Vec::from_slice(alloc, &self.items)?;
-        Ok(Slots { items })
-    }
-
-    /// Makes them what others are.
-    pub(crate) fn copy_from(&mut self, other: &Slots)
-        requires { length self.old ≡ length other.now }
-        ensures { self.new ≡ other.now }
-    {
-        self.items.as_mut_slice().copy_from_slice(&other.items);
-    }
-
-    /// Saves nothing in any of them.
-    pub(crate) fn clear(&mut self)
-        ensures { self.new ≡ replicate (length self.old) free_slot }
-    {
-        self.items.as_mut_slice().fill(Slot::free());
-    }
-
-    /// Writes a slot.
-    pub(crate) fn set(&mut self, place: usize, slot: Slot)
-        requires { place < length self.old }
-        ensures { self.new ≡ slice_set self.old place slot }
-    {
-        self.items[place] = slot;
-    }
-
-    /// Adds a data packet in flight to a slot, which is its foot or not.
-    fn credit(&mut self, place: usize, is_foot: bool, channel: u32, age: u16, bytes: u64)
-        requires place { place < length self.old }
-        requires channel { channel < 8 }
-        ensures { self.new ≡ slice_set self.old place
-            (slot_credited is_foot (record { channel = channel; age = age; bytes = bytes }) (slice_index_or self.old place no_slot)) }
-    {
-        self.items[place].credit(is_foot, channel, age, bytes);
-    }
-
-    /// Whether a credit ends at a place, where it may go to `left` slots more.
-    fn is_last(&self, place: usize, left: u8, age: u16) -> bool
-        requires place { place < length self.now }
-        requires age { age ≤ length self.now }
-        ensures { (channel bytes : ℕ) → result ≡ is_last left (record { channel = channel; age = age; bytes = bytes }) place self.now }
-    {
-        let back = self.get(place).back;
-        left == 0
-            || age <= back
-            || self.get(place_below(self.len(), place, back as usize)).back == 0
-    }
-
-    /// Adds a data packet in flight to the slots from a place on, to so many at most.
-    fn credit_from(&mut self, place: usize, credits: u8, channel: u32, age: u16, bytes: u64)
-        requires place { place < length self.old }
-        requires channel { channel < 8 }
-        requires age { age ≤ length self.old }
-        ensures value { self.new ≡ slots_credited credits (record { channel = channel; age = age; bytes = bytes }) place self.old }
-        ensures size { length self.new ≡ length self.old }
-    {
-        let size = self.len();
-        let mut place = place;
-        let mut age = age;
-        let mut left = credits;
-        while left > 0 {
-            left -= 1;
-            let back = self.get(place).back;
-            let is_foot = self.is_last(place, left, age);
-            self.credit(place, is_foot, channel, age, bytes);
-            if is_foot {
-                return;
-            }
-            age -= back;
-            place = place_below(size, place, back as usize);
         }
     }
 }

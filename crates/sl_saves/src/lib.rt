@@ -7,13 +7,17 @@ mod entry;
 mod keep;
 mod laws;
 mod list;
+mod pieces;
 mod place;
 mod read;
 mod ring;
+mod shared;
+mod slots;
 
-pub use entry::{Saved, Slot, Slots, Total, View};
+pub use entry::{Saved, Slot, Total, View};
 pub use keep::Saves;
 pub use laws::{calls_are_listed, calls_are_shown, shown_is_live, shown_is_read};
 pub use list::ListSaves;
 pub use read::{read_saved, try_read_saved};
 pub use ring::RingSaves;
+pub use slots::Slots;

@@ -3,9 +3,10 @@ ghost use Rattle.std.specs.Prelude.{◌≡◌, ◌+◌, ◌-◌, ◌*◌, ◌%�
 ghost use Rattle.sl_saves.specs.Views.{free_slot};
 
 use crate::entries::{Entry, credit_entries};
-use crate::entry::{Slot, Slots, View};
+use crate::entry::{Slot, View};
 use crate::keep::Saves;
 use crate::place::place_above;
+use crate::slots::Slots;
 use sl_machine::Memory;
 use std::alloc::Global;
 

@@ -1,8 +1,9 @@
 // Saved entries in a ring of slots.
 ghost use Rattle.std.specs.Prelude.{◌≡◌, ◌<◌, ◌≤◌, ◌^◌, length, replicate, [], IfOk};
 
-use crate::entry::{Slots, View};
+use crate::entry::View;
 use crate::keep::Saves;
+use crate::slots::Slots;
 use sl_machine::Memory;
 use std::alloc::Global;
 
@@ -37,7 +38,8 @@ impl RingSaves {
         ensures size { IfOk result (λ saves. ring_size saves ≡ ring) }
         ensures credits { IfOk result (λ saves. ring_credits saves ≡ credits) }
     {
-        let slots = Slots::free(alloc, ring)?;
+        let mut slots = Slots::free(alloc, ring)?;
+        slots.ready()?;
         Ok(RingSaves {
             window,
             credits,
@@ -73,7 +75,7 @@ impl Saves for RingSaves {
     ghost has_room = { λ _. Unit {0} };
 
     fn ready(&mut self) -> Result<(), Memory> {
-        Ok(())
+        self.view.slots.ready()
     }
 
     fn adopt(&mut self, by: u16, packets: u64, bytes: u64) {
@@ -85,7 +87,7 @@ impl Saves for RingSaves {
     }
 
     fn view(&self) -> Result<View, Memory> {
-        let slots = self.view.slots.copy()?;
+        let slots = self.view.slots.view()?;
         Ok(View {
             at: self.view.at,
             slots,

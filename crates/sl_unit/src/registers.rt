@@ -117,6 +117,15 @@ impl Registers {
         })
     }
 
+    /// Takes the room that the saving of a turn needs.
+    pub fn ready(&mut self) -> Result<(), Memory>
+        ensures registers { registers_of self.new ≡ registers_of self.old }
+        ensures window { self.new.window ≡ self.old.window }
+        ensures credits { credits_of self.new ≡ credits_of self.old }
+    {
+        self.saves.ready()
+    }
+
     /// The id last seen on a channel.
     fn last_on(&self, channel: Channel) -> Wid
         requires { IsChannel channel }

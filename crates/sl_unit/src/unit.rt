@@ -137,6 +137,7 @@ impl Machine for Unit {
 
     fn ready(&mut self, choice: u32) -> Result<(), Memory> {
         self.prepared = None;
+        self.registers.ready()?;
         if let Entrance::Poll = self.wires.entrance(choice) {
             make_dumps(&self.wires, &self.registers, &mut self.dumps)?;
         }

@@ -103,10 +103,6 @@ fn saved_entries(rt: HostRuntime) -> Result<(), Fail> {
     Ok(())
 }
 
-const WINDOW: u16 = 7;
-
-const RING: u16 = 9;
-
 /// The next number of a linear congruence.
 fn next_random(x: u64) -> u64 {
     x.wrapping_mul(6_364_136_223_846_793_005)
@@ -114,13 +110,14 @@ fn next_random(x: u64) -> u64 {
 }
 
 /// Adopts or credits, as a random number says. The answer is by how much the number rose.
-fn take_turn<S: Saves>(saves: &mut S, random: u64) -> Result<u16, Memory>
-    requires { S.window saves.old ≡ WINDOW }
+fn take_turn<S: Saves>(saves: &mut S, window: u16, random: u64) -> Result<u16, Memory>
+    requires some { 1 ≤ window }
+    requires window { S.window saves.old ≡ window }
     ensures window { S.window saves.new ≡ S.window saves.old }
     ensures size { S.size saves.new ≡ S.size saves.old }
 {
     let kind = random >> 61;
-    let step = ((random >> 33) % 7 + 1) as u16;
+    let step = ((random >> 33) % u64::from(window) + 1) as u16;
     if kind < 3 {
         let by = if kind == 0 { step } else { 1 };
         saves.ready()?;
@@ -133,14 +130,14 @@ fn take_turn<S: Saves>(saves: &mut S, random: u64) -> Result<u16, Memory>
 
 /// What two views of the number `id` say alike of the numbers below it. The answer is how many of
 /// them have a value.
-fn check_alike(rt: &impl Abort, one: &View, other: &View, id: u64) -> u64
-    requires at { one.now.at < 9 }
-    requires size { length one.now.slots ≡ 9 }
-    requires other_at { other.now.at < 9 }
-    requires other_size { length other.now.slots ≡ 9 }
+fn check_alike(rt: &impl Abort, ring: u16, one: &View, other: &View, id: u64) -> u64
+    requires at { one.now.at < ring }
+    requires size { length one.now.slots ≡ ring }
+    requires other_at { other.now.at < ring }
+    requires other_size { length other.now.slots ≡ ring }
 {
     let mut values = 0u64;
-    for back in 0..9u64 {
+    for back in 0..u64::from(ring) {
         if back < id {
             let said = try_read_saved(one, id, id - back);
             assert!(rt; said.is_some());
@@ -157,35 +154,66 @@ fn check_alike(rt: &impl Abort, one: &View, other: &View, id: u64) -> u64
     values
 }
 
-/// Ten thousand turns on a list and on a ring, whose views say the same.
-fn check_turns(rt: &impl Abort, alloc: Global, credits: u8) -> Result<(), Memory>
+/// A thousand turns on a list and on a ring, whose views say the same, new ones and older ones
+/// that the other fills.
+fn check_turns(
+    rt: &impl Abort,
+    alloc: Global,
+    window: u16,
+    ring: u16,
+    credits: u8,
+) -> Result<(), Memory>
+    requires least { 1 ≤ window }
+    requires most { window ≤ ring }
     requires some { 1 ≤ credits }
     requires few { credits ≤ 4 }
 {
-    let mut list = ListSaves::new(alloc, WINDOW, RING, credits)?;
-    let mut ring = RingSaves::new(alloc, WINDOW, RING, credits)?;
+    let mut list = ListSaves::new(alloc, window, ring, credits)?;
+    let mut slots = RingSaves::new(alloc, window, ring, credits)?;
     let mut list_view = list.view()?;
-    let mut ring_view = ring.view()?;
+    let mut ring_view = slots.view()?;
     let mut random = 1u64;
     let mut id = 0u64;
     let mut values = 0u64;
-    for _ in 0..10_000 {
+    for _ in 0..1000 {
         random = next_random(random);
-        let by = take_turn(&mut list, random)?;
-        assert_eq!(rt; take_turn(&mut ring, random)?, by);
+        let by = take_turn(&mut list, window, random)?;
+        assert_eq!(rt; take_turn(&mut slots, window, random)?, by);
         id = id.saturating_add(u64::from(by));
-        list.fill(&mut list_view);
-        ring.fill(&mut ring_view);
-        values = values.saturating_add(check_alike(rt, &list_view, &ring_view, id));
+        list.fill(&mut ring_view);
+        slots.fill(&mut list_view);
+        values = values.saturating_add(check_alike(rt, ring, &ring_view, &list_view, id));
+        list_view = list.view()?;
+        ring_view = slots.view()?;
+        values = values.saturating_add(check_alike(rt, ring, &list_view, &ring_view, id));
     }
-    assert!(rt; values > 1000 && id > 1000);
+    assert!(rt; values > 1000 && id > 400);
     Ok(())
 }
 
 #[test]
 fn list_and_ring_are_read_alike(rt: HostRuntime) -> Result<(), Fail> {
     for credits in 1..5u8 {
-        check_turns(&rt, rt.alloc(), credits)?;
+        check_turns(&rt, rt.alloc(), 3, 3, credits)?;
+        check_turns(&rt, rt.alloc(), 7, 16, credits)?;
+        check_turns(&rt, rt.alloc(), 7, 17, credits)?;
+        check_turns(&rt, rt.alloc(), 40, 40, credits)?;
     }
+    Ok(())
+}
+
+/// Adoptions for which a ring was not made ready.
+#[test]
+fn ring_needs_no_room(rt: HostRuntime) -> Result<(), Fail> {
+    let mut list = ListSaves::new(rt.alloc(), 7, 40, 4)?;
+    let mut ring = RingSaves::new(rt.alloc(), 7, 40, 4)?;
+    for turn in 0..30u64 {
+        list.ready()?;
+        list.adopt(1, turn, turn);
+        ring.adopt(1, turn, turn);
+    }
+    assert_eq!(rt; check_alike(&rt, 40, &list.view()?, &ring.view()?, 30), 30);
+    ring.ready()?;
+    assert_eq!(rt; check_alike(&rt, 40, &list.view()?, &ring.view()?, 30), 30);
     Ok(())
 }

@@ -5,10 +5,10 @@ use Rattle.leaf_tests.proofs.saves.check_turns.Given as goal
 
 abbrev pub invariant-loop : goal.invariant-loop
 invariant-loop g l = record {
-  of_list_window : list_window l.list ≡ 7;
-  of_list_size : list_size l.list ≡ 9;
-  list_slots : length l.list_view.slots ≡ 9;
-  of_ring_window : ring_window l.ring ≡ 7;
-  of_ring_size : ring_size l.ring ≡ 9;
-  ring_slots : length l.ring_view.slots ≡ 9;
+  of_list_window : list_window l.list ≡ l.window;
+  of_list_size : list_size l.list ≡ l.ring;
+  list_slots : length l.list_view.slots ≡ l.ring;
+  of_ring_window : ring_window l.slots ≡ l.window;
+  of_ring_size : ring_size l.slots ≡ l.ring;
+  ring_slots : length l.ring_view.slots ≡ l.ring;
 }

@@ -62,7 +62,7 @@ impl Slots {
         Ok(Slots::new(items))
     }
 
-    /// The slots as they were given. It takes no memory.
+    /// The slots in order. It takes no memory.
     pub fn into_items(self) -> Vec<Slot>
         ensures { result.items ≡ self }
     {

@@ -53,6 +53,10 @@ required_number t k low high ms = required (at t k) (λ p. number p low high) (g
 abbrev pub optional_number : TableName → Key → ℕ → ℕ → Members → Result ℕ Refusal
 optional_number t k low high ms = optional (at t k) low (λ p. number p low high) (get_key k ms)
 
+-- none where it is absent
+abbrev pub given_number : TableName → Key → ℕ → ℕ → Members → Result (Option ℕ) Refusal
+given_number t k low high ms = optional (at t k) None (λ p d. number p low high d >>= (λ n. Ok (Some n))) (get_key k ms)
+
 abbrev pub text_at : Path → Data → Result (List ℕ) Refusal
 text_at p (string text) = Ok text
 text_at p _ = Err (Form p)

@@ -1,9 +1,9 @@
 // Tables and their keys.
-ghost use Rattle.std.specs.Prelude.{◌≡◌, ◌≤◌, option_map, IfOk};
+ghost use Rattle.std.specs.Prelude.{◌≡◌, ◌≤◌, option_map, IfOk, IfSome};
 ghost use Rattle.toml.specs.Data.{get_member};
 ghost use Rattle.toml.specs.View.{view, table_view};
 ghost use Rattle.sl_form.specs.Refusals.{Shows};
-ghost use Rattle.sl_form.specs.Fields.{get_key, has_only, only, is_listed, number, in_range, text_at, required_number, optional_number, required_text};
+ghost use Rattle.sl_form.specs.Fields.{get_key, has_only, only, is_listed, number, in_range, text_at, required_number, optional_number, given_number, required_text};
 
 use crate::path::{Key, Path, TableName};
 use crate::refusal::Refusal;
@@ -113,6 +113,23 @@ pub fn optional_number(
     match find(table, key) {
         Some(value) => number(Path::at(at, key), low, high, value),
         None => Ok(low),
+    }
+}
+
+/// The number at a key, where it is given.
+pub fn given_number(
+    table: &Table,
+    at: TableName,
+    key: Key,
+    low: u64,
+    high: u64,
+) -> Result<Option<u64>, Refusal>
+    ensures exact { result ≡ given_number at key low high (table_view table.now) }
+    ensures high { IfOk result (λ given. IfSome given (λ n. n ≤ high)) }
+{
+    match find(table, key) {
+        Some(value) => Ok(Some(number(Path::at(at, key), low, high, value)?)),
+        None => Ok(None),
     }
 }
 

@@ -7,7 +7,9 @@ mod listed;
 mod path;
 mod refusal;
 
-pub use fields::{find, only, optional_number, required_number, required_text, text_at};
+pub use fields::{
+    find, given_number, only, optional_number, required_number, required_text, text_at,
+};
 pub use forms::{PortText, pass_of, required_hex, required_name, required_port};
 pub use listed::{Listed, Text};
 pub use path::{Key, Path, TableName};

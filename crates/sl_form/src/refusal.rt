@@ -26,6 +26,10 @@ pub enum Refusal {
     Net(NetFault),
     /// There are too many packets and raw frames.
     TooMany(u64),
+    /// Frames of a version can't carry ids of so many bits.
+    TooWide(Path),
+    /// There are too many snapshots of so many units.
+    TooManyValues(u64),
 }
 
 /// A refusal, or want of memory.

@@ -1,9 +1,8 @@
 -- An accepted input can be run within the bound, and so can a sample's; what is served for a run.
-use Rattle.std.proofs.Common.{◌≡◌, ℕ, suc, ◌+◌, ◌<◌, ◌≤◌, ◌^◌, Bool, List, [], ◌∷◌, length, map, Option, Some, None, inl, inr, arith, sym, subst}
+use Rattle.std.proofs.Common.{◌≡◌, ℕ, suc, ◌+◌, ◌*◌, ◌<◌, ◌≤◌, ◌^◌, Bool, List, [], ◌∷◌, length, map, Option, Some, None, inl, inr, arith, sym, subst}
 use Rattle.std.specs.Prelude.{sum, Result, Ok, Err, IfOk}
 use Rattle.std.specs.List.{All}
 use Rattle.sl_net.specs.declared.input.Flow.{Flow}
-use Rattle.sl_net.specs.declared.input.RawPart.{RawPart}
 use Rattle.sl_net.specs.declared.input.Script1.{Script1}
 use Rattle.sl_net.specs.declared.input.Script1.TheVariants.{Pass, Choice}
 use Rattle.sl_machine.specs.Book.{Book}
@@ -12,13 +11,11 @@ use Rattle.sl_net.specs.Wired.{IsNet}
 use Rattle.sl_machine.specs.Plan.{HasChoice}
 use Rattle.sl_net.specs.Spelling as spelling
 use Rattle.sl_layout.specs.Wiring.{plan_of}
-use Rattle.sl_layout.specs.Net.{Net}
+use Rattle.sl_layout.specs.Net.{Net, units}
 use Rattle.sl_parts.specs.Parts.{below}
 use Rattle.sl_net.specs.Input.{Input}
-use Rattle.sl_parts.proofs.Checked.{few_hosts}
-use Rattle.sl_net.proofs.NetWired.{no-reason}
+use Rattle.sl_check.proofs.Runnable.{net-of, ranged, addressed, short-of, carries-is, carried-of}
 use Rattle.sl_read.specs.Accepted.{IsEntry, IsAccepted}
-use Rattle.sl_flow.specs.Flow.{HasAddresses}
 use Rattle.sl_flow.specs.Sample.{IsSample, flow, host_count, sample_parts}
 use Rattle.sl_parts.specs.Lists.{Each}
 use Rattle.std.proofs.lemmas.List.{length-map}
@@ -41,10 +38,6 @@ use Rattle.sl_app.specs.declared.run.Served.{Served}
 use Rattle.sl_app.specs.Served.{run_text, IsReport, IsTable, IsReading, states_of}
 use Rattle.sl_app.specs.Ends.{Reading, WasRead, IsServed}
 
-each-of : {A : Type 0} (P : A → Type 0) (xs : List A) → All P xs → Each P xs
-each-of P [] all = tt
-each-of P (x ∷ xs) all = (all 0 x (omega arith), each-of P xs (λ k d h. all (suc k) d (omega (arith, h))))
-
 each-map : {A B : Type 0} (P : B → Type 0) (f : A → B) (xs : List A) → ((x : A) → P (f x)) → Each P (map f xs)
 each-map P f [] all = tt
 each-map P f (x ∷ xs) all = (all x, each-map P f xs all)
@@ -57,22 +50,13 @@ entry : Spelled → (net : Net) (e : Script1) → IsEntry net e → IsScriptEntr
 entry spelled net (Pass n) h = tt
 entry spelled net (Choice a c) h = spelled net a c h
 
--- the hosts of its flows have 16 bits
-pub addressed : (i : Input) → IsAccepted i → All HasAddresses i.flows
-addressed i a = λ k d h. let f = a.flows k d h in record { from = omega (arith, f.from, few); to = omega (arith, f.to, few) }
-  where
-    few : length i.net.parts.hosts ≤ 128
-    few = few_hosts i.net.parts (no-reason i.net.parts a.right).1.1.1.1.1.1.0
-
 pub runnable : Spelled → (i : Input) → IsAccepted i → CanRun i
 runnable spelled i a = record {
-  net = record { made = a.net; right = a.right };
-  snapshot = record { some_bits = a.snapshot.some_bits; few_bits = a.snapshot.few_bits; some_window = a.snapshot.some_window; few_window = a.snapshot.few_window; some_ring = a.snapshot.some_ring; some_credits = a.snapshot.some_credits; few_credits = a.snapshot.few_credits };
+  net = net-of i a;
+  snapshot = ranged i a;
+  carried = carried-of i a;
   addresses = addressed i a;
-  short = record {
-    flows = each-of (λ (f : Flow). f.bytes < 2 ^ 16) i.flows (λ k d h. (a.flows k d h).bytes);
-    raws = each-of (λ (r : RawPart). Each (λ b. b < 256) r.bytes) i.raws (λ k d h. each-of (λ b. b < 256) _ (a.raws k d h).bytes);
-  };
+  short = short-of i a;
   script = λ k d h. entry spelled i.net _ (a.script k d h);
 }
 
@@ -80,6 +64,10 @@ pub sample_runs : (n : ℕ) → IsSample (sample_parts n) → CanRun (sample_par
 sample_runs n s = record {
   net = record { made = s.net; right = s.right };
   snapshot = record { some_bits = omega (arith, s.bits); few_bits = omega (arith, s.bits); some_window = s.some_window; few_window = subst (λ bits. (sample_parts n).snapshot.window < 2 ^ bits) (sym s.bits) s.few_window; some_ring = omega (arith, s.ring); some_credits = omega (arith, s.credits); few_credits = omega (arith, s.credits) };
+  carried = record {
+    snapshot = carries-is (sample_parts n).snapshot.width (sample_parts n).snapshot.version (inl (s.version, omega (arith, s.bits)));
+    cables = λ k d h. carries-is (sample_parts n).snapshot.width _ (inl (s.cables k d h, omega (arith, s.bits)));
+  };
   addresses = λ k d h. let f = s.flows k d h in record { from = omega (arith, f.from, s.hosts); to = omega (arith, f.to, s.hosts) };
   short = record { flows = each-map (λ (f : Flow). f.bytes < 2 ^ 16) (flow n) (below (host_count n)) (λ h. omega arith); raws = tt };
   script = λ k d h. absurd (omega (arith, h));
@@ -87,15 +75,15 @@ sample_runs n s = record {
 
 -- the bound of an input within its limits is small
 abbrev pub Small : Type 0
-Small = (i : Input) → IsNet i.net → i.snapshot.count ≤ 1000 → i.snapshot.retries ≤ 100 → sum (map (λ (f : Flow). f.count) i.flows) + length i.raws ≤ 200000
+Small = (i : Input) → IsNet i.net → i.snapshot.count ≤ 100000 → i.snapshot.count * length (units i.net) ≤ 1024000 → i.snapshot.retries ≤ 100 → sum (map (λ (f : Flow). f.count) i.flows) + length i.raws ≤ 200000
     → length i.script ≤ 2 ^ 20 → input_bound i < 2 ^ 27
 
 pub small : Small → (i : Input) → IsAccepted i → input_bound i < 2 ^ 27
-small law i a = law i (record { made = a.net; right = a.right }) a.snapshot.count a.snapshot.retries a.few_packets a.few_entries
+small law i a = law i (net-of i a) a.snapshot.count a.few_values a.snapshot.retries a.few_packets a.few_entries
 
 -- a run in threads sweeps as little as a run with no script
 pub small_threads : Small → (i : Input) → IsAccepted i → bound_of (setup_of i) 0 < 2 ^ 27
-small_threads law i a = law (record i { script = [] }) (record { made = a.net; right = a.right }) a.snapshot.count a.snapshot.retries a.few_packets (omega arith)
+small_threads law i a = law (record i { script = [] }) (net-of i a) a.snapshot.count a.few_values a.snapshot.retries a.few_packets (omega arith)
 
 -- what is served for a run with this book
 pub report-of : (IsBook : Input → Losses → List Entry → ℕ → Type 0) (i : Input) (lost : Losses) (trace : Bool) (book : Book) (front : ℕ) (nodes : List NodeState)

@@ -45,7 +45,7 @@ runnable i lost can sound table = record {
   sound = sound;
   losses = table;
   short = can.short;
-  is_table = record { window = refl; count = refl; retries = refl; credits = refl; some_credits = can.snapshot.some_credits; few_bits = can.snapshot.few_bits; apart = can.snapshot.few_window; room = can.snapshot.some_ring };
+  is_table = record { window = refl; count = refl; retries = refl; credits = refl; some_credits = can.snapshot.some_credits; few_bits = can.snapshot.few_bits; apart = can.snapshot.few_window; room = can.snapshot.some_ring; carried = can.carried };
 }
 
 -- the laws of books that grow by turns

@@ -11,6 +11,7 @@ use Rattle.sl_net.specs.Wired.{IsNet}
 use Rattle.sl_net.specs.Input.{Input}
 use Rattle.sl_flow.specs.Flow.{HasAddresses}
 use Rattle.sl_unit.specs.Made.{IsRanged}
+use Rattle.sl_image.specs.Messages.{CarryIds}
 use Rattle.sl_model.specs.declared.findings.Findings.{Findings}
 use Rattle.sl_model.specs.History.{World, Losses}
 use Rattle.sl_model.specs.Setup.{setup_of}
@@ -27,10 +28,12 @@ use Rattle.sl_proto.specs.Nodes.{NodeState}
 use Rattle.sl_proto.specs.Meaning.{NodeStands}
 use Rattle.sl_proto.specs.Script.{IsScriptEntry}
 
--- a net, a snapshot table within its ranges, flows whose hosts have addresses, frames of bytes, and a script of the net's choices
+-- a net, a snapshot table within its ranges whose ids frames carry, flows whose hosts have addresses, frames of bytes, and a script of the
+-- net's choices
 pub record CanRun (i : Input) : Type 0 where
   pub net : IsNet i.net
   pub snapshot : IsRanged i.snapshot
+  pub carried : CarryIds i.net i.snapshot
   pub addresses : All HasAddresses i.flows
   pub short : SendsShort (setup_of i)
   pub script : All (IsScriptEntry i.net) i.script

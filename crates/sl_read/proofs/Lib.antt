@@ -6,4 +6,5 @@ pub mod OneChoice
 pub mod Steps
 pub mod Entries
 pub mod Ranges
+pub mod LimitLemmas
 pub mod Settled

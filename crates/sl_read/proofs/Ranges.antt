@@ -1,42 +1,69 @@
 -- What the tables say is within its ranges.
-use Rattle.std.proofs.Common.{◌≡◌, ℕ, suc, ◌+◌, ◌-◌, ◌<◌, ◌≤◌, ◌^◌, List, [], ◌∷◌, length, Bool, true, false, Option, Some, None, Ok, refl, subst, arith}
-use Rattle.std.specs.Prelude.{nat_lt, nat_le, ◌&&◌, ◌*◌, if◌then◌else◌, option_map, IfSome}
+use Rattle.std.proofs.Common.{◌≡◌, ℕ, suc, ◌+◌, ◌-◌, ◌<◌, ◌≤◌, ◌^◌, min, List, [], ◌∷◌, length, Bool, true, false, Option, Some, None, Ok, refl, subst, arith}
+use Rattle.std.specs.Prelude.{nat_lt, nat_le, ◌&&◌, ◌*◌, if◌then◌else◌, option_map}
 use Rattle.std.proofs.lemmas.Bool.{ltb-false, leb-true, and_parts}
 use Rattle.toml.specs.Data.{Items, Members}
 use Rattle.sl_parts.specs.Lists.{Each}
 use Rattle.sl_net.specs.declared.input.Snapshot.{Snapshot}
 use Rattle.sl_form.specs.declared.path.TableName.TheVariants.{Top}
 use Rattle.sl_form.specs.declared.path.TableName.TheVariants as table
-use Rattle.sl_form.specs.declared.path.Key.TheVariants.{Device, Cable, Host, Flow, Raw, Bits, Window, Ring, Count, Retries, Credits, Seed, Crossbar, Init, Notice, Drop, Link, N, From, To, Bytes, Hops, Hex}
+use Rattle.sl_form.specs.declared.path.Key.TheVariants.{Device, Cable, Host, Flow, Raw, A, B, Bits, Window, Ring, Count, Retries, Credits, Version, Seed, Crossbar, Init, Notice, Drop, Link, N, From, To, Bytes, Hops, Hex}
+use Rattle.sl_read.specs.declared.cable.CableRow.{CableRow}
 use Rattle.sl_read.specs.declared.flow.FlowRow.{FlowRow}
 use Rattle.sl_read.specs.declared.raw.RawRow.{RawRow}
 use Rattle.sl_read.specs.declared.loss.DropRow.{DropRow}
 use Rattle.sl_read.specs.declared.loss.LossRow.{LossRow}
 use Rattle.sl_read.specs.declared.document.Document.{Document}
-use Rattle.sl_read.specs.Accepted.{IsSnapshot}
+use Rattle.sl_read.specs.Accepted.{IsSnapshot, HasVersion}
 use Rattle.sl_form.specs.Paths.{at}
-use Rattle.sl_form.specs.Fields.{only, required_text, required_form}
+use Rattle.sl_form.specs.Fields.{only, given_number, required_text, required_form}
 use Rattle.sl_read.specs.Rows.{optional_tables, rows}
-use Rattle.sl_form.specs.Forms.{name_of, digit_of, byte_of, pairs_of, hex_of}
+use Rattle.sl_form.specs.Forms.{name_of, port_of, digit_of, byte_of, pairs_of, hex_of}
 use Rattle.sl_read.specs.Tables.{device_of, cable_of, host_of, any_script_of, snapshot_of, drop_of, count_items, few_drops, drops_at, loss_of, any_loss_of, flow_of, raw_of}
 use Rattle.sl_read.specs.Sections.{Sections, sections_of}
 use Rattle.sl_read.specs.Documents.{walk_of, document_of}
 use Rattle.sl_form.proofs.Arrays.{FewInMembers}
 use Rattle.sl_read.proofs.Entries.{any_script_few, sections_few}
-use Rattle.sl_read.proofs.Steps.{bind_ok, same_ok, not_held, and_then_some, map_some, same_some, formed_ok, number_then, option_then, rows_ok}
+use Rattle.sl_read.proofs.Steps.{bind_ok, same_ok, not_held, and_then_some, map_some, same_some, formed_ok, given_ok, number_then, option_then, rows_ok}
 
 snapshot_ok : (ms : Members) (s : Snapshot) → snapshot_of ms ≡ Ok s → IsSnapshot s
 snapshot_ok ms s h =
-    let a = bind_ok (only table.Snapshot (Bits ∷ Window ∷ Ring ∷ Count ∷ Retries ∷ Credits ∷ []) ms) _ s h in
-    let bits = number_then table.Snapshot Bits 1 8 ms _ s a.2 in
-    let window = number_then table.Snapshot Window 1 (2 ^ bits.0 - 1) ms _ s bits.3 in
-    let ring = number_then table.Snapshot Ring window.0 (2 ^ bits.0) ms _ s window.3 in
-    let count = number_then table.Snapshot Count 0 1000 ms _ s ring.3 in
+    let a = bind_ok (only table.Snapshot (Bits ∷ Window ∷ Ring ∷ Count ∷ Retries ∷ Credits ∷ Version ∷ []) ms) _ s h in
+    let bits = number_then table.Snapshot Bits 1 16 ms _ s a.2 in
+    let window = number_then table.Snapshot Window 1 (min (2 ^ bits.0 - 1) 1024) ms _ s bits.3 in
+    let ring = number_then table.Snapshot Ring window.0 (min (2 ^ bits.0) 1024) ms _ s window.3 in
+    let count = number_then table.Snapshot Count 0 100000 ms _ s ring.3 in
     let retries = option_then table.Snapshot Retries 0 100 ms _ s (omega arith) count.3 in
     let credits = option_then table.Snapshot Credits 1 4 ms _ s (omega arith) retries.3 in
-    let few : window.0 < 2 ^ bits.0 = omega (arith, window.1, window.2) in
-    subst IsSnapshot (same_ok _ s credits.3)
-    (record { some_bits = bits.1; few_bits = bits.2; some_window = window.1; few_window = few; some_ring = ring.1; few_ring = ring.2; count = count.2; retries = retries.2; some_credits = credits.1; few_credits = credits.2 })
+    let version = option_then table.Snapshot Version 1 2 ms _ s (omega arith) credits.3 in
+    let few_window : window.0 < 2 ^ bits.0 = omega (arith, window.1, window.2) in
+    let most_window : window.0 ≤ 1024 = omega (arith, window.2) in
+    let few_ring : ring.0 ≤ 2 ^ bits.0 = omega (arith, ring.2) in
+    let most_ring : ring.0 ≤ 1024 = omega (arith, ring.2) in
+    subst IsSnapshot (same_ok _ s version.3)
+    (record {
+      some_bits = bits.1;
+      few_bits = bits.2;
+      some_window = window.1;
+      few_window = few_window;
+      most_window = most_window;
+      some_ring = ring.1;
+      few_ring = few_ring;
+      most_ring = most_ring;
+      count = count.2;
+      retries = retries.2;
+      some_credits = credits.1;
+      few_credits = credits.2;
+      version = (version.1, version.2);
+    })
+
+cable_ok : (i : ℕ) (ms : Members) (c : CableRow) → cable_of i ms ≡ Ok c → HasVersion c
+cable_ok i ms c h =
+    let keys = bind_ok (only (table.Cable i) (A ∷ B ∷ Version ∷ []) ms) _ c h in
+    let a = bind_ok (required_form port_of (table.Cable i) A ms) _ c keys.2 in
+    let b = bind_ok (required_form port_of (table.Cable i) B ms) _ c a.2 in
+    let version = bind_ok (given_number (table.Cable i) Version 1 2 ms) _ c b.2 in
+    subst HasVersion (same_ok _ c version.2) (given_ok (table.Cable i) Version 1 2 ms version.0 version.1)
 
 pub record IsDropRow (d : DropRow) : Type 0 where
   pub some : 1 ≤ d.n
@@ -163,15 +190,15 @@ raw_ok i ms r h =
     subst IsRawRow (same_ok _ r bytes.2) (record { few = hex_short text.0 bytes.0 formed; bytes = hex_low text.0 bytes.0 formed })
 
 pub record IsDocument (d : Document) : Type 0 where
+  pub cables : Each HasVersion d.cables
   pub snapshot : IsSnapshot d.snapshot
   pub loss : IsLossRow d.loss
   pub flows : Each IsFlowRow d.flows
   pub raws : Each IsRawRow d.raws
-  pub script : length d.script ≤ 1048576
 
-walk_ok : (s : Sections) (d : Document) → IfSome s.script (FewInMembers 1048576) → walk_of s ≡ Ok d → IsDocument d
+walk_ok : (s : Sections) (d : Document) → walk_of s ≡ Ok d → IsDocument d × (any_script_of s.script ≡ Ok d.script)
 unfolding walk_of
-walk_ok s d few h =
+walk_ok s d h =
     let devices = bind_ok (rows Top Device device_of 0 s.devices) _ d h in
     let cables = bind_ok (rows Top Cable cable_of 0 s.cables) _ d devices.2 in
     let hosts = bind_ok (rows Top Host host_of 0 s.hosts) _ d cables.2 in
@@ -180,10 +207,18 @@ walk_ok s d few h =
     let flows = bind_ok (rows Top Flow flow_of 0 s.flows) _ d loss.2 in
     let raws = bind_ok (rows Top Raw raw_of 0 s.raws) _ d flows.2 in
     let script = bind_ok (any_script_of s.script) _ d raws.2 in
+    let c = rows_ok Top Cable cable_of HasVersion cable_ok 0 s.cables cables.0 cables.1 in
     let f = rows_ok Top Flow flow_of IsFlowRow flow_ok 0 s.flows flows.0 flows.1 in
     let r = rows_ok Top Raw raw_of IsRawRow raw_ok 0 s.raws raws.0 raws.1 in
-    subst IsDocument (same_ok _ d script.2) (record { snapshot = snapshot_ok s.snapshot snapshot.0 snapshot.1; loss = any_loss_ok s.loss loss.0 loss.1; flows = f.0; raws = r.0; script = any_script_few 1048576 s.script script.0 few script.1 })
+    subst (λ (d : Document). IsDocument d × (any_script_of s.script ≡ Ok d.script)) (same_ok _ d script.2)
+    (record { cables = c.0; snapshot = snapshot_ok s.snapshot snapshot.0 snapshot.1; loss = any_loss_ok s.loss loss.0 loss.1; flows = f.0; raws = r.0 }, script.1)
 
-pub document_ok : (ms : Members) (d : Document) → FewInMembers 1048576 ms → document_of ms ≡ Ok d → IsDocument d
+pub document_ok : (ms : Members) (d : Document) → document_of ms ≡ Ok d → IsDocument d
 unfolding document_of
-document_ok ms d few h = let a = bind_ok (sections_of ms) walk_of d h in walk_ok a.0 d (sections_few 1048576 ms a.0 few a.1) a.2
+document_ok ms d h = let a = bind_ok (sections_of ms) walk_of d h in (walk_ok a.0 d a.2).0
+
+pub script_few : (n : ℕ) (ms : Members) (d : Document) → FewInMembers n ms → document_of ms ≡ Ok d → length d.script ≤ n
+unfolding document_of
+script_few n ms d few h =
+    let a = bind_ok (sections_of ms) walk_of d h in
+    any_script_few n a.0.script d.script (sections_few n ms a.0 few a.1) (walk_ok a.0 d a.2).1

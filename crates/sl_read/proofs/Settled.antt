@@ -18,6 +18,7 @@ use Rattle.sl_net.specs.declared.input.Script1.{Script1}
 use Rattle.sl_net.specs.declared.input.Script1.TheVariants.{Pass}
 use Rattle.sl_parts.specs.Parts.{Parts}
 use Rattle.sl_parts.specs.Fault.{fault_of}
+use Rattle.sl_parts.specs.Valid.{AreVersioned}
 use Rattle.sl_layout.specs.Net.{Net, net_of, link_of, link_at, action_choice}
 use Rattle.sl_layout.specs.Wiring.{kind_of, is_lossy}
 use Rattle.sl_net.specs.Spelling.{HasChoice, choice_text}
@@ -44,12 +45,14 @@ use Rattle.sl_read.specs.Documents.{document_of}
 use Rattle.sl_form.specs.Forms.{pass_of, positive}
 use Rattle.sl_read.specs.Places.{each, known, host_place, flow_part, raw_part, parts_of}
 use Rattle.sl_read.specs.Choices.{first, choices, choice_named, lossy_link, link_named, drop_part, pass_or, as_choice, entry_of, fits, fitting, passes, entries_of}
+use Rattle.sl_read.specs.Limits.{limits_kept}
 use Rattle.sl_read.specs.Inputs.{unless_refused, built, net_in, packets, few_packets, traffic_in, contents_in, settled, tables_of, parsed, text_of, reading_of, numbered, input_of}
 use Rattle.sl_form.proofs.Shorter.{IsShort, some-if, some-then}
 use Rattle.sl_form.proofs.Arrays.{FewInMembers, document-few}
 use Rattle.sl_read.proofs.Steps.{bind_ok, same_ok, same_some, held, not_held, kept, and_then_some, map_some, known_ok, each_ok}
-use Rattle.sl_read.proofs.Ranges.{IsDocument, IsRawRow, IsDropRow, IsFlowRow, document_ok}
+use Rattle.sl_read.proofs.Ranges.{IsDocument, IsRawRow, IsDropRow, IsFlowRow, document_ok, script_few}
 use Rattle.sl_read.proofs.OneChoice.{each_has}
+use Rattle.sl_read.proofs.LimitLemmas.{parts_versioned, limits_ok}
 
 -- Hosts by their names.
 
@@ -78,16 +81,17 @@ unless_ok : (o : Option NetFault) (n net : Net) → unless_refused o n ≡ Ok ne
 unless_ok None n net h = (refl, same_ok n net h)
 unless_ok (Some e) n net h = absurd (cc)
 
-record IsBuilt (net : Net) : Type 0 where
+record IsBuilt (parts : Parts) (net : Net) : Type 0 where
+  pub parts_are : parts ≡ net.parts
   pub made : net ≡ net_of net.parts
   pub right : fault_of net.parts ≡ None
 
-built_ok : (parts : Parts) (net : Net) → built parts ≡ Ok net → IsBuilt net
+built_ok : (parts : Parts) (net : Net) → built parts ≡ Ok net → IsBuilt parts net
 unfolding built
 built_ok parts net h =
     let t = unless_ok (fault_of parts) (net_of parts) net h in
     let p : parts ≡ net.parts = ap (λ (n : Net). n.parts) t.1 in
-    record { made = sym t.1 ∙ ap net_of p; right = subst (λ p. fault_of p ≡ None) p t.0 }
+    record { parts_are = p; made = sym t.1 ∙ ap net_of p; right = subst (λ p. fault_of p ≡ None) p t.0 }
 
 -- Links and choices by their spelling.
 
@@ -192,9 +196,9 @@ record IsFilled (net : Net) (c : Contents) : Type 0 where
   few_passes : sum_by passes c.script ≤ 10000
   few_packets : packets c.flows c.raws ≤ 200000
 
-contents_ok : (net : Net) (doc : Document) (c : Contents) → IsDocument doc → contents_in net doc ≡ Ok c → IsFilled net c
+contents_ok : (net : Net) (doc : Document) (c : Contents) → IsDocument doc → length doc.script ≤ 1048576 → contents_in net doc ≡ Ok c → IsFilled net c
 unfolding contents_in
-contents_ok net doc c d h =
+contents_ok net doc c d short h =
     let traffic = bind_ok (traffic_in net.parts.hosts doc) _ c h in
     let drops = bind_ok (each (drop_part net) 0 doc.loss.drops) _ c traffic.2 in
     let script = bind_ok (entries_of net 0 0 doc.script) _ c drops.2 in
@@ -208,26 +212,43 @@ contents_ok net doc c d h =
       flows = t.flows;
       raws = t.raws;
       script = all-from_each (IsEntry net) script.0 s.0;
-      few_entries = omega (arith, s.2, d.script);
+      few_entries = omega (arith, s.2, short);
       few_passes = omega (arith, s.1);
       few_packets = few_packets_ok traffic.0.flows traffic.0.raws few.0 few.1;
     })
 
-settled_ok : (doc : Document) (input : Input) → IsDocument doc → settled doc ≡ Ok input → IsAccepted input
+settled_ok : (doc : Document) (input : Input) → IsDocument doc → length doc.script ≤ 1048576 → settled doc ≡ Ok input → IsAccepted input
 unfolding settled net_in
-settled_ok doc input d h =
+settled_ok doc input d short h =
     let net = bind_ok (net_in doc) _ input h in
     let contents = bind_ok (contents_in net.0 doc) _ input net.2 in
-    let parts = bind_ok (parts_of doc.devices doc.cables doc.hosts) built net.0 net.1 in
+    let limits = bind_ok (limits_kept net.0 doc.snapshot) _ input contents.2 in
+    let parts = bind_ok (parts_of doc.devices doc.snapshot.version doc.cables doc.hosts) built net.0 net.1 in
     let b = built_ok parts.0 net.0 parts.2 in
-    let f = contents_ok net.0 doc contents.0 d contents.1 in
-    subst IsAccepted (same_ok _ input contents.2)
-    (record { net = b.made; right = b.right; snapshot = d.snapshot; loss = f.loss; flows = f.flows; raws = f.raws; script = f.script; few_entries = f.few_entries; few_passes = f.few_passes; few_packets = f.few_packets })
+    let f = contents_ok net.0 doc contents.0 d short contents.1 in
+    let versions = subst (λ (p : Parts). AreVersioned p.cables) b.parts_are (parts_versioned doc.devices doc.snapshot.version doc.cables doc.hosts parts.0 d.snapshot.version d.cables parts.1) in
+    let l = limits_ok net.0 doc.snapshot limits.0 d.snapshot.version versions limits.1 in
+    subst IsAccepted (same_ok _ input limits.2)
+    (record {
+      net = b.made;
+      right = b.right;
+      snapshot = d.snapshot;
+      loss = f.loss;
+      flows = f.flows;
+      raws = f.raws;
+      script = f.script;
+      few_entries = f.few_entries;
+      few_passes = f.few_passes;
+      few_packets = f.few_packets;
+      carried = l.0;
+      cables = l.1;
+      few_values = l.2;
+    })
 
 parsed_ok : (o : Option Members) (input : Input) → IfSome o (FewInMembers 1048576) → parsed o ≡ Ok input → IsAccepted input
 unfolding tables_of
 parsed_ok None input few h = absurd (cc)
-parsed_ok (Some ms) input few h = let doc = bind_ok (document_of ms) settled input h in settled_ok doc.0 input (document_ok ms doc.0 few doc.1) doc.2
+parsed_ok (Some ms) input few h = let doc = bind_ok (document_of ms) settled input h in settled_ok doc.0 input (document_ok ms doc.0 doc.1) (script_few 1048576 ms doc.0 few doc.1) doc.2
 
 -- of at most 1048576 bytes
 bytes_few : (bytes : List ℕ) → length bytes ≤ 1048576 → IfSome (option_and_then parse_document (text_of bytes)) (FewInMembers 1048576)

@@ -1,6 +1,6 @@
 -- What the steps of a definition that answered were.
 use Rattle.std.proofs.Common.{◌≡◌, ℕ, suc, ◌+◌, ◌≤◌, List, [], ◌∷◌, length, Bool, true, false, Option, Some, None, Result, Ok, Err, refl, ap, subst, arith}
-use Rattle.std.specs.Prelude.{ℤ, pos, negsuc, ◌&&◌, nat_le, if◌then◌else◌, option_map, option_and_then}
+use Rattle.std.specs.Prelude.{ℤ, pos, negsuc, ◌&&◌, nat_le, if◌then◌else◌, option_map, option_and_then, IfSome}
 use Rattle.std.proofs.lemmas.Bool.{and_parts}
 use Rattle.std.proofs.lemmas.Bool.Decides.{nat_tests}
 use Rattle.toml.specs.Data.{Data, string, integer, float, boolean, datetime, array, table, Items, no_items, item, Members}
@@ -11,7 +11,7 @@ use Rattle.sl_form.specs.declared.path.Path.{Path}
 use Rattle.sl_form.specs.declared.refusal.Refusal.{Refusal}
 use Rattle.sl_form.specs.Paths.{at, element}
 use Rattle.sl_form.specs.Refusals.{◌>>=◌}
-use Rattle.sl_form.specs.Fields.{get_key, required, optional, in_range, number, required_number, optional_number, formed}
+use Rattle.sl_form.specs.Fields.{get_key, required, optional, in_range, number, required_number, optional_number, given_number, formed}
 use Rattle.sl_read.specs.Rows.{table_at, row, rows}
 use Rattle.sl_read.specs.Tables.{count_items}
 use Rattle.sl_read.specs.Places.{each, known}
@@ -89,6 +89,15 @@ optional_ok t k low high ms n some h = by_value (get_key k ms) h
     by_value : (o : Option Data) → optional (at t k) low (λ p. number p low high) o ≡ Ok n → (low ≤ n) × (n ≤ high)
     by_value None h = let e : low ≡ n = same_ok low n h in (omega (arith, e), omega (arith, e, some))
     by_value (Some d) h = number_ok (at t k) low high d n h
+
+pub given_ok : (t : TableName) (k : Key) (low high : ℕ) (ms : Members) (o : Option ℕ) → given_number t k low high ms ≡ Ok o → IfSome o (λ n. (low ≤ n) × (n ≤ high))
+given_ok t k low high ms o h = by_value (get_key k ms) h
+  where
+    by_value : (v : Option Data) → optional (at t k) None (λ p d. number p low high d >>= (λ n. Ok (Some n))) v ≡ Ok o → IfSome o (λ n. (low ≤ n) × (n ≤ high))
+    by_value None h = subst (λ o. IfSome o (λ n. (low ≤ n) × (n ≤ high))) (same_ok None o h) tt
+    by_value (Some d) h =
+        let n = bind_ok (number (at t k) low high d) _ o h in
+        subst (λ o. IfSome o (λ n. (low ≤ n) × (n ≤ high))) (same_ok (Some n.0) o n.2) (number_ok (at t k) low high d n.0 n.1)
 
 -- a number, and what comes after it
 pub number_then : {B : Type 0} (t : TableName) (k : Key) (low high : ℕ) (ms : Members) (f : ℕ → Result B Refusal) (y : B) → (required_number t k low high ms >>= f) ≡ Ok y → (n : ℕ) × (low ≤ n) × (n ≤ high) × (f n ≡ Ok y)

@@ -1,5 +1,5 @@
 -- What holds of each accepted input: its numbers and places are within their ranges.
-use Rattle.std.specs.Prelude.{◌≡◌, ◌<◌, ◌≤◌, ◌^◌, true, length, None}
+use Rattle.std.specs.Prelude.{◌≡◌, ◌⊎◌, ℕ, ◌<◌, ◌≤◌, ◌^◌, true, length, None, IfSome}
 use Rattle.std.specs.List.{All, sum_by}
 use Rattle.sl_net.specs.declared.input.Snapshot.{Snapshot}
 use Rattle.sl_net.specs.declared.input.Drop1.{Drop1}
@@ -13,21 +13,38 @@ use Rattle.sl_layout.specs.Net.{Net, net_of, link_of}
 use Rattle.sl_layout.specs.Wiring.{kind_of, is_lossy}
 use Rattle.sl_net.specs.Spelling.{HasChoice}
 use Rattle.sl_net.specs.Input.{Input, LossSpec}
+use Rattle.sl_read.specs.declared.cable.CableRow.{CableRow}
 use Rattle.sl_read.specs.Choices.{passes}
 use Rattle.sl_read.specs.Inputs.{packets}
+use Rattle.sl_read.specs.Limits.{values}
+
+-- the versions of frames
+abbrev pub IsVersion : ℕ → Type 0
+IsVersion version = (1 ≤ version) × (version ≤ 2)
+
+-- of the frames on a cable, where it gives one
+abbrev pub HasVersion : CableRow → Type 0
+HasVersion cable = IfSome cable.version IsVersion
 
 -- at least one snapshot fits the window, a wrapped id stands for one number in it, and the ring holds it
 pub record IsSnapshot (s : Snapshot) : Type 0 where
   pub some_bits : 1 ≤ s.width
-  pub few_bits : s.width ≤ 8
+  pub few_bits : s.width ≤ 16
   pub some_window : 1 ≤ s.window
   pub few_window : s.window < 2 ^ s.width
+  pub most_window : s.window ≤ 1024
   pub some_ring : s.window ≤ s.ring
   pub few_ring : s.ring ≤ 2 ^ s.width
-  pub count : s.count ≤ 1000
+  pub most_ring : s.ring ≤ 1024
+  pub count : s.count ≤ 100000
   pub retries : s.retries ≤ 100
   pub some_credits : 1 ≤ s.credits
   pub few_credits : s.credits ≤ 4
+  pub version : IsVersion s.version
+
+-- frames of this version carry ids of so many bits: those of version 1 have 8 bits for them
+abbrev pub IsCarried : ℕ → ℕ → Type 0
+IsCarried bits version = ((version ≡ 1) × (bits ≤ 8)) ⊎ (version ≡ 2)
 
 -- a put on a link of the net on which messages may be lost
 pub record IsDrop (net : Net) (d : Drop1) : Type 0 where
@@ -74,3 +91,6 @@ pub record IsAccepted (input : Input) : Type 0 where
   pub few_entries : length input.script ≤ 1048576
   pub few_passes : sum_by passes input.script ≤ 10000
   pub few_packets : packets input.flows input.raws ≤ 200000
+  pub carried : IsCarried input.snapshot.width input.snapshot.version
+  pub cables : All (λ c. IsCarried input.snapshot.width c.version) input.net.parts.cables
+  pub few_values : values input.net input.snapshot ≤ 1024000

@@ -1,5 +1,5 @@
--- The input: the bytes as a TOML document, its shape, then its names, its net, its spellings and its
--- total. The first refusal in this order is the answer.
+-- The input: the bytes as a TOML document, its shape, then its names, its net, its spellings, its
+-- total and its limits. The first refusal in this order is the answer.
 use Rattle.std.specs.Prelude.{ℕ, ◌+◌, nat_lt, if◌then◌else◌, List, length, map, Option, Some, None, option_and_then, Result, Ok, Err}
 use Rattle.std.specs.List.{sum}
 use Rattle.std.specs.Str.{is_utf8}
@@ -15,9 +15,9 @@ use Rattle.sl_parts.specs.Fault.{fault_of}
 use Rattle.sl_layout.specs.Net.{Net, net_of}
 use Rattle.sl_net.specs.Input.{Input, LossSpec}
 use Rattle.sl_form.specs.declared.refusal.Refusal.{Refusal}
-use Rattle.sl_form.specs.declared.refusal.Refusal.TheVariants.{TooLong, NotToml, Absent, Unlisted, Form, Range, Unknown, Entry, Net as WrongNet, TooMany}
+use Rattle.sl_form.specs.declared.refusal.Refusal.TheVariants.{TooLong, NotToml, Absent, Unlisted, Form, Range, Unknown, Entry, Net as WrongNet, TooMany, TooWide, TooManyValues}
 use Rattle.sl_read.specs.declared.fault.InputFault.{InputFault}
-use Rattle.sl_read.specs.declared.fault.InputFault.TheVariants.{I1, I2, I3, I4, I5, I6, I7, I8, I9, I10}
+use Rattle.sl_read.specs.declared.fault.InputFault.TheVariants.{I1, I2, I3, I4, I5, I6, I7, I8, I9, I10, I11, I12}
 use Rattle.sl_read.specs.declared.loss.LossRow.{LossRow}
 use Rattle.sl_read.specs.declared.document.Document.{Document}
 use Rattle.sl_read.specs.declared.read.Traffic.{Traffic}
@@ -27,6 +27,7 @@ use Rattle.sl_form.specs.Refusals.{◌>>=◌}
 use Rattle.sl_read.specs.Documents.{document_of}
 use Rattle.sl_read.specs.Places.{each, parts_of, flow_part, raw_part}
 use Rattle.sl_read.specs.Choices.{drop_part, entries_of}
+use Rattle.sl_read.specs.Limits.{limits_kept}
 
 -- the net of the parts, or the first reason why they are none
 abbrev pub unless_refused : Option NetFault → Net → Result Net Refusal
@@ -48,7 +49,7 @@ losses loss drops = record { seed = loss.seed; cable = loss.cable; crossbar = lo
 
 -- the net of a document: the names in its ports, and then what is wrong with its parts
 unfoldable pub net_in : Document → Result Net Refusal
-net_in doc = parts_of doc.devices doc.cables doc.hosts >>= built
+net_in doc = parts_of doc.devices doc.snapshot.version doc.cables doc.hosts >>= built
 
 -- flows and raw frames, with hosts by their places
 unfoldable pub traffic_in : List HostPart → Document → Result Traffic Refusal
@@ -66,11 +67,12 @@ contents_in net doc = do
   _ ← few_packets traffic.flows traffic.raws
   Ok (record { loss = losses doc.loss drops; flows = traffic.flows; raws = traffic.raws; script = script })
 
--- names, net, spellings and total of a document of the right shape
+-- names, net, spellings, total and limits of a document of the right shape
 unfoldable pub settled : Document → Result Input Refusal
 settled doc = do
   net ← net_in doc
   contents ← contents_in net doc
+  _ ← limits_kept net doc.snapshot
   Ok (record { net = net; snapshot = doc.snapshot; loss = contents.loss; flows = contents.flows; raws = contents.raws; script = contents.script })
 
 unfoldable pub tables_of : Members → Result Input Refusal
@@ -99,6 +101,8 @@ fault (Unknown p) = I7 (path_text p)
 fault (Entry i) = I8 i
 fault (WrongNet e) = I9 e
 fault (TooMany n) = I10 n
+fault (TooWide p) = I11 (path_text p)
+fault (TooManyValues n) = I12 n
 
 abbrev pub numbered : Result Input Refusal → Result Input InputFault
 numbered (Ok input) = Ok input

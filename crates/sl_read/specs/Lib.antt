@@ -4,5 +4,6 @@ pub mod Sections
 pub mod Documents
 pub mod Places
 pub mod Choices
+pub mod Limits
 pub mod Inputs
 pub mod Accepted

@@ -1,5 +1,5 @@
 -- Names of devices and hosts, looked up: a name that stands twice is its first holder.
-use Rattle.std.specs.Prelude.{ℕ, ◌+◌, List, [], ◌∷◌, Option, Some, None, bytes_eq, Result, Ok, Err}
+use Rattle.std.specs.Prelude.{ℕ, ◌+◌, List, [], ◌∷◌, Option, Some, None, unwrap_or, bytes_eq, Result, Ok, Err}
 use Rattle.std.specs.List.{position}
 use Rattle.sl_parts.specs.declared.parts.PortRef.{PortRef}
 use Rattle.sl_parts.specs.declared.parts.CablePart.{CablePart}
@@ -41,18 +41,19 @@ known p (Some x) = Ok x
 abbrev pub port_place : List DevicePart → Path → PortText → Result PortRef Refusal
 port_place devices p port = known p (device_place devices port.device) >>= (λ d. Ok (record { device = d; port = port.port }))
 
-abbrev pub cable_part : List DevicePart → ℕ → CableRow → Result CablePart Refusal
-cable_part devices i cable = do
+-- a cable has the version of the snapshot table, where it gives none
+abbrev pub cable_part : List DevicePart → ℕ → ℕ → CableRow → Result CablePart Refusal
+cable_part devices version i cable = do
   a ← port_place devices (at (table.Cable i) A) cable.a
   b ← port_place devices (at (table.Cable i) B) cable.b
-  Ok (record { a = a; b = b })
+  Ok (record { a = a; b = b; version = unwrap_or cable.version version })
 
 abbrev pub host_part : List DevicePart → ℕ → HostRow → Result HostPart Refusal
 host_part devices i host = port_place devices (at (table.Host i) At) host.at >>= (λ port. Ok (record { name = host.name; at = port }))
 
-unfoldable pub parts_of : List DevicePart → List CableRow → List HostRow → Result Parts Refusal
-parts_of devices cable_rows host_rows = do
-  cables ← each (cable_part devices) 0 cable_rows
+unfoldable pub parts_of : List DevicePart → ℕ → List CableRow → List HostRow → Result Parts Refusal
+parts_of devices version cable_rows host_rows = do
+  cables ← each (cable_part devices version) 0 cable_rows
   hosts ← each (host_part devices) 0 host_rows
   Ok (record { devices = devices; cables = cables; hosts = hosts })
 

@@ -1,11 +1,11 @@
 -- The tables of the input, one after the other: in each the keys that it may have, then each key in
 -- order, with its kind, its form and its range.
-use Rattle.std.specs.Prelude.{ℕ, suc, pos, ◌+◌, ◌-◌, ◌^◌, nat_lt, if◌then◌else◌, List, [], ◌∷◌, Option, Some, None, Result, Ok, Err}
+use Rattle.std.specs.Prelude.{ℕ, suc, pos, ◌+◌, ◌-◌, ◌^◌, min, nat_lt, if◌then◌else◌, List, [], ◌∷◌, Option, Some, None, Result, Ok, Err}
 use Rattle.toml.specs.Data.{Items, no_items, item, Members}
 use Rattle.sl_parts.specs.declared.parts.DevicePart.{DevicePart}
 use Rattle.sl_net.specs.declared.input.Snapshot.{Snapshot}
 use Rattle.sl_form.specs.declared.path.TableName.TheVariants as table
-use Rattle.sl_form.specs.declared.path.Key.TheVariants.{Name, Ports, A, B, At, Bits, Window, Ring, Count, Retries, Credits, Seed, Cable, Crossbar, Init, Notice, Drop, Link, N, From, To, Bytes, Hops, Hex, Entries}
+use Rattle.sl_form.specs.declared.path.Key.TheVariants.{Name, Ports, A, B, At, Bits, Window, Ring, Count, Retries, Credits, Version, Seed, Cable, Crossbar, Init, Notice, Drop, Link, N, From, To, Bytes, Hops, Hex, Entries}
 use Rattle.sl_form.specs.declared.refusal.Refusal.{Refusal}
 use Rattle.sl_form.specs.declared.refusal.Refusal.TheVariants.{Range}
 use Rattle.sl_read.specs.declared.cable.CableRow.{CableRow}
@@ -16,7 +16,7 @@ use Rattle.sl_read.specs.declared.loss.DropRow.{DropRow}
 use Rattle.sl_read.specs.declared.loss.LossRow.{LossRow}
 use Rattle.sl_form.specs.Paths.{at, element}
 use Rattle.sl_form.specs.Refusals.{◌>>=◌}
-use Rattle.sl_form.specs.Fields.{only, get_key, required, required_number, optional_number, required_text, required_form, text_at}
+use Rattle.sl_form.specs.Fields.{only, get_key, required, required_number, optional_number, given_number, required_text, required_form, text_at}
 use Rattle.sl_form.specs.Forms.{name_of, port_of, hex_of}
 use Rattle.sl_read.specs.Rows.{items_at, optional_tables, rows}
 
@@ -29,10 +29,11 @@ device_of i ms = do
 
 abbrev pub cable_of : ℕ → Members → Result CableRow Refusal
 cable_of i ms = do
-  _ ← only (table.Cable i) (A ∷ B ∷ []) ms
+  _ ← only (table.Cable i) (A ∷ B ∷ Version ∷ []) ms
   a ← required_form port_of (table.Cable i) A ms
   b ← required_form port_of (table.Cable i) B ms
-  Ok (record { a = a; b = b })
+  version ← given_number (table.Cable i) Version 1 2 ms
+  Ok (record { a = a; b = b; version = version })
 
 abbrev pub host_of : ℕ → Members → Result HostRow Refusal
 host_of i ms = do
@@ -43,14 +44,15 @@ host_of i ms = do
 
 abbrev pub snapshot_of : Members → Result Snapshot Refusal
 snapshot_of ms = do
-  _ ← only table.Snapshot (Bits ∷ Window ∷ Ring ∷ Count ∷ Retries ∷ Credits ∷ []) ms
-  bits ← required_number table.Snapshot Bits 1 8 ms
-  window ← required_number table.Snapshot Window 1 (2 ^ bits - 1) ms
-  ring ← required_number table.Snapshot Ring window (2 ^ bits) ms
-  count ← required_number table.Snapshot Count 0 1000 ms
+  _ ← only table.Snapshot (Bits ∷ Window ∷ Ring ∷ Count ∷ Retries ∷ Credits ∷ Version ∷ []) ms
+  bits ← required_number table.Snapshot Bits 1 16 ms
+  window ← required_number table.Snapshot Window 1 (min (2 ^ bits - 1) 1024) ms
+  ring ← required_number table.Snapshot Ring window (min (2 ^ bits) 1024) ms
+  count ← required_number table.Snapshot Count 0 100000 ms
   retries ← optional_number table.Snapshot Retries 0 100 ms
   credits ← optional_number table.Snapshot Credits 1 4 ms
-  Ok (record { width = bits; window = window; ring = ring; count = count; retries = retries; credits = credits })
+  version ← optional_number table.Snapshot Version 1 2 ms
+  Ok (record { width = bits; window = window; ring = ring; count = count; retries = retries; credits = credits; version = version })
 
 abbrev pub drop_of : ℕ → Members → Result DropRow Refusal
 drop_of i ms = do

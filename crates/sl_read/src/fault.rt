@@ -32,6 +32,10 @@ pub enum InputFault {
     I9(NetFault),
     /// There are more than 200,000 packets and raw frames; their number.
     I10(u64),
+    /// Ids have more than 8 bits, and frames of version 1 can't carry them; the path of the version.
+    I11(Line),
+    /// There are more than 1,024,000 values, one for each unit and snapshot; their number.
+    I12(u64),
     /// Want of memory.
     Memory,
 }
@@ -76,6 +80,8 @@ fn fault(alloc: Global, refusal: Refusal) -> Result<InputFault, AllocError>
         Refusal::Entry(index) => InputFault::I8(index),
         Refusal::Net(fault) => InputFault::I9(fault),
         Refusal::TooMany(count) => InputFault::I10(count),
+        Refusal::TooWide(path) => InputFault::I11(path_line(alloc, path)?),
+        Refusal::TooManyValues(count) => InputFault::I12(count),
     })
 }
 

@@ -10,6 +10,7 @@ mod fault;
 mod flow;
 mod host;
 mod laws;
+mod limits;
 mod loss;
 mod places;
 mod raw;

@@ -56,13 +56,19 @@ fn port_place(devices: &[DevicePart], path: Path, port: &PortText) -> Result<Por
     })
 }
 
-fn cable_part(devices: &[DevicePart], index: u64, cable: &CableRow) -> Result<CablePart, ReadError>
-    ensures { Answers result (cable_part devices.now index cable.now) }
+fn cable_part(
+    devices: &[DevicePart],
+    version: u8,
+    index: u64,
+    cable: &CableRow,
+) -> Result<CablePart, ReadError>
+    ensures { Answers result (cable_part devices.now version index cable.now) }
 {
     let at = TableName::Cable(index);
     let a = port_place(devices, Path::at(at, Key::A), &cable.a)?;
     let b = port_place(devices, Path::at(at, Key::B), &cable.b)?;
-    Ok(CablePart { a, b })
+    let version = cable.version.unwrap_or(version);
+    Ok(CablePart { a, b, version })
 }
 
 fn copy_name(alloc: Global, name: &Name) -> Result<Name, ReadError>
@@ -91,13 +97,14 @@ fn host_part(
 fn cable_parts(
     alloc: Global,
     devices: &[DevicePart],
+    version: u8,
     cables: &[CableRow],
 ) -> Result<Listed<CablePart>, ReadError>
-    ensures { Answers result (each (cable_part devices.now) 0 cables.now) }
+    ensures { Answers result (each (cable_part devices.now version) 0 cables.now) }
 {
     let mut found = Vec::new(alloc);
     for (index, cable) in cables.iter().enumerate() {
-        found.push(cable_part(devices, index as u64, cable)?)?;
+        found.push(cable_part(devices, version, index as u64, cable)?)?;
     }
     Ok(Listed::from_vec(found))
 }
@@ -137,17 +144,19 @@ fn copy_devices(alloc: Global, devices: &[DevicePart]) -> Result<Listed<DevicePa
     Ok(Listed::from_vec(found))
 }
 
-/// The parts of the net, with ports by the places of their devices.
+/// The parts of the net, with ports by the places of their devices. A cable that gives no version
+/// of its own has this one.
 #[tactic(auto, unfolding(crate::specs::Places::parts_of))]
 pub fn place_parts(
     alloc: Global,
     devices: &[DevicePart],
+    version: u8,
     cables: &[CableRow],
     hosts: &[HostRow],
 ) -> Result<Parts, ReadError>
-    ensures { Answers result (parts_of devices.now cables.now hosts.now) }
+    ensures { Answers result (parts_of devices.now version cables.now hosts.now) }
 {
-    let cables = cable_parts(alloc, devices, cables)?;
+    let cables = cable_parts(alloc, devices, version, cables)?;
     let hosts = host_parts(alloc, devices, hosts)?;
     let devices = copy_devices(alloc, devices)?;
     Ok(Parts {

@@ -1,14 +1,17 @@
 // The whole input.
-ghost use Rattle.std.specs.Prelude.{◌≡◌, ◌≢◌, Ok, Err, IfOk, IfErr, option_map, map};
+ghost use Rattle.std.specs.Prelude.{◌≡◌, ◌≢◌, ◌≤◌, Ok, Err, IfOk, IfErr, option_map, map};
 ghost use Rattle.std.specs.List.{sum};
 ghost use Rattle.toml.specs.View.{table_view};
 ghost use Rattle.sl_form.specs.Refusals.{Answers};
-ghost use Rattle.sl_read.specs.Accepted.{IsAccepted};
+ghost use Rattle.sl_parts.specs.Lists.{Each};
+ghost use Rattle.sl_parts.specs.Valid.{AreVersioned};
+ghost use Rattle.sl_read.specs.Accepted.{HasVersion, IsVersion, IsAccepted};
 ghost use Rattle.sl_read.specs.Inputs.{built, packets, few_packets, losses, net_in, traffic_in, contents_in, settled, tables_of, text_of, reading_of, input_of};
 
 use crate::choices::{place_drops, read_entries};
 use crate::document::{Document, read_document};
 use crate::fault::{InputFault, fault_of};
+use crate::limits::limits_kept;
 use crate::loss::LossRow;
 use crate::places::{place_flows, place_parts, place_raws};
 use sl_form::{Listed, ReadError, Refusal};
@@ -23,6 +26,7 @@ const LONGEST: usize = 1_048_576;
 
 #[tactic(auto, unfolding(crate::specs::Inputs::built))]
 fn build(alloc: Global, parts: Parts) -> Result<Net, ReadError>
+    requires { AreVersioned parts.cables }
     ensures { Answers result (built parts) }
 {
     match Net::build(alloc, parts) {
@@ -71,11 +75,14 @@ fn few_packets(flows: &[Flow], raws: &[RawPart]) -> Result<(), ReadError>
 /// The net of a document.
 #[tactic(auto, unfolding(crate::specs::Inputs::net_in))]
 fn net_in(alloc: Global, document: &Document) -> Result<Net, ReadError>
+    requires version { IsVersion document.now.snapshot.version }
+    requires cables { Each HasVersion document.now.cables }
     ensures { Answers result (net_in document.now) }
 {
     let parts = place_parts(
         alloc,
         document.devices.as_slice(),
+        document.snapshot.version,
         document.cables.as_slice(),
         document.hosts.as_slice(),
     )?;
@@ -147,10 +154,14 @@ fn contents_in(alloc: Global, net: &Net, document: &Document) -> Result<Contents
 
 #[tactic(auto, unfolding(crate::specs::Inputs::settled))]
 fn settle(alloc: Global, document: &Document) -> Result<Input, ReadError>
+    requires version { IsVersion document.now.snapshot.version }
+    requires cables { Each HasVersion document.now.cables }
+    requires count { document.now.snapshot.count ≤ 100000 }
     ensures { Answers result (settled document.now) }
 {
     let net = net_in(alloc, document)?;
     let contents = contents_in(alloc, &net, document)?;
+    limits_kept(&net, &document.snapshot)?;
     Ok(Input {
         net,
         snapshot: document.snapshot,

@@ -7,11 +7,14 @@ use sl_form::{Key, Refusal, TableName, only, optional_number, required_number};
 use sl_net::Snapshot;
 use toml::Table;
 
+/// How long a window and a ring may be at most.
+const MOST_SLOTS: u64 = 1024;
+
 /// How many wrapped ids there are.
 fn modulus(bits: u64) -> u64
-    requires { bits ≤ 8 }
+    requires { bits ≤ 16 }
     ensures value { result ≡ 2 ^ bits }
-    ensures most { result ≤ 256 }
+    ensures most { result ≤ 65536 }
     ensures some { 1 ≤ result }
 {
     1u64 << bits
@@ -31,16 +34,18 @@ pub fn read_snapshot(table: &Table) -> Result<Snapshot, Refusal>
             Key::Count,
             Key::Retries,
             Key::Credits,
+            Key::Version,
         ],
         table,
     )?;
-    let bits = required_number(table, at, Key::Bits, 1, 8)?;
+    let bits = required_number(table, at, Key::Bits, 1, 16)?;
     let ids = modulus(bits);
-    let window = required_number(table, at, Key::Window, 1, ids - 1)?;
-    let ring = required_number(table, at, Key::Ring, window, ids)?;
-    let count = required_number(table, at, Key::Count, 0, 1000)?;
+    let window = required_number(table, at, Key::Window, 1, (ids - 1).min(MOST_SLOTS))?;
+    let ring = required_number(table, at, Key::Ring, window, ids.min(MOST_SLOTS))?;
+    let count = required_number(table, at, Key::Count, 0, 100_000)?;
     let retries = optional_number(table, at, Key::Retries, 0, 100)?;
     let credits = optional_number(table, at, Key::Credits, 1, 4)?;
+    let version = optional_number(table, at, Key::Version, 1, 2)?;
     Ok(Snapshot {
         width: bits as u8,
         window: window as u16,
@@ -48,5 +53,6 @@ pub fn read_snapshot(table: &Table) -> Result<Snapshot, Refusal>
         count,
         retries,
         credits: credits as u8,
+        version: version as u8,
     })
 }

@@ -4,4 +4,4 @@ use Rattle.sl_read.proofs.RowLemmas.{with_front}
 use Rattle.sl_read.proofs.places.cable_parts.Given as goal
 
 abbrev pub invariant-loop-index : goal.invariant-loop-index
-invariant-loop-index l = with_front l.found.items (each (cable_part l.devices) l.index (drop l.index l.cables)) ≡ each (cable_part l.devices) 0 l.cables
+invariant-loop-index l = with_front l.found.items (each (cable_part l.devices l.version) l.index (drop l.index l.cables)) ≡ each (cable_part l.devices l.version) 0 l.cables

@@ -37,6 +37,8 @@ fault_words (fault.I7 path) = codes "I7 " ++ path
 fault_words (fault.I8 entry) = codes "I8 script." ++ decimal entry
 fault_words (fault.I9 e) = codes "I9 " ++ net_words e
 fault_words (fault.I10 count) = codes "I10 " ++ decimal count
+fault_words (fault.I11 path) = codes "I11 " ++ path
+fault_words (fault.I12 count) = codes "I12 " ++ decimal count
 fault_words fault.Memory = []
 
 unfoldable pub fault_text : InputFault → List ℕ

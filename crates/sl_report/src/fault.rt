@@ -95,6 +95,8 @@ fn words_of(alloc: Global, fault: &InputFault) -> Result<Vec<u8>, AllocError>
         InputFault::I8(entry) => Ok(format!(in alloc; "I8 script.{entry}")?.into_bytes()),
         InputFault::I9(fault) => with_net(alloc, *fault),
         InputFault::I10(count) => Ok(format!(in alloc; "I10 {count}")?.into_bytes()),
+        InputFault::I11(path) => with_path(alloc, "I11", path),
+        InputFault::I12(count) => Ok(format!(in alloc; "I12 {count}")?.into_bytes()),
         InputFault::Memory => Ok(Vec::new(alloc)),
     }
 }

@@ -374,6 +374,31 @@ drops bad 0 expired 0 noroute 0
 lost cable 1 crossbar 0 init 0 notice 0
 end
 ==
+step cable_of_version_2
+device = [{name = "a", ports = 2}, {name = "b", ports = 2}]
+cable = [{a = "a.1", b = "b.0", version = 2}]
+host = [{name = "h0", at = "a.0"}, {name = "h1", at = "b.1"}]
+snapshot = {bits = 2, window = 1, ring = 1, count = 1, retries = 1}
+loss = {drop = [{link = "in b.0 cable", n = 1}]}
+--
+speedlight 1
+network devices 2 units 8 hosts 2
+observer count 1 issued 1 collected 1 resent 1
+snapshot 1 consistent
+in a.0 0 0
+out a.0 0 0 x0 0 0 x1 0 0
+in a.1 0 0 cable 0 0
+out a.1 0 0 x0 0 0 x1 0 0
+in b.0 0 0 cable 0 0
+out b.0 0 0 x0 0 0 x1 0 0
+in b.1 0 0
+out b.1 0 0 x0 0 0 x1 0 0
+host h0 sent 0 delivered 0
+host h1 sent 0 delivered 0
+drops bad 0 expired 0 noroute 0
+lost cable 1 crossbar 0 init 0 notice 0
+end
+==
 step reused_slot
 device = [{name = "a", ports = 1}]
 host = [{name = "h0", at = "a.0"}]
@@ -580,6 +605,24 @@ flow = [{from = "h0", to = "h1", count = 20000, bytes = 100, hops = 8}, {from = 
 snapshot = {bits = 2, window = 3, ring = 3, count = 1, retries = 0}
 --
 speedlight: I10 200001
+==
+step wide_ids_need_version_2
+device = [{name = "a", ports = 2}]
+host = [{name = "h0", at = "a.0"}, {name = "h1", at = "a.1"}]
+flow = [{from = "h0", to = "h1", count = 3, bytes = 100, hops = 8}]
+snapshot = {bits = 9, window = 3, ring = 3, count = 1, retries = 0}
+--
+speedlight: I11 snapshot.version
+==
+step too_many_rows
+device = [{name = "a", ports = 2}, {name = "b", ports = 2}, {name = "c", ports = 2}]
+cable = [{a = "a.1", b = "b.0"}, {a = "b.1", b = "c.0"}]
+host = [{name = "h0", at = "a.0"}, {name = "h1", at = "c.1"}]
+flow = [{from = "h0", to = "h1", count = 2, bytes = 50, hops = 1}]
+snapshot = {bits = 2, window = 3, ring = 3, count = 100000, retries = 0}
+script = {entries = ["pass 6"]}
+--
+speedlight: I12 1200000
 "#
 }
 

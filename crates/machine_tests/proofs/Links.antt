@@ -18,19 +18,19 @@ use Rattle.sl_control.specs.Wires.{control_of, control_counts}
 abbrev pub counts_at : Net → ℕ → ℕ → Counts
 counts_at net a actions = record { ins = length (links_into net a); outs = length (links_from net a); actions = actions }
 
-unit_links : (net : Net) (a : ℕ) (ports : List (Option ℕ)) (bits : ℕ) → counts_of (wires_of net a ports bits) ≡ counts_at net a 0
-unit_links net a ports bits =
+unit_links : (net : Net) (a : ℕ) (ports : List (Option ℕ)) (s : Snapshot) → counts_of (wires_of net a ports s) ≡ counts_at net a 0
+unit_links net a ports s =
     ap (λ (n : ℕ). record { ins = n; outs = length (exits_of net a); actions = 0 }) (length_below (entrance_by net a) (length (links_into net a)))
     ∙ ap (λ (n : ℕ). record { ins = length (links_into net a); outs = n; actions = 0 }) (length-map (links_from net a) (exit_by net))
 
 pub ingress_links : {E : Type 0} (made : Result Declared E) (net : Net) (a : ℕ) (n : Snapshot)
     → IfOk made (λ unit. unit_state unit ≡ ingress_state net a n) → IfOk made (λ unit. unit_counts unit ≡ counts_at net a 0)
-ingress_links (Ok unit) net a n h = ap (λ (s : UnitState). counts_of s.wires) h ∙ unit_links net a (ports_of net (device_of (actor_of net a))) n.width
+ingress_links (Ok unit) net a n h = ap (λ (s : UnitState). counts_of s.wires) h ∙ unit_links net a (ports_of net (device_of (actor_of net a))) n
 ingress_links (Err e) net a n h = h
 
 pub egress_links : {E : Type 0} (made : Result Declared E) (net : Net) (a : ℕ) (n : Snapshot)
     → IfOk made (λ unit. unit_state unit ≡ egress_state net a n) → IfOk made (λ unit. unit_counts unit ≡ counts_at net a 0)
-egress_links (Ok unit) net a n h = ap (λ (s : UnitState). counts_of s.wires) h ∙ unit_links net a [] n.width
+egress_links (Ok unit) net a n h = ap (λ (s : UnitState). counts_of s.wires) h ∙ unit_links net a [] n
 egress_links (Err e) net a n h = h
 
 -- the observer is the first actor, and the control plane of the first device the next

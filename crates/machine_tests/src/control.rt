@@ -53,6 +53,7 @@ fn made(alloc: Global, net: &Net) -> Result<Control, Memory>
         count: 9,
         retries: 0,
         credits: 1,
+        version: 1,
     };
     Control::new(alloc, net, 0, &snapshot)
 }

@@ -51,6 +51,7 @@ fn input(alloc: Global) -> Result<Input, Fail>
             count: 1,
             retries: 0,
             credits: 1,
+            version: 1,
         },
         loss: LossSpec {
             seed: 0,

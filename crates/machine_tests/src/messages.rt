@@ -54,7 +54,7 @@ fn stamped(kind: Kind, stamp: u64, packet: &Packet) -> Msg {
         id: wid(stamp),
         channel: 0,
     };
-    Msg::Frame(frame_of(&header, packet))
+    Msg::Frame(frame_of(1, &header, packet))
 }
 
 /// What a probe has in place of a packet.

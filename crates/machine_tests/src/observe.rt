@@ -58,6 +58,7 @@ fn collector_of(alloc: Global, net: &Net) -> Result<Collector, Fail> {
         count: 3,
         retries: 1,
         credits: 1,
+        version: 1,
     };
     let ins = net.links_into(0).len() as u32;
     let outs = net.links_from(0).len() as u32;

@@ -29,6 +29,7 @@ fn snapshot(credits: u8) -> Snapshot
         count: 2,
         retries: 0,
         credits,
+        version: 1,
     }
 }
 

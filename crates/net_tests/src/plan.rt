@@ -1,4 +1,7 @@
 // Plans of nets, and what is built from them.
+ghost use Rattle.std.specs.Prelude.{IfOk};
+ghost use Rattle.sl_parts.specs.Valid.{AreVersioned};
+
 use sl_net::{CablePart, DevicePart, HostPart, Name, Net, Parts, PortRef};
 use std::alloc::Global;
 use std::test::Fail;
@@ -37,12 +40,15 @@ fn devices(alloc: Global, plan: &Plan) -> Result<Vec<DevicePart>, Fail> {
     Ok(made)
 }
 
-fn cables(alloc: Global, plan: &Plan) -> Result<Vec<CablePart>, Fail> {
+fn cables(alloc: Global, plan: &Plan) -> Result<Vec<CablePart>, Fail>
+    ensures { IfOk result (λ made. AreVersioned made.items) }
+{
     let mut made = Vec::new(alloc);
     for (a, b) in plan.cables {
         made.push(CablePart {
             a: port(*a),
             b: port(*b),
+            version: 1,
         })?;
     }
     Ok(made)
@@ -60,7 +66,9 @@ fn hosts(alloc: Global, plan: &Plan) -> Result<Vec<HostPart>, Fail> {
 }
 
 /// The parts of a plan.
-pub fn parts(alloc: Global, plan: &Plan) -> Result<Parts, Fail> {
+pub fn parts(alloc: Global, plan: &Plan) -> Result<Parts, Fail>
+    ensures { IfOk result (λ parts. AreVersioned parts.cables) }
+{
     Ok(Parts {
         devices: devices(alloc, plan)?,
         cables: cables(alloc, plan)?,

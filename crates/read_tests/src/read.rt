@@ -1,5 +1,5 @@
 // Inputs that are accepted, and inputs that are refused.
-use sl_net::{Flow, Input, Line, Snapshot};
+use sl_net::{CablePart, Flow, Input, Line, PortRef, Script1, Snapshot};
 use sl_read::{InputFault, read_input};
 use std::alloc::Global;
 use std::test::Fail;
@@ -9,6 +9,9 @@ const DEVICE: &str = "device = [{name = \"a\", ports = 2}]\n";
 const HOSTS: &str = "host = [{name = \"h0\", at = \"a.0\"}, {name = \"h1\", at = \"a.1\"}]\n";
 
 const FLOW: &str = "flow = [{from = \"h0\", to = \"h1\", count = 3, bytes = 100, hops = 8}]\n";
+
+const VERSION_2: &str =
+    "snapshot = {bits = 2, window = 3, ring = 3, count = 1, credits = 4, version = 2}\n";
 
 const SNAPSHOT: &str = "snapshot = {bits = 2, window = 3, ring = 3, count = 1, retries = 0}\n";
 
@@ -57,6 +60,8 @@ fn said(alloc: Global, fault: &InputFault) -> Result<String, Fail> {
         InputFault::I8(index) => format!(in alloc; "I8 {index}")?,
         InputFault::I9(fault) => format!(in alloc; "I9 {fault:?}")?,
         InputFault::I10(count) => format!(in alloc; "I10 {count}")?,
+        InputFault::I11(line) => path(alloc, "I11", line)?,
+        InputFault::I12(count) => format!(in alloc; "I12 {count}")?,
         InputFault::Memory => String::from_str(alloc, "no memory")?,
     })
 }
@@ -113,6 +118,12 @@ device = [{name = "a", ports = 65535}] ; snapshot = {} => I3 snapshot.bits
 device = [{colour = 1}] ; snapshot = {} => I4 device.0
 device = [{name = "a", ports = 2}, {name = 1, colour = 1}] ; snapshot = {} => I4 device.1
 device = [{}, {colour = 1}] ; snapshot = {} => I3 device.0.name
+device = [{name = "a", ports = 4}] ; cable = [{a = "a.0", b = "a.1"}, {a = "a.2", b = "a.3", version = 1}] ; snapshot = {bits = 9, window = 3, ring = 3, count = 1, version = 2} => I11 cable.1.version
+device = [{name = "a", ports = 4}] ; cable = [{a = "a.0", b = "a.1", version = 1}, {a = "a.2", b = "a.3", version = 1}] ; snapshot = {bits = 16, window = 3, ring = 3, count = 1, version = 2} => I11 cable.0.version
+device = [{name = "a", ports = 4}] ; cable = [{a = "a.0", b = "a.1", version = 1}, {a = "a.2", b = "a.3"}] ; snapshot = {bits = 8, window = 3, ring = 3, count = 1, version = 2} => accepted
+device = [{name = "a", ports = 8}] ; cable = [{a = "a.0", b = "a.1"}, {a = "a.2", b = "a.3"}, {a = "a.4", b = "a.5"}, {a = "a.6", b = "a.7"}] ; snapshot = {bits = 8, window = 1, ring = 1, count = 64000} => accepted
+device = [{name = "a", ports = 8}] ; cable = [{a = "a.0", b = "a.1"}, {a = "a.2", b = "a.3"}, {a = "a.4", b = "a.5"}, {a = "a.6", b = "a.7"}] ; snapshot = {bits = 8, window = 1, ring = 1, count = 64001} => I12 1024016
+device = [{name = "a", ports = 8}] ; cable = [{a = "a.0", b = "a.1"}, {a = "a.2", b = "a.3"}, {a = "a.4", b = "a.5"}, {a = "a.6", b = "a.7", version = 1}] ; snapshot = {bits = 9, window = 1, ring = 1, count = 64001, version = 2} => I11 cable.3.version
 "#
 }
 
@@ -129,6 +140,12 @@ cable = [{a = "a.65536"}] ; snapshot = {} => I5 cable.0.a
 cable = [{a = ".1"}] ; snapshot = {} => I5 cable.0.a
 cable = [{a = "a.1.1"}] ; snapshot = {} => I5 cable.0.a
 cable = [{a = "x.65535", b = 1}] ; snapshot = {} => I5 cable.0.b
+cable = [{a = "a.0", b = 1, version = 3}] ; snapshot = {} => I5 cable.0.b
+cable = [{a = "a.0", b = "a.1", version = 0}] ; snapshot = {} => I6 cable.0.version 0
+cable = [{a = "a.0", b = "a.1", version = 3}, {}] ; snapshot = {} => I6 cable.0.version 3
+cable = [{a = "a.0", b = "a.1", version = "1"}] ; snapshot = {} => I5 cable.0.version
+cable = [{a = "a.0", b = "a.1", version = 2}, {a = "a.0", b = "a.1", version = -1}] ; snapshot = {} => I6 cable.1.version -1
+cable = [{a = "a.0", b = "a.1", version = 1}] ; snapshot = {version = 3} => I3 snapshot.bits
 cable = [{a = 1, c = 1}] ; snapshot = {} => I4 cable.0
 host = [{}] ; snapshot = {} => I3 host.0.name
 host = [{name = "h0"}] ; snapshot = {} => I3 host.0.at
@@ -139,23 +156,46 @@ host = [{name = "h0", at = "x.0"}] ; snapshot = {} => I3 snapshot.bits
 snapshot = {} ; loss = {colour = 1} => I3 snapshot.bits
 snapshot = {bits = "2"} => I5 snapshot.bits
 snapshot = {bits = 0} => I6 snapshot.bits 0
-snapshot = {bits = 9, window = 0} => I6 snapshot.bits 9
+snapshot = {bits = 17, window = 0} => I6 snapshot.bits 17
 snapshot = {bits = 2, ring = 9} => I3 snapshot.window
 snapshot = {bits = 2, window = 0} => I6 snapshot.window 0
 snapshot = {bits = 2, window = 4} => I6 snapshot.window 4
 snapshot = {bits = 8, window = 255, ring = 256} => I3 snapshot.count
+snapshot = {bits = 8, window = 256} => I6 snapshot.window 256
+snapshot = {bits = 10, window = 1023, ring = 1024} => I3 snapshot.count
+snapshot = {bits = 10, window = 1024} => I6 snapshot.window 1024
+snapshot = {bits = 9, window = 511, ring = 513} => I6 snapshot.ring 513
+snapshot = {bits = 16, window = 1024, ring = 1024} => I3 snapshot.count
+snapshot = {bits = 16, window = 1025, ring = 1} => I6 snapshot.window 1025
+snapshot = {bits = 16, window = 1024, ring = 1025} => I6 snapshot.ring 1025
+snapshot = {bits = 16, window = 1024, ring = 1023} => I6 snapshot.ring 1023
 snapshot = {bits = 2, window = 3} => I3 snapshot.ring
 snapshot = {bits = 2, window = 3, ring = 2} => I6 snapshot.ring 2
 snapshot = {bits = 2, window = 3, ring = 5} => I6 snapshot.ring 5
-snapshot = {bits = 2, window = 3, ring = 4, count = 1001} => I6 snapshot.count 1001
-snapshot = {bits = 2, window = 3, ring = 4, count = 1000, retries = 101} => I6 snapshot.retries 101
+snapshot = {bits = 2, window = 3, ring = 4, count = 100001} => I6 snapshot.count 100001
+snapshot = {bits = 2, window = 3, ring = 4, count = 100000, retries = 101} => I6 snapshot.retries 101
 snapshot = {bits = 2, window = 3, ring = 4, count = 1, retries = -1} => I6 snapshot.retries -1
 snapshot = {bits = 2, window = 3, ring = 4, count = 1, retries = true} => I5 snapshot.retries
 snapshot = {bits = 2, window = 3, ring = 4, count = 1, retries = 101, credits = 5} => I6 snapshot.retries 101
 snapshot = {bits = 2, window = 3, ring = 4, count = 1, credits = 0} => I6 snapshot.credits 0
 snapshot = {bits = 2, window = 3, ring = 4, count = 1, retries = 3, credits = 5} => I6 snapshot.credits 5
 snapshot = {bits = 2, window = 3, ring = 4, count = 1, credits = "2"} => I5 snapshot.credits
+snapshot = {bits = 2, window = 3, ring = 4, count = 1, credits = 5, version = 3} => I6 snapshot.credits 5
+snapshot = {bits = 2, window = 3, ring = 4, count = 1, version = 0} => I6 snapshot.version 0
+snapshot = {bits = 16, window = 3, ring = 4, count = 1, version = 3} => I6 snapshot.version 3
+snapshot = {bits = 2, window = 3, ring = 4, count = 1, version = "2"} => I5 snapshot.version
 snapshot = {bits = 2, window = 4, colour = 1} => I4 snapshot
+snapshot = {bits = 9, window = 3, ring = 3, count = 1} => I11 snapshot.version
+snapshot = {bits = 16, window = 3, ring = 3, count = 1, version = 1} => I11 snapshot.version
+snapshot = {bits = 9, window = 3, ring = 3, count = 1} ; cable = [{a = "a.0", b = "a.1", version = 1}] => I11 snapshot.version
+snapshot = {bits = 9, window = 3, ring = 3, count = 1} ; cable = [{a = "a.0", b = "a.1", version = 2}] => I11 snapshot.version
+snapshot = {bits = 9, window = 3, ring = 3, count = 1, version = 2} ; cable = [{a = "a.0", b = "a.1", version = 1}] => I11 cable.0.version
+snapshot = {bits = 9, window = 3, ring = 3, count = 1} ; script = {entries = ["x"]} => I8 0
+snapshot = {bits = 9, window = 3, ring = 3, count = 1, version = 2} => accepted
+snapshot = {bits = 16, window = 1024, ring = 1024, count = 100000, version = 2} => accepted
+snapshot = {bits = 16, window = 1, ring = 1, count = 1, version = 2} ; cable = [{a = "a.0", b = "a.1"}] => accepted
+snapshot = {bits = 8, window = 3, ring = 3, count = 1} ; cable = [{a = "a.0", b = "a.1", version = 2}] => accepted
+snapshot = {bits = 8, window = 3, ring = 3, count = 1, version = 2} ; cable = [{a = "a.0", b = "a.1", version = 1}] => accepted
 snapshot = {bits = 2, window = 3, ring = 3, count = 1,} => accepted
 snapshot = {bits = 2, window = 3, ring = 3, count = 1, credits = 1} => accepted
 snapshot = {bits = 2, window = 3, ring = 3, count = 1, credits = 4} => accepted
@@ -320,6 +360,16 @@ fn long_refusals(rt: HostRuntime) -> Result<(), Fail> {
     for (text, fault) in cases {
         assert!(rt; refused(alloc, &net, text, "", fault)?, "{fault}");
     }
+    let wide = "snapshot = {bits = 9, window = 3, ring = 3, count = 100000}\n";
+    assert!(rt;
+        refused(
+            alloc,
+            &[DEVICE, HOSTS, wide],
+            above.as_str(),
+            "",
+            "I10 200001"
+        )?
+    );
     let devices = repeated(alloc, "device = [", "{name = \"a\", ports = 9},", 65, "]\n")?;
     assert!(rt; refused(alloc, &[], devices.as_str(), SNAPSHOT, "I9 N2(65)")?);
     let hosts = repeated(
@@ -389,6 +439,7 @@ fn three_packets(rt: HostRuntime) -> Result<(), Fail> {
         count: 1,
         retries: 0,
         credits: 1,
+        version: 1,
     };
     assert_eq!(rt; input.snapshot, snapshot);
     assert_eq!(rt; input.script.len(), 0);
@@ -406,6 +457,32 @@ fn credits(rt: HostRuntime) -> Result<(), Fail> {
     Ok(())
 }
 
+fn versions_of(alloc: Global, cables: &[CablePart]) -> Result<Vec<u8>, Fail> {
+    let mut versions = Vec::new(alloc);
+    for cable in cables {
+        versions.push(cable.version)?;
+    }
+    Ok(versions)
+}
+
+/// A cable without a version has that of the snapshots.
+#[test]
+fn versions(rt: HostRuntime) -> Result<(), Fail> {
+    let alloc = rt.alloc();
+    let net =
+        "device = [{name = \"a\", ports = 6}]\ncable = [{a = \"a.0\", b = \"a.1\", version = 1}, {a = \"a.2\", b = \"a.3\"}, {a = \"a.4\", b = \"a.5\", version = 2}]\n";
+    let tables: [(&str, u8); 2] = [(SNAPSHOT, 1), (VERSION_2, 2)];
+    for (table, version) in tables {
+        let text = joined(alloc, &[net, table])?;
+        let input = read(alloc, text.as_str())?;
+        assert_eq!(rt; input.snapshot.version, version);
+        let versions = versions_of(alloc, input.net.parts().cables.as_slice())?;
+        let wanted: [u8; 3] = [1, version, 2];
+        assert_eq!(rt; versions.as_slice(), wanted.as_slice());
+    }
+    Ok(())
+}
+
 /// Each table, and what version 1.1 of TOML has more than 1.0: a line end, a comment and a last
 /// comma in an inline table, and two escapes.
 const EACH_TABLE: &str = "
@@ -418,14 +495,18 @@ ports = 8
 [[cable]]
 a = \"a.1\"
 b = \"b_1.7\"
+version = 2
 [[host]]
 name = \"h0\"
 at = \"a.0\"
 [snapshot]
-bits = 8
-window = 255
-ring = 256
-count = 1000
+bits = 16
+window = 1000
+ring = 1024
+count = 100000
+retries = 100
+credits = 4
+version = 2
 [loss]
 seed = 9223372036854775807
 cable = 1000
@@ -445,3 +526,51 @@ hex = \"00ff\"
 [script]
 entries = [\"pass 10000\", \"control b_1 sweep\", \"observer issue\"]
 ";
+
+fn first_cable(cables: &[CablePart]) -> Option<CablePart> {
+    cables.first().copied()
+}
+
+fn entries_of(input: &Input) -> &[Script1] {
+    input.script.as_slice()
+}
+
+#[test]
+fn each_table(rt: HostRuntime) -> Result<(), Fail> {
+    let alloc = rt.alloc();
+    let input = read(alloc, EACH_TABLE)?;
+    let snapshot = Snapshot {
+        width: 16,
+        window: 1000,
+        ring: 1024,
+        count: 100_000,
+        retries: 100,
+        credits: 4,
+        version: 2,
+    };
+    assert_eq!(rt; input.snapshot, snapshot);
+    let cable = CablePart {
+        a: PortRef { device: 0, port: 1 },
+        b: PortRef { device: 1, port: 7 },
+        version: 2,
+    };
+    assert_eq!(rt;
+        first_cable(input.net.parts().cables.as_slice()),
+        Some(cable)
+    );
+    let script: [Script1; 3] = [
+        Script1::Pass(10_000),
+        Script1::Choice {
+            actor: 6,
+            choice: 5,
+        },
+        Script1::Choice {
+            actor: 0,
+            choice: 2,
+        },
+    ];
+    assert_eq!(rt; entries_of(&input), script.as_slice());
+    let loss = &input.loss;
+    assert_eq!(rt; loss.seed, 9_223_372_036_854_775_807);
+    Ok(())
+}

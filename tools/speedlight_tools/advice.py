@@ -3,7 +3,7 @@
 import difflib
 import re
 
-from .inputs import HEX, LOSSY, NAME, ranged
+from .inputs import HEX, LOSSY, MOST_SLOTS, NAME, ranged
 
 MEANINGS = {
     "device": "the list of the switches",
@@ -18,6 +18,7 @@ MEANINGS = {
     "device.ports": "the number of its ports",
     "cable.a": "the port at one end",
     "cable.b": "the port at the other end",
+    "cable.version": "the version of the frames on the cable",
     "host.name": "the name of the host",
     "host.at": "the port that the host stands at",
     "snapshot.bits": "the bits of a wrapped id",
@@ -26,6 +27,7 @@ MEANINGS = {
     "snapshot.count": "how many snapshots are to be taken",
     "snapshot.retries": "how often an initiation may be repeated",
     "snapshot.credits": "to how many saved entries a packet in flight is credited",
+    "snapshot.version": "the version of the frames between units",
     "loss.seed": "the seed of the generator that decides what is lost",
     "loss.cable": "how many of a thousand messages a cable loses",
     "loss.crossbar": "how many of a thousand messages a crossbar link loses",
@@ -126,7 +128,8 @@ def wanted(key, table=None):
     if key.kind != "number":
         return FORM_WORDS[key.kind]
     if not key.high:
-        return {"window": "a number from 1 to 2^bits - 1", "ring": "a number from window to 2^bits"}[key.name]
+        most = f", at most {MOST_SLOTS}"
+        return {"window": f"a number from 1 to 2^bits - 1{most}", "ring": f"a number from window to 2^bits{most}"}[key.name]
     return f"a number from {key.low} to {key.high}"
 
 

@@ -20,7 +20,8 @@ from .advice import (
     within,
 )
 from .entries import wrong_word
-from .inputs import LIMIT, LOSSY, MOST_PACKETS, MOST_PASSES, TABLES
+from .frames import NARROW
+from .inputs import LIMIT, LOSSY, MOST_PACKETS, MOST_PASSES, MOST_ROWS, MOST_SLOTS, TABLES
 from .nets import Net, port_of
 from .positions import path_of, positions
 from .syntax import plain_syntax, syntax_advice
@@ -180,17 +181,14 @@ class Explanation:
         snapshot = self.doc.get("snapshot", {})
         name = path.split(".")[-1]
         if path == "snapshot.window":
-            bits = snapshot["bits"]
-            advice = [f"With `bits` = {bits} an id has {2**bits} values, and the window is at most one less."]
-            fit = next((b for b in range(bits, 9) if value <= 2**b - 1), None)
-            if value > key.high and fit:
-                advice.append(f"Lower it to {key.high}, or raise `bits` to {fit}.")
-            return advice
+            return self.window_advice(snapshot["bits"], key, value)
         if path == "snapshot.ring" and value < key.low:
             return [
                 f"A unit needs a slot for each number in the window, and `window` is {key.low}.",
                 f"Raise `ring` to {key.low}, or lower `window`.",
             ]
+        if path == "snapshot.ring" and key.high < 2 ** snapshot["bits"]:
+            return [f"A unit has at most {MOST_SLOTS} slots, whatever its ids."]
         if path == "snapshot.ring":
             return [
                 f"With `bits` = {snapshot['bits']} there are {key.high} ids, and more slots than ids serve nothing."
@@ -204,6 +202,16 @@ class Explanation:
         if name == "ports":
             return ["A net takes switches of 1 to 8 ports."]
         return []
+
+    def window_advice(self, bits, key, value):
+        if value > MOST_SLOTS:
+            return [f"A window has at most {MOST_SLOTS} numbers, since a unit has at most as many slots."]
+        advice = [f"With `bits` = {bits} an id has {2**bits} values, and the window is at most one less."]
+        if value > key.high:
+            fit = next(b for b in range(bits, 17) if value <= 2**b - 1)
+            wide = " and `version` to 2" if fit > NARROW >= bits else ""
+            advice.append(f"Lower it to {key.high}, or raise `bits` to {fit}{wide}.")
+        return advice
 
     def I7(self):
         path, value, sort = self.refusal.rest, self.refusal.value, self.refusal.hint
@@ -354,6 +362,25 @@ class Explanation:
         self.say(
             f"There are {self.refusal.value} packets and raw frames{of}, and at most {MOST_PACKETS} are taken.",
             "Lower `count` of some flows.",
+        )
+
+
+    def I11(self):
+        path, bits = self.refusal.rest, self.refusal.value
+        self.at_value(path)
+        self.say(f"With `bits` = {bits} ids don't fit into frames of version 1, which carry ids of up to {NARROW} bits.")
+        if path == "snapshot.version":
+            self.say(f"Write `version = 2` in `snapshot`, or lower `bits` to {NARROW}.")
+        else:
+            self.say(f"Leave out `{path}`, or make it 2; or lower `bits` to {NARROW}.")
+
+    def I12(self):
+        self.at_value("snapshot.count")
+        count = self.doc["snapshot"]["count"]
+        units = self.refusal.value // count
+        self.say(
+            f"{count} snapshots of {units} units have {self.refusal.value} rows, and at most {MOST_ROWS} are taken.",
+            f"Lower `count` to {MOST_ROWS // units}, or take a smaller net.",
         )
 
 

@@ -2,8 +2,12 @@
 
 SIZE = 24
 KINDS = ("plain", "carried", "probe", "initiation")
+VERSIONS = (1, 2)
+# The most bits of an id that a frame of version 1 carries.
+NARROW = 8
 # Each field: its name, its first byte and its length, and what each kind of frame may have in it: a number that it
-# must be, or `any`, `port` (0 to 7) or `id` (below the number of ids).
+# must be, or `any`, `port` (0 to 7), `id` (below the number of ids, and in version 1 below 256), `version` (1 or 2) or
+# `check` (0 in version 1, 65535 less the id in version 2).
 FIELDS = [
     ("kind", 0, 1, (0, 1, 2, 3)),
     ("channel", 1, 1, (0, "port", "port", 255)),
@@ -13,8 +17,9 @@ FIELDS = [
     ("seq", 8, 4, ("any", "any", 0, 0)),
     ("len", 12, 2, ("any", "any", 0, 0)),
     ("hops", 14, 1, ("any", "any", 0, 0)),
-    ("version", 15, 1, (1, 1, 1, 1)),
-    ("reserved", 16, 8, (0, 0, 0, 0)),
+    ("version", 15, 1, (1, "version", "version", "version")),
+    ("check", 16, 2, (0, "check", "check", "check")),
+    ("reserved", 18, 6, (0, 0, 0, 0)),
 ]
 MEANINGS = {
     "kind": "what the frame carries",
@@ -25,30 +30,53 @@ MEANINGS = {
     "seq": "the packet's number at its host, from 0",
     "len": "the packet's bytes",
     "hops": "the switches that it may still go through",
-    "version": "the version of the layout",
+    "version": "the version of the layout, 1 or 2 (1)",
+    "check": "the id once more, taken from 65535",
     "reserved": "nothing",
 }
 
 
 class NoFrame(Exception):
-    """The bytes are no frame, or the fields make none; the message says why."""
+    """The bytes are no frame, or the fields make none; the message says why, and `refusal` is the program's name of it."""
+
+    def __init__(self, refusal, why):
+        super().__init__(why)
+        self.refusal = refusal
 
 
-def allowed(rule, value, bits):
+def check_of(version, number):
+    return 65535 - number if version == 2 else 0
+
+
+def most_of(version, bits):
+    """The greatest id of so many bits that a frame of this version carries."""
+    return 2 ** (bits if version == 2 else min(bits, NARROW)) - 1
+
+
+def allowed(rule, value, fields, bits):
     if rule == "any":
         return True
     if rule == "port":
         return value <= 7
     if rule == "id":
-        return value < 2**bits
+        return value <= most_of(fields["version"], bits)
+    if rule == "version":
+        return value in VERSIONS
+    if rule == "check":
+        return value == check_of(fields["version"], fields["id"])
     return value == rule
 
 
-def words(rule, bits):
+def words(rule, fields, bits):
     if rule == "port":
         return "0 to 7"
     if rule == "id":
-        return f"0 to {2**bits - 1} with {bits} bits"
+        wide = bits > NARROW and fields["version"] == 1
+        return f"0 to {most_of(fields['version'], bits)} with {bits} bits" + (" in version 1" if wide else "")
+    if rule == "version":
+        return "1 or 2"
+    if rule == "check":
+        return f"{check_of(fields['version'], fields['id'])} in version {fields['version']}"
     return str(rule)
 
 
@@ -60,44 +88,56 @@ def split(data):
 def read(data, bits):
     """The fields of a frame with its kind as a word. Raises NoFrame with the first thing that is wrong."""
     if len(data) != SIZE:
-        raise NoFrame(f"a frame has {SIZE} bytes, and these are {len(data)}")
+        raise NoFrame("E1", f"a frame has {SIZE} bytes, and these are {len(data)}")
     fields = split(data)
     if fields["kind"] > 3:
-        raise NoFrame(f"byte 0, the kind, is {fields['kind']}: 0 to 3 are kinds")
-    if fields["version"] != 1:
-        raise NoFrame(f"byte 15, the version, is {fields['version']}: it is 1")
-    kind = fields["kind"]
-    for name in ("id", *(n for n, _, _, _ in FIELDS if n != "id")):
-        check(name, fields[name], kind, bits)
-    return {**fields, "kind": KINDS[kind]}
+        raise NoFrame("E2", f"byte 0, the kind, is {fields['kind']}: 0 to 3 are kinds")
+    check(fields, bits)
+    return {**fields, "kind": KINDS[fields["kind"]]}
 
 
-def check(name, value, kind, bits):
-    _, start, size, rules = next(f for f in FIELDS if f[0] == name)
-    if not allowed(rules[kind], value, bits):
-        place = f"byte {start}" if size == 1 else f"bytes {start} to {start + size - 1}"
-        raise NoFrame(
-            f"{place}, {name}, is {value}: in a frame of the kind {KINDS[kind]} it is {words(rules[kind], bits)}"
-        )
+def refusal_of(name, version):
+    """The program's name of a field that is wrong."""
+    return {"version": "E2", "id": "E3", "check": "E5" if version == 2 else "E4"}.get(name, "E4")
 
 
-def make(fields, bits):
-    """The bytes of a frame from its fields, `kind` as a word. Fields that are absent have their one value, or 0."""
-    kind = KINDS.index(fields["kind"])
+def check(fields, bits):
+    """Raises NoFrame with the first field that its kind and version don't allow: the check is looked at last."""
+    first = ("version", "id")
+    for name in (*first, *(n for n, _, _, _ in FIELDS if n not in (*first, "check")), "check"):
+        _, start, size, rules = next(f for f in FIELDS if f[0] == name)
+        rule = rules[fields["kind"]]
+        if not allowed(rule, fields[name], fields, bits):
+            place = f"byte {start}" if size == 1 else f"bytes {start} to {start + size - 1}"
+            kind = f"in a frame of the kind {KINDS[fields['kind']]}"
+            raise NoFrame(
+                refusal_of(name, fields["version"]),
+                f"{place}, {name}, is {fields[name]}: {kind} it is {words(rule, fields, bits)}",
+            )
+
+
+def make(given, bits):
+    """The bytes of a frame from its fields, `kind` as a word. Fields that are absent have their one value, or 0.
+
+    The version is 1 where it is absent, and the check that of the version and the id.
+    """
+    kind = KINDS.index(given["kind"])
+    fields = {"version": 1, "id": 0, **given}
+    fields = {"check": 0 if kind == 0 else check_of(fields["version"], fields["id"]), **fields, "kind": kind}
     data = b""
     for name, _, size, rules in FIELDS:
-        only = rules[kind] if isinstance(rules[kind], int) else 0
-        value = kind if name == "kind" else fields.get(name, only)
+        value = fields.setdefault(name, rules[kind] if isinstance(rules[kind], int) else 0)
         if not 0 <= value < 256**size:
-            raise NoFrame(f"{name} is {value}: it has {size} byte{'s' if size > 1 else ''}, so 0 to {256**size - 1}")
-        check(name, value, kind, bits)
+            why = f"{name} is {value}: it has {size} byte{'s' if size > 1 else ''}, so 0 to {256**size - 1}"
+            raise NoFrame(refusal_of(name, fields["version"]), why)
         data += value.to_bytes(size, "big")
+    check(fields, bits)
     return data
 
 
 def is_plain(data):
     """A host's bytes are a plain frame."""
     try:
-        return read(data, 8)["kind"] == "plain"
+        return read(data, NARROW)["kind"] == "plain"
     except NoFrame:
         return False

@@ -7,12 +7,14 @@ import tomllib
 from dataclasses import dataclass, field
 
 from .documents import load
+from .frames import NARROW
 from .nets import LOSSY, Net, net_fault, port_of
 from .positions import MOST_DEEP, is_too_deep
 
 LIMIT = 1_048_576
 TOO_DEEP = "More than 80 lists and tables are within one another, or a key has more than 80 parts"
-MOST_DROPS, MOST_PASSES, MOST_PACKETS = 1000, 10_000, 200_000
+MOST_DROPS, MOST_PASSES, MOST_PACKETS, MOST_ROWS = 1000, 10_000, 200_000, 1_024_000
+MOST_SLOTS = 1024
 SEEDS = 9223372036854775807
 
 
@@ -45,15 +47,16 @@ TABLES = {
         Key("script", "table", True),
     ),
     "device": keys(Key("name", "name"), Key("ports", "number", False, 0, 65535)),
-    "cable": keys(Key("a", "port"), Key("b", "port")),
+    "cable": keys(Key("a", "port"), Key("b", "port"), Key("version", "number", True, 1, 2)),
     "host": keys(Key("name", "name"), Key("at", "port")),
     "snapshot": keys(
-        Key("bits", "number", False, 1, 8),
+        Key("bits", "number", False, 1, 16),
         Key("window", "number"),
         Key("ring", "number"),
-        Key("count", "number", False, 0, 1000),
+        Key("count", "number", False, 0, 100_000),
         Key("retries", "number", True, 0, 100),
         Key("credits", "number", True, 1, 4),
+        Key("version", "number", True, 1, 2),
     ),
     "loss": keys(Key("seed", "number", True, 0, SEEDS), *RATES, Key("drop", "tables", True)),
     "drop": keys(Key("link", "text"), Key("n", "number", False, 1, 1_000_000_000)),
@@ -74,7 +77,7 @@ HEX = re.compile(r"([0-9a-f]{2}){0,64}\Z", re.ASCII)
 
 @dataclass
 class Refusal(Exception):
-    """A refusal: its kind (I1 to I10), the rest of the line, and what explains it."""
+    """A refusal: its kind (I1 to I12), the rest of the line, and what explains it."""
 
     kind: str
     rest: str = ""
@@ -97,7 +100,7 @@ class Input:
     def __init__(self, doc):
         self.doc, self.net = doc, Net(doc)
         self.flows, self.raws = doc.get("flow", []), doc.get("raw", [])
-        self.snapshot = {"retries": 0, "credits": 1, **doc["snapshot"]}
+        self.snapshot = {"retries": 0, "credits": 1, "version": 1, **doc["snapshot"]}
         self.loss = {"seed": 0, **dict.fromkeys(LOSSY, 0), "drop": [], **doc.get("loss", {})}
         self.entries = doc.get("script", {}).get("entries", [])
 
@@ -177,9 +180,9 @@ class Walk:
 def ranged(key, table):
     """The key with its range, where that rests on the keys before it."""
     if key.name == "window" and "bits" in table:
-        return Key(key.name, key.kind, False, 1, 2 ** table["bits"] - 1)
+        return Key(key.name, key.kind, False, 1, min(2 ** table["bits"] - 1, MOST_SLOTS))
     if key.name == "ring" and "bits" in table:
-        return Key(key.name, key.kind, False, table["window"], 2 ** table["bits"])
+        return Key(key.name, key.kind, False, table["window"], min(2 ** table["bits"], MOST_SLOTS))
     return key
 
 
@@ -286,6 +289,18 @@ def check_script(doc, net):
             raise Refusal("I8", f"script.{i}", value=entry, hint=str(passes))
 
 
+def check_versions(doc):
+    """Ids of more than 8 bits go in frames of version 2 alone."""
+    snapshot = doc["snapshot"]
+    if snapshot["bits"] <= NARROW:
+        return
+    if snapshot.get("version", 1) == 1:
+        raise Refusal("I11", "snapshot.version", value=snapshot["bits"])
+    for i, cable in enumerate(doc.get("cable", [])):
+        if cable.get("version", 2) == 1:
+            raise Refusal("I11", f"cable.{i}.version", value=snapshot["bits"])
+
+
 def check(doc):
     """Raises the first refusal of the document, and answers the input where there is none."""
     Walk(doc).run()
@@ -296,6 +311,10 @@ def check(doc):
     total = sum(f["count"] for f in doc.get("flow", [])) + len(doc.get("raw", []))
     if total > MOST_PACKETS:
         raise Refusal("I10", str(total), value=total)
+    check_versions(doc)
+    rows = doc["snapshot"]["count"] * len(net.units)
+    if rows > MOST_ROWS:
+        raise Refusal("I12", str(rows), value=rows)
     return Input(doc)
 
 

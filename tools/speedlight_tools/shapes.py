@@ -4,6 +4,8 @@ import random
 
 import networkx
 
+from .frames import NARROW
+
 MOST_PORTS, MOST_DEVICES, MOST_HOSTS = 8, 64, 128
 
 
@@ -125,6 +127,9 @@ def document(shape, options):
         "count": options.snapshots,
         "retries": options.retries,
     }
+    version = options.version or (2 if options.bits > NARROW else 1)
+    if version > 1:
+        doc["snapshot"]["version"] = version
     losses = {sort: getattr(options, f"loss_{sort}") for sort in ("cable", "crossbar", "init", "notice")}
     losses = {sort: rate for sort, rate in losses.items() if rate}
     if losses:

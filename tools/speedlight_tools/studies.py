@@ -13,7 +13,7 @@ from .looks import COLOURS, pyplot, svg_of
 from .reports import VERDICTS, read_report
 
 # What a grid may vary: the key of the input that each name stands for.
-KEYS = {name: ("snapshot", name) for name in ("bits", "window", "ring", "count", "retries", "credits")}
+KEYS = {name: ("snapshot", name) for name in ("bits", "window", "ring", "count", "retries", "credits", "version")}
 KEYS |= {name: ("loss", name) for name in ("seed", "cable", "crossbar", "init", "notice")}
 COMMANDS = ("step", "run")
 LOSSES = ("cable", "crossbar", "init", "notice")

@@ -28,7 +28,7 @@ class Explaining(unittest.TestCase):
         self.assertIn(f"has {len(mistakes())} mistakes", (TOP / "docs" / "TOOLS.md").read_text())
         self.assertEqual(len({m["name"] for m in mistakes()}), len(mistakes()))
         kinds = {m["says"].split(" ")[1] for m in mistakes()}
-        self.assertEqual(kinds, {f"I{i}" for i in range(2, 11)})
+        self.assertEqual(kinds, {f"I{i}" for i in range(2, 13)})
 
     def test_each_is_explained(self):
         for mistake in mistakes():

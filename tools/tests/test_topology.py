@@ -79,10 +79,15 @@ class Shapes(unittest.TestCase):
             "--every",
             3,
         )
-        self.assertEqual(source.snapshot, {"bits": 3, "window": 4, "ring": 6, "count": 5, "retries": 3, "credits": 1})
+        self.assertEqual(source.snapshot, {"bits": 3, "window": 4, "ring": 6, "count": 5, "retries": 3, "credits": 1, "version": 1})
         self.assertEqual((source.loss["seed"], source.loss["init"], source.loss["cable"]), (9, 7, 0))
         self.assertEqual(source.entries[:3], ["pass 2", "pass 3", "observer issue"])
         self.assertEqual(len(source.entries), 11)
+
+    def test_versions(self):
+        self.assertEqual(made("line", "--bits", 12, "--window", 1000).snapshot["version"], 2)
+        self.assertEqual(made("line", "--version", 2).snapshot["version"], 2)
+        self.assertIn("I11 snapshot.version", run("topology", "line", "--bits", 12, "--version", 1)[2])
 
     def test_the_same_net_each_time(self):
         words = ["random", "--switches", 12, "--flows", "random", "--net-seed", 5]

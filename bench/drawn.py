@@ -7,10 +7,38 @@ sys.path.insert(0, str(Path(__file__).resolve().parent.parent / "tools"))
 sys.dont_write_bytecode = True
 
 from speedlight_tools import inputs, nets
+from speedlight_tools.inputs import MOST_SLOTS
 
 
-def without_script(dice):
-    """The lines of a net of one to five switches, two of which may be joined more than once, with flows and losses."""
+def drawn_table(dice):
+    """Bits, window, ring and version of a snapshot table, small ones mostly; one of eight has more than 8 bits, in frames of
+    version 2, and one of four a window and a ring of any size that its bits allow."""
+    bits = dice.randint(9, 16) if dice.random() < 0.125 else dice.randint(1, 3)
+    ids = min(2**bits, MOST_SLOTS if dice.random() < 0.25 else 8)
+    window = dice.randint(1, min(ids, 2**bits - 1))
+    ring = dice.randint(window, ids)
+    version = 2 if bits > 8 or dice.random() < 0.3 else 1
+    return bits, window, ring, version
+
+
+def versioned(dice, cable, bits):
+    """A cable with a version of its own at times: where ids have more than 8 bits it is 2."""
+    version = dice.choice((None, None, 1, 2)) if bits <= 8 else dice.choice((None, 2))
+    return cable if version is None else cable.replace("}", f", version = {version}}}")
+
+
+def snapshot(dice, table, count, retries, credits):
+    """The line of a snapshot table. Where credits or version are 1 they are not always said."""
+    bits, window, ring, version = table
+    said = f", credits = {credits}" if credits > 1 or dice.random() < 0.5 else ""
+    said += f", version = {version}" if version > 1 or dice.random() < 0.5 else ""
+    return f"snapshot = {{bits = {bits}, window = {window}, ring = {ring}, count = {count}, retries = {retries}{said}}}"
+
+
+def without_script(dice, table=None):
+    """The lines of a net of one to five switches, two of which may be joined more than once, with flows and losses, and
+    cables of either version. The sizes of its snapshot table may be given.
+    """
     names = ["a", "b", "c", "d", "e"][: dice.randint(1, 5)]
     ports = {name: list(range(8)) for name in names}
     for free in ports.values():
@@ -29,16 +57,14 @@ def without_script(dice):
         ends = f'from = "{dice.choice(hosts)[0]}", to = "{dice.choice(hosts)[0]}"'
         sizes = f"count = {dice.randint(0, 12)}, bytes = {dice.randint(0, 1500)}, hops = {dice.randint(0, 6)}"
         flows.append(f"{{{ends}, {sizes}}}")
-    bits = dice.randint(1, 3)
-    window = dice.randint(1, 2**bits - 1)
-    ring = dice.randint(window, 2**bits)
+    table = table or drawn_table(dice)
+    cables = [versioned(dice, cable, table[0]) for cable in cables]
     lines = [
         "device = [" + ", ".join(f'{{name = "{name}", ports = 8}}' for name in names) + "]",
         "cable = [" + ", ".join(cables) + "]",
         "host = [" + ", ".join(f'{{name = "{name}", at = "{at}"}}' for name, at in hosts) + "]",
         "flow = [" + ", ".join(flows) + "]",
-        f"snapshot = {{bits = {bits}, window = {window}, ring = {ring}, count = {dice.randint(0, 4)}, retries = {dice.randint(0, 2)}, "
-        f"credits = {dice.randint(1, 4)}}}",
+        snapshot(dice, table, dice.randint(0, 4), dice.randint(0, 2), dice.randint(1, 4)),
     ]
     if dice.random() < 0.4:
         rates = ", ".join(f"{kind} = {dice.choice((0, 0, 20, 200))}" for kind in ("cable", "crossbar", "init", "notice"))

@@ -518,7 +518,7 @@ fn told_of(alloc: Global, input: &Input, lines: &str) -> Result<Vec<u8>, Fail>
 }
 
 /// The same for the text of an input.
-#[tactic(auto, using(sl_app::proofs::RunLemmas::addressed))]
+#[tactic(auto, using(sl_check::proofs::Runnable::addressed))]
 fn report_of(alloc: Global, text: &str, lines: &str) -> Result<Vec<u8>, Fail> {
     match read_input(alloc, text.as_bytes()) {
         Ok(input) => told_of(alloc, &input, lines),

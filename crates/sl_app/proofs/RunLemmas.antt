@@ -1,5 +1,5 @@
 -- An accepted input can be run within the bound, and so can a sample's; what is served for a run.
-use Rattle.std.proofs.Common.{◌≡◌, ℕ, suc, ◌+◌, ◌*◌, ◌<◌, ◌≤◌, ◌^◌, Bool, List, [], ◌∷◌, length, map, Option, Some, None, inl, inr, arith, sym, subst}
+use Rattle.std.proofs.Common.{◌≡◌, ℕ, ◌+◌, ◌*◌, ◌<◌, ◌≤◌, ◌^◌, Bool, List, [], ◌∷◌, length, map, Option, Some, None, inl, inr, arith, sym, subst}
 use Rattle.std.specs.Prelude.{sum, Result, Ok, Err, IfOk}
 use Rattle.std.specs.List.{All}
 use Rattle.sl_net.specs.declared.input.Flow.{Flow}

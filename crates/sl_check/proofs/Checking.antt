@@ -1,5 +1,5 @@
 -- The answers of a check, from what each of its steps tells.
-use Rattle.std.proofs.Common.{◌≡◌, ℕ, ◌≤◌, Bool, List, length, true, false, refl, sym, subst, ◌∙◌}
+use Rattle.std.proofs.Common.{◌≡◌, ℕ, ◌≤◌, Bool, List, length, true, false, sym, subst, ◌∙◌}
 use Rattle.std.specs.Prelude.{◌≢◌, Ok, Err, codes}
 use Rattle.std.specs.Bool.{Decides}
 use Rattle.std.specs.List.{All}
@@ -18,7 +18,6 @@ use Rattle.sl_ending.specs.Ending.{HasEnding}
 use Rattle.sl_ending.specs.declared.ending.Ending.TheVariants.{Idle, Unfinished, Finished}
 use Rattle.sl_check.specs.declared.answer.Checked.{Checked}
 use Rattle.sl_check.specs.declared.answer.Checked.TheVariants.{Yes, NoTrace, NoLegal, NoFinished, NoReport}
-use Rattle.sl_check.specs.declared.answer.CheckFault.TheVariants as fault
 use Rattle.sl_check.specs.Lines.{PartsAt}
 use Rattle.sl_check.specs.Claim.{IsClaim}
 use Rattle.sl_check.specs.Answer.{report_of, IsAnswer, IsChecked}
@@ -65,7 +64,3 @@ module _ (bytes front claim : List ℕ) (few : length bytes ≤ 4194304) (parts 
   pub stream-refused : (e : InputFault) → (e ≢ input.Memory → input_of front ≡ Err e) → IsChecked bytes (Err (fault_of e))
   stream-refused input.Memory read = tt
   stream-refused e read = (claim, record { few = few; input = front; parts = parts; read = read (λ q. cc) })
-
-pub fault-kept : (e : InputFault) → e ≢ input.Memory → fault.Input e ≡ fault_of e
-fault-kept input.Memory n = absurd (n refl)
-fault-kept e n = refl

@@ -76,10 +76,6 @@ choose-length last (e ∷ es) = choose-length (slice_set last e.0 (Some e.1)) es
 pub last-length : (n : ℕ) (es : List Entry) → length (last_choices n es) ≡ n
 last-length n es = choose-length (replicate n None) es ∙ length-replicate n None
 
-pub choose-more : (last new : List (Option ℕ)) (es : List Entry) (k : ℕ) (d : Entry) (all : List (Option ℕ)) → k < length es
-    → new ≡ slice_set last (get_or es k d).0 (Some (get_or es k d).1) → choose_all last (drop k es) ≡ all → choose_all new (drop (k + 1) es) ≡ all
-choose-more last new es k d all h e i = ap (λ (cs : List (Option ℕ)). choose_all cs (drop (k + 1) es)) e ∙ ap (choose_all last) (sym (drop_more es k d h)) ∙ i
-
 pub all-more : (f : ℕ → Bool) (us : List ℕ) (k d : ℕ) (b : Bool) → k < length us → f (get_or us k d) ≡ b → list_all f us ≡ list_all f (drop k us)
     → list_all f us ≡ (b && list_all f (drop (k + 1) us))
 all-more f us k d b h e i = i ∙ ap (list_all f) (drop_more us k d h) ∙ ap (λ t. t && list_all f (drop (k + 1) us)) e

@@ -12,10 +12,6 @@ use Rattle.sl_flow.specs.Flow.{flow_packets, packets_of}
 abbrev pub share_packets : Flow → ℕ → List Packet
 share_packets f h = cond (f.from == h) (flow_packets f) []
 
-pub packets-cons : (f : Flow) (fs : List Flow) (h : ℕ) → packets_of (f ∷ fs) h ≡ share_packets f h ++ packets_of fs h
-packets-cons f fs h = elim (f.from == h) as (λ b. flat_map flow_packets (cond b (f ∷ filter (λ g. g.from == h) fs) (filter (λ g. g.from == h) fs)) ≡ cond b (flow_packets f) [] ++ packets_of fs h)
-    [ true ↦ refl | false ↦ refl ]
-
 pub packets-snoc : (fs : List Flow) (f : Flow) (h : ℕ) → packets_of (fs ++ f ∷ []) h ≡ packets_of fs h ++ share_packets f h
 packets-snoc fs f h = ap (flat_map flow_packets) (filter-append (λ g. g.from == h) fs (f ∷ [])) ∙ flat_map-append flow_packets (filter (λ g. g.from == h) fs) (cond (f.from == h) (f ∷ []) [])
     ∙ ap (λ r. packets_of fs h ++ r) (elim (f.from == h) as (λ b. flat_map flow_packets (cond b (f ∷ []) []) ≡ cond b (flow_packets f) []) [ true ↦ append-nil (flow_packets f) | false ↦ refl ])

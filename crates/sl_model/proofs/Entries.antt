@@ -43,9 +43,6 @@ pub credit-clear : (cs : List ℕ) (k c : ℕ) (o : Option Message) → is_old_d
 credit-clear cs k c (Some (Data s p)) q = ap (λ b. if b then credit cs k c s p ∷ [] else []) q
 credit-clear cs k c _ q = refl
 
-pub credit-none : (cs : List ℕ) (k c : ℕ) (o : Option Message) → k ≤ stamp_in o → credits_in cs k c o ≡ []
-credit-none cs k c o q = credit-clear cs k c o (not-old k o q)
-
 -- The calls of a step.
 
 pub calls-rise : (cs : List ℕ) (s : Step) (h : History) → id h < id (s ∷ h) → calls cs (s ∷ h) ≡ Adopt (id (s ∷ h) - id h) (packets h) (bytes h) ∷ calls cs h

@@ -57,7 +57,7 @@ pub fn row_stays()
 {}
 
 /// The last number that a unit adopted is its id. So where a data packet is credited to one number
-/// alone, a number is miscredited by the ids at which a data packet with a stamp below it came.
+/// alone, the number that miscredits is the unit's id.
 pub fn one_credit_is_the_id()
     ensures { (h : History) → nth_adopted 1 h ≡ id h }
 {}

@@ -1,13 +1,13 @@
 -- What the sums of units are: for each unit the steps that come before it is read.
-use Rattle.std.proofs.Common.{◌≡◌, ℕ, ◌+◌, ◌<◌, ◌≤◌, ◌⊎◌, List, [], ◌∷◌, ◌++◌, length, get_or, set, map, replicate, refl, sym, ap, subst, ◌∙◌, arith, inl, inr}
+use Rattle.std.proofs.Common.{◌≡◌, ℕ, ◌+◌, ◌<◌, ◌≤◌, ◌⊎◌, List, [], ◌∷◌, ◌++◌, length, get_or, set, map, refl, sym, ap, subst, ◌∙◌, arith, inl, inr}
 use Rattle.std.specs.Prelude.{Bool, true, false, cond, filter, ◌&&◌, nat_eq, nat_le, ◌==◌, if◌then◌else◌}
 use Rattle.std.proofs.lemmas.Bool.Decides.{eqb_tells, leb_tells}
-use Rattle.std.proofs.lemmas.List.{get_or-set_same, get_or-set_other, length-set, length-replicate, get_or-replicate}
+use Rattle.std.proofs.lemmas.List.{get_or-set_same, get_or-set_other, length-set}
 use Rattle.sl_parts.specs.Parts.{below}
 use Rattle.sl_layout.proofs.Grouping.{map_same}
 use Rattle.sl_poll.specs.declared.trail.Counted.{Counted}
 use Rattle.sl_poll.specs.declared.sums.Sum.{Sum}
-use Rattle.sl_poll.specs.Sums.{is_read, read_in, bytes_in, read_by, no_sum, sum_at, with_one, add_one, read_of_sum, Summed}
+use Rattle.sl_poll.specs.Sums.{is_read, bytes_in, read_by, no_sum, sum_at, with_one, add_one, read_of_sum, Summed}
 
 -- what a step counts for the unit at a place, up to an entry
 abbrev pub here : ℕ → (Counted → ℕ) → ℕ → Counted → ℕ
@@ -78,13 +78,6 @@ counted-bytes t i (c ∷ cs) = by_tests (c.unit == i) (nat_le c.entry t) (counte
     by_tests false d ih = omega (arith, ih)
 
 -- The sums of so many units.
-
-pub summed_none : (at : ℕ → ℕ) (count : ℕ) (sums : List Sum) → sums ≡ replicate count no_sum → Summed at [] count sums
-summed_none at count sums q = record {
-  each = ap length q ∙ length-replicate count no_sum;
-  packets = λ i h. ap (λ (s : Sum). s.packets) (ap (λ xs. sum_at xs i) q ∙ get_or-replicate count i no_sum no_sum h);
-  bytes = λ i h. ap (λ (s : Sum). s.bytes) (ap (λ xs. sum_at xs i) q ∙ get_or-replicate count i no_sum no_sum h);
-}
 
 pub summed_more : (at : ℕ → ℕ) (cs : List Counted) (count : ℕ) (c : Counted) (sums new : List Sum) → Summed at cs count sums → new ≡ add_one at c sums → Summed at (cs ++ c ∷ []) count new
 summed_more at cs count c sums new s q = record {

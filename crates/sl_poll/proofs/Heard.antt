@@ -6,11 +6,9 @@ use Rattle.std.proofs.lemmas.List.{take_more}
 use Rattle.std.proofs.lemmas.List.Folds.{find-append}
 use Rattle.sl_layout.specs.Net.{Net, units}
 use Rattle.sl_poll.specs.declared.poll.Polling.{Polling}
-use Rattle.sl_poll.specs.declared.sums.Sum.{Sum}
 use Rattle.sl_poll.specs.declared.trail.Counted.{Counted}
 use Rattle.sl_poll.specs.declared.trail.Pair.{Pair}
-use Rattle.sl_poll.specs.declared.trail.Trail.{Trail}
-use Rattle.sl_poll.specs.Hearing.{Hears, HasKept}
+use Rattle.sl_poll.specs.Hearing.{Hears}
 use Rattle.sl_poll.specs.HasRead.{HasRead}
 use Rattle.sl_poll.specs.Reading.{read_after, breaks}
 use Rattle.sl_poll.specs.Sums.{add_one, Summed}
@@ -45,21 +43,6 @@ pub hears_on : {L : Type 0} (heard : Net → L → L → List Pair → List Coun
 hears_on heard net full q first x y before ps counts cs a h = subst (λ (n : Net). heard n first y (before ++ ps) (counts ++ cs)) q (a first before counts (subst (λ (n : Net). heard n first x before counts) (sym q) h))
 
 -- A trail.
-
-pub kept_none : (net : Net) (t : Trail) → HasKept net t t [] []
-kept_none net t = record { pairs = sym (append-nil t.pairs); counted = sym (append-nil t.counted) }
-
-pub kept_pair : (net : Net) (old new : Trail) (p : Pair) → new.pairs ≡ old.pairs ++ p ∷ [] → new.counted ≡ old.counted → Hears HasKept net old new (p ∷ []) []
-kept_pair net old new p q c first before counts h = record {
-  pairs = q ∙ ap (λ r. r ++ p ∷ []) h.pairs ∙ append_assoc first.pairs before (p ∷ []);
-  counted = c ∙ h.counted ∙ ap (λ r. first.counted ++ r) (sym (append-nil counts));
-}
-
-pub kept_count : (net : Net) (old new : Trail) (c : Counted) → new.pairs ≡ old.pairs → new.counted ≡ old.counted ++ c ∷ [] → Hears HasKept net old new [] (c ∷ [])
-kept_count net old new c q d first before counts h = record {
-  pairs = q ∙ h.pairs ∙ ap (λ r. first.pairs ++ r) (sym (append-nil before));
-  counted = d ∙ ap (λ r. r ++ c ∷ []) h.counted ∙ append_assoc first.counted counts (c ∷ []);
-}
 
 -- A reading.
 

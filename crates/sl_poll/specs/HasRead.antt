@@ -1,8 +1,7 @@
 -- What a reading has kept of all that it was told: the sums of its units, and the first pair that breaks it.
-use Rattle.std.specs.Prelude.{◌≡◌, ℕ, ◌<◌, List, length, IfSome, find}
+use Rattle.std.specs.Prelude.{◌≡◌, ◌<◌, List, length, IfSome, find}
 use Rattle.sl_layout.specs.Net.{Net, units}
 use Rattle.sl_poll.specs.declared.poll.Polling.{Polling}
-use Rattle.sl_poll.specs.declared.sums.Pace.{Pace}
 use Rattle.sl_poll.specs.declared.trail.Counted.{Counted}
 use Rattle.sl_poll.specs.declared.trail.Pair.{Pair}
 use Rattle.sl_poll.specs.Reading.{read_after, breaks}

@@ -1,5 +1,5 @@
 -- The numbers of the links and actions of the nodes.
-use Rattle.std.proofs.Common.{◌≡◌, ℕ, suc, ◌+◌, ◌-◌, ◌<◌, ◌≤◌, List, [], ◌∷◌, ◌++◌, length, refl, sym, ap, subst, ◌∙◌, Option, Some, None, get_or, map, arith, inl, inr}
+use Rattle.std.proofs.Common.{◌≡◌, ℕ, suc, ◌+◌, ◌-◌, ◌<◌, ◌≤◌, List, [], ◌∷◌, ◌++◌, length, sym, ap, subst, ◌∙◌, Option, Some, None, get_or, map, arith, inl, inr}
 use Rattle.std.specs.Prelude.{◌⊎◌, true, false, if◌then◌else◌, nat_eq, slice_index}
 use Rattle.std.proofs.lemmas.Bool.Decides.{eqb_tells}
 use Rattle.std.proofs.lemmas.List.{length-map, map_push}
@@ -20,7 +20,7 @@ use Rattle.sl_layout.specs.Wiring.{plan_of, actions_of, wired_link, wired_links}
 use Rattle.sl_parts.specs.Lists.{Member}
 use Rattle.sl_net.specs.Ways.{HasWays}
 use Rattle.sl_layout.proofs.Actors.{place-at}
-use Rattle.sl_parts.proofs.Lists.{numbers-suc, length_numbers, map_below_more}
+use Rattle.sl_parts.proofs.Lists.{length_numbers, map_below_more}
 use Rattle.std.proofs.lemmas.Simd.{map-map}
 use Rattle.sl_model.proofs.SortCounts.{all_at}
 use Rattle.sl_unit.specs.Step.{UnitState, counts_of}

@@ -1,9 +1,8 @@
 -- Walks, one cable more each time.
 --     has xs    xs is not empty
-use Rattle.std.proofs.Common.{◌≡◌, ℕ, suc, List, [], ◌∷◌, ◌++◌, refl, sym, ap, ◌∙◌, arith, inl, inr}
-use Rattle.std.specs.Prelude.{◌≢◌, ◌⊎◌, Bool, true, false, cond, ◌||◌, ◌==◌, map, filter, flat_map, Option, Some, min, unwrap_or}
+use Rattle.std.proofs.Common.{◌≡◌, ℕ, suc, List, [], ◌∷◌, ◌++◌, refl, ap, ◌∙◌, arith}
+use Rattle.std.specs.Prelude.{Bool, true, false, cond, ◌||◌, ◌==◌, map, filter, flat_map, Option, Some, min, unwrap_or}
 use Rattle.std.specs.List.{list_any}
-use Rattle.std.proofs.lemmas.Bool.Decides.{eqb_tells}
 use Rattle.std.proofs.lemmas.List.{map-append}
 use Rattle.std.proofs.lemmas.List.Elements.{filter-append}
 use Rattle.sl_parts.specs.declared.parts.CablePart.{CablePart}
@@ -51,15 +50,6 @@ has-flat parts e n (c ∷ cs) = has-extended c (walks_between parts c.b.device e
 pub list_any-same : {A : Type 0} (f g : A → Bool) (xs : List A) → ((x : A) → f x ≡ g x) → list_any f xs ≡ list_any g xs
 list_any-same f g [] h = refl
 list_any-same f g (x ∷ xs) h = ap (λ b. b || list_any f xs) (h x) ∙ ap (λ b. g x || b) (list_any-same f g xs h)
-
-pub eqb-turned : (a b : ℕ) → (a == b) ≡ (b == a)
-eqb-turned a b = by_cases (eqb_tells a b) (eqb_tells b a)
-  where
-    by_cases : (((a == b) ≡ true) × (a ≡ b)) ⊎ (((a == b) ≡ false) × (a ≢ b)) → (((b == a) ≡ true) × (b ≡ a)) ⊎ (((b == a) ≡ false) × (b ≢ a)) → (a == b) ≡ (b == a)
-    by_cases (inl p) (inl q) = p.0 ∙ sym q.0
-    by_cases (inl p) (inr q) = absurd (q.1 (sym p.1))
-    by_cases (inr p) (inl q) = absurd (p.1 (sym q.1))
-    by_cases (inr p) (inr q) = p.0 ∙ sym q.0
 
 -- The least port.
 

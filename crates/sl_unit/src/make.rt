@@ -11,9 +11,7 @@ ghost use Rattle.sl_unit.specs.Made.{side_of, port_of, is_own, entrance, entranc
 
 use crate::wires::{Entrance, Exit, Wires};
 use sl_ids::Width;
-use sl_net::{
-    ActorId, CablePart, Net, PortRef, Side, Snapshot, Sort, nets_are_wired, push_if,
-};
+use sl_net::{ActorId, CablePart, Net, PortRef, Side, Snapshot, Sort, nets_are_wired, push_if};
 use sl_route::Routes;
 use std::alloc::{AllocError, Global};
 

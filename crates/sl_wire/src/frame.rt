@@ -45,7 +45,8 @@ pub enum WireFault {
     E2,
     /// The id has more bits than ids have or than the version carries, or is not 0 in a plain frame.
     E3,
-    /// Another byte but those of the check has a value that the kind and the version don't allow.
+    /// Another byte, but for the check of version 2, has a value that the kind and the version don't
+    /// allow.
     E4,
     /// The check of version 2 is not 65535 less the id.
     E5,

@@ -1,6 +1,7 @@
 // The machine of a control plane.
-ghost use Rattle.std.specs.Prelude.{◌≡◌, ◌<◌, ◌≤◌, None, IfOk, length};
+ghost use Rattle.std.specs.Prelude.{◌≡◌, ◌<◌, ◌≤◌, [], None, Some, true, IfOk, length};
 ghost use Rattle.sl_ids.specs.Ids.{most_bits};
+ghost use Rattle.sl_machine.specs.Machine.{is_fitting};
 ghost use Rattle.sl_wire.specs.Sizes.{sizes_of};
 ghost use Rattle.sl_control.specs.Wires.{control_of, first_control, control_counts};
 
@@ -11,7 +12,7 @@ use crate::wires::{control_of, done_of, inits_of, units_of};
 use sl_ids::Width;
 use sl_machine::{Machine, Memory, Outputs};
 use sl_net::{Net, Snapshot, nets_are_wired};
-use sl_wire::Msg;
+use sl_wire::{Dump, Msg};
 use std::alloc::Global;
 use std::marker::Model;
 
@@ -52,6 +53,8 @@ impl Model for Control {
 }
 
 impl Control {
+    ghost use Rattle.sl_control.specs.Control.{control_take};
+
     /// The control plane of a device, by its place in the net.
     pub fn new(
         alloc: Global,
@@ -97,6 +100,38 @@ impl Control {
             prepared: None,
         })
     }
+
+    /// How many slots the rings of its units have.
+    pub fn ring(&self) -> u16
+        ensures { result ≡ self.now.state.wires.sizes.ring }
+    {
+        self.ring
+    }
+
+    /// Takes a dump as its machine takes a message that is one, and leaves it with the caller.
+    pub fn take_dump(&mut self, link: u32, dump: &Dump, out: &mut Outputs<Msg>)
+        requires ready { self.old.ready ≡ Some link }
+        requires empty { out.old.items ≡ [] }
+        requires room { self.old.counts.outs ≤ out.old.room }
+        ensures state { self.new.state ≡ (control_take self.old.state link (Msg.Dump dump.now)).state }
+        ensures puts { out.new.items ≡ (control_take self.old.state link (Msg.Dump dump.now)).puts }
+        ensures fitting { is_fitting self.old.counts.outs out.new.items ≡ true }
+        ensures room { out.new.room ≡ out.old.room }
+        ensures counts { self.new.counts ≡ self.old.counts }
+        ensures spent { self.new.ready ≡ None }
+    {
+        self.prepared = None;
+        answer_all(
+            &mut self.units,
+            self.width,
+            self.ring,
+            self.done,
+            link,
+            dump,
+            &mut self.blanks,
+            out,
+        );
+    }
 }
 
 impl Machine for Control {
@@ -123,26 +158,18 @@ impl Machine for Control {
     }
 
     fn take(&mut self, link: u32, m: Msg, out: &mut Outputs<Msg>) {
-        self.prepared = None;
         match m {
+            Msg::Dump(dump) => self.take_dump(link, dump.get(), out),
             Msg::Begin(number) => {
+                self.prepared = None;
                 let frame = initiation(self.width, self.version, number);
                 put_inits(&self.inits, link == BEGIN, frame, out);
             }
-            Msg::Notice => ask_all(&mut self.units, Some(link), out),
-            Msg::Dump(dump) => {
-                answer_all(
-                    &mut self.units,
-                    self.width,
-                    self.ring,
-                    self.done,
-                    link,
-                    dump.get(),
-                    &mut self.blanks,
-                    out,
-                );
+            Msg::Notice => {
+                self.prepared = None;
+                ask_all(&mut self.units, Some(link), out);
             }
-            _ => {}
+            _ => self.prepared = None,
         }
     }
 

@@ -13,3 +13,4 @@ mod wires;
 pub use control::Control;
 pub use known::{Known, Numbers, UnitWires};
 pub use laws::dumps_lower_nothing;
+pub use wires::control_of;

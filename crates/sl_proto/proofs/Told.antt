@@ -195,7 +195,7 @@ unit-collected credits net u g few = record {
       ∙ sym (ap (fold min (unit_of credits net u g).id) (channels-are net u g few));
 }
 
-has-collected : (net : Net) (table : Snapshot) (w : World) → IsWired net → HasAllRows net (observer_of net table w)
+pub has-collected : (net : Net) (table : Snapshot) (w : World) → IsWired net → HasAllRows net (observer_of net table w)
 has-collected net table w n = let f = λ (u : ℕ). unit_of table.credits net u (collected net w u) in record {
   count = length-map (units net) f;
   each = λ place p. let t = unit-at net place p in let u = get_or (units net) place 0 in

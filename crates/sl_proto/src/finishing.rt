@@ -96,6 +96,7 @@ fn settle_within<T: Taker>(
     ensures plan { (T.scene taker.new).plan ≡ plan_of net.now }
     ensures observer { HasObserver (T.scene taker.old) → HasObserver (T.scene taker.new) }
     ensures stands { KeepsStanding net.now (T.scene taker.old) (T.scene taker.new) }
+    ensures fixed { T.fixed taker.new ≡ T.fixed taker.old }
     ensures ends { IfOk result (SettlesIn net.now fuel (T.scene taker.old) (T.scene taker.new)) }
     ensures settled { IfOk result (IsSettledIf net.now (T.scene taker.old) (T.scene taker.new)) }
     ensures front { SettlingLeads net.now (T.scene taker.old) (T.scene taker.new) }
@@ -121,6 +122,7 @@ fn settle_with<T: Taker>(alloc: Global, net: &Net, taker: &mut T, fuel: u64) -> 
     ensures plan { (T.scene taker.new).plan ≡ plan_of net.now }
     ensures observer { HasObserver (T.scene taker.old) → HasObserver (T.scene taker.new) }
     ensures stands { KeepsStanding net.now (T.scene taker.old) (T.scene taker.new) }
+    ensures fixed { T.fixed taker.new ≡ T.fixed taker.old }
     ensures settles { OnOk result (Settles net.now (T.scene taker.old) (T.scene taker.new)) }
     ensures front { SettlesFront net.now (T.scene taker.old) (T.scene taker.new) }
 {
@@ -139,6 +141,7 @@ fn resend<T: Taker>(net: &Net, taker: &mut T) -> Result<Round, Memory>
     ensures plan { (T.scene taker.new).plan ≡ plan_of net.now }
     ensures observer { HasObserver (T.scene taker.old) → HasObserver (T.scene taker.new) }
     ensures stands { KeepsStanding net.now (T.scene taker.old) (T.scene taker.new) }
+    ensures fixed { T.fixed taker.new ≡ T.fixed taker.old }
     ensures round { IfOk result (ResendsRound net.now (T.scene taker.old) (T.scene taker.new)) }
     ensures front { ResendingLeads net.now (T.scene taker.old) (T.scene taker.new) }
     ensures again { IfOk result (ResendingGoesOn net.now (T.scene taker.old) (T.scene taker.new)) }
@@ -168,6 +171,7 @@ fn take_round<T: Taker>(
     ensures plan { (T.scene taker.new).plan ≡ plan_of net.now }
     ensures observer { HasObserver (T.scene taker.new) }
     ensures stands { KeepsStanding net.now (T.scene taker.old) (T.scene taker.new) }
+    ensures fixed { T.fixed taker.new ≡ T.fixed taker.old }
     ensures round { IfOk result (SweepsRound net.now fuel (T.scene taker.old) (T.scene taker.new)) }
     ensures front { SweepingLeads net.now (T.scene taker.old) (T.scene taker.new) }
     ensures again { IfOk result (SweepingGoesOn net.now (T.scene taker.old) (T.scene taker.new)) }
@@ -202,6 +206,7 @@ fn finish_within<T: Taker>(
     ensures plan { (T.scene taker.new).plan ≡ plan_of net.now }
     ensures observer { HasObserver (T.scene taker.new) }
     ensures stands { KeepsStanding net.now (T.scene taker.old) (T.scene taker.new) }
+    ensures fixed { T.fixed taker.new ≡ T.fixed taker.old }
     ensures ends { IfOk result (FinishesIn net.now fuel (T.scene taker.old) (T.scene taker.new)) }
     ensures front { FinishingLeads net.now (T.scene taker.old) (T.scene taker.new) }
 {
@@ -227,6 +232,7 @@ fn finish_with<T: Taker>(alloc: Global, net: &Net, taker: &mut T, fuel: u64) -> 
     ensures plan { (T.scene taker.new).plan ≡ plan_of net.now }
     ensures observer { HasObserver (T.scene taker.new) }
     ensures stands { KeepsStanding net.now (T.scene taker.old) (T.scene taker.new) }
+    ensures fixed { T.fixed taker.new ≡ T.fixed taker.old }
     ensures finishes { OnOk result (Finishes net.now (T.scene taker.old) (T.scene taker.new)) }
     ensures front { FinishesFront net.now (T.scene taker.old) (T.scene taker.new) }
 {
@@ -249,6 +255,7 @@ pub fn settle<T: Taker>(alloc: Global, net: &Net, taker: &mut T) -> Result<(), M
     ensures plan { (T.scene taker.new).plan ≡ plan_of net.now }
     ensures observer { HasObserver (T.scene taker.old) → HasObserver (T.scene taker.new) }
     ensures stands { KeepsStanding net.now (T.scene taker.old) (T.scene taker.new) }
+    ensures fixed { T.fixed taker.new ≡ T.fixed taker.old }
     ensures settles { OnOk result (Settles net.now (T.scene taker.old) (T.scene taker.new)) }
     ensures front { SettlesFront net.now (T.scene taker.old) (T.scene taker.new) }
 {
@@ -264,6 +271,7 @@ pub fn finish<T: Taker>(alloc: Global, net: &Net, taker: &mut T) -> Result<(), M
     ensures plan { (T.scene taker.new).plan ≡ plan_of net.now }
     ensures observer { HasObserver (T.scene taker.new) }
     ensures stands { KeepsStanding net.now (T.scene taker.old) (T.scene taker.new) }
+    ensures fixed { T.fixed taker.new ≡ T.fixed taker.old }
     ensures finishes { OnOk result (Finishes net.now (T.scene taker.old) (T.scene taker.new)) }
     ensures front { FinishesFront net.now (T.scene taker.old) (T.scene taker.new) }
 {

@@ -1,16 +1,20 @@
 // The findings of a finished world of nodes.
-ghost use Rattle.std.specs.Prelude.{◌≡◌, ◌<◌, ◌^◌, [], ◌∷◌, ◌++◌, length, cond, IfOk, OnOk, Some};
+ghost use Rattle.std.specs.Prelude.{◌≡◌, ◌<◌, ◌^◌, [], ◌∷◌, ◌++◌, length, cond, IfOk, OnOk, Some, slice_get};
 ghost use Rattle.sl_layout.specs.Net.{same_sort, link_of};
+ghost use Rattle.sl_net.specs.Input.{Input};
+ghost use Rattle.sl_wire.specs.declared.message.Msg.{Msg};
+ghost use Rattle.sl_observe.specs.Observer.{ObserverState};
 ghost use Rattle.sl_model.specs.Words.{listed, numbers, weigh};
 ghost use Rattle.sl_model.specs.History.{Losses};
 ghost use Rattle.sl_model.specs.Setup.{setup_of};
 ghost use Rattle.sl_model.specs.Books.{schedule_of};
 ghost use Rattle.sl_model.specs.End.{IsFinished};
 ghost use Rattle.sl_model.specs.Findings.{findings};
+ghost use Rattle.sl_world.specs.Scene.{Scene};
 ghost use Rattle.sl_world.specs.World.{scene};
-ghost use Rattle.sl_proto.specs.Nodes.{node_state};
+ghost use Rattle.sl_proto.specs.Nodes.{NodeState, ObserverNode, node_state};
 ghost use Rattle.sl_proto.specs.Standing.{case_of, world_of, StandsFor};
-ghost use Rattle.sl_proto.specs.Told.{sent_told, delivered_told, drops_told, all_drops, lost_told, all_lost, CanTell, told};
+ghost use Rattle.sl_proto.specs.Told.{sent_told, delivered_told, drops_told, all_drops, lost_told, all_lost, HasAllRows, CanTell, told};
 
 use crate::node::Node;
 use crate::taker::Taker;
@@ -193,4 +197,20 @@ pub fn findings(alloc: Global, input: &Input, world: &World<Node>) -> Result<Fin
     let _links = input.net.links();
     let observer = world.observer();
     tell(alloc, &input.net, input.snapshot.count, world, observer)
+}
+
+/// In a scene of an input's nodes that stands for the world of its book, the observer has every row
+/// that was collected; and where that world is finished, what the scene tells are the findings of
+/// its book.
+pub fn nodes_tell_findings()
+    ensures rows { (i : Input) (lost : Losses) (v : Scene NodeState Msg) (o : ObserverState) → StandsFor i.net (case_of i lost) v
+        → slice_get v.states 0 ≡ Some (ObserverNode o) → HasAllRows i.net o }
+    ensures told { (i : Input) (lost : Losses) (v : Scene NodeState Msg) (o : ObserverState) → StandsFor i.net (case_of i lost) v
+        → slice_get v.states 0 ≡ Some (ObserverNode o) → length v.book < 2 ^ 40 → IsFinished (setup_of i) lost (world_of (case_of i lost) v)
+        → told i.net i.snapshot.count v o ≡ findings (setup_of i) lost (schedule_of v.book) }
+{
+    nets_are_wired();
+    worlds_take_turns();
+    observers_tell();
+    observers_give_findings()
 }

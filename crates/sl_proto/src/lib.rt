@@ -18,7 +18,7 @@ mod verdicts;
 
 pub use build::{build_nodes, build_world};
 pub use finishing::{finish, settle};
-pub use gather::findings;
+pub use gather::{findings, nodes_tell_findings};
 pub use laws::{
     books_grow_by_turns, dones_told_what_is_known, sent_messages_are_put, steps_spread_their_puts,
 };
@@ -35,3 +35,4 @@ pub use scenes::{
 pub use schedule::{all_sweeps, expand, pass_of, passes_are_choices};
 pub use script::drive_script;
 pub use taker::{Taker, drive, drive_within};
+pub use verdicts::verdict;

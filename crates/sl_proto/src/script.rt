@@ -25,6 +25,7 @@ fn drive_passes<T: Taker>(
     ensures plan { (T.scene taker.new).plan ≡ plan_of net.now }
     ensures observer { HasObserver (T.scene taker.old) → HasObserver (T.scene taker.new) }
     ensures stands { KeepsStanding net.now (T.scene taker.old) (T.scene taker.new) }
+    ensures fixed { T.fixed taker.new ≡ T.fixed taker.old }
     ensures follows { OnOk result (Drives net.now (T.scene taker.old) (passes_of once.now count) (T.scene taker.new)) }
     ensures front { DrivesFront net.now (T.scene taker.old) (passes_of once.now count) (T.scene taker.new) }
 {
@@ -48,6 +49,7 @@ fn drive_entry<T: Taker>(
     ensures plan { (T.scene taker.new).plan ≡ plan_of net.now }
     ensures observer { HasObserver (T.scene taker.old) → HasObserver (T.scene taker.new) }
     ensures stands { KeepsStanding net.now (T.scene taker.old) (T.scene taker.new) }
+    ensures fixed { T.fixed taker.new ≡ T.fixed taker.old }
     ensures follows { OnOk result (Drives net.now (T.scene taker.old) (expand_one net.now entry) (T.scene taker.new)) }
     ensures front { DrivesFront net.now (T.scene taker.old) (expand_one net.now entry) (T.scene taker.new) }
 {
@@ -71,6 +73,7 @@ fn drive_entries<T: Taker>(
     ensures plan { (T.scene taker.new).plan ≡ plan_of net.now }
     ensures observer { HasObserver (T.scene taker.old) → HasObserver (T.scene taker.new) }
     ensures stands { KeepsStanding net.now (T.scene taker.old) (T.scene taker.new) }
+    ensures fixed { T.fixed taker.new ≡ T.fixed taker.old }
     ensures follows { OnOk result (Drives net.now (T.scene taker.old) (expand net.now script.now) (T.scene taker.new)) }
     ensures front { DrivesFront net.now (T.scene taker.old) (expand net.now script.now) (T.scene taker.new) }
 {
@@ -95,6 +98,7 @@ pub fn drive_script<T: Taker>(
     ensures plan { (T.scene taker.new).plan ≡ plan_of net.now }
     ensures observer { HasObserver (T.scene taker.old) → HasObserver (T.scene taker.new) }
     ensures stands { KeepsStanding net.now (T.scene taker.old) (T.scene taker.new) }
+    ensures fixed { T.fixed taker.new ≡ T.fixed taker.old }
     ensures follows { OnOk result (Drives net.now (T.scene taker.old) (expand net.now script.now) (T.scene taker.new)) }
     ensures front { DrivesFront net.now (T.scene taker.old) (expand net.now script.now) (T.scene taker.new) }
 {

@@ -20,6 +20,11 @@ pub trait Taker {
     /// The world of nodes that it stands for.
     ghost scene: { Self → Scene NodeState Msg };
 
+    /// What no turn of it changes.
+    ghost Fixed: { Type 0 };
+
+    ghost fixed: { Self → Fixed };
+
     /// One turn of an actor. A turn that is refused for memory has changed nothing.
     fn turn(&mut self, actor: u32, choice: u32) -> Result<Turn, Memory>
         requires choice { HasChoice (scene self.old).plan actor choice }
@@ -29,7 +34,8 @@ pub trait Taker {
         ensures idle { result ≡ Ok Turn.Idle → turn_of node_rules (scene self.old) actor choice ≡ None }
         ensures err { OnErr result (scene self.new ≡ scene self.old) }
         ensures plan { (scene self.new).plan ≡ (scene self.old).plan }
-        ensures book { length (scene self.new).book ≤ length (scene self.old).book + 1 };
+        ensures book { length (scene self.new).book ≤ length (scene self.old).book + 1 }
+        ensures fixed { fixed self.new ≡ fixed self.old };
 
     /// The turns of a whole schedule; after want of memory, those of a front of it.
     fn run(&mut self, schedule: &[(u32, u32)]) -> Result<(), Memory>
@@ -38,7 +44,8 @@ pub trait Taker {
         ensures ok { OnOk result (scene self.new ≡ after_all node_rules (scene self.old) schedule.now) }
         ensures front { IsFront node_rules (scene self.old) schedule.now (scene self.new) }
         ensures plan { (scene self.new).plan ≡ (scene self.old).plan }
-        ensures book { length (scene self.new).book ≤ length (scene self.old).book + length schedule.now };
+        ensures book { length (scene self.new).book ≤ length (scene self.old).book + length schedule.now }
+        ensures fixed { fixed self.new ≡ fixed self.old };
 
     /// The observer, where the first node is one.
     fn observer(&self) -> &Observer
@@ -51,9 +58,14 @@ pub trait Taker {
 }
 
 impl Taker for World<Node> {
+    ghost use Rattle.sl_machine.specs.Plan.{Plan};
     ghost use Rattle.sl_world.specs.World.{scene as world_scene};
 
     ghost scene = { world_scene };
+
+    ghost Fixed = { Plan };
+
+    ghost fixed = { λ w. (world_scene w).plan };
 
     fn turn(&mut self, actor: u32, choice: u32) -> Result<Turn, Memory> {
         World::turn(self, actor, choice)
@@ -88,6 +100,7 @@ pub fn drive<T: Taker>(net: &Net, taker: &mut T, schedule: &[(u32, u32)]) -> Res
     ensures book { length (T.scene taker.new).book ≤ length (T.scene taker.old).book + length schedule.now }
     ensures observer { HasObserver (T.scene taker.old) → HasObserver (T.scene taker.new) }
     ensures stands { KeepsStanding net.now (T.scene taker.old) (T.scene taker.new) }
+    ensures fixed { T.fixed taker.new ≡ T.fixed taker.old }
     ensures follows { OnOk result (Drives net.now (T.scene taker.old) schedule.now (T.scene taker.new)) }
     ensures follows_front { DrivesFront net.now (T.scene taker.old) schedule.now (T.scene taker.new) }
 {
@@ -110,6 +123,7 @@ pub fn drive_within<T: Taker>(
     ensures plan { (T.scene taker.new).plan ≡ plan_of net.now }
     ensures observer { HasObserver (T.scene taker.old) → HasObserver (T.scene taker.new) }
     ensures stands { KeepsStanding net.now (T.scene taker.old) (T.scene taker.new) }
+    ensures fixed { T.fixed taker.new ≡ T.fixed taker.old }
     ensures follows { OnOk result (Drives net.now (T.scene taker.old) schedule.now (T.scene taker.new)) }
     ensures follows_front { DrivesFront net.now (T.scene taker.old) schedule.now (T.scene taker.new) }
 {

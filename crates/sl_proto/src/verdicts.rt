@@ -135,7 +135,8 @@ fn issued_verdict(net: &Net, observer: &Observer, k: u64) -> Verdict
     }
 }
 
-fn verdict(net: &Net, observer: &Observer, k: u64) -> Verdict
+/// The verdict on a number by what the observer collected of the units.
+pub fn verdict(net: &Net, observer: &Observer, k: u64) -> Verdict
     requires collected { HasAllRows net.now observer.now.state }
     requires first { 1 ≤ k }
     ensures { result ≡ verdict_by observer.now.state.issued (accounts_of observer.now.state) k }

@@ -1,4 +1,4 @@
-use Rattle.std.proofs.Common.{arith, rules, subst, ◌≡◌}
+use Rattle.std.proofs.Common.{refl, ◌∙◌, arith, rules, subst, ◌≡◌}
 use Rattle.std.specs.Prelude.{true, false}
 use Rattle.sl_model.specs.End.{settle, IsFin}
 use Rattle.sl_proto.specs.Rounds.{EndsAt, RoundAt, Sweeping}
@@ -45,6 +45,7 @@ pub loop-left-init : goal.loop-left-init
 loop-left-init g c = record {
   plan = c.requires.plan;
   observer = c.requires.observer;
+  fixed = refl;
   stands = λ x h. h;
   finishing = λ x pos h new ended m. m;
   leads = λ x pos h. leads-none x.setup x.lost (IsFin x.setup x.lost (world_of x (g.T.Taker.scene c.args.taker.now))) (run_at x (g.T.Taker.scene c.args.taker.now));
@@ -130,6 +131,7 @@ loop-left-preserved g c =
     record {
       plan = c.in_ok-take_round.ensures.plan;
       observer = c.in_ok-take_round.ensures.observer;
+      fixed = c.in_ok-take_round.ensures.fixed ∙ c.in_ok-settle_within.ensures.fixed ∙ c.loop-left.invariant.fixed;
       stands = λ x h. c.in_ok-take_round.ensures.stands x (c.in_ok-settle_within.ensures.stands x (c.loop-left.invariant.stands x h));
       finishing = λ x pos h. let there = c.loop-left.invariant.stands x h in
           finishing-goes-on x c.args.fuel c.loop-left.left (scene c.args.taker.now) now mid new (c.loop-left.invariant.finishing x pos h) (omega arith)

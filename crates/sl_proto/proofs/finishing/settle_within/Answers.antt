@@ -1,4 +1,4 @@
-use Rattle.std.proofs.Common.{arith, subst, sym, All}
+use Rattle.std.proofs.Common.{refl, ◌∙◌, arith, subst, sym, All}
 use Rattle.sl_machine.specs.Plan.{HasChoice}
 use Rattle.sl_layout.specs.Wiring.{plan_of}
 use Rattle.sl_model.specs.Schedule.{settling_pass}
@@ -28,6 +28,7 @@ pub loop-left-init : goal.loop-left-init
 loop-left-init g c = record {
   plan = c.requires.plan;
   observer = λ h. h;
+  fixed = refl;
   stands = λ x h. h;
   settling = λ x h new ended m. m;
   leads = λ x h. leads-none x.setup x.lost (SettlesBy x.setup x.lost (world_of x (g.T.Taker.scene c.args.taker.now))) (run_at x (g.T.Taker.scene c.args.taker.now));
@@ -63,6 +64,7 @@ loop-left-preserved g c =
     record {
       plan = c.in_ok-drive_within.ensures.plan;
       observer = λ h. c.in_ok-drive_within.ensures.observer (c.loop-left.invariant.observer h);
+      fixed = c.in_ok-drive_within.ensures.fixed ∙ c.loop-left.invariant.fixed;
       stands = λ x h. c.in_ok-drive_within.ensures.stands x (c.loop-left.invariant.stands x h);
       settling = λ x h. settling-goes-on c.args.net.now x c.args.fuel c.loop-left.left (scene c.args.taker.now) (scene c.loop-left.taker) (scene c.drive_within.new.taker) c.args.pass.now h.net_is c.requires.pass
           (c.loop-left.invariant.settling x h) (omega arith) (c.in_ok-drive_within.ensures.follows x (c.loop-left.invariant.stands x h)) (λ e. absurd (c.if-entries-before.false (omega arith)));

@@ -10,6 +10,7 @@ invariant-loop-left g l =
     record {
       plan : (g.T.Taker.scene l.taker).plan ≡ plan_of l.net;
       observer : HasObserver (g.T.Taker.scene l.fn.taker) → HasObserver (g.T.Taker.scene l.taker);
+      fixed : g.T.Taker.fixed l.taker ≡ g.T.Taker.fixed l.fn.taker;
       stands : (x : Case) → StandsFor l.net x (g.T.Taker.scene l.fn.taker) → StandsFor l.net x (g.T.Taker.scene l.taker);
       settling : (x : Case) → StandsFor l.net x (g.T.Taker.scene l.fn.taker) → IsSettlingAt x l.fuel (g.T.Taker.scene l.fn.taker) l.left (g.T.Taker.scene l.taker);
       leads : (x : Case) → StandsFor l.net x (g.T.Taker.scene l.fn.taker)

@@ -1,4 +1,4 @@
-use Rattle.std.proofs.Common.{arith}
+use Rattle.std.proofs.Common.{refl, ◌∙◌, arith}
 use Rattle.sl_net.specs.declared.input.Script1.TheVariants.{Pass}
 use Rattle.sl_proto.proofs.Trails.{follows-script}
 use Rattle.sl_proto.specs.Standing.{run_at}
@@ -10,6 +10,7 @@ pub loop-entry-init : goal.loop-entry-init
 loop-entry-init g c = record {
   plan = c.requires.plan;
   observer = λ h. h;
+  fixed = refl;
   stands = λ x st. st;
   follows = λ x st. follows-none x.setup x.lost (run_at x (g.T.Taker.scene c.args.taker.now));
 }
@@ -18,6 +19,7 @@ pub loop-entry-preserved : goal.loop-entry-preserved
 loop-entry-preserved g c = let so_far = c.loop-entry.invariant in let step = c.in_ok-drive_entry.ensures in record {
   plan = step.plan;
   observer = λ h. step.observer (so_far.observer h);
+  fixed = step.fixed ∙ so_far.fixed;
   stands = λ x st. step.stands x (so_far.stands x st);
   follows = λ x st. follows-script x.setup x.lost _ (run_at x (g.T.Taker.scene c.loop-entry.taker)) _ c.args.net.now c.args.script.now c.loop-entry.entry-index (Pass 0) (omega arith) (so_far.follows x st) (step.follows x (so_far.stands x st));
 }

@@ -9,6 +9,7 @@ abbrev pub invariant-loop-done : goal.invariant-loop-done
 invariant-loop-done g l = let scene = g.T.Taker.scene in record {
   plan : (scene l.taker).plan ≡ plan_of l.net;
   observer : HasObserver (scene l.fn.taker) → HasObserver (scene l.taker);
+  fixed : g.T.Taker.fixed l.taker ≡ g.T.Taker.fixed l.fn.taker;
   stands : (x : Case) → StandsFor l.net x (scene l.fn.taker) → StandsFor l.net x (scene l.taker);
   follows : (x : Case) → StandsFor l.net x (scene l.fn.taker) → Follows x.setup x.lost (run_at x (scene l.fn.taker)) (passes_of l.once l._done) (run_at x (scene l.taker));
 }

@@ -102,7 +102,7 @@ module _ (turns : TakesTurns) (i : Input) (lost : Losses) (v u t : Scene NodeSta
   reached : world_of (case_of i lost) u ≡ world (setup_of i) lost (expand i.net i.script)
   reached = ap (world (setup_of i) lost) script-book ∙ turns.kept (setup_of i) lost (start i.net) (expand i.net i.script)
 
-  is-run : Bounded → Consistent → IsNet i.net → StandsFor i.net (case_of i lost) t → IsRunBook i lost t.book (length u.book)
+  pub is-run : Bounded → Consistent → IsNet i.net → StandsFor i.net (case_of i lost) t → IsRunBook i lost t.book (length u.book)
   is-run bounded consistent net stands = record {
     run = is-book stands;
     within = subst (λ n. n ≤ input_bound i) (sym (ap length whole) ∙ length-map t.book (λ (e : BookEntry). (e.actor, e.choice)))

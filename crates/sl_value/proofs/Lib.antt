@@ -1,0 +1,15 @@
+mod Reading
+mod Counting
+mod Lists
+mod Reports
+mod Told
+mod Takes
+mod Follow
+mod Plain
+mod Made
+mod Runs
+mod Counts
+mod Stand
+mod Collected
+mod Listed
+mod Outcomes

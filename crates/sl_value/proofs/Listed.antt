@@ -1,0 +1,34 @@
+-- Lists that are made one element after the other.
+use Rattle.std.proofs.Common.{◌≡◌, ℕ, zero, suc, ◌+◌, ◌<◌, List, [], ◌∷◌, ◌++◌, length, map, take, refl, sym, ap, ◌∙◌, Option, Some, arith, add-one, append_assoc, append-nil}
+use Rattle.std.specs.Prelude.{slice_index, slice_get}
+use Rattle.sl_model.specs.Words.{listed, numbers}
+use Rattle.sl_parts.specs.Parts.{numbers_from}
+use Rattle.sl_value.proofs.Told.{numbers-split, map-append}
+
+take-next : {B : Type 0} (f : ℕ → B) (xs : List ℕ) (i : ℕ) → i < length xs → map f (take (suc i) xs) ≡ map f (take i xs) ++ f (slice_index xs i) ∷ []
+take-next f [] i h = absurd (omega arith)
+take-next f (x ∷ xs) zero h = refl
+take-next f (x ∷ xs) (suc i) h = ap (λ ys. f x ∷ ys) (take-next f xs i (omega arith))
+
+-- with the next element
+pub next-of : {B : Type 0} (f : ℕ → B) (xs : List ℕ) (i : ℕ) (ys : List B) (y : B) → i < length xs → ys ≡ map f (take i xs) → y ≡ f (slice_index xs i) → ys ++ y ∷ [] ≡ map f (take (i + 1) xs)
+next-of f xs i ys y h e q = ap (λ zs. zs ++ y ∷ []) e ∙ ap (λ z. map f (take i xs) ++ z ∷ []) q ∙ sym (take-next f xs i h) ∙ sym (ap (λ n. map f (take n xs)) (add-one i))
+
+pub next-number : {B : Type 0} (f : ℕ → B) (n : ℕ) (ys : List B) (y : B) → ys ≡ map f (numbers_from 1 n) → y ≡ f (n + 1) → ys ++ y ∷ [] ≡ map f (numbers_from 1 (n + 1))
+next-number f n ys y e q = let z : 1 + n ≡ n + 1 = omega arith in
+    ap (λ zs. zs ++ y ∷ []) e ∙ ap (λ z. map f (numbers_from 1 n) ++ z ∷ []) (q ∙ sym (ap f z)) ∙ sym (map-append f (numbers_from 1 n) ((1 + n) ∷ [])) ∙ sym (ap (map f) (numbers-split 1 n 1))
+
+pub some-value : {A : Type 0} (o : Option A) (x y : A) → o ≡ Some x → o ≡ Some y → x ≡ y
+some-value o x y e q = let z : Some x ≡ Some y = sym e ∙ q in cc
+
+numbers-take : {A : Type 0} (f : A → Option ℕ) (xs : List A) (i : ℕ) (x : A) → slice_get xs i ≡ Some x → numbers f (take (suc i) xs) ≡ numbers f (take i xs) ++ listed (f x)
+numbers-take f [] i x e = absurd (cc)
+numbers-take f (y ∷ ys) zero x e = let q : y ≡ x = cc in append-nil (listed (f y)) ∙ ap (λ z. listed (f z)) q
+numbers-take f (y ∷ ys) (suc i) x e = ap (λ ns. listed (f y) ++ ns) (numbers-take f ys i x e) ∙ sym (append_assoc (listed (f y)) (numbers f (take i ys)) (listed (f x)))
+
+pub numbers-next : {A : Type 0} (f : A → Option ℕ) (xs : List A) (i : ℕ) (x : A) (ns ms : List ℕ) → slice_get xs i ≡ Some x → ns ≡ numbers f (take i xs) → ms ≡ ns ++ listed (f x) → ms ≡ numbers f (take (i + 1) xs)
+numbers-next f xs i x ns ms e n m = m ∙ ap (λ ns. ns ++ listed (f x)) n ∙ sym (numbers-take f xs i x e) ∙ sym (ap (λ k. numbers f (take k xs)) (add-one i))
+
+pub numbers-map : {A B : Type 0} (f : B → Option ℕ) (g : A → B) (xs : List A) → numbers f (map g xs) ≡ numbers (λ x. f (g x)) xs
+numbers-map f g [] = refl
+numbers-map f g (x ∷ xs) = ap (λ ns. listed (f (g x)) ++ ns) (numbers-map f g xs)

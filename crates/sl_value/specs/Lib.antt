@@ -1,0 +1,9 @@
+pub mod Reading
+pub mod Valued
+pub mod Prepared
+pub mod Nodes
+pub mod Standing
+pub mod Run
+pub mod Verdicts
+pub mod Outcome
+pub mod Controls

@@ -1,0 +1,41 @@
+-- What nodes that keep values stand for. us gives the history of each actor, a is a control plane's number.
+--     values_told net u g        the values of a unit u of which the history g was told: of the numbers that the unit had reached
+--     AreKept net us a kept      what the control plane a keeps are the values of the units that it serves
+--     ValueStands s table w a state    in the world w this is the state of the actor a; table is the snapshot table
+use Rattle.std.specs.Prelude.{◌≡◌, ℕ, List, map}
+use Rattle.sl_parts.specs.Parts.{numbers_from}
+use Rattle.sl_layout.specs.declared.actor.ActorId.{ActorId}
+use Rattle.sl_layout.specs.declared.actor.ActorId.TheVariants.{Control}
+use Rattle.sl_layout.specs.Net.{Net, actor_of, unit_place}
+use Rattle.sl_layout.specs.Serving.{Served, served}
+use Rattle.sl_net.specs.declared.input.Snapshot.{Snapshot}
+use Rattle.sl_model.specs.History.{History, World, history}
+use Rattle.sl_model.specs.Setup.{Setup}
+use Rattle.sl_model.specs.Knowledge.{upto_of, told_of}
+use Rattle.sl_proto.specs.Meaning.{NodeStands}
+use Rattle.sl_value.specs.declared.whole.Whole.{Whole}
+use Rattle.sl_value.specs.Reading.{counted}
+use Rattle.sl_value.specs.Valued.{UnitValues}
+use Rattle.sl_value.specs.Nodes.{ValueNodeState, Other, Valued, plain}
+
+abbrev pub values_told : Net → ℕ → History → List Whole
+values_told net u g = map (λ k. counted k g) (numbers_from 1 (upto_of net u g))
+
+abbrev pub kept_told : Net → (ℕ → History) → ℕ → Served → UnitValues
+kept_told net us a v = record { unit = unit_place net v.unit; values = values_told net v.unit (told_of us v (us a)) }
+
+abbrev pub AreKept : Net → (ℕ → History) → ℕ → List UnitValues → Type 0
+AreKept net us a kept = kept ≡ map (kept_told net us a) (served net a)
+
+abbrev pub IsNoControl : ActorId → Type 0
+IsNoControl (Control d) = ⊥
+IsNoControl _ = Unit {0}
+
+-- each control plane keeps values, and no other actor
+abbrev pub KeepsValues : Net → World → ℕ → ValueNodeState → Type 0
+KeepsValues net w a (Other s) = IsNoControl (actor_of net a)
+KeepsValues net w a (Valued s) = AreKept net (history w) a s.kept
+
+pub record ValueStands (s : Setup) (table : Snapshot) (w : World) (a : ℕ) (state : ValueNodeState) : Type 0 where
+  pub node : NodeStands s table w a (plain state)
+  pub values : KeepsValues s.net w a state

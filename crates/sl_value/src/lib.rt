@@ -1,0 +1,26 @@
+// The variant without channel state: a number that a unit skipped takes the values of the next
+// number that it saved, and no snapshot is called inconsistent.
+#![tactic(auto)]
+
+mod control;
+mod kept;
+mod laws;
+mod meaning;
+mod node;
+mod place;
+mod read;
+mod run;
+mod tell;
+mod verdict;
+mod whole;
+mod world;
+
+pub use control::ValueControl;
+pub use laws::values_are_counts;
+pub use meaning::{ValueMeaning, values_change_no_turn, values_follow, values_stand_for_histories};
+pub use node::ValueNode;
+pub use read::read_value;
+pub use run::{ValueRun, run_values};
+pub use verdict::{ValueFinding, ValueList, ValueVerdict, Values};
+pub use whole::Whole;
+pub use world::ValueWorld;

@@ -1,0 +1,167 @@
+// The run of an input on nodes that keep values.
+ghost use Rattle.std.specs.Prelude.{◌≡◌, ◌<◌, ◌^◌, ◌++◌, ◌∷◌, [], IfOk, OnOk, length, map};
+ghost use Rattle.sl_parts.specs.Parts.{numbers_from};
+ghost use Rattle.sl_model.specs.Losses.{losses};
+ghost use Rattle.sl_model.specs.Setup.{setup_of};
+ghost use Rattle.sl_model.specs.Books.{schedule_of};
+ghost use Rattle.sl_model.specs.World.{world};
+ghost use Rattle.sl_model.specs.Findings.{findings};
+ghost use Rattle.sl_model.specs.Words.{listed, numbers};
+ghost use Rattle.sl_proto.specs.Standing.{case_of, StandsFor, HasObserver};
+ghost use Rattle.sl_proto.specs.Told.{sent_told, delivered_told};
+ghost use Rattle.sl_emul.specs.Run.{CanRun, IsRunBook};
+ghost use Rattle.sl_value.specs.Nodes.{plain, plain_scene, value_node_state};
+ghost use Rattle.sl_value.specs.Verdicts.{value_finding};
+ghost use Rattle.sl_value.specs.Controls.{controls_in, AreControls};
+
+use crate::control::ValueControl;
+use crate::meaning::values_stand_for_histories;
+use crate::node::ValueNode;
+use crate::tell::list;
+use crate::verdict::ValueList;
+use crate::world::ValueWorld;
+use sl_emul::run_script;
+use sl_machine::{Book, Memory};
+use sl_model::{Counts, finished_verdicts_are_known, worlds_are_in_window};
+use sl_net::{Input, nets_are_wired};
+use sl_proto::{Node, Taker, nodes_tell_findings};
+use std::alloc::Global;
+
+/// What a run leaves: its book, how many of its entries come before finishing, a finding for each
+/// snapshot, the messages sent and delivered at each host, and the control planes, one per device
+/// in order.
+#[derive(Drop)]
+pub struct ValueRun {
+    pub book: Book,
+    pub front: u64,
+    pub list: ValueList,
+    pub sent: Counts,
+    pub delivered: Counts,
+    pub controls: Vec<ValueControl>,
+}
+
+/// The world to which the script of an input and then finishing lead, with how many of its turns
+/// come before finishing.
+fn finished_world(alloc: Global, input: &Input) -> Result<(ValueWorld<'_>, u64), Memory>
+    requires { CanRun input.now }
+    ensures book { IfOk result (λ r. IsRunBook input.now (losses input.now) r.0.scene.book r.1) }
+    ensures stands { IfOk result (λ r. StandsFor input.now.net (case_of input.now (losses input.now)) (plain_scene r.0.scene)) }
+    ensures observer { IfOk result (λ r. HasObserver (plain_scene r.0.scene)) }
+    ensures few { IfOk result (λ r. length r.0.scene.book < 2 ^ 40) }
+    ensures input { IfOk result (λ r. r.0.input ≡ input.now) }
+{
+    let mut world = ValueWorld::new(alloc, input)?;
+    let front = run_script(alloc, input, &mut world)?;
+    Ok((world, front))
+}
+
+/// How many frames a host sent.
+fn sent_by(node: &ValueNode) -> Option<u64>
+    ensures { result ≡ sent_told (plain (value_node_state node.now)) }
+{
+    match node {
+        ValueNode::Node(Node::Host(host)) => Some(host.sent()),
+        _ => None,
+    }
+}
+
+/// How many frames a host took.
+fn delivered_to(node: &ValueNode) -> Option<u64>
+    ensures { result ≡ delivered_told (plain (value_node_state node.now)) }
+{
+    match node {
+        ValueNode::Node(Node::Host(host)) => Some(host.delivered()),
+        _ => None,
+    }
+}
+
+/// Adds a count, where there is one.
+fn add_told(counts: &mut Vec<u64>, told: Option<u64>) -> Result<(), Memory>
+    ensures { OnOk result (counts.new.items ≡ counts.old.items ++ listed told) }
+{
+    match told {
+        Some(count) => Ok(counts.push(count)?),
+        None => Ok(()),
+    }
+}
+
+/// What the hosts sent, one count for each in order.
+fn sent(alloc: Global, world: &ValueWorld, actors: u32) -> Result<Counts, Memory>
+    requires { actors ≡ length world.now.scene.states }
+    ensures { IfOk result (λ counts. counts ≡ numbers (λ s. sent_told (plain s)) world.now.scene.states) }
+{
+    let mut items = Vec::new(alloc);
+    for actor in 0..actors {
+        add_told(&mut items, sent_by(world.node(actor)))?;
+    }
+    Ok(Counts { items })
+}
+
+/// What the hosts took, one count for each in order.
+fn delivered(alloc: Global, world: &ValueWorld, actors: u32) -> Result<Counts, Memory>
+    requires { actors ≡ length world.now.scene.states }
+    ensures { IfOk result (λ counts. counts ≡ numbers (λ s. delivered_told (plain s)) world.now.scene.states) }
+{
+    let mut items = Vec::new(alloc);
+    for actor in 0..actors {
+        add_told(&mut items, delivered_to(world.node(actor)))?;
+    }
+    Ok(Counts { items })
+}
+
+/// Adds a node that is a control plane.
+fn add_control(controls: &mut Vec<ValueControl>, node: ValueNode) -> Result<(), Memory>
+    ensures { OnOk result (map (λ c. c.state) controls.new.items ≡ map (λ c. c.state) controls.old.items ++ controls_in (value_node_state node ∷ [])) }
+{
+    match node {
+        ValueNode::Control(control) => Ok(controls.push(control)?),
+        ValueNode::Node(_) => Ok(()),
+    }
+}
+
+/// The control planes among the nodes, in order.
+fn controls(alloc: Global, mut nodes: Vec<ValueNode>) -> Result<Vec<ValueControl>, Memory>
+    ensures { IfOk result (λ controls. map (λ c. c.state) controls.items ≡ controls_in (map value_node_state nodes.items)) }
+{
+    nodes.reverse();
+    let mut made = Vec::new(alloc);
+    while let Some(node) = nodes.pop() {
+        add_control(&mut made, node)?;
+    }
+    Ok(made)
+}
+
+/// Runs an input on the nodes of its net, whose control planes keep values: takes the turns of its
+/// script, and finishes. The book is that of the run on nodes that keep none. No snapshot is called
+/// inconsistent: one that is issued, and behind which no unit lags, has a value of each unit, and
+/// these are the units' counts at a consistent cut.
+pub fn run_values(alloc: Global, input: &Input) -> Result<ValueRun, Memory>
+    requires { CanRun input.now }
+    ensures book { IfOk result (λ r. IsRunBook input.now (losses input.now) r.book.entries r.front) }
+    ensures list { IfOk result (λ r. r.list ≡ map (value_finding input.now.net (world (setup_of input.now) (losses input.now) (schedule_of r.book.entries))) (numbers_from 1 input.now.snapshot.count)) }
+    ensures sent { IfOk result (λ r. r.sent ≡ (findings (setup_of input.now) (losses input.now) (schedule_of r.book.entries)).sent) }
+    ensures delivered { IfOk result (λ r. r.delivered ≡ (findings (setup_of input.now) (losses input.now) (schedule_of r.book.entries)).delivered) }
+    ensures controls { IfOk result (λ r. AreControls input.now (world (setup_of input.now) (losses input.now) (schedule_of r.book.entries)) (map (λ c. c.state) r.controls.items)) }
+{
+    nets_are_wired();
+    nodes_tell_findings();
+    values_stand_for_histories();
+    finished_verdicts_are_known();
+    worlds_are_in_window();
+    let (world, front) = finished_world(alloc, input)?;
+    world.is_run();
+    let list = list(alloc, &world, world.observer(), input.snapshot.count)?;
+    let actors = input.net.actors().len() as u32;
+    let sent = sent(alloc, &world, actors)?;
+    let delivered = delivered(alloc, &world, actors)?;
+    let (nodes, book) = world.into_parts();
+    let controls = controls(alloc, nodes)?;
+    Ok(ValueRun {
+        book,
+        front,
+        list,
+        sent,
+        delivered,
+        controls,
+    })
+}

@@ -1,0 +1,186 @@
+// The world of nodes that keep values, as one that takes turns of nodes.
+ghost use Rattle.std.specs.Prelude.{◌≡◌, ◌<◌, IfOk, Some, length, map, slice_get};
+ghost use Rattle.sl_machine.specs.Fit.{HasCounts};
+ghost use Rattle.sl_layout.specs.Wiring.{plan_of};
+ghost use Rattle.sl_proto.specs.Nodes.{node_state, node_counts};
+ghost use Rattle.sl_proto.specs.Built.{IsBuildable};
+ghost use Rattle.sl_value.specs.Nodes.{with_values, first_values, value_node_state, value_node_counts};
+
+use crate::control::ValueControl;
+use crate::node::ValueNode;
+use crate::tell::control_for;
+use crate::whole::Whole;
+use sl_machine::{Book, Memory};
+use sl_net::{Input, Net};
+use sl_observe::Observer;
+use sl_proto::{Node, Taker, build_nodes, make_losses, nodes_start};
+use sl_world::{Turn, World, every_schedule};
+use std::alloc::Global;
+use std::marker::Model;
+
+/// The world of an input's nodes, whose control planes keep values. It takes turns as the world of
+/// the nodes without the values.
+#[derive(Drop)]
+pub struct ValueWorld<'a> {
+    world: World<ValueNode>,
+    input: &'a Input,
+}
+
+impl<'a> Model for ValueWorld<'a> {
+    ghost use Rattle.sl_world.specs.World.{scene};
+    ghost use Rattle.sl_value.specs.Run.{ValueRunning, IsValueRun};
+
+    ghost Value = { ValueRunning };
+
+    ghost view = { λ a. record { scene = scene a.world; input = a.input.now } };
+
+    ghost invariant = { λ a. IsValueRun a.input.now (scene a.world) };
+}
+
+/// The node of an actor, with no values yet.
+fn value_node(alloc: Global, net: &Net, actor: u32, node: Node) -> Result<ValueNode, Memory>
+    requires { actor < length net.now.actors }
+    ensures state { IfOk result (λ made. value_node_state made ≡ with_values net.now actor (node_state node)) }
+    ensures counts { IfOk result (λ made. value_node_counts made ≡ node_counts node) }
+{
+    match node {
+        Node::Control(control) => {
+            let made = ValueControl::around(alloc, net, actor, control)?;
+            Ok(ValueNode::Control(made))
+        }
+        Node::Observer(observer) => Ok(ValueNode::Node(Node::Observer(observer))),
+        Node::Unit(unit) => Ok(ValueNode::Node(Node::Unit(unit))),
+        Node::Host(host) => Ok(ValueNode::Node(Node::Host(host))),
+    }
+}
+
+/// The nodes of an input before their first turn, one per actor in order.
+fn value_nodes(alloc: Global, input: &Input) -> Result<Vec<ValueNode>, Memory>
+    requires { IsBuildable input.now }
+    ensures states { IfOk result (λ nodes. map value_node_state nodes.items ≡ first_values input.now) }
+    ensures fit { IfOk result (λ nodes. HasCounts value_node_counts (plan_of input.now.net) nodes.items) }
+{
+    nodes_start();
+    // A net has few actors, so their numbers fit 32 bits.
+    let actors = input.net.actors().len();
+    let mut nodes = build_nodes(alloc, input)?;
+    nodes.reverse();
+    let mut made = Vec::new(alloc);
+    for actor in 0..actors {
+        if let Some(node) = nodes.pop() {
+            let value = value_node(alloc, &input.net, actor as u32, node)?;
+            made.push(value)?;
+        }
+    }
+    Ok(made)
+}
+
+impl<'a> ValueWorld<'a> {
+    ghost use Rattle.sl_emul.specs.Finishing.{IsFirstScene};
+    ghost use Rattle.sl_value.specs.Nodes.{plain_scene};
+    ghost use Rattle.sl_layout.specs.Net.{units};
+    ghost use Rattle.sl_value.specs.Run.{IsValueRun};
+    ghost use Rattle.sl_value.specs.Outcome.{value_told};
+
+    /// The world where nothing has happened yet.
+    pub fn new(alloc: Global, input: &'a Input) -> Result<ValueWorld<'a>, Memory>
+        requires { IsBuildable input.now }
+        ensures input { IfOk result (λ w. w.input ≡ input.now) }
+        ensures first { IfOk result (λ w. IsFirstScene input.now (plain_scene w.scene)) }
+    {
+        let losses = make_losses(alloc, input)?;
+        let nodes = value_nodes(alloc, input)?;
+        let world = World::new(alloc, nodes, input.net.wiring(), losses)?;
+        Ok(ValueWorld { world, input })
+    }
+
+    /// It is what the turns of its book make of the world where nothing has happened.
+    pub fn is_run(&self)
+        ensures { IsValueRun self.now.input self.now.scene }
+    {
+        let _ = &self.world;
+    }
+
+    /// The net whose nodes they are.
+    pub fn net(&self) -> &Net
+        ensures { result.now ≡ self.now.input.net }
+    {
+        let input: &Input = self.input;
+        &input.net
+    }
+
+    /// How many units the net has.
+    #[tactic(auto, using(sl_observe::proofs::UnitLists::units_few))]
+    pub fn unit_count(&self) -> u32
+        ensures { result ≡ length (units self.now.input.net) }
+    {
+        let input: &Input = self.input;
+        // A net has few actors, so the places of its units fit 32 bits.
+        let _ = input.net.actors();
+        input.net.unit_actors().len() as u32
+    }
+
+    /// The value of a unit for a number, where its control plane keeps one.
+    pub fn value(&self, unit: u32, k: u64) -> Option<Whole>
+        requires unit { unit < length (units self.now.input.net) }
+        requires each { length self.now.scene.states ≡ length self.now.input.net.actors }
+        ensures { result ≡ value_told self.now unit k }
+    {
+        let input: &Input = self.input;
+        match self.world.machine(control_for(&input.net, unit)) {
+            ValueNode::Control(control) => {
+                let place = input.net.unit_place(input.net.unit_actor(unit));
+                control.value(place, k)
+            }
+            ValueNode::Node(_) => None,
+        }
+    }
+
+    /// The node of an actor.
+    pub fn node(&self, actor: u32) -> &ValueNode
+        requires { actor < length self.now.scene.states }
+        ensures { slice_get self.now.scene.states actor ≡ Some (value_node_state result.now) }
+    {
+        self.world.machine(actor)
+    }
+
+    /// Its nodes and its book.
+    pub fn into_parts(self) -> (Vec<ValueNode>, Book)
+        ensures nodes { map value_node_state result.0.items ≡ self.entry.scene.states }
+        ensures book { result.1.entries ≡ self.entry.scene.book }
+    {
+        self.world.into_book()
+    }
+}
+
+impl<'a> Taker for ValueWorld<'a> {
+    ghost use Rattle.sl_net.specs.Input.{Input};
+    ghost use Rattle.sl_value.specs.Nodes.{plain_scene};
+
+    ghost scene = { λ w. plain_scene w.scene };
+
+    ghost Fixed = { Input };
+
+    ghost fixed = { λ w. w.input };
+
+    fn turn(&mut self, actor: u32, choice: u32) -> Result<Turn, Memory> {
+        every_schedule::<ValueNode>();
+        self.world.turn(actor, choice)
+    }
+
+    fn run(&mut self, schedule: &[(u32, u32)]) -> Result<(), Memory> {
+        every_schedule::<ValueNode>();
+        self.world.run(schedule)
+    }
+
+    fn observer(&self) -> &Observer {
+        match self.world.machine(0) {
+            ValueNode::Node(Node::Observer(observer)) => observer,
+            _ => unreachable!(),
+        }
+    }
+
+    fn entries(&self) -> u64 {
+        self.world.book().entries.len() as u64
+    }
+}

@@ -119,9 +119,8 @@ impl ValueControl {
         })
     }
 
-    /// The value of a unit, by its place among the units, for a number: what the unit counted
-    /// before its id reached the number. None where the number is 0, the unit is not of this
-    /// device, or the number is not collected.
+    /// The value that is kept of a unit, by its place among the units, for a number. None where the
+    /// number is 0, the unit is not of this device, or there is no value for the number so far.
     pub fn value(&self, unit: u32, k: u64) -> Option<Whole>
         ensures { result ≡ value_in self.now.state.kept unit k }
     {

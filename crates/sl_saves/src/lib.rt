@@ -18,6 +18,7 @@ pub use entry::{Saved, Slot, Total, View};
 pub use keep::Saves;
 pub use laws::{calls_are_listed, calls_are_shown, shown_is_live, shown_is_read};
 pub use list::ListSaves;
+pub use place::place_below;
 pub use read::{read_saved, try_read_saved};
 pub use ring::RingSaves;
 pub use slots::Slots;

@@ -70,13 +70,14 @@ fn write_piece(alloc: Global, piece: &mut Arc<Piece>, at: usize, slot: Slot) -> 
     Ok(())
 }
 
-/// So many pieces of slots in which nothing is saved.
+/// So many pieces of slots in which nothing is saved. They are one piece until they are written.
 fn free_pieces(alloc: Global, count: usize) -> Result<Vec<Arc<Piece>>, Memory>
     ensures { IfOk result (λ pieces. map arc_value pieces.items ≡ replicate count (replicate 16 free_slot)) }
 {
+    let free = Piece::free(alloc)?;
     let mut pieces = Vec::with_capacity(alloc, count)?;
     for i in 0..count {
-        let piece = Piece::free(alloc)?;
+        let piece = Arc::try_clone(&free)?;
         pieces.push(piece)?;
     }
     Ok(pieces)
@@ -118,22 +119,11 @@ impl Pieces {
     ghost use Rattle.sl_saves.specs.Shares.{overwritten};
 
     /// So many slots in which nothing is saved.
-    fn free(alloc: Global, size: usize) -> Result<Pieces, Memory>
+    pub fn free(alloc: Global, size: usize) -> Result<Pieces, Memory>
         ensures { IfOk result (λ slots. slots ≡ replicate size free_slot) }
     {
         let pieces = free_pieces(alloc, size.div_ceil(16))?;
         Ok(Pieces { pieces, size })
-    }
-
-    /// These slots.
-    pub fn new(alloc: Global, slots: &[Slot]) -> Result<Pieces, Memory>
-        ensures { IfOk result (λ pieces. pieces ≡ slots.now) }
-    {
-        let mut pieces = Pieces::free(alloc, slots.len())?;
-        for place in 0..slots.len() {
-            pieces.set(alloc, place, slots[place])?;
-        }
-        Ok(pieces)
     }
 
     /// How many slots there are.

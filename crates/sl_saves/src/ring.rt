@@ -38,8 +38,7 @@ impl RingSaves {
         ensures size { IfOk result (λ saves. ring_size saves ≡ ring) }
         ensures credits { IfOk result (λ saves. ring_credits saves ≡ credits) }
     {
-        let mut slots = Slots::free(alloc, ring)?;
-        slots.ready()?;
+        let slots = Slots::for_ring(alloc, ring)?;
         Ok(RingSaves {
             window,
             credits,

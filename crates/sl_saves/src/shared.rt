@@ -1,7 +1,7 @@
 // Shared slots, and recent writes over them.
-ghost use Rattle.std.specs.Prelude.{◌≡◌, ◌<◌, ◌≤◌, length, slice_index_or, slice_set, vec_capacity, IfOk, IfSome, if◌then◌else◌};
+ghost use Rattle.std.specs.Prelude.{◌≡◌, ◌<◌, ◌≤◌, length, replicate, slice_index_or, slice_set, vec_capacity, IfOk, IfSome, if◌then◌else◌};
 ghost use Rattle.std.specs.Option.{IfNone};
-ghost use Rattle.sl_saves.specs.Views.{no_slot};
+ghost use Rattle.sl_saves.specs.Views.{free_slot, no_slot};
 ghost use Rattle.sl_saves.specs.Shares.{IsLastAt, IsNoneAt};
 
 use crate::entry::Slot;
@@ -52,11 +52,11 @@ impl Model for Shared {
 }
 
 impl Shared {
-    /// These slots.
-    pub fn new(alloc: Global, slots: &[Slot]) -> Result<Shared, Memory>
-        ensures { IfOk result (λ shared. shared ≡ slots.now) }
+    /// So many slots in which nothing is saved.
+    pub fn free(alloc: Global, size: usize) -> Result<Shared, Memory>
+        ensures { IfOk result (λ shared. shared ≡ replicate size free_slot) }
     {
-        let base = Arc::new(alloc, Pieces::new(alloc, slots)?)?;
+        let base = Arc::new(alloc, Pieces::free(alloc, size)?)?;
         let recent = Vec::with_capacity(alloc, MOST_WRITES + TURN_WRITES)?;
         Ok(Shared { base, recent })
     }
@@ -99,11 +99,20 @@ impl Shared {
     pub fn ready(&mut self) -> Result<(), Memory>
         ensures { self.new ≡ self.old }
     {
-        if self.recent.len() > MOST_WRITES {
-            let alloc = *self.recent.allocator();
-            self.base = Arc::new(alloc, self.base.written(alloc, &self.recent)?)?;
-            self.recent.clear();
+        if self.recent.len() <= MOST_WRITES {
+            return Ok(());
         }
+        self.fold()
+    }
+
+    /// Puts the recent writes into pieces. It stands by itself, so that a turn without it is short.
+    #[inline(never)]
+    fn fold(&mut self) -> Result<(), Memory>
+        ensures { self.new ≡ self.old }
+    {
+        let alloc = *self.recent.allocator();
+        self.base = Arc::new(alloc, self.base.written(alloc, &self.recent)?)?;
+        self.recent.clear();
         Ok(())
     }
 

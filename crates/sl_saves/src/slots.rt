@@ -12,7 +12,7 @@ use std::marker::Model;
 use std::mem;
 
 /// So many slots are not shared, since a copy of them costs less.
-const FEW: usize = 16;
+const FEW: usize = 32;
 
 /// A list of slots. Where it is shared, `items` has room for them and no slot.
 #[derive(Debug, Drop)]
@@ -60,6 +60,19 @@ impl Slots {
     {
         let items = vec![in alloc; Slot::free(); size as usize]?;
         Ok(Slots::new(items))
+    }
+
+    /// So many slots in which nothing is saved, of which views are made: many are shared.
+    pub(crate) fn for_ring(alloc: Global, size: u16) -> Result<Slots, Memory>
+        ensures { IfOk result (λ slots. slots ≡ replicate size free_slot) }
+    {
+        if size as usize <= FEW {
+            return Slots::free(alloc, size);
+        }
+        Ok(Slots {
+            items: Vec::with_capacity(alloc, size as usize)?,
+            shared: Some(Shared::free(alloc, size as usize)?),
+        })
     }
 
     /// The slots in order. It takes no memory.
@@ -110,20 +123,14 @@ impl Slots {
         }
     }
 
-    /// Makes room for the writes of a turn. Many slots are shared from then on.
+    /// Makes room for the writes of a turn where the slots are shared.
     pub(crate) fn ready(&mut self) -> Result<(), Memory>
         ensures { self.new ≡ self.old }
     {
-        if let Some(shared) = &mut self.shared {
-            return shared.ready();
+        match &mut self.shared {
+            Some(shared) => shared.ready(),
+            None => Ok(()),
         }
-        if self.items.len() > FEW {
-            let alloc = *self.items.allocator();
-            let shared = Shared::new(alloc, &self.items)?;
-            self.items = Vec::with_capacity(alloc, self.items.len())?;
-            self.shared = Some(shared);
-        }
-        Ok(())
     }
 
     /// Makes them what others are.
@@ -146,7 +153,7 @@ impl Slots {
         self.items.as_mut_slice().fill(Slot::free());
     }
 
-    /// Writes a slot. Where no room was made, all of them are written out.
+    /// Writes a slot. Where no room was made, all of them are written out, and shared no more.
     pub(crate) fn set(&mut self, place: usize, slot: Slot)
         requires { place < length self.old }
         ensures { self.new ≡ slice_set self.old place slot }

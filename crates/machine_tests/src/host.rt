@@ -7,7 +7,7 @@ use crate::bench::Bench;
 use crate::nets::{net, sent};
 use sl_host::Host;
 use sl_net::{Bytes, Flow, Input, LossSpec, Packet, RawPart, Snapshot};
-use sl_wire::{Msg, plain_frame};
+use sl_wire::{Framed, Msg, plain_frame};
 use std::alloc::{AllocError, Global};
 use std::test::Fail;
 
@@ -151,7 +151,11 @@ fn frames_are_counted(rt: HostRuntime) -> Result<(), Fail> {
         hops: 1,
     };
     let bytes = raw(rt.alloc(), 0, 5)?.bytes;
-    let first = taken(rt.alloc(), &mut host, Msg::Frame(plain_frame(&packet)))?;
+    let first = taken(
+        rt.alloc(),
+        &mut host,
+        Msg::Frame(Framed::new(plain_frame(&packet))),
+    )?;
     let second = taken(rt.alloc(), &mut host, Msg::carrying(bytes))?;
     let third = taken(rt.alloc(), &mut host, Msg::Poll)?;
     assert_eq!(rt; (first, second, third), (1, 2, 2));

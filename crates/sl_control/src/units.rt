@@ -13,7 +13,7 @@ use sl_ids::{Width, wrap};
 use sl_machine::Outputs;
 use sl_net::Packet;
 use sl_saves::View;
-use sl_wire::{Dump, Frame, Header, Kind, Msg, frame_of};
+use sl_wire::{Dump, Frame, Framed, Header, Kind, Msg, frame_of};
 
 /// What notices by this choice, or without one a sweep, do to the units.
 pub fn ask_all(units: &mut Vec<Known>, notice: Option<u32>, out: &mut Outputs<Msg>)
@@ -61,7 +61,7 @@ pub fn put_inits(outs: &[u32], passes: bool, frame: Frame, out: &mut Outputs<Msg
 {
     if passes {
         for link in outs {
-            out.put(*link, Msg::Frame(frame));
+            out.put(*link, Msg::Frame(Framed::new(frame)));
         }
     }
 }

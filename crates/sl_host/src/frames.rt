@@ -4,7 +4,7 @@ ghost use Rattle.sl_wire.specs.Carried.{carrying};
 ghost use Rattle.sl_host.specs.Host.{messages, raws_of};
 
 use sl_net::{Bytes, Packet, RawPart};
-use sl_wire::{Frame, Msg, plain_frame};
+use sl_wire::{Frame, Framed, Msg, plain_frame};
 use std::alloc::{AllocError, Global};
 
 /// A copy of a frame.
@@ -24,7 +24,7 @@ fn copied(alloc: Global, bytes: &Bytes) -> Result<Msg, AllocError>
     }
     let mut frame = Frame { bytes: [0; 24] };
     frame.bytes.copy_from_slice(bytes.items.as_slice());
-    Ok(Msg::Frame(frame))
+    Ok(Msg::Frame(Framed::new(frame)))
 }
 
 /// Adds a copy of a raw frame where it is this host's.
@@ -62,7 +62,7 @@ pub fn message_at(
 {
     let place = place as usize;
     if place < packets.len() {
-        return Ok(Some(Msg::Frame(plain_frame(&packets[place]))));
+        return Ok(Some(Msg::Frame(Framed::new(plain_frame(&packets[place])))));
     }
     let place = place - packets.len();
     if place < raws.len() {

@@ -10,7 +10,7 @@ ghost use Rattle.sl_wire.specs.declared.message.Dump.{Dump};
 use crate::wires::{Exit, Way};
 use sl_machine::Outputs;
 use sl_net::Sort;
-use sl_wire::{Boxed, Dump, Frame, Msg};
+use sl_wire::{Boxed, Dump, Frame, Framed, Msg};
 
 /// A message that can go on several links.
 #[derive(Clone, Copy)]
@@ -26,7 +26,7 @@ impl Note {
         ensures { result ≡ message_of self }
     {
         match self {
-            Note::Frame(frame) => Msg::Frame(frame),
+            Note::Frame(frame) => Msg::Frame(Framed::new(frame)),
             Note::Notice => Msg::Notice,
         }
     }

@@ -3,6 +3,7 @@
 
 mod boxed;
 mod frame;
+mod framed;
 mod laws;
 mod message;
 mod reach;
@@ -10,6 +11,7 @@ mod wids;
 
 pub use boxed::Boxed;
 pub use frame::{Frame, Header, Kind, WireFault, decode, encode, frame_of, plain_frame};
+pub use framed::Framed;
 pub use laws::one_frame;
 pub use message::{Done, Dump, Msg, Rows};
 pub use reach::reached;

@@ -4,6 +4,7 @@ ghost use Rattle.sl_wire.specs.Carried.{bytes_on, carrying, frame_on};
 
 use crate::boxed::Boxed;
 use crate::frame::{Frame, Header, decode};
+use crate::framed::Framed;
 use sl_ids::{Wid, Width};
 use sl_net::{Bytes, Packet};
 use sl_saves::{Saved, View};
@@ -60,7 +61,7 @@ pub struct Dump {
 pub enum Msg {
     /// A frame: of a packet from a host or to it, of a data packet or a probe between units, or of an
     /// initiation from a control plane to an ingress unit.
-    Frame(Frame),
+    Frame(Framed),
     /// Bytes of a host that are not 24.
     Wire(Bytes),
     /// A poll, from a control plane to a unit.
@@ -87,7 +88,7 @@ impl Msg {
         }
         let mut frame = Frame { bytes: [0; 24] };
         frame.bytes.copy_from_slice(bytes.items.as_slice());
-        Msg::Frame(frame)
+        Msg::Frame(Framed::new(frame))
     }
 
     /// The bytes that it carries.
@@ -95,7 +96,7 @@ impl Msg {
         ensures { option_map (λ bytes. bytes.now) result ≡ bytes_on self.now }
     {
         match self {
-            Msg::Frame(frame) => Some(&frame.bytes),
+            Msg::Frame(frame) => Some(&frame.get().bytes),
             Msg::Wire(bytes) => Some(bytes.items.as_slice()),
             _ => None,
         }

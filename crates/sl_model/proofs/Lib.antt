@@ -69,6 +69,7 @@ pub mod BoundedTurns
 pub mod Enough
 pub mod Scripts
 pub mod Fuel
+pub mod OneBook
 pub mod SortCounts
 pub mod Small
 -- Worked rows, which the checker computes.

@@ -3,6 +3,7 @@
 // the proofs are in proofs/.
 ghost use Rattle.std.specs.Prelude.{◌≡◌, ℕ, suc, ◌+◌, ◌*◌, ◌^◌, ◌<◌, ◌≤◌, List, [], ◌++◌, map, length, Some, IsSome};
 ghost use Rattle.std.specs.List.{sum};
+ghost use Rattle.sl_machine.specs.declared.wiring.Entry.{Entry as BookEntry};
 ghost use Rattle.sl_layout.specs.Net.{units};
 ghost use Rattle.sl_net.specs.Input.{Input};
 ghost use Rattle.sl_net.specs.Wired.{IsNet};
@@ -18,6 +19,7 @@ ghost use Rattle.sl_model.specs.Potential.{potential, allowed};
 ghost use Rattle.sl_model.specs.Sweeps.{sweeps_in};
 ghost use Rattle.sl_model.specs.FirstNet.{IsFirstNet};
 ghost use Rattle.sl_model.specs.Ended.{IsEnded};
+ghost use Rattle.sl_model.specs.Finished.{IsBookOfRun};
 
 /// Where a settling pass does nothing the world is settled: each link is empty, each host has put
 /// all its messages, and there is nothing to issue.
@@ -78,6 +80,12 @@ pub fn more_fuel_changes_nothing()
 /// So finishing takes one schedule from a world.
 pub fn finishing_is_one_schedule()
     ensures { (s : Setup) (lost : Losses) (es fs gs : List Entry) → IsFin s lost (world s lost es) fs → IsFin s lost (world s lost es) gs → fs ≡ gs }
+{}
+
+/// A run of an input has one book, and so many of its entries come before finishing.
+pub fn runs_have_one_book()
+    ensures { (i : Input) (lost : Losses) (book other : List BookEntry) (front end : ℕ) → IsBookOfRun i lost book front → IsBookOfRun i lost other end
+        → (book ≡ other) × (front ≡ end) }
 {}
 
 /// The run of an input, its script and then finishing, is no longer than the bound of the input.

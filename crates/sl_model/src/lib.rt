@@ -26,7 +26,8 @@ pub use finish_laws::{
     bound_is_enough_fuel, bounds_are_small, finishing_ends, finishing_finishes,
     finishing_is_one_schedule, first_net_is_bounded, idle_passes_settle,
     input_bound_is_enough_fuel, input_bounds_are_small, inputs_are_bounded, issues_are_counted,
-    more_fuel_changes_nothing, runs_are_bounded, runs_end, turns_lower_the_potential,
+    more_fuel_changes_nothing, runs_are_bounded, runs_end, runs_have_one_book,
+    turns_lower_the_potential,
 };
 pub use message::{Message, Put, Puts, Step};
 pub use report_laws::{

@@ -14,12 +14,12 @@ ghost use Rattle.sl_check.specs.Driven.{StandsIn};
 use crate::answer::{CheckFault, Checked};
 use crate::claim::read_claim;
 use crate::end::end_of;
+use crate::laws::accepted_inputs_can_run;
 use crate::lines::part_at;
-use crate::nodes::first_world;
 use sl_ending::Ending;
 use sl_machine::Memory;
 use sl_net::Input;
-use sl_proto::{Node, Taker, findings, passes_are_choices};
+use sl_proto::{Node, Taker, findings, first_world, passes_are_choices};
 use sl_read::read_input;
 use sl_report::report_bytes;
 use sl_world::World;
@@ -49,6 +49,7 @@ fn check_claim(alloc: Global, input: &Input, text: &[u8]) -> Result<Checked, Mem
     ensures { IfOk result (IsAnswer input.now text.now) }
 {
     passes_are_choices();
+    accepted_inputs_can_run();
     let Some(claim) = read_claim(alloc, &input.net, text)? else {
         return Ok(Checked::NoTrace);
     };

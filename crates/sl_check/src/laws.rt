@@ -2,7 +2,9 @@
 // proofs are in proofs/.
 ghost use Rattle.std.specs.Prelude.{◌≡◌, ◌≤◌, ℕ, List, [], length, Ok, true};
 ghost use Rattle.sl_machine.specs.declared.wiring.Entry.{Entry as BookEntry};
+ghost use Rattle.sl_read.specs.Accepted.{IsAccepted};
 ghost use Rattle.sl_read.specs.Inputs.{input_of};
+ghost use Rattle.sl_net.specs.Input.{Input};
 ghost use Rattle.sl_net.specs.Wired.{IsNet};
 ghost use Rattle.sl_model.specs.History.{Losses};
 ghost use Rattle.sl_model.specs.Setup.{Setup, setup_of};
@@ -11,6 +13,7 @@ ghost use Rattle.sl_model.specs.Books.{schedule_of};
 ghost use Rattle.sl_model.specs.World.{Entry, IsLossTable, world, kept_from};
 ghost use Rattle.sl_model.specs.End.{AllTaken, KnowsAll, Settled, IsFinished};
 ghost use Rattle.sl_model.specs.Schedule.{settling_pass};
+ghost use Rattle.sl_proto.specs.RunBook.{CanRun};
 ghost use Rattle.sl_check.specs.Spellings.{SpellsLines};
 ghost use Rattle.sl_ending.specs.Ending.{HasEnding};
 ghost use Rattle.sl_check.specs.Polled.{all_polled, ends_well};
@@ -20,7 +23,15 @@ use crate::answer::Checked;
 use sl_ending::{Ending, endings_are_one};
 use sl_model::{dones_tell_dumps, known_steps_are_made, links_pass_messages, worlds_are_runs};
 use sl_net::{Input, Net, nets_are_wired, one_spelling};
+use sl_proto::passes_are_choices;
 use sl_report::{legal_books_are_choices, nets_have_names};
+
+/// An input that is read can be run.
+pub fn accepted_inputs_can_run()
+    ensures { (i : Input) → IsAccepted i → CanRun i }
+{
+    passes_are_choices()
+}
 
 /// No spelling has a newline.
 pub fn spellings_are_lines(net: &Net)

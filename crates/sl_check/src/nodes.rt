@@ -1,38 +1,19 @@
-// The nodes of an input, and how they take the turns of a schedule.
+// How the nodes of an input take the turns of a schedule.
 ghost use Rattle.std.specs.Prelude.{◌≡◌, [], IfOk, IfSome, IfNone, All};
 ghost use Rattle.sl_machine.specs.Plan.{HasChoice};
 ghost use Rattle.sl_layout.specs.Wiring.{plan_of};
-ghost use Rattle.sl_read.specs.Accepted.{IsAccepted};
 ghost use Rattle.sl_world.specs.World.{scene};
 ghost use Rattle.sl_proto.specs.Standing.{HasObserver};
 ghost use Rattle.sl_proto.specs.Calls.{KeepsStanding};
-ghost use Rattle.sl_check.specs.Driven.{Turns, FirstIdle, TakesAll, IsIdle, StandsIn};
+ghost use Rattle.sl_check.specs.Driven.{Turns, FirstIdle, TakesAll, IsIdle};
 
 use crate::laws::settled_worlds_are_idle;
 use sl_machine::Memory;
-use sl_model::{idle_passes_settle, inputs_spare_reliable_links};
-use sl_net::{Input, Net, nets_are_wired};
-use sl_proto::{
-    Node, Taker, build_world, drive_within, make_losses, nodes_stand_at_first, pass_of,
-    passes_are_choices,
-};
+use sl_model::idle_passes_settle;
+use sl_net::{Net, nets_are_wired};
+use sl_proto::{Node, Taker, drive_within, pass_of, passes_are_choices};
 use sl_world::World;
 use std::alloc::Global;
-
-/// The world of an input's nodes before the first turn. It stands for that of the empty book.
-pub fn first_world(alloc: Global, input: &Input) -> Result<World<Node>, Memory>
-    requires { IsAccepted input.now }
-    ensures stands { IfOk result (λ w. StandsIn input.now (scene w)) }
-    ensures observer { IfOk result (λ w. HasObserver (scene w)) }
-    ensures plan { IfOk result (λ w. (scene w).plan ≡ plan_of input.now.net) }
-    ensures book { IfOk result (λ w. (scene w).book ≡ []) }
-{
-    nodes_stand_at_first();
-    inputs_spare_reliable_links();
-    let _wiring = input.net.wiring();
-    let losses = make_losses(alloc, input)?;
-    build_world(alloc, input, losses)
-}
 
 /// Takes one turn, and answers whether it did something.
 fn take_turn(net: &Net, world: &mut World<Node>, entry: (u32, u32)) -> Result<bool, Memory>

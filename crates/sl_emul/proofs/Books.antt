@@ -1,122 +1,32 @@
--- The book of a run, by the laws of finishing.
-use Rattle.std.proofs.Common.{◌≡◌, ℕ, ◌≤◌, List, [], ◌++◌, length, take, drop, sym, ap, ◌∙◌, subst, refl}
-use Rattle.std.proofs.lemmas.List.{length-map}
-use Rattle.std.proofs.Math.Seq.{take-append_seam, drop-append_seam}
+-- The nodes that a run leaves, and what the law of cuts says.
+use Rattle.std.proofs.Common.{◌≡◌, ℕ, List, sym, subst}
 use Rattle.sl_machine.specs.declared.wiring.Entry.{Entry as BookEntry}
-use Rattle.sl_machine.specs.Plan.{IsSound}
-use Rattle.sl_parts.specs.Parts.{numbers_from}
 use Rattle.sl_net.specs.Input.{Input}
 use Rattle.sl_net.specs.Wired.{IsNet}
-use Rattle.sl_layout.specs.Wiring.{plan_of}
 use Rattle.sl_wire.specs.declared.message.Msg.{Msg}
-use Rattle.sl_model.specs.History.{World, Losses}
+use Rattle.sl_model.specs.History.{Losses}
 use Rattle.sl_model.specs.Setup.{Setup, setup_of}
-use Rattle.sl_model.specs.World.{Entry, IsLossTable, start, world, kept, kept_from}
-use Rattle.sl_model.specs.Schedule.{expand}
-use Rattle.sl_model.specs.End.{IsFin}
-use Rattle.sl_model.specs.Books.{schedule_of, numbers_of}
-use Rattle.sl_model.specs.Finished.{IsBookOfRun}
-use Rattle.sl_model.specs.Bound.{input_bound}
+use Rattle.sl_model.specs.Books.{schedule_of}
 use Rattle.sl_model.specs.declared.findings.Findings.{Findings}
+use Rattle.sl_model.specs.Findings.{findings}
+use Rattle.sl_model.specs.World.{Entry, world}
 use Rattle.sl_model.specs.Cut.{cuts}
 use Rattle.sl_model.specs.Matching.{IsConsistentCut}
-use Rattle.sl_model.specs.Turns.{TakesTurns}
 use Rattle.sl_world.specs.Scene.{Scene}
 use Rattle.sl_proto.specs.Nodes.{NodeState}
-use Rattle.sl_proto.specs.Meaning.{IsRunnable}
-use Rattle.sl_proto.specs.Runs.{grown, Follows, IsBookOfTurns}
-use Rattle.sl_proto.specs.Standing.{case_of, world_of, run_at, StandsFor, FinishesTo}
-use Rattle.sl_emul.specs.Run.{CanRun, IsRunBook, AreNodesOf, IsOutcome}
-use Rattle.sl_emul.specs.Finishing.{IsFinishedFrom}
-
--- What the laws of lower crates say.
-
-abbrev pub Bounded : Type 0
-Bounded = (i : Input) (lost : Losses) (fs : List Entry) → IsNet i.net → IsFin (setup_of i) lost (world (setup_of i) lost (expand i.net i.script)) fs
-    → length (kept (setup_of i) lost (expand i.net i.script) ++ fs) ≤ input_bound i
+use Rattle.sl_proto.specs.Standing.{case_of, world_of, StandsFor}
+use Rattle.sl_proto.specs.RunBook.{IsRunBook}
+use Rattle.sl_emul.specs.Run.{AreNodesOf, IsOutcome}
 
 abbrev pub Consistent : Type 0
 Consistent = (s : Setup) (lost : Losses) (es : List Entry) (k : ℕ) → IsNet s.net → IsConsistentCut s.net lost (world s lost es) (cuts (world s lost es) k)
 
--- an input that can be run has what the laws of nodes ask
-pub runnable : (i : Input) (lost : Losses) → CanRun i → IsSound (plan_of i.net) → IsLossTable i.net lost → IsRunnable (setup_of i) i.snapshot lost
-runnable i lost can sound table = record {
-  net = can.net;
-  sound = sound;
-  losses = table;
-  short = can.short;
-  is_table = record { window = refl; count = refl; retries = refl; credits = refl; some_credits = can.snapshot.some_credits; few_bits = can.snapshot.few_bits; apart = can.snapshot.few_window; room = can.snapshot.some_ring; carried = can.carried };
-}
+-- the nodes of a scene are those of the world of its book
+pub nodes-of : (i : Input) (lost : Losses) (v : Scene NodeState Msg) → StandsFor i.net (case_of i lost) v → AreNodesOf i (world_of (case_of i lost) v) v.states
+nodes-of i lost v stands = record { each = stands.image.states_each; stand = stands.image.states }
 
--- the laws of books that grow by turns
-abbrev pub Grows : Type 0
-Grows = (book : List BookEntry) (es fs : List Entry) → grown (grown book es) fs ≡ grown book (es ++ fs)
-
-abbrev pub Numbers : Type 0
-Numbers = (es : List Entry) → IsBookOfTurns (record { entries = grown [] es }) es
-
--- the nodes that are kept are those of the last scene
-pub nodes-of : (i : Input) (lost : Losses) (u : Scene NodeState Msg) (book : List BookEntry) (front : ℕ) (found : Findings) (nodes : List NodeState)
-    → (done : IsFinishedFrom i lost u book front found nodes) → AreNodesOf i (world_of (case_of i lost) done.last) nodes
-nodes-of i lost u book front found nodes done =
-    subst (AreNodesOf i (world_of (case_of i lost) done.last)) (sym done.nodes_are) (record { each = done.stands.image.states_each; stand = done.stands.image.states })
-
--- from the first scene v, whose book is empty, by the script to u and by finishing to t
-module _ (turns : TakesTurns) (i : Input) (lost : Losses) (v u t : Scene NodeState Msg) (grows : Grows) (numbers : Numbers) (empty : v.book ≡ [])
-    (script : Follows (setup_of i) lost (run_at (case_of i lost) v) (expand i.net i.script) (run_at (case_of i lost) u))
-    (ends : FinishesTo (case_of i lost) u t) where
-  abbrev first : List Entry
-  first = kept (setup_of i) lost (expand i.net i.script)
-
-  first-book : u.book ≡ grown [] first
-  first-book = subst (λ (b : List BookEntry). u.book ≡ grown b (kept_from (setup_of i) lost (world (setup_of i) lost (schedule_of b)) (expand i.net i.script))) empty script.book
-
-  script-book : schedule_of u.book ≡ first
-  script-book = ap schedule_of first-book ∙ (numbers first).schedule
-
-  whole-book : t.book ≡ grown [] (first ++ ends.turns)
-  whole-book = ends.goes.book ∙ ap (λ (b : List BookEntry). grown b ends.turns) first-book ∙ grows [] first ends.turns
-
-  whole : schedule_of t.book ≡ first ++ ends.turns
-  whole = ap schedule_of whole-book ∙ (numbers (first ++ ends.turns)).schedule
-
-  count : length u.book ≡ length first
-  count = sym (length-map u.book (λ (e : BookEntry). (e.actor, e.choice))) ∙ ap length script-book
-
-  front-is : take (length u.book) (schedule_of t.book) ≡ first
-  front-is = ap (λ n. take n (schedule_of t.book)) count ∙ ap (take (length first)) whole ∙ take-append_seam first ends.turns
-
-  rest-is : drop (length u.book) (schedule_of t.book) ≡ ends.turns
-  rest-is = ap (λ n. drop n (schedule_of t.book)) count ∙ ap (drop (length first)) whole ∙ drop-append_seam first ends.turns
-
-  is-book : StandsFor i.net (case_of i lost) t → IsBookOfRun i lost t.book (length u.book)
-  is-book stands = record {
-    count = count;
-    script = front-is;
-    finishing = subst (λ es. IsFin (setup_of i) lost (world (setup_of i) lost es) (drop (length u.book) (schedule_of t.book))) (script-book ∙ sym front-is)
-        (subst (IsFin (setup_of i) lost (world_of (case_of i lost) u)) (sym rest-is) ends.finishes);
-    legal = stands.legal;
-    numbers = subst (λ (b : List BookEntry). numbers_of b ≡ numbers_from 1 (length b)) (sym whole-book) (numbers (first ++ ends.turns)).numbers;
-  }
-
-  reached : world_of (case_of i lost) u ≡ world (setup_of i) lost (expand i.net i.script)
-  reached = ap (world (setup_of i) lost) script-book ∙ turns.kept (setup_of i) lost (start i.net) (expand i.net i.script)
-
-  pub is-run : Bounded → Consistent → IsNet i.net → StandsFor i.net (case_of i lost) t → IsRunBook i lost t.book (length u.book)
-  is-run bounded consistent net stands = record {
-    run = is-book stands;
-    within = subst (λ n. n ≤ input_bound i) (sym (ap length whole) ∙ length-map t.book (λ (e : BookEntry). (e.actor, e.choice)))
-        (bounded i lost ends.turns net (subst (λ (w : World). IsFin (setup_of i) lost w ends.turns) reached ends.finishes));
-    ended = record { finished = ends.finished; cuts_consistent = λ k. consistent (setup_of i) lost (schedule_of t.book) k net };
-  }
-
--- what is kept of a run that came to u by the script
-pub is-run-of : TakesTurns → (i : Input) (lost : Losses) (v u : Scene NodeState Msg) → Grows → Numbers → v.book ≡ []
-    → Follows (setup_of i) lost (run_at (case_of i lost) v) (expand i.net i.script) (run_at (case_of i lost) u) → Bounded → Consistent → IsNet i.net
-    → (book : List BookEntry) (front : ℕ) (found : Findings) (nodes : List NodeState) → IsFinishedFrom i lost u book front found nodes → IsOutcome i lost book front found nodes
-is-run-of turns i lost v u grows numbers empty script bounded consistent net book front found nodes done =
-    subst (λ b. IsOutcome i lost b front found nodes) (sym done.book_is) (subst (λ n. IsOutcome i lost done.last.book n found nodes) (sym done.front_is) (record {
-      run = is-run turns i lost v u done.last grows numbers empty script done.finishing bounded consistent net done.stands;
-      tells = done.tells;
-      stand = nodes-of i lost u book front found nodes done;
-    }))
+-- what is kept of a scene to which the script and finishing lead
+pub outcome-of : (i : Input) (lost : Losses) (v : Scene NodeState Msg) (book : List BookEntry) (front : ℕ) (found : Findings) (nodes : List NodeState) → StandsFor i.net (case_of i lost) v
+    → IsRunBook i lost v.book front → found ≡ findings (setup_of i) lost (schedule_of v.book) → book ≡ v.book → nodes ≡ v.states → IsOutcome i lost book front found nodes
+outcome-of i lost v book front found nodes stands run tells same left =
+    subst (λ b. IsOutcome i lost b front found nodes) (sym same) (subst (IsOutcome i lost v.book front found) (sym left) (record { run = run; tells = tells; stand = nodes-of i lost v stands }))

@@ -20,6 +20,7 @@ use Rattle.sl_world.proofs.BookLaws.{schedule_of-numbered_from}
 use Rattle.sl_proto.specs.Nodes.{NodeState}
 use Rattle.sl_proto.specs.Runs.{grown}
 use Rattle.sl_proto.specs.Standing.{case_of, world_of, StandsFor, FinishesTo}
+use Rattle.sl_emul.specs.Run.{AreNodesOf}
 use Rattle.sl_emul.specs.Finishing.{IsFinishedFrom}
 use Rattle.sl_emul.specs.Threaded.{HasRested, IsThreadedFront, IsThreadedBook, IsThreadedOutcome}
 use Rattle.sl_emul.proofs.Books.{Consistent, nodes-of}
@@ -94,5 +95,5 @@ is-outcome i lost u book front found nodes done bound consistent net first threa
     subst (λ b. IsThreadedOutcome i lost b front found nodes) (sym done.book_is) (subst (λ n. IsThreadedOutcome i lost done.last.book n found nodes) (sym done.front_is) (record {
       run = is-book i lost u done.last done.finishing bound consistent net first done.stands threads rest;
       tells = done.tells;
-      stand = nodes-of i lost u book front found nodes done;
+      stand = subst (AreNodesOf i (world_of (case_of i lost) done.last)) (sym done.nodes_are) (nodes-of i lost done.last done.stands);
     }))

@@ -27,7 +27,8 @@ use Rattle.sl_model.specs.Findings.{findings}
 use Rattle.sl_merge.specs.Merging.{IsAscending}
 use Rattle.sl_proto.specs.Nodes.{NodeState}
 use Rattle.sl_proto.specs.Runs.{grown}
-use Rattle.sl_emul.specs.Run.{IsEndedBook, AreNodesOf}
+use Rattle.sl_proto.specs.RunBook.{IsEndedBook}
+use Rattle.sl_emul.specs.Run.{AreNodesOf}
 
 -- of its own actions an actor tries the first: the observer to issue, and a host to inject
 abbrev pub tried_actions : Net → ℕ → ActorId → List ℕ

@@ -3,12 +3,10 @@
 
 mod fault;
 mod run;
-mod script;
 mod stepped;
 mod threaded;
 
 pub use fault::EmulFault;
 pub use run::Run;
-pub use script::run_script;
-pub use stepped::{first_world, run_stepped};
+pub use stepped::run_stepped;
 pub use threaded::{plans_of, run_threaded, threaded_world};

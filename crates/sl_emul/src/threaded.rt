@@ -7,7 +7,7 @@ ghost use Rattle.sl_model.specs.Setup.{setup_of};
 ghost use Rattle.sl_world.specs.World.{scene};
 ghost use Rattle.sl_proto.specs.Nodes.{node_state};
 ghost use Rattle.sl_proto.specs.Standing.{case_of, world_of, StandsFor, HasObserver};
-ghost use Rattle.sl_emul.specs.Run.{CanRun};
+ghost use Rattle.sl_proto.specs.RunBook.{CanRun};
 ghost use Rattle.sl_emul.specs.Threaded.{tried_actions, tried_by, plans_of, HasRested, IsThreadedFront, IsThreadedOutcome};
 
 use crate::fault::EmulFault;
@@ -19,8 +19,8 @@ use sl_model::{
 };
 use sl_net::{ActorId, Input, Net, nets_have_ways};
 use sl_proto::{
-    Node, build_nodes, make_losses, nodes_follow, nodes_follow_their_books, nodes_stand_at_first,
-    nodes_stand_for_histories, nodes_start,
+    Node, build_nodes, inputs_are_runnable, make_losses, nodes_follow, nodes_follow_their_books,
+    nodes_stand_at_first, nodes_stand_for_histories, nodes_start,
 };
 use sl_threads::run_machines;
 use sl_world::{World, every_schedule};
@@ -91,6 +91,7 @@ pub fn threaded_world<R: Threads + Wait + Sync, G: Gate + Sync>(
         → HasRested (setup_of input.now) (world_of (case_of input.now (losses input.now)) (scene w))) }
 {
     inputs_spare_reliable_links();
+    inputs_are_runnable();
     nets_have_ways();
     worlds_take_turns();
     nodes_start();

@@ -2,23 +2,13 @@
 ghost use Rattle.std.specs.Prelude.{◌≡◌, ◌<◌, ◌++◌, Some, IfOk, OnOk, IfSome, length, flat_map, codes, string_bytes};
 ghost use Rattle.sl_poll.specs.PollText.{link_text, counts_text, read_line, times_text, broken_line, poll_text};
 ghost use Rattle.sl_layout.specs.Wiring.{wired_link};
-ghost use Rattle.sl_report.specs.Report.{unit_at};
 
 use crate::reading::{Polled, Read1};
 use crate::trail::Pair;
 use sl_machine::{Link, Memory};
 use sl_net::{Line, Net, choice_text, nets_have_ways};
-use sl_report::push_unit;
+use sl_report::{push_unit, unit_at};
 use std::alloc::{AllocError, Global};
-
-fn unit_at(net: &Net, place: u32) -> u32
-    ensures { result ≡ unit_at net.now place }
-{
-    match net.unit_actors().get(place as usize) {
-        Some(actor) => *actor,
-        None => 0,
-    }
-}
 
 /// Writes what was read of a unit.
 #[tactic(auto, unfolding(crate::specs::PollText::counts_text))]

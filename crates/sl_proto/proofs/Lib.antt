@@ -20,3 +20,4 @@ pub mod FirstNode
 pub mod Choices
 pub mod Judged
 pub mod Told
+pub mod Books

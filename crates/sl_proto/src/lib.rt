@@ -1,6 +1,7 @@
 // The nodes of a net, the machines of its actors, and the histories that they stand for: laws over
 // all schedules, for any machines that follow the steps of histories; scripts, settling and finishing
-// over whoever takes turns of nodes, and the findings of a finished world of them.
+// over whoever takes turns of nodes, the run of an input's script, and the findings of a finished
+// world of nodes.
 #![tactic(auto)]
 
 mod build;
@@ -10,6 +11,7 @@ mod laws;
 mod losses;
 mod node;
 mod nodes;
+mod run;
 mod scenes;
 mod schedule;
 mod script;
@@ -25,9 +27,10 @@ pub use laws::{
 pub use losses::make_losses;
 pub use node::Node;
 pub use nodes::{
-    nodes_follow, nodes_follow_their_books, nodes_stand_at_first, nodes_stand_for_histories,
-    nodes_start,
+    inputs_are_runnable, nodes_follow, nodes_follow_their_books, nodes_stand_at_first,
+    nodes_stand_for_histories, nodes_start,
 };
+pub use run::{first_world, run_script};
 pub use scenes::{
     Meaning, first_scenes_stand, machines_stand_for_histories, schedules_follow_histories,
     turns_follow_steps,

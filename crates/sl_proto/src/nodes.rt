@@ -1,6 +1,7 @@
 // Laws of the nodes of a net: they follow the steps of histories, so that a scene of them stands for
 // a world. The functions do nothing: their contracts are the laws, and the proofs are in proofs/.
 ghost use Rattle.std.specs.Prelude.{◌≡◌, ℕ, ◌+◌, ◌^◌, ◌<◌, List, length, Option, Some, slice_get};
+ghost use Rattle.sl_machine.specs.Plan.{IsSound};
 ghost use Rattle.sl_loss.specs.Loss.{Loss};
 ghost use Rattle.sl_net.specs.declared.input.Snapshot.{Snapshot};
 ghost use Rattle.sl_layout.specs.Net.{Net};
@@ -12,7 +13,7 @@ ghost use Rattle.sl_wire.specs.Sizes.{sizes_of};
 ghost use Rattle.sl_model.specs.History.{Losses};
 ghost use Rattle.sl_unit.specs.Made.{IsRanged};
 ghost use Rattle.sl_model.specs.Setup.{Setup, setup_of};
-ghost use Rattle.sl_model.specs.World.{Entry, start, world, IsLegal, kept};
+ghost use Rattle.sl_model.specs.World.{Entry, IsLossTable, start, world, IsLegal, kept};
 ghost use Rattle.sl_world.specs.Scene.{Scene, first_scene, after_all, run_of};
 ghost use Rattle.sl_world.specs.Scene.{kept as scene_kept};
 ghost use Rattle.sl_proto.specs.Machines.{FollowHistories};
@@ -22,6 +23,7 @@ ghost use Rattle.sl_proto.specs.Nodes.{NodeState, node_rules};
 ghost use Rattle.sl_proto.specs.Runs.{IsBookOfTurns};
 ghost use Rattle.sl_proto.specs.Standing.{Case, case_of, IsImageOf, StandsFor, HasObserver, FirstNodes, scene_of, AreNewLosses};
 ghost use Rattle.sl_proto.specs.Calls.{KeepsStanding, Drives};
+ghost use Rattle.sl_proto.specs.RunBook.{CanRun};
 
 use sl_image::{
     controls_act, controls_start, controls_stay, controls_take, hosts_act, hosts_have_two_links,
@@ -53,6 +55,11 @@ pub fn nodes_follow()
     links_pass_messages();
     known_steps_are_made()
 }
+
+/// An input that can be run has what the laws of nodes ask.
+pub fn inputs_are_runnable()
+    ensures { (i : Input) (lost : Losses) → CanRun i → IsSound (plan_of i.net) → IsLossTable i.net lost → IsRunnable (setup_of i) i.snapshot lost }
+{}
 
 /// The first states of the nodes are one for each actor, and stand for the world where nothing has
 /// happened.

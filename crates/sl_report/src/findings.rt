@@ -93,7 +93,7 @@ fn push_not_issued(out: &mut String, net: &Net, unit: u32, floor: u64) -> Result
 
 /// The actor's number of the unit at a place among the units, 0 where there is none.
 #[tactic(auto, using(crate::proofs::TextLemmas::some_actors))]
-fn unit_at(net: &Net, place: u32) -> u32
+pub fn unit_at(net: &Net, place: u32) -> u32
     ensures unit { result ≡ unit_at net.now place }
     ensures within { result < length net.now.actors }
 {
@@ -125,8 +125,9 @@ fn push_verdict(
     }
 }
 
+/// Writes the verdict on snapshot `k`.
 #[tactic(auto, unfolding(crate::specs::Report::verdict_line))]
-fn push_verdict_line(
+pub fn push_verdict_line(
     alloc: Global,
     out: &mut String,
     net: &Net,

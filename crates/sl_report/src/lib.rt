@@ -14,7 +14,9 @@ mod trace;
 mod units;
 
 pub use fault::fault_bytes;
+pub use findings::{push_verdict_line, unit_at};
 pub use laws::{legal_books_are_choices, traces_are_scripts};
+pub use lines::push_hosts;
 pub use names::nets_have_names;
 pub use report::report_bytes;
 pub use routes::routes_bytes;

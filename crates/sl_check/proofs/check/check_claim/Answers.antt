@@ -9,6 +9,9 @@ use Rattle.sl_ending.specs.declared.ending.Ending.TheVariants.{Idle, Unfinished,
 use Rattle.sl_check.proofs.Checking.{choices-of, answers-no-trace, answers-idle, answers-unfinished, answers-yes, answers-no-report, no-other}
 use Rattle.sl_check.proofs.check.check_claim.Goals as goal
 
+pub first_world-requires : goal.first_world-requires
+first_world-requires c = c.accepted_inputs_can_run.ensures c.args.input.now c.requires
+
 pub end_of-requires-clause-choices : goal.end_of-requires-clause-choices
 end_of-requires-clause-choices c = choices-of c.passes_are_choices.ensures.spelled c.args.input.now c.input.inside.net c.args.text.now c.in-Some.claim.report.now c.in-Some.claim.schedule.items c.as_slice.result.now
     (ap (λ (i : Input). i.net) c.input.view_is) (rw c.in-Some.is at c.in_ok-claim.ensures.read) c.as_slice.ensures.value

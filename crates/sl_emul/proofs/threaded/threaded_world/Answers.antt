@@ -15,7 +15,6 @@ use Rattle.sl_threads.specs.Threads.{ArePlans}
 use Rattle.sl_proto.specs.Nodes.{node_state, node_counts}
 use Rattle.sl_proto.specs.Standing.{case_of, scene_of, AreNewLosses}
 use Rattle.sl_emul.specs.Threaded.{plans_of}
-use Rattle.sl_emul.proofs.Books.{runnable}
 use Rattle.sl_emul.proofs.Plans.{plans-fit, no-sweeps, no-resends}
 use Rattle.sl_emul.proofs.Clocks.{clocks-are}
 use Rattle.sl_emul.proofs.Come.{has-come}
@@ -56,7 +55,7 @@ returns g c =
     let plan : c.wiring-wiring.result.now ≡ plan_of i.net = c.wiring-wiring.ensures.now ∙ ap (λ (i : Input). plan_of i.net) c.input.view_is in
     let sound : IsSound (plan_of i.net) = subst IsSound plan c.wiring-wiring.ensures.sound in
     let plans : map (λ (p : Vec ℕ Global). p.items) c.in_ok-plans.plans.items ≡ plans_of i.net = c.in_ok-plans.ensures ∙ ap (λ (i : Input). plans_of i.net) c.input.view_is in
-    let can = runnable i (losses i) c.requires.can sound (c.inputs_spare_reliable_links.ensures i) in
+    let can = c.inputs_are_runnable.ensures i (losses i) c.requires.can sound (c.inputs_spare_reliable_links.ensures i) in
     let ls = map (loss_on i) (link_numbers i.net) in
     let new : AreNewLosses i.net (losses i) ls = subst (AreNewLosses i.net (losses i)) c.in_ok-losses.ensures.losses (record { each = c.in_ok-losses.ensures.each; go = c.in_ok-losses.ensures.go }) in
     let f = first-nodes i (losses i) ls can c.requires.can.snapshot (c.nodes_start.ensures.each i) c.nodes_start.ensures.stand new in

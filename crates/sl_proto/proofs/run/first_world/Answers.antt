@@ -5,8 +5,8 @@ use Rattle.sl_net.specs.Input.{Input}
 use Rattle.sl_layout.specs.Wiring.{plan_of}
 use Rattle.sl_model.specs.Losses.{losses}
 use Rattle.sl_proto.specs.Standing.{case_of, StandsFor}
-use Rattle.sl_emul.proofs.Books.{runnable}
-use Rattle.sl_emul.proofs.stepped.first_world.Goals as goal
+use Rattle.sl_proto.proofs.Books.{runnable}
+use Rattle.sl_proto.proofs.run.first_world.Goals as goal
 
 pub returns-clause-stands : goal.returns-clause-stands
 returns-clause-stands c =

@@ -12,9 +12,9 @@ use Rattle.sl_world.specs.Scene.{Scene}
 use Rattle.sl_proto.specs.Nodes.{NodeState}
 use Rattle.sl_proto.specs.Runs.{Follows}
 use Rattle.sl_proto.specs.Standing.{case_of, run_at, StandsFor}
-use Rattle.sl_emul.specs.Run.{IsRunBook}
-use Rattle.sl_emul.proofs.Books.{runnable, is-run}
-use Rattle.sl_emul.proofs.script.run_script.Goals as goal
+use Rattle.sl_proto.specs.RunBook.{IsRunBook}
+use Rattle.sl_proto.proofs.Books.{runnable, is-run}
+use Rattle.sl_proto.proofs.run.run_script.Goals as goal
 
 pub returns-clause-stands : goal.returns-clause-stands
 returns-clause-stands g c =

@@ -6,7 +6,7 @@ _speedlight() {
     *[\<\>]*) return ;;
     esac
     if [ "$COMP_CWORD" -eq 1 ]; then
-        mapfile -t COMPREPLY < <(compgen -W "step run routes sample check balance poll" -- "$word")
+        mapfile -t COMPREPLY < <(compgen -W "step run routes sample check balance poll values" -- "$word")
         return
     fi
     case ${COMP_WORDS[1]} in

@@ -6,6 +6,7 @@ ghost use Rattle.sl_flow.specs.Flow.{HasAddresses};
 use crate::rows;
 use sl_actor::FreeGate;
 use sl_app::{one_thread, speedlight};
+use sl_check::accepted_inputs_can_run;
 use sl_cut::findings_of;
 use sl_flow::{sample_input, sample_parts};
 use sl_io::{MemorySink, MemorySource};
@@ -17,14 +18,21 @@ use std::sync::Wait;
 use std::test::Fail;
 use std::thread::Threads;
 
-const THREE_PACKETS: &str =
-    "device = [{name = \"a\", ports = 2}]\nhost = [{name = \"h0\", at = \"a.0\"}, {name = \"h1\", at = \"a.1\"}]\nflow = [{from = \"h0\", to = \"h1\", count = 3, bytes = 100, hops = 8}]\nsnapshot = {bits = 2, window = 3, ring = 3, count = 1, retries = 0}\n";
+const THREE_PACKETS: &str = r#"device = [{name = "a", ports = 2}]
+host = [{name = "h0", at = "a.0"}, {name = "h1", at = "a.1"}]
+flow = [{from = "h0", to = "h1", count = 3, bytes = 100, hops = 8}]
+snapshot = {bits = 2, window = 3, ring = 3, count = 1, retries = 0}
+"#;
 
-const DEAD_CABLE: &str =
-    "device = [{name = \"a\", ports = 2}, {name = \"b\", ports = 2}]\ncable = [{a = \"a.1\", b = \"b.0\"}]\nhost = [{name = \"h0\", at = \"a.0\"}, {name = \"h1\", at = \"b.1\"}]\nsnapshot = {bits = 2, window = 1, ring = 1, count = 2, retries = 0}\nloss = {cable = 1000}\n";
+const DEAD_CABLE: &str = r#"device = [{name = "a", ports = 2}, {name = "b", ports = 2}]
+cable = [{a = "a.1", b = "b.0"}]
+host = [{name = "h0", at = "a.0"}, {name = "h1", at = "b.1"}]
+snapshot = {bits = 2, window = 1, ring = 1, count = 2, retries = 0}
+loss = {cable = 1000}
+"#;
 
 const USAGE: &str =
-    "speedlight: usage: speedlight step [--trace] | run [--trace] | routes | sample N [--input] | check | balance | poll S G\n";
+    "speedlight: usage: speedlight step [--trace] | run [--trace] | routes | sample N [--input] | values | check | balance | poll S G\n";
 
 /// What a call left: its status, what it wrote, whether there is a book, and the bytes left.
 #[derive(Drop)]
@@ -133,6 +141,7 @@ fn worked_rows(rt: HostRuntime) -> Result<(), Fail> {
     assert_eq!(rt; wrong_row(&rt, alloc, rows::traces_and_samples())?, None);
     assert_eq!(rt; wrong_row(&rt, alloc, rows::balances())?, None);
     assert_eq!(rt; wrong_row(&rt, alloc, rows::readings())?, None);
+    assert_eq!(rt; wrong_row(&rt, alloc, rows::values())?, None);
     Ok(())
 }
 
@@ -214,7 +223,7 @@ fn refusals(rt: HostRuntime) -> Result<(), Fail> {
 /// Whether these words ask for what has a book.
 fn has_book(words: &[&str]) -> bool {
     match words.first() {
-        Some(word) => ["step", "run", "balance", "poll"].contains(word),
+        Some(word) => ["step", "run", "balance", "poll", "values"].contains(word),
         None => false,
     }
 }
@@ -242,7 +251,7 @@ fn words_and_faults(rt: HostRuntime) -> Result<(), Fail> {
     let write_fault = "speedlight: write fault\n";
     // The words, the calls that fail, the status, and what is on the error sink. A source of one
     // piece is read twice. A read that fails is told, whatever the words of the input.
-    let rows: [(&[&str], (u64, u64, u64), u8, &str); 31] = [
+    let rows: [(&[&str], (u64, u64, u64), u8, &str); 35] = [
         (&[], (1, 0, 0), 2, USAGE),
         (&["walk"], (1, 0, 0), 2, USAGE),
         (&["-h"], (1, 0, 0), 2, USAGE),
@@ -268,6 +277,10 @@ fn words_and_faults(rt: HostRuntime) -> Result<(), Fail> {
         (&["balance", "--"], (0, 1, 0), 5, write_fault),
         (&["balance"], (0, 1, 1), 5, ""),
         (&["poll", "3", "2"], (2, 0, 0), 4, read_fault),
+        (&["values", "--trace"], (1, 0, 0), 2, USAGE),
+        (&["values"], (1, 0, 0), 4, read_fault),
+        (&["values", "--"], (0, 1, 0), 5, write_fault),
+        (&["values"], (0, 1, 1), 5, ""),
         (&["poll", "3", "--", "2"], (0, 1, 0), 5, write_fault),
         (&["step"], (0, 1, 0), 5, write_fault),
         (&["sample", "8"], (1, 1, 0), 5, write_fault),
@@ -518,8 +531,8 @@ fn told_of(alloc: Global, input: &Input, lines: &str) -> Result<Vec<u8>, Fail>
 }
 
 /// The same for the text of an input.
-#[tactic(auto, using(sl_check::proofs::Runnable::addressed))]
 fn report_of(alloc: Global, text: &str, lines: &str) -> Result<Vec<u8>, Fail> {
+    accepted_inputs_can_run();
     match read_input(alloc, text.as_bytes()) {
         Ok(input) => told_of(alloc, &input, lines),
         Err(_) => Err("refused".into()),

@@ -714,6 +714,48 @@ end
 "#
 }
 
+/// Values without channel state.
+pub fn values() -> &'static str {
+    r#"values values_too_late_packet
+device = [{name = "a", ports = 2}]
+host = [{name = "h0", at = "a.0"}, {name = "h1", at = "a.1"}]
+flow = [{from = "h0", to = "h1", count = 1, bytes = 100, hops = 8}]
+snapshot = {bits = 2, window = 2, ring = 2, count = 2, retries = 0}
+script = {entries = ["host h0 inject", "in a.0 host", "observer issue", "observer issue", "control a begin", "control a begin", "in a.1 init", "in a.1 init", "out a.1 x1", "out a.1 x1", "out a.1 x0"]}
+--
+values 1
+snapshot 1 whole
+in a.0 1 100
+out a.0 0 0
+in a.1 0 0
+out a.1 0 0
+snapshot 2 whole
+in a.0 1 100
+out a.0 0 0
+in a.1 0 0
+out a.1 0 0
+host h0 sent 1 delivered 0
+host h1 sent 0 delivered 1
+end
+==
+values values_lost_initiation
+device = [{name = "a", ports = 1}]
+host = [{name = "h0", at = "a.0"}]
+snapshot = {bits = 2, window = 2, ring = 2, count = 2, retries = 0}
+loss = {drop = [{link = "in a.0 init", n = 1}]}
+--
+values 1
+snapshot 1 whole
+in a.0 0 0
+out a.0 0 0
+snapshot 2 whole
+in a.0 0 0
+out a.0 0 0
+host h0 sent 0 delivered 0
+end
+"#
+}
+
 /// Routes.
 pub fn routes() -> &'static str {
     r#"routes routes.1

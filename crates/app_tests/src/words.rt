@@ -69,6 +69,12 @@ balance -- -- =>
 balance -- --trace =>
 balance x =>
 balances =>
+values => values
+values -- => values
+values --trace =>
+values -- -- =>
+values x =>
+value =>
 poll 3 2 => poll 3 2
 poll 0 0 => poll 0 0
 poll 1000000 1000000 => poll 1000000 1000000
@@ -179,6 +185,7 @@ fn told(alloc: Global, command: Option<Command>) -> Result<String, AllocError> {
         Some(Command::Routes) => String::from_str(alloc, " routes"),
         Some(Command::Check) => String::from_str(alloc, " check"),
         Some(Command::Balance) => String::from_str(alloc, " balance"),
+        Some(Command::Values) => String::from_str(alloc, " values"),
         Some(Command::Poll(start, gap)) => format!(in alloc; " poll {start} {gap}"),
         Some(Command::Sample(number, input)) => {
             format!(in alloc; " sample {number}{}", option_text(input, " input"))

@@ -1,19 +1,22 @@
 // Calls below the top call, each by itself: the schedule of a script, settling, and a trace.
 ghost use Rattle.std.specs.Prelude.{IfOk};
-ghost use Rattle.sl_emul.specs.Run.{CanRun};
+ghost use Rattle.sl_proto.specs.RunBook.{CanRun};
 
-use sl_emul::first_world;
+use sl_check::accepted_inputs_can_run;
 use sl_machine::{Book, Entry};
 use sl_net::{Input, Script1, find_choice};
-use sl_proto::{Taker, expand, passes_are_choices, settle};
+use sl_proto::{Taker, expand, first_world, settle};
 use sl_read::read_input;
 use sl_report::trace_bytes;
 use std::alloc::{AllocError, Global};
 use std::test::Fail;
 
 /// A device with two hosts, one packet and one snapshot.
-const ONE_PACKET: &str =
-    "device = [{name = \"a\", ports = 2}]\nhost = [{name = \"h0\", at = \"a.0\"}, {name = \"h1\", at = \"a.1\"}]\nflow = [{from = \"h0\", to = \"h1\", count = 1, bytes = 100, hops = 8}]\nsnapshot = {bits = 2, window = 3, ring = 3, count = 1, retries = 0}\n";
+const ONE_PACKET: &str = r#"device = [{name = "a", ports = 2}]
+host = [{name = "h0", at = "a.0"}, {name = "h1", at = "a.1"}]
+flow = [{from = "h0", to = "h1", count = 1, bytes = 100, hops = 8}]
+snapshot = {bits = 2, window = 3, ring = 3, count = 1, retries = 0}
+"#;
 
 /// Each actor with how many choices a pass takes of it: the observer's report link; the control
 /// plane's link for Begins and two from each unit; of each unit three links, the ingress units' from
@@ -66,11 +69,10 @@ fn scripts_are_expanded(rt: HostRuntime) -> Result<(), Fail> {
 }
 
 /// An input that was read can run.
-#[tactic(auto, using(sl_app::proofs::RunLemmas::runnable))]
 pub fn runnable(alloc: Global, text: &str) -> Result<Input, Fail>
     ensures { IfOk result CanRun }
 {
-    passes_are_choices();
+    accepted_inputs_can_run();
     match read_input(alloc, text.as_bytes()) {
         Ok(input) => Ok(input),
         Err(_) => Err("refused".into()),

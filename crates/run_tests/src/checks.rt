@@ -1,5 +1,5 @@
 // Checks of streams, and beside them how whole histories end.
-ghost use Rattle.sl_emul.specs.Run.{CanRun};
+ghost use Rattle.sl_proto.specs.RunBook.{CanRun};
 
 use crate::calls::runnable;
 use sl_check::{CheckFault, Checked, check_bytes, read_claim};
@@ -21,8 +21,17 @@ const FROM_DROPS: &str =
     "drops bad 0 expired 0 noroute 0\nlost cable 0 crossbar 0 init 0 notice 0\nend\n";
 
 /// Its turns but the first one and the last.
-const TURNS_BETWEEN: &str =
-    "control a begin\nin a.0 init\nout a.0 x0\ncontrol a notice:in.0\ncontrol a notice:out.0\nin a.0 poll\nout a.0 poll\ncontrol a dump:in.0\ncontrol a dump:out.0\nobserver done:a\n";
+const TURNS_BETWEEN: &str = r#"control a begin
+in a.0 init
+out a.0 x0
+control a notice:in.0
+control a notice:out.0
+in a.0 poll
+out a.0 poll
+control a dump:in.0
+control a dump:out.0
+observer done:a
+"#;
 
 /// The last one.
 const LAST_TURN: &str = "observer done:a\n";

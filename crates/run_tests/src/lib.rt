@@ -1,5 +1,5 @@
-// Tests of calls between the machines and the top call: scripts, settling, a trace, checks, and
-// actors and threads of nodes.
+// Tests of calls between the machines and the top call: scripts, settling, a trace, checks,
+// actors and threads of nodes, and values.
 #![tactic(auto)]
 
 #[cfg(test)]
@@ -8,3 +8,5 @@ mod calls;
 mod checks;
 #[cfg(test)]
 mod threads;
+#[cfg(test)]
+mod values;

@@ -1,26 +1,29 @@
 // The nodes of an input as actors, and in threads, beside a world of them in one thread.
-ghost use Rattle.std.specs.Prelude.{◌≡◌, IsTrue, IfOk};
+ghost use Rattle.std.specs.Prelude.{IsTrue, IfOk};
 ghost use Rattle.std.specs.List.{All};
 ghost use Rattle.sl_machine.specs.Plan.{HasChoice};
 ghost use Rattle.sl_machine.specs.Fit.{HasCounts};
 ghost use Rattle.sl_layout.specs.Wiring.{plan_of};
 ghost use Rattle.sl_actor.specs.Held.{held};
-ghost use Rattle.sl_emul.specs.Run.{CanRun};
+ghost use Rattle.sl_proto.specs.RunBook.{CanRun};
 
 use crate::calls::runnable;
 use sl_actor::{Actor, FreeGate, Moved, make_actors};
-use sl_emul::{EmulFault, first_world, run_threaded};
+use sl_emul::{EmulFault, run_threaded};
 use sl_machine::Book;
 use sl_net::{Input, Net};
-use sl_proto::{Node, build_nodes, drive_within, make_losses, pass_of};
+use sl_proto::{Node, build_nodes, drive_within, first_world, make_losses, pass_of};
 use std::alloc::{AllocError, Global};
 use std::sync::Wait;
 use std::test::Fail;
 use std::thread::Threads;
 
 /// The net of `examples/three_packets.toml`.
-const THREE_PACKETS: &str =
-    "device = [{name = \"a\", ports = 2}]\nhost = [{name = \"h0\", at = \"a.0\"}, {name = \"h1\", at = \"a.1\"}]\nflow = [{from = \"h0\", to = \"h1\", count = 3, bytes = 100, hops = 8}]\nsnapshot = {bits = 2, window = 3, ring = 3, count = 1, retries = 0}\n";
+const THREE_PACKETS: &str = r#"device = [{name = "a", ports = 2}]
+host = [{name = "h0", at = "a.0"}, {name = "h1", at = "a.1"}]
+flow = [{from = "h0", to = "h1", count = 3, bytes = 100, hops = 8}]
+snapshot = {bits = 2, window = 3, ring = 3, count = 1, retries = 0}
+"#;
 
 /// What the observer of the first net has issued and collected, and what each of its hosts has sent
 /// and taken.

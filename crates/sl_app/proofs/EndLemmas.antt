@@ -6,11 +6,13 @@ use Rattle.std.specs.Prelude.{Bool, Result, Ok, Err}
 use Rattle.std.specs.Io.KnownBytes.{Appends}
 use Rattle.sl_io.specs.Faults.{Rose}
 use Rattle.sl_io.specs.Pieces.{AppendsPart}
-use Rattle.sl_words.specs.declared.command.Command.TheVariants.{Check, Sample}
+use Rattle.sl_words.specs.declared.command.Command.{Command}
+use Rattle.sl_words.specs.declared.command.Command.TheVariants.{Step, Run, Routes, Sample, Check, Balance, Poll, Values}
 use Rattle.sl_words.specs.Words.{words_of}
 use Rattle.sl_check.specs.declared.answer.CheckFault.{CheckFault}
 use Rattle.sl_check.specs.Answer.{IsChecked}
-use Rattle.sl_app.specs.Texts.{write_fault_text, refusal_text}
+use Rattle.sl_net.specs.Input.{Input}
+use Rattle.sl_app.specs.Texts.{write_fault_text, refusal_text, many_text}
 use Rattle.sl_app.specs.declared.ended.Refusal.{Refusal}
 use Rattle.sl_app.specs.declared.ended.Refusal.TheVariants.{Usage, Input as InputRefused, Stream as StreamRefused, ReadFault, TooMany, Memory}
 use Rattle.sl_app.specs.declared.ended.Ended.{Ended}
@@ -18,7 +20,7 @@ use Rattle.sl_machine.specs.Book.{Book}
 use Rattle.sl_proto.specs.Nodes.{NodeState}
 use Rattle.sl_app.specs.declared.run.Served.{Served}
 use Rattle.sl_app.specs.Served.{states_of}
-use Rattle.sl_app.specs.Ends.{Reading, Writing, TellsWriteFault, Refuses, HasReadStream, TellsStreamFault, HasCause, reads, IsUnread, IsServed, Serves, ServesSample}
+use Rattle.sl_app.specs.Ends.{Reading, Writing, TellsWriteFault, Refuses, HasReadStream, TellsStreamFault, TellsTooMany, WasRead, HasCause, asks_for_run, reads, IsUnread, IsServed, Serves, ServesSample}
 
 -- a stream that is refused for a fault
 pub stream_refused : (r : Reading) (bytes : List ℕ) (fault : CheckFault) (e : Refusal) → words_of r.words ≡ Some Check → HasReadStream r bytes → IsChecked bytes (Err fault)
@@ -30,6 +32,28 @@ stream_refused r bytes fault Usage words read checked told = absurd told
 stream_refused r bytes fault (InputRefused line) words read checked told = absurd told
 stream_refused r bytes fault ReadFault words read checked told = absurd told
 stream_refused r bytes fault (TooMany line) words read checked told = absurd told
+
+-- an input whose net has too many actors for threads
+pub too_many_told : (r : Reading) (i : Input) (actors : ℕ) (e : Refusal) → asks_for_run (words_of r.words) → WasRead r i → 256 < length i.net.actors → actors ≡ length i.net.actors
+    → TellsTooMany actors e → HasCause r e
+too_many_told r i actors (TooMany line) words read many is told =
+    record { words = words; input = i; accepted = read; many = many; line_is = told ∙ ap many_text is }
+too_many_told r i actors Memory words read many is told = λ none. absurd (none (reads-run (words_of r.words) words))
+  where
+    reads-run : (c : Option Command) → asks_for_run c → reads c
+    reads-run (Some (Run trace)) h = tt
+    reads-run (Some (Step trace)) h = absurd h
+    reads-run (Some Routes) h = absurd h
+    reads-run (Some (Sample n i)) h = absurd h
+    reads-run (Some Check) h = absurd h
+    reads-run (Some Balance) h = absurd h
+    reads-run (Some (Poll s g)) h = absurd h
+    reads-run (Some Values) h = absurd h
+    reads-run None h = absurd h
+too_many_told r i actors Usage words read many is told = absurd told
+too_many_told r i actors (InputRefused line) words read many is told = absurd told
+too_many_told r i actors (StreamRefused line) words read many is told = absurd told
+too_many_told r i actors ReadFault words read many is told = absurd told
 
 -- a sample is served without reading
 pub sample_served : (r : Reading) (number : ℕ) (input : Bool) (x : Result Served Refusal) → words_of r.words ≡ Some (Sample number input) → IsUnread r

@@ -3,19 +3,14 @@ use Rattle.std.proofs.Common.{◌≡◌, ℕ, ◌+◌, ◌*◌, ◌<◌, ◌≤�
 use Rattle.std.specs.Prelude.{sum, Result, Ok, Err, IfOk}
 use Rattle.std.specs.List.{All}
 use Rattle.sl_net.specs.declared.input.Flow.{Flow}
-use Rattle.sl_net.specs.declared.input.Script1.{Script1}
-use Rattle.sl_net.specs.declared.input.Script1.TheVariants.{Pass, Choice}
 use Rattle.sl_machine.specs.Book.{Book}
 use Rattle.sl_machine.specs.declared.wiring.Entry.{Entry}
 use Rattle.sl_net.specs.Wired.{IsNet}
-use Rattle.sl_machine.specs.Plan.{HasChoice}
-use Rattle.sl_net.specs.Spelling as spelling
-use Rattle.sl_layout.specs.Wiring.{plan_of}
-use Rattle.sl_layout.specs.Net.{Net, units}
+use Rattle.sl_layout.specs.Net.{units}
 use Rattle.sl_parts.specs.Parts.{below}
 use Rattle.sl_net.specs.Input.{Input}
-use Rattle.sl_check.proofs.Runnable.{net-of, ranged, addressed, short-of, carries-is, carried-of}
-use Rattle.sl_read.specs.Accepted.{IsEntry, IsAccepted}
+use Rattle.sl_check.proofs.Runnable.{carries-is}
+use Rattle.sl_read.specs.Accepted.{IsAccepted}
 use Rattle.sl_flow.specs.Sample.{IsSample, flow, host_count, sample_parts}
 use Rattle.sl_parts.specs.Lists.{Each}
 use Rattle.std.proofs.lemmas.List.{length-map}
@@ -28,37 +23,19 @@ use Rattle.sl_model.specs.Findings.{findings}
 use Rattle.sl_model.specs.Losses.{losses}
 use Rattle.sl_model.specs.Bound.{bound_of, input_bound}
 use Rattle.sl_proto.specs.Nodes.{NodeState}
-use Rattle.sl_proto.specs.Script.{IsScriptEntry}
-use Rattle.sl_emul.specs.Run.{CanRun, IsRunBook, AreNodesOf}
+use Rattle.sl_proto.specs.RunBook.{CanRun, IsRunBook}
+use Rattle.sl_emul.specs.Run.{AreNodesOf}
 use Rattle.sl_emul.specs.Threaded.{IsThreadedBook}
 use Rattle.sl_balance.specs.Balance.{AreFew}
-use Rattle.sl_words.specs.declared.command.Command.TheVariants.{Step, Run, Balance, Poll}
+use Rattle.sl_words.specs.declared.command.Command.TheVariants.{Step, Run, Balance, Poll, Values}
 use Rattle.sl_words.specs.Words.{words_of}
 use Rattle.sl_app.specs.declared.run.Served.{Served}
-use Rattle.sl_app.specs.Served.{run_text, IsReport, IsTable, IsReading, states_of}
+use Rattle.sl_app.specs.Served.{run_text, IsReport, IsTable, IsReading, AreValues, states_of}
 use Rattle.sl_app.specs.Ends.{Reading, WasRead, IsServed}
 
 each-map : {A B : Type 0} (P : B → Type 0) (f : A → B) (xs : List A) → ((x : A) → P (f x)) → Each P (map f xs)
 each-map P f [] all = tt
 each-map P f (x ∷ xs) all = (all x, each-map P f xs all)
-
--- a choice that is spelled is one of the net's wiring
-abbrev pub Spelled : Type 0
-Spelled = (net : Net) (a c : ℕ) → spelling.HasChoice net a c → HasChoice (plan_of net) a c
-
-entry : Spelled → (net : Net) (e : Script1) → IsEntry net e → IsScriptEntry net e
-entry spelled net (Pass n) h = tt
-entry spelled net (Choice a c) h = spelled net a c h
-
-pub runnable : Spelled → (i : Input) → IsAccepted i → CanRun i
-runnable spelled i a = record {
-  net = net-of i a;
-  snapshot = ranged i a;
-  carried = carried-of i a;
-  addresses = addressed i a;
-  short = short-of i a;
-  script = λ k d h. entry spelled i.net _ (a.script k d h);
-}
 
 pub sample_runs : (n : ℕ) → IsSample (sample_parts n) → CanRun (sample_parts n)
 sample_runs n s = record {
@@ -78,12 +55,12 @@ abbrev pub Small : Type 0
 Small = (i : Input) → IsNet i.net → i.snapshot.count ≤ 100000 → i.snapshot.count * length (units i.net) ≤ 1024000 → i.snapshot.retries ≤ 100 → sum (map (λ (f : Flow). f.count) i.flows) + length i.raws ≤ 200000
     → length i.script ≤ 2 ^ 20 → input_bound i < 2 ^ 27
 
-pub small : Small → (i : Input) → IsAccepted i → input_bound i < 2 ^ 27
-small law i a = law i (net-of i a) a.snapshot.count a.few_values a.snapshot.retries a.few_packets a.few_entries
+pub small : Small → (i : Input) → CanRun i → IsAccepted i → input_bound i < 2 ^ 27
+small law i can a = law i can.net a.snapshot.count a.few_values a.snapshot.retries a.few_packets a.few_entries
 
 -- a run in threads sweeps as little as a run with no script
-pub small_threads : Small → (i : Input) → IsAccepted i → bound_of (setup_of i) 0 < 2 ^ 27
-small_threads law i a = law (record i { script = [] }) (net-of i a) a.snapshot.count a.few_values a.snapshot.retries a.few_packets (omega arith)
+pub small_threads : Small → (i : Input) → CanRun i → IsAccepted i → bound_of (setup_of i) 0 < 2 ^ 27
+small_threads law i can a = law (record i { script = [] }) can.net a.snapshot.count a.few_values a.snapshot.retries a.few_packets (omega arith)
 
 -- what is served for a run with this book
 pub report-of : (IsBook : Input → Losses → List Entry → ℕ → Type 0) (i : Input) (lost : Losses) (trace : Bool) (book : Book) (front : ℕ) (nodes : List NodeState)
@@ -124,9 +101,17 @@ tabled r i words read few None front nodes status text told is = absurd told
 pub polled : (r : Reading) (i : Input) (start gap : ℕ) → words_of r.words ≡ Some (Poll start gap) → WasRead r i → input_bound i < 2 ^ 27
     → (book : Option Book) (front : ℕ) (nodes : Option (List NodeState)) (status : ℕ) (text : List ℕ)
     → IsReading i (losses i) book front nodes start gap text → status ≡ 0 → IsServed r book front nodes status text
-polled r i start gap words read few (Some book) front None status text told is = (inr (record { start = start; gap = gap; words = words; input = i; accepted = read; small = few; run = told }), is)
+polled r i start gap words read few (Some book) front None status text told is = (inr (inl (record { start = start; gap = gap; words = words; input = i; accepted = read; small = few; run = told })), is)
 polled r i start gap words read few (Some book) front (Some nodes) status text told is = absurd told
 polled r i start gap words read few None front nodes status text told is = absurd told
+
+-- values that were kept of an input that was read
+pub valued : (r : Reading) (i : Input) → words_of r.words ≡ Some Values → WasRead r i → input_bound i < 2 ^ 27
+    → (book : Option Book) (front : ℕ) (nodes : Option (List NodeState)) (status : ℕ) (text : List ℕ)
+    → AreValues i (losses i) book front nodes text → status ≡ 0 → IsServed r book front nodes status text
+valued r i words read few (Some book) front None status text told is = (inr (inr (record { words = words; input = i; accepted = read; small = few; run = told })), is)
+valued r i words read few (Some book) front (Some nodes) status text told is = absurd told
+valued r i words read few None front nodes status text told is = absurd told
 
 -- the counts of a run within its bound are few
 abbrev pub FewCounts : Type 0

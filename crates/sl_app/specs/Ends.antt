@@ -34,9 +34,9 @@ use Rattle.sl_check.specs.declared.answer.CheckFault.TheVariants as check
 use Rattle.sl_check.specs.Answer.{IsChecked}
 use Rattle.sl_check.specs.AnswerText.{answer_text}
 use Rattle.sl_proto.specs.Nodes.{NodeState}
-use Rattle.sl_emul.specs.Run.{IsRunBook}
+use Rattle.sl_proto.specs.RunBook.{IsRunBook}
 use Rattle.sl_emul.specs.Threaded.{HasRested, IsThreadedBook}
-use Rattle.sl_app.specs.Served.{IsPrinted, IsTabledRun, IsPolledRun, IsSampleText, states_of}
+use Rattle.sl_app.specs.Served.{IsPrinted, IsTabledRun, IsPolledRun, IsValuedRun, IsSampleText, states_of}
 
 -- the words, and the source before and after: the bytes left, where it tells them, and its count of faults
 pub record Reading : Type 0 where
@@ -134,6 +134,7 @@ reads_input (Some (command.Run trace)) = Unit {0}
 reads_input (Some command.Routes) = Unit {0}
 reads_input (Some command.Balance) = Unit {0}
 reads_input (Some (command.Poll start gap)) = Unit {0}
+reads_input (Some command.Values) = Unit {0}
 reads_input _ = ⊥
 
 -- the same, or a stream
@@ -209,6 +210,14 @@ pub record IsPolled (r : Reading) (book : List Entry) (front : ℕ) (text : List
   pub small : input_bound input < 2 ^ 27
   pub run : IsPolledRun input (losses input) book front start gap text
 
+-- an input was run, with this book, and the text is that of its values
+pub record IsValued (r : Reading) (book : List Entry) (front : ℕ) (text : List ℕ) : Type 0 where
+  pub words : words_of r.words ≡ Some command.Values
+  pub input : Input
+  pub accepted : WasRead r input
+  pub small : input_bound input < 2 ^ 27
+  pub run : IsValuedRun input (losses input) book front text
+
 -- the text of the routes of an input's net
 pub record IsRouted (r : Reading) (text : List ℕ) : Type 0 where
   pub words : words_of r.words ≡ Some command.Routes
@@ -234,11 +243,12 @@ pub record IsAnswered (r : Reading) (status : ℕ) (text : List ℕ) : Type 0 wh
   pub text_is : text ≡ answer_text answer
   pub status_is : status ≡ answer_status answer
 
--- what is served, with the status that it has once it is written: a run, the table or the reading of one of the script, for which there is no node, or
--- a text for which there is no book either
+-- what is served, with the status that it has once it is written: a run; the table, the reading or the values of one of the script, for which there is
+-- no node; or a text for which there is no book either
 abbrev pub IsServed : Reading → Option Book → ℕ → Option (List NodeState) → ℕ → List ℕ → Type 0
 IsServed r (Some book) front (Some nodes) status text = (IsStepped r book.entries front nodes text ⊎ IsThreaded r book.entries front nodes text) × (status ≡ 0)
-IsServed r (Some book) front None status text = (IsBalanced r book.entries front text ⊎ IsPolled r book.entries front text) × (status ≡ 0)
+IsServed r (Some book) front None status text =
+    (IsBalanced r book.entries front text ⊎ (IsPolled r book.entries front text ⊎ IsValued r book.entries front text)) × (status ≡ 0)
 IsServed r None front None status text = (((IsRouted r text ⊎ IsSampled r text) × (status ≡ 0)) ⊎ IsAnswered r status text) × (front ≡ 0)
 IsServed r _ front _ status text = ⊥
 

@@ -16,7 +16,8 @@ use Rattle.sl_proto.specs.declared.node.Node.{Node}
 use Rattle.sl_proto.specs.Nodes.{NodeState, node_state}
 use Rattle.sl_emul.specs.declared.fault.EmulFault.{EmulFault}
 use Rattle.sl_emul.specs.declared.fault.EmulFault.TheVariants.{TooMany, Memory as OutOfMemory}
-use Rattle.sl_emul.specs.Run.{IsRunBook, AreNodesOf}
+use Rattle.sl_proto.specs.RunBook.{IsRunBook}
+use Rattle.sl_emul.specs.Run.{AreNodesOf}
 use Rattle.sl_emul.specs.Threaded.{IsThreadedBook}
 use Rattle.sl_app.specs.declared.run.Served.{Served}
 use Rattle.sl_balance.specs.Balance.{balance}
@@ -26,6 +27,8 @@ use Rattle.sl_poll.specs.PollText.{poll_text}
 use Rattle.sl_report.specs.Report.{report_text}
 use Rattle.sl_report.specs.TraceText.{trace_text}
 use Rattle.sl_report.specs.SummaryText.{summary_text}
+use Rattle.sl_value.specs.Verdicts.{value_list}
+use Rattle.sl_value.specs.ValuesText.{values_text}
 
 -- the report of a run, and where it is asked for, the trace of its book
 abbrev pub run_text : Input → Losses → List Entry → Bool → List ℕ
@@ -80,6 +83,21 @@ pub record IsPolledRun (i : Input) (lost : Losses) (book : List Entry) (front st
 abbrev pub IsReading : Input → Losses → Option Book → ℕ → Option (List NodeState) → ℕ → ℕ → List ℕ → Type 0
 IsReading i lost (Some book) front None start gap text = IsPolledRun i lost book.entries front start gap text
 IsReading i lost _ front _ start gap text = ⊥
+
+-- the values of a run: of each snapshot the verdict, and where it is whole what each unit counted before its id reached it
+abbrev pub valued_text : Input → Losses → List Entry → List ℕ
+valued_text i lost book = values_text i.net (value_list i lost book)
+    (findings (setup_of i) lost (schedule_of book)).sent (findings (setup_of i) lost (schedule_of book)).delivered
+
+-- the book of a run under a loss table, and the text of its values
+pub record IsValuedRun (i : Input) (lost : Losses) (book : List Entry) (front : ℕ) (text : List ℕ) : Type 0 where
+  pub run : IsRunBook i lost book front
+  pub text_is : text ≡ valued_text i lost book
+
+-- values, with the book of their run
+abbrev pub AreValues : Input → Losses → Option Book → ℕ → Option (List NodeState) → List ℕ → Type 0
+AreValues i lost (Some book) front None text = IsValuedRun i lost book.entries front text
+AreValues i lost _ front _ text = ⊥
 
 -- the summary of the findings of a run of a sample's input
 pub record IsSummary (number : ℕ) (i : Input) (text : List ℕ) : Type 0 where

@@ -17,7 +17,7 @@ status_of Memory = 6
 status_of (TooMany line) = 7
 
 unfoldable pub refusal_text : Refusal → List ℕ
-refusal_text Usage = codes "speedlight: usage: speedlight step [--trace] | run [--trace] | routes | sample N [--input] | check | balance | poll S G\n"
+refusal_text Usage = codes "speedlight: usage: speedlight step [--trace] | run [--trace] | routes | sample N [--input] | values | check | balance | poll S G\n"
 refusal_text (Input line) = line.items
 refusal_text (Stream line) = line.items
 refusal_text ReadFault = codes "speedlight: read fault\n"

@@ -44,7 +44,7 @@ impl Refusal {
     {
         match self {
             Refusal::Usage => {
-                b"speedlight: usage: speedlight step [--trace] | run [--trace] | routes | sample N [--input] | check | balance | poll S G\n"
+                b"speedlight: usage: speedlight step [--trace] | run [--trace] | routes | sample N [--input] | values | check | balance | poll S G\n"
             }
             Refusal::Input(line) => line.as_slice(),
             Refusal::Stream(line) => line.as_slice(),

@@ -1,5 +1,5 @@
 // A law of what runs print. The function calls another law: its contract is the law.
-ghost use Rattle.sl_emul.specs.Run.{IsRunBook};
+ghost use Rattle.sl_proto.specs.RunBook.{IsRunBook};
 ghost use Rattle.sl_emul.specs.Threaded.{IsThreadedBook};
 ghost use Rattle.sl_app.specs.Printed.{IsRightOf};
 

@@ -9,6 +9,7 @@ mod sample;
 mod stream;
 mod table;
 mod top;
+mod valued;
 
 pub use ended::{Ended, Refusal};
 pub use laws::printed_runs_are_checked;

@@ -2,7 +2,7 @@
 ghost use Rattle.std.specs.Prelude.{◌≡◌, IfOk};
 ghost use Rattle.sl_model.specs.Books.{schedule_of};
 ghost use Rattle.sl_model.specs.Losses.{losses};
-ghost use Rattle.sl_emul.specs.Run.{CanRun};
+ghost use Rattle.sl_proto.specs.RunBook.{CanRun};
 ghost use Rattle.sl_app.specs.Served.{IsReading, states_of};
 
 use crate::run::Served;

@@ -9,7 +9,7 @@ ghost use Rattle.sl_model.specs.Findings.{findings};
 ghost use Rattle.sl_report.specs.RoutesText.{routes_text};
 ghost use Rattle.sl_report.specs.TraceText.{IsEntryOf, trace_text};
 ghost use Rattle.sl_proto.specs.Nodes.{node_state};
-ghost use Rattle.sl_emul.specs.Run.{CanRun, IsRunBook};
+ghost use Rattle.sl_proto.specs.RunBook.{CanRun, IsRunBook};
 ghost use Rattle.sl_app.specs.Served.{run_text, IsReport, ServesThreads, states_of};
 
 use sl_actor::Gate;

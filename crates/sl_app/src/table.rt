@@ -2,7 +2,7 @@
 ghost use Rattle.std.specs.Prelude.{◌≡◌, ◌<◌, ◌^◌, IfOk};
 ghost use Rattle.sl_model.specs.Bound.{input_bound};
 ghost use Rattle.sl_model.specs.Losses.{losses};
-ghost use Rattle.sl_emul.specs.Run.{CanRun};
+ghost use Rattle.sl_proto.specs.RunBook.{CanRun};
 ghost use Rattle.sl_app.specs.Served.{IsTable, states_of};
 
 use crate::run::Served;

@@ -1,6 +1,9 @@
 // The top call.
-ghost use Rattle.std.specs.Prelude.{◌≡◌, ◌≤◌, Some, None, IfOk};
+ghost use Rattle.std.specs.Prelude.{◌≡◌, ◌<◌, ◌≤◌, ◌^◌, Some, None, IfOk};
 ghost use Rattle.sl_flow.specs.Sample.{IsSampleNumber};
+ghost use Rattle.sl_model.specs.Bound.{bound_of, input_bound};
+ghost use Rattle.sl_model.specs.Setup.{setup_of};
+ghost use Rattle.sl_proto.specs.RunBook.{CanRun};
 ghost use Rattle.sl_words.specs.Words.{words_of};
 ghost use Rattle.sl_words.specs.declared.command.Command.TheVariants as command;
 ghost use Rattle.sl_app.specs.Texts.{many_text};
@@ -12,13 +15,13 @@ use crate::run::{Served, only_text, serve_routes, serve_run, serve_threads};
 use crate::sample::sample_bytes;
 use crate::stream::{refused_stream, serve_answer};
 use crate::table::serve_balance;
+use crate::valued::serve_values;
 use sl_actor::Gate;
-use sl_check::check_bytes;
+use sl_check::{accepted_inputs_can_run, check_bytes};
 use sl_emul::EmulFault;
 use sl_io::{ReadFault, Sink, Source, read_all, write_all};
 use sl_model::input_bounds_are_small;
 use sl_net::Input;
-use sl_proto::passes_are_choices;
 use sl_read::{InputFault, read_input};
 use sl_report::fault_bytes;
 use sl_words::{Command, words_of};
@@ -46,8 +49,13 @@ fn refused(alloc: Global, fault: &InputFault) -> Refusal
 fn accept<I: Source>(alloc: Global, words: &[String], input: &mut I) -> Result<Input, Refusal>
     requires input { reads_input (words_of (texts_of words.now)) }
     requires source { reads (words_of (texts_of words.now)) }
-    ensures { Accepts (reading I.Source (texts_of words.now) input.old input.new) result }
+    ensures accepts { Accepts (reading I.Source (texts_of words.now) input.old input.new) result }
+    ensures can { IfOk result CanRun }
+    ensures small { IfOk result (λ i. input_bound i < 2 ^ 27) }
+    ensures threads { IfOk result (λ i. bound_of (setup_of i) 0 < 2 ^ 27) }
 {
+    accepted_inputs_can_run();
+    input_bounds_are_small();
     let bytes = match read_all(alloc, input, LIMIT) {
         Ok(bytes) => bytes,
         Err(ReadFault::Failed) => return Err(Refusal::ReadFault),
@@ -69,8 +77,6 @@ fn step<I: Source>(
     requires { words_of (texts_of words.now) ≡ Some (command.Step trace) }
     ensures { Serves (reading I.Source (texts_of words.now) input.old input.new) result }
 {
-    passes_are_choices();
-    input_bounds_are_small();
     let accepted = accept(alloc, words, input)?;
     match serve_run(alloc, &accepted, trace) {
         Ok(served) => Ok(served),
@@ -107,8 +113,6 @@ fn run<R: Threads + Wait + Sync, I: Source, G: Gate + Sync>(
     requires { words_of (texts_of words.now) ≡ Some (command.Run trace) }
     ensures { Serves (reading I.Source (texts_of words.now) input.old input.new) result }
 {
-    passes_are_choices();
-    input_bounds_are_small();
     let accepted = match accept(alloc, words, input) {
         Ok(accepted) => accepted,
         Err(refusal) => return Err(refusal),
@@ -143,8 +147,6 @@ fn balance<I: Source>(alloc: Global, words: &[String], input: &mut I) -> Result<
     requires { words_of (texts_of words.now) ≡ Some command.Balance }
     ensures { Serves (reading I.Source (texts_of words.now) input.old input.new) result }
 {
-    passes_are_choices();
-    input_bounds_are_small();
     let accepted = accept(alloc, words, input)?;
     match serve_balance(alloc, &accepted) {
         Ok(served) => Ok(served),
@@ -162,10 +164,19 @@ fn poll<I: Source>(
     requires { words_of (texts_of words.now) ≡ Some (command.Poll start gap) }
     ensures { Serves (reading I.Source (texts_of words.now) input.old input.new) result }
 {
-    passes_are_choices();
-    input_bounds_are_small();
     let accepted = accept(alloc, words, input)?;
     match serve_poll(alloc, &accepted, start, gap) {
+        Ok(served) => Ok(served),
+        Err(_) => Err(Refusal::Memory),
+    }
+}
+
+fn values<I: Source>(alloc: Global, words: &[String], input: &mut I) -> Result<Served, Refusal>
+    requires { words_of (texts_of words.now) ≡ Some command.Values }
+    ensures { Serves (reading I.Source (texts_of words.now) input.old input.new) result }
+{
+    let accepted = accept(alloc, words, input)?;
+    match serve_values(alloc, &accepted) {
         Ok(served) => Ok(served),
         Err(_) => Err(Refusal::Memory),
     }
@@ -202,6 +213,7 @@ fn serve<I: Source>(alloc: Global, words: &[String], input: &mut I) -> Result<Se
         Ok(Some(Command::Check)) => check(alloc, words, input),
         Ok(Some(Command::Balance)) => balance(alloc, words, input),
         Ok(Some(Command::Poll(start, gap))) => poll(alloc, words, start, gap, input),
+        Ok(Some(Command::Values)) => values(alloc, words, input),
         Ok(Some(Command::Routes)) => routes(alloc, words, input),
         Ok(Some(Command::Sample(number, text))) => sample(alloc, number, text),
         Ok(Some(Command::Run(_))) => unreachable!(),

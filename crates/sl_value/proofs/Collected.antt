@@ -1,11 +1,14 @@
 -- In a finished world each control plane keeps the value of each snapshot that is issued and not pending.
-use Rattle.std.proofs.Common.{◌≡◌, ℕ, zero, suc, ◌+◌, ◌-◌, ◌<◌, ◌≤◌, List, [], ◌∷◌, ◌++◌, map, refl, sym, ap, subst, ◌∙◌, Option, Some, None, arith, inl, inr}
-use Rattle.std.specs.Prelude.{Bool, true, false, cond, ◌==◌, nat_eq, nat_le, min, ◌⊎◌, slice_get, IsTrue}
+use Rattle.std.proofs.Common.{◌≡◌, ℕ, suc, ◌+◌, ◌-◌, ◌<◌, ◌≤◌, List, [], ◌∷◌, ◌++◌, map, refl, sym, ap, subst, ◌∙◌, Option, Some, None, arith, inl, inr}
+use Rattle.std.specs.Prelude.{Bool, true, false, cond, ◌==◌, nat_eq, nat_le, min, ◌⊎◌, slice_get, option_map, IsTrue}
 use Rattle.std.specs.List.{fold}
 use Rattle.std.proofs.lemmas.Bool.{lt-ltb, le-ltb, le-leb, lt-leb, cases_lt, ne_eqb}
 use Rattle.std.proofs.lemmas.Bool.Decides.{eqb_tells}
+use Rattle.std.proofs.lemmas.List.{map-append}
+use Rattle.std.proofs.lemmas.Option.{slice_get-map}
 use Rattle.sl_parts.specs.Parts.{numbers_from}
 use Rattle.sl_parts.specs.Lists.{Each, Member}
+use Rattle.sl_parts.proofs.Lists.{each-of, each-at, member-parts, number-found}
 use Rattle.sl_layout.specs.declared.actor.ActorId.TheVariants.{Unit as OfUnit}
 use Rattle.sl_layout.specs.declared.actor.UnitId.{UnitId}
 use Rattle.sl_layout.specs.declared.actor.Sort.{Sort}
@@ -32,8 +35,8 @@ use Rattle.sl_value.specs.Reading.{counted}
 use Rattle.sl_value.specs.Valued.{UnitValues, value_of, value_in}
 use Rattle.sl_value.specs.Standing.{values_told, kept_told, AreKept}
 use Rattle.sl_value.specs.Verdicts.{lagging, value_verdict, valued}
-use Rattle.sl_value.proofs.Told.{map-append, counted-first}
-use Rattle.sl_value.proofs.Takes.{IsJoined, joined, each-of, each-at}
+use Rattle.sl_value.proofs.Told.{counted-first}
+use Rattle.sl_value.proofs.Takes.{IsJoined, joined}
 
 -- What is known grows on its way.
 
@@ -86,15 +89,13 @@ fold-above k n f (c ∷ cs) h e = let q = e.0 in fold-above k (min n (f c)) f cs
 -- The entry of a unit among those that are kept.
 
 number-at : (f : ℕ → Whole) (n m j : ℕ) → j < m → slice_get (map f (numbers_from n m)) j ≡ Some (f (n + j))
-number-at f n zero j h = absurd (omega arith)
-number-at f n (suc m) zero h = let z : n ≡ n + 0 = omega arith in ap (λ x. Some (f x)) z
-number-at f n (suc m) (suc j) h = let z : suc n + j ≡ n + suc j = omega arith in number-at f (suc n) m j (omega arith) ∙ ap (λ x. Some (f x)) z
+number-at f n m j h = slice_get-map f (numbers_from n m) j ∙ ap (option_map f) (number-found n m j h)
 
-value-number : (f : ℕ → Whole) (m k : ℕ) → 1 ≤ k → k ≤ m → value_of (map f (numbers_from 1 m)) k ≡ Some (f k)
+pub value-number : (f : ℕ → Whole) (m k : ℕ) → 1 ≤ k → k ≤ m → value_of (map f (numbers_from 1 m)) k ≡ Some (f k)
 value-number f m k one le = let z : 1 + (k - 1) ≡ k = omega (arith, one) in
     ap (λ b. cond b None (slice_get (map f (numbers_from 1 m)) (k - 1))) (ne_eqb k 0 (λ e. omega (arith, e, one))) ∙ number-at f 1 m (k - 1) (omega (arith, one, le)) ∙ ap (λ x. Some (f x)) z
 
-entry-of : (net : Net) (us : ℕ → History) (a u k : ℕ) (i : UnitId) (z : IsWired net) → actor_of net u ≡ OfUnit i → (r : Reports net u) → (ks : List ℕ) → Each (λ x. IsJoined net a x) ks → Member r.poll ks
+pub entry-of : (net : Net) (us : ℕ → History) (a u k : ℕ) (i : UnitId) (z : IsWired net) → actor_of net u ≡ OfUnit i → (r : Reports net u) → (ks : List ℕ) → Each (λ x. IsJoined net a x) ks → Member r.poll ks
     → value_in (map (kept_told net us a) (map (serving net a) ks)) (unit_place net u) k ≡ value_of (kept_told net us a (serving net a r.poll)).values k
 entry-of net us a u k i z q r [] j m = absurd m
 entry-of net us a u k i z q r (x ∷ xs) j m = by_tells (eqb_tells (unit_place net (link_of net x).to) (unit_place net u)) m (λ n. entry-of net us a u k i z q r xs j.1 n)
@@ -160,15 +161,6 @@ valued-is n net w k = by_issued (nat_le k (issued net (observer w)))
     by_issued true = judged-whole (first_told (λ u. lag net k u (history w u)) (units net)) (first_told (λ u. cause n k (history w u)) (units net))
     by_issued false = refl
 
-member-append : (c : ℕ) (xs ys : List ℕ) → Member c (xs ++ ys) → Member c xs ⊎ Member c ys
-member-append c [] ys m = inr m
-member-append c (x ∷ xs) ys (inl e) = inl (inl e)
-member-append c (x ∷ xs) ys (inr m) = by_part (member-append c xs ys m)
-  where
-    by_part : Member c xs ⊎ Member c ys → Member c (x ∷ xs) ⊎ Member c ys
-    by_part (inl m) = inl (inr m)
-    by_part (inr m) = inr m
-
 module _ (s : Setup) (lost : Losses) (w : World) (z : IsWired s.net) (window : IsInWindow s lost w) (known_are : KnownVerdicts s w) (u : ℕ) (i : UnitId) (q : actor_of s.net u ≡ OfUnit i) (r : Reports s.net u) where
   -- what the control plane was told of the unit
   abbrev told : History
@@ -181,7 +173,7 @@ module _ (s : Setup) (lost : Losses) (w : World) (z : IsWired s.net) (window : I
       ((window.knowledge u i q r).lasts (link_at s.net u c) into.is_link (subst (λ b. IsTrue b) (sym (ap is_stamped h.sort ∙ e)) refl) into.to)
 
   channel-followed : (c : ℕ) → Member c (data_channels s.net u) → IsFollowed s.net lost w u r (last c)
-  channel-followed c m = by_part (member-append c (choices_of s.net u Cable) (choices_of s.net u Crossbar) m)
+  channel-followed c m = by_part (member-parts c (choices_of s.net u Cable) (choices_of s.net u Crossbar) m)
     where
       by_part : Member c (choices_of s.net u Cable) ⊎ Member c (choices_of s.net u Crossbar) → IsFollowed s.net lost w u r (last c)
       by_part (inl m) = channel-of c Cable refl (each-at (IsChoice s.net u Cable) c (choices_of s.net u Cable) (z.ways.choices u Cable) m)

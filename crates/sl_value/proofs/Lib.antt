@@ -12,4 +12,7 @@ mod Counts
 mod Stand
 mod Collected
 mod Listed
+mod Answered
+mod ControlList
 mod Outcomes
+pub mod Texts

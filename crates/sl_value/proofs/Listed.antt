@@ -1,25 +1,18 @@
 -- Lists that are made one element after the other.
 use Rattle.std.proofs.Common.{◌≡◌, ℕ, zero, suc, ◌+◌, ◌<◌, List, [], ◌∷◌, ◌++◌, length, map, take, refl, sym, ap, ◌∙◌, Option, Some, arith, add-one, append_assoc, append-nil}
 use Rattle.std.specs.Prelude.{slice_index, slice_get}
+use Rattle.std.proofs.lemmas.List.{map-append, map_more}
 use Rattle.sl_model.specs.Words.{listed, numbers}
 use Rattle.sl_parts.specs.Parts.{numbers_from}
-use Rattle.sl_value.proofs.Told.{numbers-split, map-append}
-
-take-next : {B : Type 0} (f : ℕ → B) (xs : List ℕ) (i : ℕ) → i < length xs → map f (take (suc i) xs) ≡ map f (take i xs) ++ f (slice_index xs i) ∷ []
-take-next f [] i h = absurd (omega arith)
-take-next f (x ∷ xs) zero h = refl
-take-next f (x ∷ xs) (suc i) h = ap (λ ys. f x ∷ ys) (take-next f xs i (omega arith))
+use Rattle.sl_value.proofs.Told.{numbers-split}
 
 -- with the next element
 pub next-of : {B : Type 0} (f : ℕ → B) (xs : List ℕ) (i : ℕ) (ys : List B) (y : B) → i < length xs → ys ≡ map f (take i xs) → y ≡ f (slice_index xs i) → ys ++ y ∷ [] ≡ map f (take (i + 1) xs)
-next-of f xs i ys y h e q = ap (λ zs. zs ++ y ∷ []) e ∙ ap (λ z. map f (take i xs) ++ z ∷ []) q ∙ sym (take-next f xs i h) ∙ sym (ap (λ n. map f (take n xs)) (add-one i))
+next-of f xs i ys y h e q = ap (λ zs. zs ++ y ∷ []) e ∙ ap (λ z. map f (take i xs) ++ z ∷ []) q ∙ sym (map_more f xs i 0 h)
 
 pub next-number : {B : Type 0} (f : ℕ → B) (n : ℕ) (ys : List B) (y : B) → ys ≡ map f (numbers_from 1 n) → y ≡ f (n + 1) → ys ++ y ∷ [] ≡ map f (numbers_from 1 (n + 1))
 next-number f n ys y e q = let z : 1 + n ≡ n + 1 = omega arith in
     ap (λ zs. zs ++ y ∷ []) e ∙ ap (λ z. map f (numbers_from 1 n) ++ z ∷ []) (q ∙ sym (ap f z)) ∙ sym (map-append f (numbers_from 1 n) ((1 + n) ∷ [])) ∙ sym (ap (map f) (numbers-split 1 n 1))
-
-pub some-value : {A : Type 0} (o : Option A) (x y : A) → o ≡ Some x → o ≡ Some y → x ≡ y
-some-value o x y e q = let z : Some x ≡ Some y = sym e ∙ q in cc
 
 numbers-take : {A : Type 0} (f : A → Option ℕ) (xs : List A) (i : ℕ) (x : A) → slice_get xs i ≡ Some x → numbers f (take (suc i) xs) ≡ numbers f (take i xs) ++ listed (f x)
 numbers-take f [] i x e = absurd (cc)
@@ -32,3 +25,7 @@ numbers-next f xs i x ns ms e n m = m ∙ ap (λ ns. ns ++ listed (f x)) n ∙ s
 pub numbers-map : {A B : Type 0} (f : B → Option ℕ) (g : A → B) (xs : List A) → numbers f (map g xs) ≡ numbers (λ x. f (g x)) xs
 numbers-map f g [] = refl
 numbers-map f g (x ∷ xs) = ap (λ ns. listed (f (g x)) ++ ns) (numbers-map f g xs)
+
+pub numbers-append : {A : Type 0} (f : A → Option ℕ) (xs ys : List A) → numbers f (xs ++ ys) ≡ numbers f xs ++ numbers f ys
+numbers-append f [] ys = refl
+numbers-append f (x ∷ xs) ys = ap (λ ns. listed (f x) ++ ns) (numbers-append f xs ys) ∙ sym (append_assoc (listed (f x)) (numbers f xs) (numbers f ys))

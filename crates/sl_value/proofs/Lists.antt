@@ -1,7 +1,8 @@
 -- Lists whose elements are changed one after the other.
-use Rattle.std.proofs.Common.{◌≡◌, ℕ, zero, suc, ◌<◌, List, [], ◌∷◌, ◌++◌, length, map, take, drop, get_or, refl, ap, ◌∙◌, arith}
+use Rattle.std.proofs.Common.{◌≡◌, ℕ, zero, suc, ◌<◌, List, [], ◌∷◌, ◌++◌, length, map, take, drop, get_or, sym, ap, ◌∙◌, arith}
 use Rattle.std.specs.Prelude.{slice_set}
 use Rattle.std.specs.List.{AllByRecursion}
+use Rattle.std.proofs.lemmas.List.{map-set, set-get_or, get_or-map}
 
 -- the elements up to a place are changed by f, and so is the next
 pub next-changed : {A : Type 0} (f : A → A) (xs : List A) (i : ℕ) (x y : A) → i < length xs → x ≡ get_or (map f (take i xs) ++ drop i xs) i x → y ≡ f x
@@ -10,25 +11,10 @@ next-changed f [] i x y h e q = absurd (omega arith)
 next-changed f (z ∷ zs) zero x y h e q = ap (λ w. w ∷ zs) (q ∙ ap f e)
 next-changed f (z ∷ zs) (suc i) x y h e q = ap (λ r. f z ∷ r) (next-changed f zs i x y (omega arith) e q)
 
-pub map-set : {A B : Type 0} (g : A → B) (xs : List A) (i : ℕ) (y : A) → map g (slice_set xs i y) ≡ slice_set (map g xs) i (g y)
-map-set g [] i y = refl
-map-set g (x ∷ xs) zero y = refl
-map-set g (x ∷ xs) (suc i) y = ap (λ r. g x ∷ r) (map-set g xs i y)
-
-pub map-at : {A B : Type 0} (g : A → B) (xs : List A) (i : ℕ) (x : A) → x ≡ get_or xs i x → g x ≡ get_or (map g xs) i (g x)
-map-at g [] i x e = refl
-map-at g (z ∷ zs) zero x e = ap g e
-map-at g (z ∷ zs) (suc i) x e = map-at g zs i x e
-
-pub set-same : {A : Type 0} (xs : List A) (i : ℕ) (x y : A) → x ≡ get_or xs i x → y ≡ x → slice_set xs i y ≡ xs
-set-same [] i x y e q = refl
-set-same (z ∷ zs) zero x y e q = ap (λ w. w ∷ zs) (q ∙ e)
-set-same (z ∷ zs) (suc i) x y e q = ap (λ r. z ∷ r) (set-same zs i x y e q)
-
-pub all-here : {A : Type 0} (P : A → Type 0) (xs : List A) (i : ℕ) (x : A) → i < length xs → x ≡ get_or xs i x → AllByRecursion P (drop i xs) → P x
-all-here P [] i x h e all = absurd (omega arith)
-all-here P (z ∷ zs) zero x h e all = rw e all.0
-all-here P (z ∷ zs) (suc i) x h e all = all-here P zs i x (omega arith) e all
+-- an element is put in place of one that looks the same
+pub one-viewed : {A B : Type 0} (g : A → B) (xs : List A) (i : ℕ) (x y : A) → i < length xs → x ≡ get_or xs i x → g y ≡ g x
+    → map g (slice_set xs i y) ≡ map g xs
+one-viewed g xs i x y h e q = map-set g xs i y ∙ ap (slice_set (map g xs) i) (q ∙ ap g e ∙ sym (get_or-map g xs i x (g x) h)) ∙ set-get_or (map g xs) i (g x)
 
 pub all-after : {A : Type 0} (P : A → Type 0) (xs : List A) (i : ℕ) (y : A) → i < length xs → AllByRecursion P (drop i xs) → AllByRecursion P (drop (suc i) (slice_set xs i y))
 all-after P [] i y h all = absurd (omega arith)

@@ -1,6 +1,8 @@
 -- A scene of nodes that keep values takes the turns of the scene without the values.
-use Rattle.std.proofs.Common.{◌≡◌, ℕ, zero, suc, List, [], ◌∷◌, length, map, refl, sym, ap, ◌∙◌, Option, Some, None}
+use Rattle.std.proofs.Common.{◌≡◌, ℕ, suc, List, [], ◌∷◌, length, map, refl, sym, ap, ◌∙◌, Option, Some, None}
 use Rattle.std.specs.Prelude.{Bool, true, false, cond, nat_lt, slice_get, slice_set, option_map, unwrap_or}
+use Rattle.std.proofs.lemmas.List.{map-set}
+use Rattle.std.proofs.lemmas.Option.{slice_get-map}
 use Rattle.sl_machine.specs.Machine.{After}
 use Rattle.sl_machine.specs.Plan.{link_in}
 use Rattle.sl_layout.specs.Net.{Net}
@@ -10,12 +12,6 @@ use Rattle.sl_world.specs.Scene.{Line, Scene, done, without_first, take_first, t
 use Rattle.sl_proto.specs.Nodes.{NodeState, ObserverNode, ControlNode, UnitNode, HostNode, as_node, node_rules}
 use Rattle.sl_value.specs.Valued.{with_kept}
 use Rattle.sl_value.specs.Nodes.{ValueNodeState, Other, Valued, value_node_rules, with_values, with_all, plain, plain_scene}
-use Rattle.sl_value.proofs.Lists.{map-set}
-
-pub get-map : {A B : Type 0} (f : A → B) (xs : List A) (i : ℕ) → slice_get (map f xs) i ≡ option_map f (slice_get xs i)
-get-map f [] i = refl
-get-map f (x ∷ xs) zero = refl
-get-map f (x ∷ xs) (suc i) = get-map f xs i
 
 take-plain : (s : ValueNodeState) (c : ℕ) (m : Msg) → node_rules.take (plain s) c m ≡ as_node plain (value_node_rules.take s c m)
 take-plain (Other s) c m = refl
@@ -64,8 +60,8 @@ turn-plain w actor choice = by_link (nat_lt (link_in w.plan.links actor choice) 
 
     by_link : (b : Bool) → cond b (take_turn node_rules (plain_scene w) actor choice link (slice_get (map plain w.states) actor) (slice_get w.lines link)) (act_turn node_rules (plain_scene w) actor choice (slice_get (map plain w.states) actor))
         ≡ option_map plain_scene (cond b (take_turn value_node_rules w actor choice link (slice_get w.states actor) (slice_get w.lines link)) (act_turn value_node_rules w actor choice (slice_get w.states actor)))
-    by_link true = ap (λ o. take_turn node_rules (plain_scene w) actor choice link o (slice_get w.lines link)) (get-map plain w.states actor) ∙ turned-plain w actor choice link (slice_get w.states actor) (slice_get w.lines link)
-    by_link false = ap (act_turn node_rules (plain_scene w) actor choice) (get-map plain w.states actor) ∙ acted-plain w actor choice (slice_get w.states actor)
+    by_link true = ap (λ o. take_turn node_rules (plain_scene w) actor choice link o (slice_get w.lines link)) (slice_get-map plain w.states actor) ∙ turned-plain w actor choice link (slice_get w.states actor) (slice_get w.lines link)
+    by_link false = ap (act_turn node_rules (plain_scene w) actor choice) (slice_get-map plain w.states actor) ∙ acted-plain w actor choice (slice_get w.states actor)
 
 pub after-plain : (w : Scene ValueNodeState Msg) (e : ℕ × ℕ) → plain_scene (after_turn value_node_rules w e) ≡ after_turn node_rules (plain_scene w) e
 after-plain w e = by_turn (turn_of value_node_rules w e.0 e.1) ∙ sym (ap (λ o. unwrap_or o (plain_scene w)) (turn-plain w e.0 e.1))

@@ -27,7 +27,7 @@ all-true t (x ∷ xs) e = let p = both (t x) (list_all t xs) e in (p.0, all-true
 
 -- Numbers.
 
-least-below : (n : ℕ) (xs : List ℕ) → fold min n xs ≤ n
+pub least-below : (n : ℕ) (xs : List ℕ) → fold min n xs ≤ n
 least-below n [] = omega arith
 least-below n (x ∷ xs) = omega (arith, least-below (min n x) xs)
 

@@ -1,6 +1,7 @@
 -- The world of nodes that keep values goes on to be what the turns of its book make of the first one.
 use Rattle.std.proofs.Common.{◌≡◌, ℕ, ◌+◌, List, [], ◌∷◌, ◌++◌, take, refl, sym, ap, subst, ◌∙◌, Some, None, Ok, Err}
 use Rattle.std.specs.Prelude.{Result, OnOk, OnErr, option_map}
+use Rattle.std.proofs.lemmas.List.{map-append}
 use Rattle.sl_machine.specs.declared.wiring.Entry.{Entry}
 use Rattle.sl_net.specs.Input.{Input}
 use Rattle.sl_wire.specs.declared.message.Msg.{Msg}
@@ -10,7 +11,6 @@ use Rattle.sl_proto.specs.Nodes.{node_rules}
 use Rattle.sl_value.specs.Nodes.{ValueNodeState, value_node_rules, plain_scene}
 use Rattle.sl_value.specs.Run.{first_scene_of, IsValueRun}
 use Rattle.sl_value.proofs.Plain.{turn-plain, after-plain, all-plain}
-use Rattle.sl_value.proofs.Told.{map-append}
 
 -- What the laws of worlds say.
 

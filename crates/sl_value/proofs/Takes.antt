@@ -7,6 +7,7 @@ use Rattle.std.proofs.lemmas.Bool.Decides.{eqb_tells}
 use Rattle.std.proofs.lemmas.Simd.{map-map}
 use Rattle.sl_parts.specs.Parts.{numbers_from}
 use Rattle.sl_parts.specs.Lists.{Each, Member}
+use Rattle.sl_parts.proofs.Lists.{each-of, each-at}
 use Rattle.sl_layout.specs.declared.actor.ActorId.TheVariants.{Control, Unit as OfUnit}
 use Rattle.sl_layout.specs.declared.actor.UnitId.{UnitId}
 use Rattle.sl_layout.specs.declared.actor.Sort.TheVariants.{Poll, Dump}
@@ -41,15 +42,6 @@ use Rattle.sl_value.proofs.Reports.{first-append, each-in-span, both}
 use Rattle.sl_value.proofs.Told.{heard-nothing, heard-other, heard-here, upto-id, values-grow, values-same}
 
 -- Lists.
-
-pub each-of : {A : Type 0} (P : A → Type 0) (xs : List A) → ((x : A) → Member x xs → P x) → Each P xs
-each-of P [] h = tt
-each-of P (x ∷ xs) h = (h x (inl refl), each-of P xs (λ y m. h y (inr m)))
-
-pub each-at : {A : Type 0} (P : A → Type 0) (x : A) (xs : List A) → Each P xs → Member x xs → P x
-each-at P x [] h m = absurd m
-each-at P x (y ∷ ys) h (inl e) = subst P (sym e) h.0
-each-at P x (y ∷ ys) h (inr m) = each-at P x ys h.1 m
 
 pub each-unmap : {A B : Type 0} (P : B → Type 0) (f : A → B) (xs : List A) → Each P (map f xs) → Each (λ x. P (f x)) xs
 each-unmap P f [] h = tt

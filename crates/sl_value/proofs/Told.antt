@@ -1,9 +1,9 @@
 -- The values of what was told of units: what a step changes of them, and what more of a history adds.
-use Rattle.std.proofs.Common.{◌≡◌, ℕ, zero, suc, ◌+◌, ◌-◌, ◌<◌, ◌≤◌, List, [], ◌∷◌, ◌++◌, length, map, refl, sym, ap, subst, ◌∙◌, Option, Some, None, arith, inl, inr, append-nil}
-use Rattle.std.specs.Prelude.{Bool, true, false, ◌==◌, nat_eq, ◌⊎◌, if◌then◌else◌, min, unwrap_or, option_and_then}
-use Rattle.std.specs.List.{fold}
+use Rattle.std.proofs.Common.{◌≡◌, ℕ, zero, suc, ◌+◌, ◌-◌, ◌<◌, ◌≤◌, [], ◌∷◌, ◌++◌, length, map, refl, sym, ap, subst, ◌∙◌, Option, Some, None, arith, inl, inr, append-nil}
+use Rattle.std.specs.Prelude.{Bool, true, false, ◌==◌, nat_eq, ◌⊎◌, if◌then◌else◌, unwrap_or, option_and_then}
 use Rattle.std.proofs.lemmas.Bool.{lt-ltb, le-ltb, cases_lt}
 use Rattle.std.proofs.lemmas.Bool.Decides.{eqb_tells}
+use Rattle.std.proofs.lemmas.List.{map-append}
 use Rattle.sl_parts.specs.Parts.{numbers_from}
 use Rattle.sl_layout.specs.Net.{Net, data_channels}
 use Rattle.sl_control.specs.Rows.{span}
@@ -16,6 +16,7 @@ use Rattle.sl_value.specs.declared.whole.Whole.{Whole}
 use Rattle.sl_value.specs.Reading.{counted}
 use Rattle.sl_value.specs.Standing.{values_told}
 use Rattle.sl_value.proofs.Counting.{before-step}
+use Rattle.sl_value.proofs.Reports.{least-below}
 
 -- What is heard by a choice.
 
@@ -46,10 +47,6 @@ heard-here f c n s h q e = by_tells (eqb_tells s.choice c)
     by_tells (inr t) = absurd (t.1 q)
 
 -- More of a history.
-
-least-below : (n : ℕ) (xs : List ℕ) → fold min n xs ≤ n
-least-below n [] = omega arith
-least-below n (x ∷ xs) = omega (arith, least-below (min n x) xs)
 
 pub upto-id : (net : Net) (u : ℕ) (g : History) → upto_of net u g ≤ id g
 upto-id net u g = least-below (id g) (map (λ c. last c g) (data_channels net u))
@@ -87,10 +84,6 @@ numbers-split n (suc a) b = let e : suc a + b ≡ suc (a + b) = omega arith in l
 pub numbers-span : (a b : ℕ) → a ≤ b → numbers_from 1 b ≡ numbers_from 1 a ++ span a b
 numbers-span a b h = let e : b ≡ a + (b - a) = omega (arith, h) in let f : 1 + a ≡ suc a = omega arith in
     ap (numbers_from 1) e ∙ numbers-split 1 a (b - a) ∙ ap (λ m. numbers_from 1 a ++ numbers_from m (b - a)) f
-
-pub map-append : {A B : Type 0} (f : A → B) (xs ys : List A) → map f (xs ++ ys) ≡ map f xs ++ map f ys
-map-append f [] ys = refl
-map-append f (x ∷ xs) ys = ap (λ zs. f x ∷ zs) (map-append f xs ys)
 
 -- two functions on the numbers of a list, each of which is at most b
 map-below : (f g : ℕ → Whole) (b n count : ℕ) → n + count ≤ suc b → ((k : ℕ) → k ≤ b → f k ≡ g k) → map f (numbers_from n count) ≡ map g (numbers_from n count)

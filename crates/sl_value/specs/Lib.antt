@@ -7,3 +7,4 @@ pub mod Run
 pub mod Verdicts
 pub mod Outcome
 pub mod Controls
+pub mod ValuesText

@@ -2,8 +2,10 @@
 --     values_told net u g        the values of a unit u of which the history g was told: of the numbers that the unit had reached
 --     AreKept net us a kept      what the control plane a keeps are the values of the units that it serves
 --     ValueStands s table w a state    in the world w this is the state of the actor a; table is the snapshot table
-use Rattle.std.specs.Prelude.{◌≡◌, ℕ, List, map}
+--     AnswersAsTold net us a kept      where what the control plane a keeps has a value of a unit for a number, and which
+use Rattle.std.specs.Prelude.{◌≡◌, ℕ, ◌<◌, ◌≤◌, List, map, Option, Some, None}
 use Rattle.sl_parts.specs.Parts.{numbers_from}
+use Rattle.sl_parts.specs.Lists.{Each}
 use Rattle.sl_layout.specs.declared.actor.ActorId.{ActorId}
 use Rattle.sl_layout.specs.declared.actor.ActorId.TheVariants.{Control}
 use Rattle.sl_layout.specs.Net.{Net, actor_of, unit_place}
@@ -15,7 +17,7 @@ use Rattle.sl_model.specs.Knowledge.{upto_of, told_of}
 use Rattle.sl_proto.specs.Meaning.{NodeStands}
 use Rattle.sl_value.specs.declared.whole.Whole.{Whole}
 use Rattle.sl_value.specs.Reading.{counted}
-use Rattle.sl_value.specs.Valued.{UnitValues}
+use Rattle.sl_value.specs.Valued.{UnitValues, value_in}
 use Rattle.sl_value.specs.Nodes.{ValueNodeState, Other, Valued, plain}
 
 abbrev pub values_told : Net → ℕ → History → List Whole
@@ -39,3 +41,14 @@ KeepsValues net w a (Valued s) = AreKept net (history w) a s.kept
 pub record ValueStands (s : Setup) (table : Snapshot) (w : World) (a : ℕ) (state : ValueNodeState) : Type 0 where
   pub node : NodeStands s table w a (plain state)
   pub values : KeepsValues s.net w a state
+
+-- What is answered of a unit u of which the history g was told: for a number from 1 up to that of its collected rows what it counted in g, and no more.
+pub record IsToldOf (net : Net) (u : ℕ) (g : History) (answer : ℕ → Option Whole) : Type 0 where
+  pub collected : (k : ℕ) → 1 ≤ k → k ≤ upto_of net u g → answer k ≡ Some (counted k g)
+  pub zero : answer 0 ≡ None
+  pub above : (k : ℕ) → upto_of net u g < k → answer k ≡ None
+
+-- so of each unit that the control plane a serves, and nothing for a place where none of these is
+pub record AnswersAsTold (net : Net) (us : ℕ → History) (a : ℕ) (kept : List UnitValues) : Type 0 where
+  pub units : Each (λ v. IsToldOf net v.unit (told_of us v (us a)) (λ k. value_in kept (unit_place net v.unit) k)) (served net a)
+  pub others : (place k : ℕ) → Each (λ v. unit_place net v.unit ≡ place → ⊥) (served net a) → value_in kept place k ≡ None

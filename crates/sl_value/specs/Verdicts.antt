@@ -1,14 +1,21 @@
 -- The verdicts on snapshots in the variant without channel state (Yaseen, Sonchack and Liu 2018), where a skipped number has the next saved value.
 --     value_verdict net w k    the verdict on the snapshot k in a world: pending, or not issued, as the snapshot is, or else whole
 --     value_finding net w k    the verdict, with what each unit counted before its id reached k where it is whole
+--     value_list i lost book   these of all snapshots of an input, in the world that a book leads to
 --     valued v                 the verdict, where v is the one with channel state
 use Rattle.std.specs.Prelude.{ℕ, List, [], map, nat_le, Option, Some, None, if◌then◌else◌}
+use Rattle.sl_machine.specs.declared.wiring.Entry.{Entry as BookEntry}
+use Rattle.sl_parts.specs.Parts.{numbers_from}
 use Rattle.sl_layout.specs.Net.{Net, units}
+use Rattle.sl_net.specs.Input.{Input}
 use Rattle.sl_model.specs.declared.verdict.Lag.{Lag}
 use Rattle.sl_model.specs.declared.verdict.Verdict.{Verdict}
 use Rattle.sl_model.specs.declared.verdict.Verdict.TheVariants as with_channels
 use Rattle.sl_model.specs.Words.{first_told}
-use Rattle.sl_model.specs.History.{World, history}
+use Rattle.sl_model.specs.Books.{schedule_of}
+use Rattle.sl_model.specs.History.{World, Losses, history}
+use Rattle.sl_model.specs.Setup.{setup_of}
+use Rattle.sl_model.specs.World.{world}
 use Rattle.sl_model.specs.Knowledge.{observer, issued, floor}
 use Rattle.sl_model.specs.Verdict.{lag, floor_holder}
 use Rattle.sl_value.specs.declared.whole.Whole.{Whole}
@@ -30,6 +37,10 @@ values_for net w k _ = []
 
 abbrev pub value_finding : Net → World → ℕ → ValueFinding
 value_finding net w k = record { k = k; verdict = value_verdict net w k; values = values_for net w k (value_verdict net w k) }
+
+-- the findings of the input's snapshots in the world that a book leads to
+abbrev pub value_list : Input → Losses → List BookEntry → List ValueFinding
+value_list i lost book = map (value_finding i.net (world (setup_of i) lost (schedule_of book))) (numbers_from 1 i.snapshot.count)
 
 abbrev pub valued : Verdict → ValueVerdict
 valued (with_channels.Pending unit lag) = Pending unit lag

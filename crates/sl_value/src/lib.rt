@@ -7,20 +7,24 @@ mod kept;
 mod laws;
 mod meaning;
 mod node;
-mod place;
 mod read;
 mod run;
 mod tell;
+mod text;
 mod verdict;
 mod whole;
 mod world;
 
 pub use control::ValueControl;
 pub use laws::values_are_counts;
-pub use meaning::{ValueMeaning, values_change_no_turn, values_follow, values_stand_for_histories};
+pub use meaning::{
+    ValueMeaning, values_are_those_collected, values_change_no_turn, values_follow,
+    values_stand_for_histories,
+};
 pub use node::ValueNode;
 pub use read::read_value;
 pub use run::{ValueRun, run_values};
+pub use text::values_bytes;
 pub use verdict::{ValueFinding, ValueList, ValueVerdict, Values};
 pub use whole::Whole;
 pub use world::ValueWorld;

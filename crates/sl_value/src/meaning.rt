@@ -1,11 +1,14 @@
 // What nodes that keep values stand for, over all schedules. The functions do nothing: their
 // contracts are the laws, and the proofs are in proofs/.
 ghost use Rattle.std.specs.Prelude.{◌≡◌, ◌<◌, ◌^◌, ℕ, Some, length, slice_get};
+ghost use Rattle.sl_net.specs.declared.input.Snapshot.{Snapshot};
 ghost use Rattle.sl_net.specs.Input.{Input};
+ghost use Rattle.sl_net.specs.Wired.{IsNet};
 ghost use Rattle.sl_unit.specs.Made.{IsRanged};
 ghost use Rattle.sl_model.specs.Books.{schedule_of};
+ghost use Rattle.sl_model.specs.History.{World, history};
 ghost use Rattle.sl_model.specs.Losses.{losses};
-ghost use Rattle.sl_model.specs.Setup.{setup_of};
+ghost use Rattle.sl_model.specs.Setup.{Setup, setup_of};
 ghost use Rattle.sl_model.specs.World.{world};
 ghost use Rattle.sl_world.specs.Scene.{Scene};
 ghost use Rattle.sl_wire.specs.declared.message.Msg.{Msg};
@@ -16,9 +19,9 @@ ghost use Rattle.sl_proto.specs.Machines.{FollowHistories};
 ghost use Rattle.sl_proto.specs.Meaning.{IsRunnable};
 ghost use Rattle.sl_proto.specs.Standing.{Case, case_of, StandsFor};
 ghost use Rattle.sl_value.specs.Valued.{ValueState, value_take, value_act, forget};
-ghost use Rattle.sl_value.specs.Nodes.{ValueNodeState, value_node_rules, plain_scene};
+ghost use Rattle.sl_value.specs.Nodes.{ValueNodeState, Valued, value_node_rules, plain_scene};
 ghost use Rattle.sl_value.specs.Run.{IsValueRun};
-ghost use Rattle.sl_value.specs.Standing.{ValueStands};
+ghost use Rattle.sl_value.specs.Standing.{ValueStands, AnswersAsTold};
 
 use crate::laws::values_are_counts;
 use sl_image::dumps_are_unwrapped;
@@ -72,4 +75,15 @@ pub fn values_stand_for_histories()
     machines_stand_for_histories::<ValueMeaning>();
     nodes_start();
     worlds_take_turns()
+}
+
+/// A control plane that stands for its history has, of each unit that it serves, the value of each
+/// number from 1 up to that of the rows that it collected of the unit, and it is what the unit had
+/// counted before its id reached the number. It has none for 0, for a number above that, and for a
+/// unit that it does not serve.
+pub fn values_are_those_collected()
+    ensures { (s : Setup) (table : Snapshot) (w : World) (a : ℕ) (state : ValueState) → IsNet s.net → ValueStands s table w a (Valued state)
+        → AnswersAsTold s.net (history w) a state.kept }
+{
+    nets_are_wired()
 }

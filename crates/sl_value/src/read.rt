@@ -3,9 +3,8 @@ ghost use Rattle.std.specs.Prelude.{◌≡◌, ◌+◌, ◌<◌, ◌≤◌, leng
 ghost use Rattle.sl_saves.specs.Views.{IsLive};
 ghost use Rattle.sl_value.specs.Reading.{value_read};
 
-use crate::place::place_below;
 use crate::whole::Whole;
-use sl_saves::View;
+use sl_saves::{View, place_below};
 
 /// What a view of the number `id` gives for the number `k`: the counters of the least number, from
 /// `k` on, that was saved. It takes no memory.

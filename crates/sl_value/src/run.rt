@@ -1,18 +1,17 @@
 // The run of an input on nodes that keep values.
 ghost use Rattle.std.specs.Prelude.{◌≡◌, ◌<◌, ◌^◌, ◌++◌, ◌∷◌, [], IfOk, OnOk, length, map};
-ghost use Rattle.sl_parts.specs.Parts.{numbers_from};
+ghost use Rattle.std.specs.List.{All};
 ghost use Rattle.sl_model.specs.Losses.{losses};
 ghost use Rattle.sl_model.specs.Setup.{setup_of};
 ghost use Rattle.sl_model.specs.Books.{schedule_of};
-ghost use Rattle.sl_model.specs.World.{world};
 ghost use Rattle.sl_model.specs.Findings.{findings};
 ghost use Rattle.sl_model.specs.Words.{listed, numbers};
 ghost use Rattle.sl_proto.specs.Standing.{case_of, StandsFor, HasObserver};
 ghost use Rattle.sl_proto.specs.Told.{sent_told, delivered_told};
-ghost use Rattle.sl_emul.specs.Run.{CanRun, IsRunBook};
+ghost use Rattle.sl_proto.specs.RunBook.{CanRun, IsRunBook};
 ghost use Rattle.sl_value.specs.Nodes.{plain, plain_scene, value_node_state};
-ghost use Rattle.sl_value.specs.Verdicts.{value_finding};
-ghost use Rattle.sl_value.specs.Controls.{controls_in, AreControls};
+ghost use Rattle.sl_value.specs.Verdicts.{value_list};
+ghost use Rattle.sl_value.specs.Controls.{controls_in, AreControls, IsAnswered};
 
 use crate::control::ValueControl;
 use crate::meaning::values_stand_for_histories;
@@ -20,11 +19,10 @@ use crate::node::ValueNode;
 use crate::tell::list;
 use crate::verdict::ValueList;
 use crate::world::ValueWorld;
-use sl_emul::run_script;
 use sl_machine::{Book, Memory};
 use sl_model::{Counts, finished_verdicts_are_known, worlds_are_in_window};
 use sl_net::{Input, nets_are_wired};
-use sl_proto::{Node, Taker, nodes_tell_findings};
+use sl_proto::{Node, Taker, nodes_tell_findings, run_script};
 use std::alloc::Global;
 
 /// What a run leaves: its book, how many of its entries come before finishing, a finding for each
@@ -138,10 +136,11 @@ fn controls(alloc: Global, mut nodes: Vec<ValueNode>) -> Result<Vec<ValueControl
 pub fn run_values(alloc: Global, input: &Input) -> Result<ValueRun, Memory>
     requires { CanRun input.now }
     ensures book { IfOk result (λ r. IsRunBook input.now (losses input.now) r.book.entries r.front) }
-    ensures list { IfOk result (λ r. r.list ≡ map (value_finding input.now.net (world (setup_of input.now) (losses input.now) (schedule_of r.book.entries))) (numbers_from 1 input.now.snapshot.count)) }
+    ensures list { IfOk result (λ r. r.list ≡ value_list input.now (losses input.now) r.book.entries) }
     ensures sent { IfOk result (λ r. r.sent ≡ (findings (setup_of input.now) (losses input.now) (schedule_of r.book.entries)).sent) }
     ensures delivered { IfOk result (λ r. r.delivered ≡ (findings (setup_of input.now) (losses input.now) (schedule_of r.book.entries)).delivered) }
-    ensures controls { IfOk result (λ r. AreControls input.now (world (setup_of input.now) (losses input.now) (schedule_of r.book.entries)) (map (λ c. c.state) r.controls.items)) }
+    ensures answered { IfOk result (λ r. All (IsAnswered input.now.net (map (λ c. c.state) r.controls.items)) r.list) }
+    ensures controls { IfOk result (λ r. AreControls input.now r.book.entries (map (λ c. c.state) r.controls.items)) }
 {
     nets_are_wired();
     nodes_tell_findings();

@@ -76,7 +76,7 @@ fn value_nodes(alloc: Global, input: &Input) -> Result<Vec<ValueNode>, Memory>
 }
 
 impl<'a> ValueWorld<'a> {
-    ghost use Rattle.sl_emul.specs.Finishing.{IsFirstScene};
+    ghost use Rattle.sl_proto.specs.RunBook.{IsFirstScene};
     ghost use Rattle.sl_value.specs.Nodes.{plain_scene};
     ghost use Rattle.sl_layout.specs.Net.{units};
     ghost use Rattle.sl_value.specs.Run.{IsValueRun};

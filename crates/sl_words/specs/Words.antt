@@ -9,7 +9,7 @@ use Rattle.clap.specs.Walk.{Rule}
 use Rattle.sl_words.specs.declared.flags.Flag.{Flag}
 use Rattle.sl_words.specs.declared.flags.Flag.TheVariants.{Trace, Input}
 use Rattle.sl_words.specs.declared.command.Command.{Command}
-use Rattle.sl_words.specs.declared.command.Command.TheVariants.{Step, Run, Routes, Sample, Check, Balance, Poll}
+use Rattle.sl_words.specs.declared.command.Command.TheVariants.{Step, Run, Routes, Sample, Check, Balance, Poll, Values}
 use Rattle.clap.specs.declared.builder.action.ArgAction.TheVariants.{SetTrue}
 
 abbrev pub dashes : List ℕ
@@ -107,6 +107,9 @@ balance_of ws = option_map (λ asked. Balance) (ends false ws)
 abbrev pub poll_of : List (List ℕ) → Option Command
 poll_of ws = option_map (λ p. Poll p.0 p.1) (poll_words ws)
 
+abbrev pub values_of : List (List ℕ) → Option Command
+values_of ws = option_map (λ asked. Values) (ends false ws)
+
 -- the first word is the command's name
 abbrev pub command_of : List ℕ → List (List ℕ) → Option Command
 command_of w ws =
@@ -117,6 +120,7 @@ command_of w ws =
     else if bytes_eq w (codes "check") then check_of ws
     else if bytes_eq w (codes "balance") then balance_of ws
     else if bytes_eq w (codes "poll") then poll_of ws
+    else if bytes_eq w (codes "values") then values_of ws
     else None
 
 abbrev pub words_of : List (List ℕ) → Option Command

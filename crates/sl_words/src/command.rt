@@ -1,6 +1,6 @@
 // The command that words ask for.
 ghost use Rattle.std.specs.Prelude.{◌≡◌, IfOk, IfSome, map, string_bytes, is_some, false};
-ghost use Rattle.sl_words.specs.Words.{ends, step_of, run_of, routes_of, sample_of, check_of, balance_of, poll_of, command_of, words_of, HasNumber};
+ghost use Rattle.sl_words.specs.Words.{ends, step_of, run_of, routes_of, sample_of, check_of, balance_of, poll_of, values_of, command_of, words_of, HasNumber};
 
 use crate::flags::{Flag, flag_words};
 use crate::poll::poll_words;
@@ -26,6 +26,8 @@ pub enum Command {
     /// `poll` with its two numbers, each up to 1,000,000: after how many entries the first unit is
     /// read, and after how many more each further one.
     Poll(u64, u64),
+    /// `values`.
+    Values,
 }
 
 fn step_words(alloc: Global, words: &[String]) -> Result<Option<Command>, Memory>
@@ -48,7 +50,7 @@ fn run_words(alloc: Global, words: &[String]) -> Result<Option<Command>, Memory>
     }
 }
 
-/// `routes`, `check` and `balance` have no option: what is one elsewhere is refused.
+/// `routes`, `check`, `balance` and `values` have no option: what is one elsewhere is refused.
 #[tactic(auto, using(crate::proofs::RouteLemmas::no_option))]
 fn is_bare(alloc: Global, words: &[String]) -> Result<bool, Memory>
     ensures { IfOk result (λ fits. fits ≡ is_some (ends false (map string_bytes words.now))) }
@@ -112,6 +114,17 @@ fn poll_command(words: &[String]) -> Option<Command>
     }
 }
 
+fn values_words(alloc: Global, words: &[String]) -> Result<Option<Command>, Memory>
+    ensures command { IfOk result (λ c. c ≡ values_of (map string_bytes words.now)) }
+    ensures number { IfOk result (λ c. IfSome c HasNumber) }
+{
+    if is_bare(alloc, words)? {
+        Ok(Some(Command::Values))
+    } else {
+        Ok(None)
+    }
+}
+
 fn command_of(alloc: Global, name: &str, words: &[String]) -> Result<Option<Command>, Memory>
     ensures command { IfOk result (λ c. c ≡ command_of name.now (map string_bytes words.now)) }
     ensures number { IfOk result (λ c. IfSome c HasNumber) }
@@ -130,6 +143,8 @@ fn command_of(alloc: Global, name: &str, words: &[String]) -> Result<Option<Comm
         balance_words(alloc, words)
     } else if name == "poll" {
         Ok(poll_command(words))
+    } else if name == "values" {
+        values_words(alloc, words)
     } else {
         Ok(None)
     }

@@ -9,7 +9,7 @@ use Rattle.sl_model.specs.World.{IsLegal}
 use Rattle.sl_poll.specs.PollText.{poll_text}
 use Rattle.sl_poll.specs.Reading.{reads, broken_by}
 use Rattle.sl_emul.specs.declared.run.Run.{Run}
-use Rattle.sl_emul.specs.Run.{IsRunBook}
+use Rattle.sl_proto.specs.RunBook.{IsRunBook}
 use Rattle.sl_app.proofs.polling.serve_poll.Goals as goal
 
 pub poll_of-requires : goal.poll_of-requires

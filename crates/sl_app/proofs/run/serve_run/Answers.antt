@@ -1,5 +1,5 @@
 use Rattle.sl_model.specs.Losses.{losses}
-use Rattle.sl_emul.specs.Run.{IsRunBook}
+use Rattle.sl_proto.specs.RunBook.{IsRunBook}
 use Rattle.sl_app.proofs.RunLemmas.{report-of}
 use Rattle.sl_app.proofs.run.serve_run.Goals as goal
 

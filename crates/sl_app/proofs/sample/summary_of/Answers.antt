@@ -3,7 +3,7 @@ use Rattle.std.proofs.lemmas.Result.{IfOk-weaker}
 use Rattle.sl_net.specs.Input.{Input}
 use Rattle.sl_flow.specs.Sample.{IsSample}
 use Rattle.sl_report.specs.SummaryText.{summary_text}
-use Rattle.sl_emul.specs.Run.{CanRun}
+use Rattle.sl_proto.specs.RunBook.{CanRun}
 use Rattle.sl_app.specs.Served.{IsSummary}
 use Rattle.sl_app.proofs.RunLemmas.{sample_runs}
 use Rattle.sl_app.proofs.sample.summary_of.Goals as goal

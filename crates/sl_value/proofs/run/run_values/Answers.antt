@@ -1,4 +1,5 @@
-use Rattle.std.proofs.Common.{ℕ, List, map, sym, ap, subst, ◌∙◌}
+use Rattle.std.proofs.Common.{◌≡◌, ℕ, List, map, sym, ap, subst, ◌∙◌}
+use Rattle.std.specs.List.{All}
 use Rattle.std.proofs.lemmas.List.{length-map}
 use Rattle.sl_machine.specs.declared.wiring.Entry.{Entry}
 use Rattle.sl_parts.specs.Parts.{numbers_from}
@@ -10,13 +11,15 @@ use Rattle.sl_model.specs.Losses.{losses}
 use Rattle.sl_model.specs.Setup.{setup_of}
 use Rattle.sl_model.specs.World.{world}
 use Rattle.sl_proto.specs.Told.{sent_told, delivered_told}
+use Rattle.sl_value.specs.Valued.{ValueState}
 use Rattle.sl_value.specs.Nodes.{plain, plain_scene}
 use Rattle.sl_value.specs.Run.{IsValueRun}
 use Rattle.sl_value.specs.Verdicts.{value_finding}
-use Rattle.sl_value.specs.Controls.{controls_in, AreControls}
+use Rattle.sl_value.specs.Controls.{controls_in, AreControls, IsAnswered}
 use Rattle.sl_value.specs.Outcome.{CanList}
 use Rattle.sl_value.proofs.Listed.{numbers-map}
-use Rattle.sl_value.proofs.Outcomes.{can-list}
+use Rattle.sl_value.proofs.ControlList.{are-controls}
+use Rattle.sl_value.proofs.Outcomes.{can-list, answered}
 use Rattle.sl_value.proofs.run.run_values.Goals as goal
 
 pub list-requires : goal.list-requires
@@ -30,10 +33,11 @@ list-requires c =
     let finished = e.book.ended.finished in
     let run : IsValueRun i w.scene = subst (λ (j : Input). IsValueRun j w.scene) e.input c.is_run.ensures in
     let can : CanList (record { scene = w.scene; input = i }) o i.snapshot.count =
-    can-list i w.scene o (c.nets_are_wired.ensures i.net c.requires.net) e.stands (c.nodes_tell_findings.ensures.rows i (losses i) (plain_scene w.scene) o e.stands c.observer.ensures)
-    (c.nodes_tell_findings.ensures.told i (losses i) (plain_scene w.scene) o e.stands c.observer.ensures e.few finished)
+    can-list i w.scene (c.nets_are_wired.ensures i.net c.requires.net) e.stands
     (c.worlds_are_in_window.ensures s (losses i) es c.requires.net) (λ k le. c.finished_verdicts_are_known.ensures s (losses i) es k c.requires.net finished le)
-    (λ a state here. c.values_stand_for_histories.ensures i w.scene run e.stands c.requires.snapshot e.few a state here) in
+    (λ a state here. c.values_stand_for_histories.ensures i w.scene run e.stands c.requires.snapshot e.few a state here)
+    o (c.nodes_tell_findings.ensures.rows i (losses i) (plain_scene w.scene) o e.stands c.observer.ensures)
+    (c.nodes_tell_findings.ensures.told i (losses i) (plain_scene w.scene) o e.stands c.observer.ensures e.few finished) in
     subst (λ (n : ℕ). CanList w o n) (sym (ap (λ (j : Input). j.snapshot.count) c.input.view_is))
     (subst (λ (j : Input). CanList (record { scene = w.scene; input = j }) o i.snapshot.count) (sym e.input) can)
 
@@ -64,15 +68,37 @@ returns-clause-delivered c =
     ∙ ap (λ (f : Findings). f.delivered) (c.nodes_tell_findings.ensures.told i (losses i) (plain_scene w.scene) c.observer.result.now.state e.stands c.observer.ensures e.few e.book.ended.finished)
     ∙ ap (λ (b : List Entry). (findings (setup_of i) (losses i) (schedule_of b)).delivered) (sym c.into_parts-nodes.ensures.book)
 
+pub returns-clause-answered : goal.returns-clause-answered
+returns-clause-answered c =
+    let i = c.args.input.now in
+    let w = c.in_ok-world.world in
+    let s = setup_of i in
+    let es = schedule_of w.scene.book in
+    let e = c.in_ok-world.ensures in
+    let run : IsValueRun i w.scene = subst (λ (j : Input). IsValueRun j w.scene) e.input c.is_run.ensures in
+    let list : c.in_ok-list.list ≡ map (value_finding i.net (world s (losses i) es)) (numbers_from 1 i.snapshot.count) =
+    c.in_ok-list.ensures
+    ∙ ap (λ (j : Input). map (value_finding j.net (world (setup_of j) (losses j) es)) (numbers_from 1 c.input.inside.snapshot.count)) e.input
+    ∙ ap (λ (j : Input). map (value_finding i.net (world s (losses i) es)) (numbers_from 1 j.snapshot.count)) c.input.view_is in
+    let controls : map (λ x. x.state) c.in_ok-controls.controls.items ≡ controls_in w.scene.states =
+    c.in_ok-controls.ensures ∙ ap controls_in c.into_parts-nodes.ensures.nodes in
+    subst (λ (cs : List ValueState). All (IsAnswered i.net cs) c.in_ok-list.list) (sym controls)
+    (subst (All (IsAnswered i.net (controls_in w.scene.states))) (sym list)
+    (answered i w.scene (c.nets_are_wired.ensures i.net c.requires.net) e.stands
+    (c.worlds_are_in_window.ensures s (losses i) es c.requires.net)
+    (λ k le. c.finished_verdicts_are_known.ensures s (losses i) es k c.requires.net e.book.ended.finished le)
+    (λ a state here. c.values_stand_for_histories.ensures i w.scene run e.stands c.requires.snapshot e.few a state here) c.requires.net i.snapshot.count))
+
 pub returns-clause-controls : goal.returns-clause-controls
 returns-clause-controls c =
     let i = c.args.input.now in
     let w = c.in_ok-world.world in
     let e = c.in_ok-world.ensures in
     let run : IsValueRun i w.scene = subst (λ (j : Input). IsValueRun j w.scene) e.input c.is_run.ensures in
-    subst (λ (b : List Entry). AreControls i (world (setup_of i) (losses i) (schedule_of b)) (map (λ x. x.state) c.in_ok-controls.controls.items)) (sym c.into_parts-nodes.ensures.book) (record {
-      nodes = w.scene.states;
-      each = sym (length-map w.scene.states plain) ∙ e.stands.image.states_each;
-      stand = λ a state here. c.values_stand_for_histories.ensures i w.scene run e.stands c.requires.snapshot e.few a state here;
-      are = c.in_ok-controls.ensures ∙ ap controls_in c.into_parts-nodes.ensures.nodes;
-    })
+    let controls : map (λ x. x.state) c.in_ok-controls.controls.items ≡ controls_in w.scene.states =
+    c.in_ok-controls.ensures ∙ ap controls_in c.into_parts-nodes.ensures.nodes in
+    subst (λ (b : List Entry). AreControls i b (map (λ x. x.state) c.in_ok-controls.controls.items)) (sym c.into_parts-nodes.ensures.book)
+    (subst (AreControls i w.scene.book) (sym controls)
+    (are-controls i w.scene.book w.scene.states c.requires.net (c.nets_are_wired.ensures i.net c.requires.net)
+    (sym (length-map w.scene.states plain) ∙ e.stands.image.states_each)
+    (λ a state here. c.values_stand_for_histories.ensures i w.scene run e.stands c.requires.snapshot e.few a state here)))

@@ -21,3 +21,9 @@ returns-then-eq-6 c = record { command = rw (sym c.if-eq.ensures, sym c.if-eq-2.
 
 pub returns-then-eq-7 : goal.returns-then-eq-7
 returns-then-eq-7 c = record { command = rw (sym c.if-eq.ensures, sym c.if-eq-2.ensures, sym c.if-eq-3.ensures, sym c.if-eq-4.ensures, sym c.if-eq-5.ensures, sym c.if-eq-6.ensures, sym c.if-eq-7.ensures) c.poll_command.ensures.command; number = c.poll_command.ensures.number }
+
+pub returns-then-eq-8 : goal.returns-then-eq-8
+returns-then-eq-8 c = record {
+  command = rw (sym c.if-eq.ensures, sym c.if-eq-2.ensures, sym c.if-eq-3.ensures, sym c.if-eq-4.ensures, sym c.if-eq-5.ensures, sym c.if-eq-6.ensures, sym c.if-eq-7.ensures, sym c.if-eq-8.ensures) c.values_words.ensures.command;
+  number = c.values_words.ensures.number;
+}

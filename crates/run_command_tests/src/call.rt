@@ -9,12 +9,17 @@ use std::test::Fail;
 use std::thread::Threads;
 
 /// A device with two hosts that send nothing, and three snapshots.
-pub const NO_PACKET: &str =
-    "device = [{name = \"a\", ports = 2}]\nhost = [{name = \"h0\", at = \"a.0\"}, {name = \"h1\", at = \"a.1\"}]\nsnapshot = {bits = 1, window = 1, ring = 1, count = 3, retries = 0}\n";
+pub const NO_PACKET: &str = r#"device = [{name = "a", ports = 2}]
+host = [{name = "h0", at = "a.0"}, {name = "h1", at = "a.1"}]
+snapshot = {bits = 1, window = 1, ring = 1, count = 3, retries = 0}
+"#;
 
 /// The same with three packets and one snapshot.
-pub const THREE_PACKETS: &str =
-    "device = [{name = \"a\", ports = 2}]\nhost = [{name = \"h0\", at = \"a.0\"}, {name = \"h1\", at = \"a.1\"}]\nflow = [{from = \"h0\", to = \"h1\", count = 3, bytes = 100, hops = 8}]\nsnapshot = {bits = 2, window = 3, ring = 3, count = 1, retries = 0}\n";
+pub const THREE_PACKETS: &str = r#"device = [{name = "a", ports = 2}]
+host = [{name = "h0", at = "a.0"}, {name = "h1", at = "a.1"}]
+flow = [{from = "h0", to = "h1", count = 3, bytes = 100, hops = 8}]
+snapshot = {bits = 2, window = 3, ring = 3, count = 1, retries = 0}
+"#;
 
 /// What a call left: its status, what it wrote, its book, and how many entries come before
 /// finishing.

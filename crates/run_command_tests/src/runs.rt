@@ -8,8 +8,30 @@ use std::test::Fail;
 use std::thread::Threads;
 
 /// What each run of three snapshots without a packet reports.
-const NO_PACKET_REPORT: &str =
-    "speedlight 1\nnetwork devices 1 units 4 hosts 2\nobserver count 3 issued 3 collected 3 resent 0\nsnapshot 1 consistent\nin a.0 0 0\nout a.0 0 0 x0 0 0 x1 0 0\nin a.1 0 0\nout a.1 0 0 x0 0 0 x1 0 0\nsnapshot 2 consistent\nin a.0 0 0\nout a.0 0 0 x0 0 0 x1 0 0\nin a.1 0 0\nout a.1 0 0 x0 0 0 x1 0 0\nsnapshot 3 consistent\nin a.0 0 0\nout a.0 0 0 x0 0 0 x1 0 0\nin a.1 0 0\nout a.1 0 0 x0 0 0 x1 0 0\nhost h0 sent 0 delivered 0\nhost h1 sent 0 delivered 0\ndrops bad 0 expired 0 noroute 0\nlost cable 0 crossbar 0 init 0 notice 0\nend\n";
+const NO_PACKET_REPORT: &str = r#"speedlight 1
+network devices 1 units 4 hosts 2
+observer count 3 issued 3 collected 3 resent 0
+snapshot 1 consistent
+in a.0 0 0
+out a.0 0 0 x0 0 0 x1 0 0
+in a.1 0 0
+out a.1 0 0 x0 0 0 x1 0 0
+snapshot 2 consistent
+in a.0 0 0
+out a.0 0 0 x0 0 0 x1 0 0
+in a.1 0 0
+out a.1 0 0 x0 0 0 x1 0 0
+snapshot 3 consistent
+in a.0 0 0
+out a.0 0 0 x0 0 0 x1 0 0
+in a.1 0 0
+out a.1 0 0 x0 0 0 x1 0 0
+host h0 sent 0 delivered 0
+host h1 sent 0 delivered 0
+drops bad 0 expired 0 noroute 0
+lost cable 0 crossbar 0 init 0 notice 0
+end
+"#;
 
 /// Whether two actors meet while the three snapshots are taken, and the report is the one it is.
 fn meet<R: Threads + Wait + Sync>(

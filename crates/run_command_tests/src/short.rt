@@ -8,8 +8,20 @@ use std::sync::Wait;
 use std::test::Fail;
 use std::thread::Threads;
 
-const REPORT: &str =
-    "speedlight 1\nnetwork devices 1 units 4 hosts 2\nobserver count 1 issued 1 collected 1 resent 0\nsnapshot 1 consistent\nin a.0 0 0\nout a.0 0 0 x0 0 0 x1 0 0\nin a.1 0 0\nout a.1 0 0 x0 0 0 x1 0 0\nhost h0 sent 3 delivered 0\nhost h1 sent 0 delivered 3\ndrops bad 0 expired 0 noroute 0\nlost cable 0 crossbar 0 init 0 notice 0\nend\n";
+const REPORT: &str = r#"speedlight 1
+network devices 1 units 4 hosts 2
+observer count 1 issued 1 collected 1 resent 0
+snapshot 1 consistent
+in a.0 0 0
+out a.0 0 0 x0 0 0 x1 0 0
+in a.1 0 0
+out a.1 0 0 x0 0 0 x1 0 0
+host h0 sent 3 delivered 0
+host h1 sent 0 delivered 3
+drops bad 0 expired 0 noroute 0
+lost cable 0 crossbar 0 init 0 notice 0
+end
+"#;
 
 fn sink(alloc: Global, fail: &[u64]) -> Result<Short<MemorySink>, Fail> {
     let inner = MemorySink::new(alloc, 4096, Vec::from_slice(alloc, fail)?)

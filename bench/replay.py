@@ -1050,8 +1050,8 @@ def frames_of(source, index):
     for flow in source.flows:
         if flow.source == names[index]:
             target = names.index(flow.target)
-            for _ in range(flow.count):
-                frames.append(plain_frame(Packet(index, target, len(frames), flow.bytes, flow.hops)))
+            packets = [Packet(index, target, number, flow.bytes, flow.hops) for number in range(flow.count)]
+            frames += [plain_frame(packet) for packet in packets]
     return frames + [raw.frame for raw in source.raws if raw.source == names[index]]
 
 

@@ -27,7 +27,7 @@ MEANINGS = {
     "id": "the sender's snapshot number, wrapped",
     "src": "the place of the sending host, from 0",
     "dst": "the place of the host that it is for, from 0",
-    "seq": "the packet's number at its host, from 0",
+    "seq": "the packet's number in its flow, from 0",
     "len": "the packet's bytes",
     "hops": "the switches that it may still go through",
     "version": "the version of the layout, 1 or 2 (1)",

@@ -1,4 +1,16 @@
-"""What a report says of a run that was replayed over whole histories, for the scripts beside this one."""
+"""What a call prints, and what a report says of a run that was replayed over whole histories, for the scripts beside this one."""
+
+import sys
+
+from speedlight_tools import program
+
+
+def answer(found, words, text):
+    """The lines that a call prints for an input. A call that fails ends the script."""
+    status, out, errors = program.run(found, words, text.encode())
+    if status != 0:
+        sys.exit(f"{program.fault(found, status, errors)}, of the input\n{text[:2000]}")
+    return out.decode().splitlines()
 
 
 class Cut:

@@ -2,9 +2,9 @@
 use Rattle.std.proofs.Common.{◌≡◌, ℕ, zero, suc, ◌<◌, List, [], ◌∷◌, ◌++◌, length, map, refl, ap, ◌∙◌, arith}
 use Rattle.std.specs.Prelude.{Option, Result, Ok, Err, IfOk, flat_map}
 use Rattle.std.proofs.lemmas.List.{length-map}
+use Rattle.std.proofs.lemmas.List.FromFn.{length-map-range_with_len}
 use Rattle.sl_machine.specs.Machine.{Counts}
 use Rattle.sl_parts.specs.Parts.{Parts, below}
-use Rattle.sl_parts.proofs.Lists.{length_below}
 use Rattle.sl_layout.specs.declared.actor.ActorId.TheVariants.{Observer, Control, Host}
 use Rattle.sl_net.specs.declared.input.Snapshot.{Snapshot}
 use Rattle.sl_layout.specs.Net.{Net, net_of, actor_of, units_of, place_of, links_into, links_from}
@@ -20,7 +20,7 @@ counts_at net a actions = record { ins = length (links_into net a); outs = lengt
 
 unit_links : (net : Net) (a : ℕ) (ports : List (Option ℕ)) (s : Snapshot) → counts_of (wires_of net a ports s) ≡ counts_at net a 0
 unit_links net a ports s =
-    ap (λ (n : ℕ). record { ins = n; outs = length (exits_of net a); actions = 0 }) (length_below (entrance_by net a) (length (links_into net a)))
+    ap (λ (n : ℕ). record { ins = n; outs = length (exits_of net a); actions = 0 }) (length-map-range_with_len (entrance_by net a) 0 (length (links_into net a)))
     ∙ ap (λ (n : ℕ). record { ins = length (links_into net a); outs = n; actions = 0 }) (length-map (links_from net a) (exit_by net))
 
 pub ingress_links : {E : Type 0} (made : Result Declared E) (net : Net) (a : ℕ) (n : Snapshot)

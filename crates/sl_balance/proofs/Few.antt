@@ -1,8 +1,7 @@
 -- The counts of a run of few entries are few.
 use Rattle.std.proofs.Common.{ℕ, zero, suc, ◌+◌, ◌<◌, ◌≤◌, ◌^◌, List, [], ◌∷◌, map, length, arith}
 use Rattle.std.specs.Prelude.{Bool, true, false, nat_lt, cond, Option, Some, None, slice_set}
-use Rattle.std.specs.List.{All}
-use Rattle.sl_parts.specs.Parts.{numbers_from}
+use Rattle.std.specs.List.{All, range_with_len}
 use Rattle.sl_parts.specs.Lists.{Each}
 use Rattle.sl_parts.proofs.Lists.{all-from_each, each-of, each-map}
 use Rattle.sl_layout.specs.declared.actor.ActorId.{ActorId}
@@ -67,6 +66,6 @@ module _ (fits : (h : History) → packets h ≤ length h) (s : Setup) (lost : L
 
   pub few-findings : All (λ f. AreFew f.rows) (findings s lost es).list
   few-findings = all-from_each (λ (f : Finding). AreFew f.rows) (findings s lost es).list
-      (each-map (λ (f : Finding). AreFew f.rows) (finding s.credits s.net lost (world s lost es)) (numbers_from 1 s.count)
-      (each-of (λ k. AreFew (finding s.credits s.net lost (world s lost es) k).rows) (numbers_from 1 s.count)
+      (each-map (λ (f : Finding). AreFew f.rows) (finding s.credits s.net lost (world s lost es)) (range_with_len 1 s.count)
+      (each-of (λ k. AreFew (finding s.credits s.net lost (world s lost es) k).rows) (range_with_len 1 s.count)
       (λ k m. all-from_each (λ (r : Row). r.packets < 2 ^ 40) (rows_for s.net lost (world s lost es) k (verdict s.credits s.net (world s lost es) k)) (few-rows k (verdict s.credits s.net (world s lost es) k)))))

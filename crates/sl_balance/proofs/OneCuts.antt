@@ -1,7 +1,7 @@
 -- Each line of the table of a run's findings is of one consistent cut.
 use Rattle.std.proofs.Common.{◌≡◌, ℕ, zero, suc, ◌<◌, List, [], ◌∷◌, map, length, get_or, refl, sym, ap, ◌∙◌, arith}
-use Rattle.std.specs.List.{All}
-use Rattle.sl_parts.specs.Parts.{below, numbers_from}
+use Rattle.std.specs.List.{All, range_with_len}
+use Rattle.sl_parts.specs.Parts.{below}
 use Rattle.sl_parts.specs.Lists.{Each}
 use Rattle.sl_parts.proofs.Lists.{all-from_each, each-flat, each-map, each-below, each-filter, each-from}
 use Rattle.sl_layout.specs.Net.{Net, actor_of, units}
@@ -49,8 +49,8 @@ module _ (n : ℕ) (net : Net) (lost : Losses) (w : World) (consistent : (k : �
   of_verdict k (Pending unit lag) e = tt
   of_verdict k (NotIssued unit floor) e = tt
 
-  pub of_findings : (count : ℕ) → All (IsOfOneCut n net lost w) (balance net (map (finding n net lost w) (numbers_from 1 count)))
-  of_findings count = all-from_each (IsOfOneCut n net lost w) (balance net (map (finding n net lost w) (numbers_from 1 count)))
-      (each-flat (IsOfOneCut n net lost w) (finding_lines net) (map (finding n net lost w) (numbers_from 1 count))
-      (each-map (λ (f : Finding). Each (IsOfOneCut n net lost w) (finding_lines net f)) (finding n net lost w) (numbers_from 1 count)
+  pub of_findings : (count : ℕ) → All (IsOfOneCut n net lost w) (balance net (map (finding n net lost w) (range_with_len 1 count)))
+  of_findings count = all-from_each (IsOfOneCut n net lost w) (balance net (map (finding n net lost w) (range_with_len 1 count)))
+      (each-flat (IsOfOneCut n net lost w) (finding_lines net) (map (finding n net lost w) (range_with_len 1 count))
+      (each-map (λ (f : Finding). Each (IsOfOneCut n net lost w) (finding_lines net f)) (finding n net lost w) (range_with_len 1 count)
       (each-from (λ k. Each (IsOfOneCut n net lost w) (finding_lines net (finding n net lost w k))) 1 count (λ k g h. of_verdict k (verdict n net w k) refl))))

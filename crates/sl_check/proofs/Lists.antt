@@ -1,7 +1,8 @@
 -- Elements of lists.
 use Rattle.std.proofs.Common.{◌≡◌, ℕ, zero, suc, ◌+◌, ◌<◌, ◌≤◌, arith, map, List, [], ◌∷◌, ◌++◌, true, false, Bool, filter, refl, sym, subst, inl, inr}
 use Rattle.std.specs.Prelude.{cond, flat_map}
-use Rattle.sl_parts.specs.Parts.{numbers_from, below}
+use Rattle.std.specs.List.{range_with_len}
+use Rattle.sl_parts.specs.Parts.{below}
 use Rattle.sl_parts.specs.Lists.{Each, Member}
 
 pub each-at : {A : Type 0} (P : A → Type 0) (x : A) (xs : List A) → Each P xs → Member x xs → P x
@@ -37,9 +38,9 @@ pub each-flat : {A B : Type 0} (P : B → Type 0) (f : A → List B) (xs : List 
 each-flat P f [] h = tt
 each-flat P f (x ∷ xs) h = each-append P (f x) (flat_map f xs) h.0 (each-flat P f xs h.1)
 
-each-from : (P : ℕ → Type 0) (start n : ℕ) → ((i : ℕ) → start ≤ i → i < start + n → P i) → Each P (numbers_from start n)
+each-from : (P : ℕ → Type 0) (start n : ℕ) → ((i : ℕ) → start ≤ i → i < start + n → P i) → Each P (range_with_len start n)
 each-from P start zero h = tt
-each-from P start (suc n) h = (h start (omega arith) (omega arith), each-from P (suc start) n (λ i p q. h i (omega arith) (omega arith)))
+each-from P start (suc n) h = (h start (omega arith) (omega arith), each-from P (start + 1) n (λ i p q. h i (omega arith) (omega arith)))
 
 pub each-below : (P : ℕ → Type 0) (n : ℕ) → ((i : ℕ) → i < n → P i) → Each P (below n)
 each-below P n h = each-from P 0 n (λ i p q. h i (omega arith))

@@ -1,16 +1,15 @@
 -- The numbers of a span one by one, and whether each can be read.
-use Rattle.std.proofs.Common.{◌≡◌, ℕ, suc, ◌+◌, ◌-◌, ◌<◌, ◌≤◌, List, [], ◌∷◌, length, refl, sym, ap, ◌∙◌, ◌⊎◌, inl, inr, arith}
+use Rattle.std.proofs.Common.{◌≡◌, ℕ, suc, ◌+◌, ◌-◌, ◌<◌, ◌≤◌, List, [], ◌∷◌, length, refl, sym, ap, ◌∙◌, ◌⊎◌, inl, inr, arith, add-one}
 use Rattle.std.specs.Prelude.{Bool, true, false, ◌&&◌, nat_lt, nat_le, ◌↔◌}
-use Rattle.std.specs.List.{list_all, AllByRecursion}
+use Rattle.std.specs.List.{list_all, AllByRecursion, range_with_len}
 use Rattle.std.proofs.lemmas.Bool.{leb-true, le-leb, lt-ltb, ltb-true, cases_lt}
-use Rattle.sl_parts.specs.Parts.{numbers_from}
 use Rattle.sl_saves.specs.declared.entry.View.{View}
 use Rattle.sl_saves.specs.Views.{Place, walk, IsLive}
 use Rattle.sl_control.specs.Rows.{span, is_live, is_readable}
 
 pub span-more : (a b : ℕ) → a < b → span a b ≡ (a + 1) ∷ span (a + 1) b
 span-more a b h = let e : b - a ≡ suc (b - (a + 1)) = omega arith in let s : suc a ≡ a + 1 = omega arith in
-    ap (numbers_from (suc a)) e ∙ ap (λ n. n ∷ numbers_from (suc n) (b - (a + 1))) s
+    ap (range_with_len (suc a)) e ∙ ap (λ n. n ∷ range_with_len (n + 1) (b - (a + 1))) s ∙ ap (λ n. (a + 1) ∷ range_with_len n (b - (a + 1))) (add-one (a + 1))
 
 all-live : (ps : List Place) → AllByRecursion (λ p. 1 ≤ p.slot.back) ps → list_all (λ p. nat_le 1 p.slot.back) ps ≡ true
 all-live [] h = refl

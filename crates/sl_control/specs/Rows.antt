@@ -1,7 +1,6 @@
 -- What a dump tells of a unit: the last-seen ids of its data channels, and its rows.
 use Rattle.std.specs.Prelude.{ℕ, suc, ◌+◌, ◌-◌, Bool, ◌&&◌, List, map, length, nat_lt, nat_le, ◌==◌, if◌then◌else◌, slice_index_or}
-use Rattle.std.specs.List.{list_all}
-use Rattle.sl_parts.specs.Parts.{numbers_from}
+use Rattle.std.specs.List.{list_all, range_with_len}
 use Rattle.sl_saves.specs.declared.entry.View.{View}
 use Rattle.sl_saves.specs.declared.entry.Saved.{Saved}
 use Rattle.sl_saves.specs.Calls.{channels}
@@ -9,7 +8,7 @@ use Rattle.sl_saves.specs.Views.{walk, read}
 
 -- the numbers above a, up to b
 abbrev pub span : ℕ → ℕ → List ℕ
-span a b = numbers_from (suc a) (b - a)
+span a b = range_with_len (suc a) (b - a)
 
 -- the last-seen ids of so many data channels, 0 past them
 abbrev pub seen_on : ℕ → List ℕ → List ℕ

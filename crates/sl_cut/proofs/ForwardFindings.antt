@@ -1,13 +1,14 @@
 -- Loops that judge and count.
 use Rattle.std.proofs.Common.{◌≡◌, ℕ, ◌+◌, ◌≤◌, List, [], ◌∷◌, length, refl, sym, ap, ◌∙◌, Option, Some, None, arith}
 use Rattle.std.specs.Prelude.{Bool, true, false, min, unwrap_or, slice_index_or, filter, cond}
+use Rattle.std.proofs.lemmas.List.FromFn.{length-range_with_len}
 use Rattle.sl_saves.specs.declared.entry.Total.{Total}
 use Rattle.sl_model.specs.Words.{weigh}
 use Rattle.sl_route.specs.Least.{least, least_in}
 use Rattle.sl_saves.specs.Keeping.{no_total}
 use Rattle.sl_model.specs.Findings.{eight_totals}
 use Rattle.sl_parts.specs.Parts.{below}
-use Rattle.sl_parts.proofs.Lists.{length_filter_le, length_numbers}
+use Rattle.sl_parts.proofs.Lists.{length_filter_le}
 use Rattle.sl_layout.specs.Net.{Net, actor_of, is_unit, units}
 
 -- The least of some numbers, with one before them.
@@ -59,4 +60,4 @@ weigh_passing f test (x ∷ xs) = by_test (test x) (weigh_passing f test xs)
 
 pub few_units : (net : Net) → length net.actors ≤ 1217 → length (units net) ≤ 1217
 few_units net h = let n = length net.actors in
-    omega (arith, h, length_filter_le (λ a. is_unit (actor_of net a)) (below n), length_numbers 0 n)
+    omega (arith, h, length_filter_le (λ a. is_unit (actor_of net a)) (below n), length-range_with_len 0 n)

@@ -1,13 +1,12 @@
 // The findings of a run of whole histories.
 ghost use Rattle.std.specs.Prelude.{◌≡◌, ◌+◌, ◌<◌, ◌≤◌, ◌^◌, cond, length, map, IfOk, IfSome, is_some};
-ghost use Rattle.sl_parts.specs.Parts.{numbers_from};
 ghost use Rattle.sl_layout.specs.Net.{actor_of, units, hosts};
 ghost use Rattle.sl_layout.specs.Devices.{device_of};
 ghost use Rattle.sl_model.specs.History.{history};
 ghost use Rattle.sl_model.specs.Counting.{bad, expired, noroute};
 ghost use Rattle.sl_model.specs.Setup.{setup_of};
 ghost use Rattle.sl_model.specs.Findings.{row, rows_for, finding, is_ingress, drops_of, sent_by, delivered_to, findings_in, findings};
-ghost use Rattle.std.specs.List.{All};
+ghost use Rattle.std.specs.List.{All, range_with_len};
 ghost use Rattle.sl_route.specs.Routes.{IsRoutesOf};
 ghost use Rattle.sl_model.specs.Losses.{losses};
 ghost use Rattle.sl_model.specs.History.{steps_in};
@@ -80,7 +79,7 @@ fn finding_list(
     count: u64,
 ) -> Result<FindingList, Memory>
     requires { steps_in world.now < 2 ^ 40 }
-    ensures { IfOk result (λ list. list ≡ map (finding input.now.snapshot.credits input.now.net (losses input.now) world.now) (numbers_from 1 count)) }
+    ensures { IfOk result (λ list. list ≡ map (finding input.now.snapshot.credits input.now.net (losses input.now) world.now) (range_with_len 1 count)) }
 {
     let mut items = Vec::new(alloc);
     for done in 0..count {

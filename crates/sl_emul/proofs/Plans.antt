@@ -1,16 +1,17 @@
 -- What the plans of a net's actors hold.
-use Rattle.std.proofs.Common.{◌≡◌, ℕ, suc, ◌+◌, ◌<◌, ◌≤◌, List, Vec, Global, [], ◌∷◌, ◌++◌, length, map, get_or, refl, sym, ap, ◌∙◌, subst, arith, inl, inr}
+use Rattle.std.proofs.Common.{◌≡◌, ℕ, suc, ◌+◌, ◌<◌, ◌≤◌, List, Vec, Global, [], ◌∷◌, ◌++◌, length, map, get_or, refl, sym, ap, ◌∙◌, subst, arith, inl, inr, zero-add}
 use Rattle.std.specs.Prelude.{Bool, true, false, ◌&&◌, ◌==◌, ◌⊎◌, if◌then◌else◌}
 use Rattle.std.specs.List.{All, Contains}
 use Rattle.std.proofs.lemmas.Bool.{cases_lt, ne_eqb}
 use Rattle.std.proofs.lemmas.List.{length-map, map-append, get_or-map, get_or_past}
 use Rattle.std.proofs.lemmas.List.Elements.{All-nil, All-weaker, All-contains, All-map}
+use Rattle.std.proofs.lemmas.List.FromFn.{get_or-map-range_with_len, length-map-range_with_len, map-range_with_len_more}
 use Rattle.sl_machine.specs.declared.wiring.Entry.{Entry as BookEntry}
 use Rattle.sl_machine.specs.Machine.{Counts, IsChoice}
 use Rattle.sl_machine.specs.Fit.{HasCounts}
 use Rattle.sl_parts.specs.Parts.{below}
 use Rattle.sl_parts.specs.Lists.{Each}
-use Rattle.sl_parts.proofs.Lists.{each-append, each-below, each-from_all, all-from_each, at_below, length_below, map_below_more}
+use Rattle.sl_parts.proofs.Lists.{each-append, each-below, each-from_all, all-from_each}
 use Rattle.sl_layout.specs.declared.actor.ActorId.{ActorId}
 use Rattle.sl_layout.specs.declared.actor.ActorId.TheVariants.{Observer, Control, Unit as OfUnit, Host as OfHost}
 use Rattle.sl_layout.specs.Net.{Net, actor_of, links_into, action_choice, nobody}
@@ -62,16 +63,16 @@ pub plan-tried : (net : Net) (a : ℕ) → All (IsTried net a) (get_or (plans_of
 plan-tried net a = by_cases (cases_lt a (length net.actors))
   where
     by_cases : (a < length net.actors) ⊎ (length net.actors ≤ a) → All (IsTried net a) (get_or (plans_of net) a [])
-    by_cases (inl low) = subst (All (IsTried net a)) (sym (at_below (tried_by net) (length net.actors) a [] low)) (all-from_each (IsTried net a) (tried_by net a) (tried net a))
-    by_cases (inr high) = let n : length (plans_of net) ≡ length net.actors = length_below (tried_by net) (length net.actors) in
+    by_cases (inl low) = subst (All (IsTried net a)) (sym (get_or-map-range_with_len (tried_by net) 0 (length net.actors) a _ [] low (zero-add a))) (all-from_each (IsTried net a) (tried_by net a) (tried net a))
+    by_cases (inr high) = let n : length (plans_of net) ≡ length net.actors = length-map-range_with_len (tried_by net) 0 (length net.actors) in
         subst (All (IsTried net a)) (sym (get_or_past (plans_of net) a [] (omega (arith, n, high)))) (All-nil (IsTried net a))
 
 -- The plans fit machines that fit the net.
 pub plans-fit : {A : Type 0} (counts : A → Counts) (net : Net) (machines : List A) → HasCounts counts (plan_of net) machines → ArePlans (map counts machines) (plans_of net)
-plans-fit {A} counts net machines h = record { each = length_below (tried_by net) (length net.actors) ∙ sym many ∙ sym (length-map machines counts); choices = choices }
+plans-fit {A} counts net machines h = record { each = length-map-range_with_len (tried_by net) 0 (length net.actors) ∙ sym many ∙ sym (length-map machines counts); choices = choices }
   where
     many : length machines ≡ length net.actors
-    many = sym (length-map machines (λ a. (counts a).ins)) ∙ ap length h.ins_are ∙ length_below (λ a. length (links_into net a)) (length net.actors)
+    many = sym (length-map machines (λ a. (counts a).ins)) ∙ ap length h.ins_are ∙ length-map-range_with_len (λ a. length (links_into net a)) 0 (length net.actors)
 
     choices : (i : ℕ) (n : Counts) → i < length (map counts machines) → All (IsChoice (get_or (map counts machines) i n)) (get_or (plans_of net) i [])
     choices i n low =
@@ -79,7 +80,7 @@ plans-fit {A} counts net machines h = record { each = length_below (tried_by net
         let there : i < length net.actors = subst (λ (k : ℕ). i < k) many here in
         let d = (some_at machines i here).0 in
         let c : get_or (map counts machines) i n ≡ counts (get_or machines i d) = get_or-map counts machines i d n here in
-        let ins : (get_or (map counts machines) i n).ins ≡ length (links_into net i) = ap (λ (k : Counts). k.ins) c ∙ sym (get_or-map (λ a. (counts a).ins) machines i d 0 here) ∙ ap (λ (l : List ℕ). get_or l i 0) h.ins_are ∙ at_below (λ a. length (links_into net a)) (length net.actors) i 0 there in
+        let ins : (get_or (map counts machines) i n).ins ≡ length (links_into net i) = ap (λ (k : Counts). k.ins) c ∙ sym (get_or-map (λ a. (counts a).ins) machines i d 0 here) ∙ ap (λ (l : List ℕ). get_or l i 0) h.ins_are ∙ get_or-map-range_with_len (λ a. length (links_into net a)) 0 (length net.actors) i _ 0 there (zero-add i) in
         let actions : (get_or (map counts machines) i n).actions ≡ actions_of (actor_of net i) = ap (λ (k : Counts). k.actions) c ∙ sym (get_or-map (λ a. (counts a).actions) machines i d 0 here) ∙ ap (λ (l : List ℕ). get_or l i 0) h.actions_are ∙ get_or-map actions_of net.actors i nobody 0 there in
         All-weaker (IsTried net i) (IsChoice (get_or (map counts machines) i n)) (λ k t. let has = t.has in omega (arith, has, ins, actions)) (get_or (plans_of net) i []) (plan-tried net i)
 
@@ -117,4 +118,4 @@ pub plan-added : (net : Net) (a : ℕ) (xs ys : List (Vec ℕ Global)) (p : Vec 
     → map (λ (q : Vec ℕ Global). q.items) ys ≡ map (tried_by net) (below (a + 1))
 plan-added net a xs ys p more h is =
     ap (λ (l : List (Vec ℕ Global)). map (λ (q : Vec ℕ Global). q.items) l) more ∙ map-append (λ (q : Vec ℕ Global). q.items) xs (p ∷ [])
-    ∙ (λ i. h i ++ is i ∷ []) ∙ sym (map_below_more (tried_by net) a)
+    ∙ (λ i. h i ++ is i ∷ []) ∙ sym (map-range_with_len_more (tried_by net) 0 a _ (zero-add a))

@@ -1,11 +1,12 @@
 -- Where no actor of a plan can act, all hosts have sent and there is nothing to issue.
-use Rattle.std.proofs.Common.{◌≡◌, ℕ, suc, ◌^◌, ◌<◌, ◌≤◌, List, [], ◌∷◌, ◌++◌, length, get_or, refl, sym, ap, ◌∙◌, subst, arith, inl, Option, Some, None, is_some}
+use Rattle.std.proofs.Common.{◌≡◌, ℕ, suc, ◌^◌, ◌<◌, ◌≤◌, List, [], ◌∷◌, ◌++◌, length, get_or, refl, sym, ap, ◌∙◌, subst, arith, inl, Option, Some, None, is_some, zero-add}
 use Rattle.std.specs.Prelude.{false, slice_get, slice_index, option_map}
 use Rattle.std.specs.List.{All}
 use Rattle.std.proofs.lemmas.List.{length-map}
 use Rattle.std.proofs.lemmas.Option.{get_or_from_slice_get, slice_get-get_or, slice_get_within}
+use Rattle.std.proofs.lemmas.List.FromFn.{get_or-map-range_with_len}
 use Rattle.sl_parts.specs.Parts.{below}
-use Rattle.sl_parts.proofs.Lists.{each-at, each-from_all, member-right, at_below}
+use Rattle.sl_parts.proofs.Lists.{each-at, each-from_all, member-right}
 use Rattle.sl_layout.specs.declared.actor.ActorId.TheVariants.{Observer, Host as OfHost}
 use Rattle.sl_layout.specs.declared.actor.Sort.TheVariants.{FromHost}
 use Rattle.sl_layout.specs.Net.{Net, actor_of, links_into, links_out, action_choice, nobody}
@@ -59,10 +60,10 @@ module _ (x : Case) (v : Scene NodeState Msg) (stands : StandsFor x.setup.net x 
     RestsBy y choice = slice_index (plan_of net).ins a ≤ choice → node_rules.act y choice ≡ None
 
     plan : get_or (plans_of net) a [] ≡ below m ++ m ∷ []
-    plan = at_below (tried_by net) (length net.actors) a [] low ∙ ap (λ (l : List ℕ). below m ++ l) own
+    plan = get_or-map-range_with_len (tried_by net) 0 (length net.actors) a _ [] low (zero-add a) ∙ ap (λ (l : List ℕ). below m ++ l) own
 
     ins : slice_index (plan_of net).ins a ≡ m
-    ins = at_below (λ (b : ℕ). length (links_into net b)) (length net.actors) a 0 low
+    ins = get_or-map-range_with_len (λ (b : ℕ). length (links_into net b)) 0 (length net.actors) a _ 0 low (zero-add a)
 
     none : (s : NodeState) → slice_get v.states a ≡ Some s → node_rules.act s m ≡ None
     none s is =

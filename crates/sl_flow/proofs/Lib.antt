@@ -1,3 +1,4 @@
 pub mod Shares
 pub mod SampleLemmas
 pub mod Joined
+pub mod Counted

@@ -7,6 +7,7 @@ use Rattle.std.specs.List.{list_all, All}
 use Rattle.std.proofs.lemmas.Bool.{and_parts, and_from, leb-true}
 use Rattle.std.proofs.lemmas.List.Sums.{AllPass-from_list_all, sum_by-le}
 use Rattle.std.proofs.lemmas.List.Elements.{All-get_or, All-from_get_or}
+use Rattle.std.proofs.lemmas.List.FromFn.{get_or-map-range_with_len, get_or-range_with_len, length-map-range_with_len, length-range_with_len}
 use Rattle.sl_parts.specs.declared.fault.NetFault.{NetFault}
 use Rattle.sl_net.specs.declared.input.Flow.{Flow}
 use Rattle.sl_parts.specs.Text.{IsName, is_name_byte}
@@ -14,19 +15,18 @@ use Rattle.sl_parts.specs.declared.parts.CablePart.{CablePart}
 use Rattle.sl_parts.specs.Parts.{below}
 use Rattle.sl_parts.specs.Fault.{fault_of}
 use Rattle.sl_parts.specs.Valid.{AreVersioned}
-use Rattle.sl_parts.proofs.Lists.{number_at, length_numbers, length_below, at_below}
 use Rattle.sl_flow.specs.Sample.{IsSampleFlow, IsSample, leaf_count, leaf_spine, host_count, host, cable, flow, by_parity, sample_parts}
 
 -- a test that the numbers below some number pass
 each_below : (test : ℕ → Bool) (count n : ℕ) → list_all test (below count) ≡ true → n < count → test n ≡ true
 each_below test count n e h =
-    let there : n < length (below count) = subst (λ (m : ℕ). n < m) (sym (length_numbers 0 count)) h in
-    ap test (sym (number_at 0 count n 0 h ∙ zero-add n)) ∙ All-get_or (λ k. test k ≡ true) (below count) n 0 there (AllPass-from_list_all test (below count) e)
+    let there : n < length (below count) = subst (λ (m : ℕ). n < m) (sym (length-range_with_len 0 count)) h in
+    ap test (sym (get_or-range_with_len 0 count n 0 h ∙ zero-add n)) ∙ All-get_or (λ k. test k ≡ true) (below count) n 0 there (AllPass-from_list_all test (below count) e)
 
 made_below : {A : Type 0} (P : A → Type 0) (f : ℕ → A) (count : ℕ) → ((i : ℕ) → i < count → P (f i)) → All P (map f (below count))
 made_below P f count each = All-from_get_or P (map f (below count)) (f 0) (λ i h.
-    let l : i < count = subst (λ (m : ℕ). i < m) (length_below f count) h in
-    subst P (sym (at_below f count i (f 0) l)) (each i l))
+    let l : i < count = subst (λ (m : ℕ). i < m) (length-map-range_with_len f 0 count) h in
+    subst P (sym (get_or-map-range_with_len f 0 count i _ (f 0) l (zero-add i))) (each i l))
 
 -- what a name's number adds to its letter
 is_short : ℕ → Bool
@@ -71,13 +71,13 @@ by_parity_cases n even odd = go (n % 2 == 0)
 -- the flow from a host to the next
 is_flow : (n h count : ℕ) → n ≤ 64 → count ≡ host_count n → h < count → IsSampleFlow (leaf_spine (leaf_count n)) (flow n h)
 is_flow n h count few e l =
-    let hosts = length_below host (2 * leaf_count n) in
+    let hosts = length-map-range_with_len host 0 (2 * leaf_count n) in
     record { from = omega (arith, hosts); to = omega (arith, hosts); count = omega arith }
 
 pub is_sample : (n : ℕ) → n ≤ 64 → IsSample (sample_parts n)
 is_sample n few =
-    let hosts = length_below host (2 * leaf_count n) in
-    let flows = length_below (flow n) (host_count n) in
+    let hosts = length-map-range_with_len host 0 (2 * leaf_count n) in
+    let flows = length-map-range_with_len (flow n) 0 (host_count n) in
     let window = by_parity_cases n 1 3 in
     let sum = sum_by-le (λ (f : Flow). f.count) 320 (map (flow n) (below (host_count n))) (made_below (λ (f : Flow). f.count ≤ 320) (flow n) (host_count n) (λ i l. omega arith)) in
     record {

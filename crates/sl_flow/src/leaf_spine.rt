@@ -43,7 +43,7 @@ fn leaf(alloc: Global, i: u32) -> Result<DevicePart, AllocError>
 }
 
 /// Two spines, and so many leaves.
-#[tactic(auto, using(sl_parts::proofs::Lists::map_below_more))]
+#[tactic(auto, using(crate::proofs::Counted::map_below_more))]
 fn devices(alloc: Global, leaves: u32) -> Result<Vec<DevicePart>, AllocError>
     requires { leaves ≤ 8 }
     ensures { IfOk result (λ parts. parts.items ≡ devices leaves) }
@@ -85,7 +85,7 @@ fn cable(c: u32) -> CablePart
 }
 
 /// Two cables a leaf, one to each spine.
-#[tactic(auto, using(sl_parts::proofs::Lists::map_below_more))]
+#[tactic(auto, using(crate::proofs::Counted::map_below_more))]
 fn cables(alloc: Global, count: u32) -> Result<Vec<CablePart>, AllocError>
     requires { count ≤ 16 }
     ensures { IfOk result (λ parts. parts.items ≡ map cable (below count)) }
@@ -109,7 +109,7 @@ fn host(alloc: Global, h: u32) -> Result<HostPart, AllocError>
 }
 
 /// Two hosts a leaf.
-#[tactic(auto, using(sl_parts::proofs::Lists::map_below_more))]
+#[tactic(auto, using(crate::proofs::Counted::map_below_more))]
 fn hosts(alloc: Global, count: u32) -> Result<Vec<HostPart>, AllocError>
     requires { count ≤ 16 }
     ensures { IfOk result (λ parts. parts.items ≡ map host (below count)) }

@@ -53,7 +53,7 @@ fn flow(n: u64, h: u32) -> Flow
 }
 
 /// A flow from each host to the next.
-#[tactic(auto, using(sl_parts::proofs::Lists::map_below_more))]
+#[tactic(auto, using(crate::proofs::Counted::map_below_more))]
 pub fn flows(alloc: Global, n: u64) -> Result<Vec<Flow>, AllocError>
     requires { n ≤ 64 }
     ensures { IfOk result (λ flows. flows.items ≡ map (flow n) (below (host_count n))) }

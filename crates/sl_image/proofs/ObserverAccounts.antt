@@ -3,17 +3,18 @@ use Rattle.std.proofs.Common.{◌≡◌, ℕ, zero, suc, ◌+◌, ◌-◌, ◌<�
 use Rattle.std.specs.Prelude.{◌⊎◌, ◌==◌, true, false, nat_eq, if◌then◌else◌, map, slice_get, option_map}
 use Rattle.std.proofs.lemmas.Bool.Decides.{eqb_tells}
 use Rattle.std.proofs.lemmas.List.{get_or-map}
-use Rattle.std.proofs.lemmas.Option.{slice_get-map}
+use Rattle.std.proofs.lemmas.Option.{slice_get-map, slice_get_read}
 use Rattle.sl_layout.specs.declared.actor.ActorId.TheVariants.{Unit as OfUnit}
 use Rattle.sl_layout.specs.declared.actor.UnitId.{UnitId}
 use Rattle.sl_net.specs.declared.input.Snapshot.{Snapshot}
-use Rattle.sl_parts.specs.Parts.{numbers_from}
 use Rattle.sl_layout.specs.Net.{Net, actor_of, units, unit_place, data_channels}
 use Rattle.sl_net.specs.Wired.{IsWired}
-use Rattle.sl_parts.proofs.Lists.{length_numbers, place-of-member, number-found}
+use Rattle.sl_parts.proofs.Lists.{place-of-member}
 use Rattle.std.proofs.lemmas.Simd.{map-map}
 use Rattle.sl_net.specs.Ways.{HasWays}
 use Rattle.std.proofs.lemmas.List.{length-map}
+use Rattle.std.proofs.lemmas.List.FromFn.{get_or-range_with_len, length-range_with_len}
+use Rattle.std.specs.List.{range_with_len}
 use Rattle.sl_saves.specs.Views.{held_saved}
 use Rattle.sl_observe.specs.Observer.{new_unit, unit_at, saved_of}
 use Rattle.sl_model.specs.History.{History, World, history, id}
@@ -49,13 +50,13 @@ not-zero k p = by_tells (eqb_tells k 0)
 
 held-at : (credits : ℕ) (net : Net) (u : ℕ) (g : History) (k : ℕ) → 1 ≤ k → k ≤ upto_of net u g → saved_of (unit_of credits net u g) k ≡ Some (held_saved (row credits (data_channels net u) k g))
 held-at credits net u g k one p = ap (λ b. if b then None else slice_get (unit_of credits net u g).rows (k - 1)) (not-zero k one)
-    ∙ slice_get-map (λ k. held_saved (row credits (data_channels net u) k g)) (numbers_from 1 (upto_of net u g)) (k - 1)
-    ∙ ap (option_map (λ k. held_saved (row credits (data_channels net u) k g))) (number-found 1 (upto_of net u g) (k - 1) (omega (arith, one, p)))
+    ∙ slice_get-map (λ k. held_saved (row credits (data_channels net u) k g)) (range_with_len 1 (upto_of net u g)) (k - 1)
+    ∙ ap (option_map (λ k. held_saved (row credits (data_channels net u) k g))) (slice_get_read (range_with_len 1 (upto_of net u g)) (upto_of net u g) (k - 1) (1 + (k - 1)) (sym (length-range_with_len 1 (upto_of net u g))) (omega (arith, one, p)) (sym (get_or-range_with_len 1 (upto_of net u g) (k - 1) (1 + (k - 1)) (omega (arith, one, p)))))
     ∙ ap (λ j. Some (held_saved (row credits (data_channels net u) j g))) (let e : 1 + (k - 1) ≡ k = omega (arith, one) in e)
 
 pub none-past : (net : Net) → HasWays net → (table : Snapshot) (w : World) (u k : ℕ) (i : UnitId) → actor_of net u ≡ OfUnit i → upto_of net u (collected net w u) < k → saved_of (unit_at (observer_of net table w).units (unit_place net u)) k ≡ None
 none-past net ways table w u k i q p = let g = collected net w u in ap (λ x. saved_of x k) (unit-there net ways table w u i q) ∙ ap (λ b. if b then None else slice_get (unit_of table.credits net u g).rows (k - 1)) (not-zero k (omega (arith, p)))
-    ∙ get-past (unit_of table.credits net u g).rows (k - 1) (let n = length-map (numbers_from 1 (upto_of net u g)) (λ k. held_saved (row table.credits (data_channels net u) k g)) in let m = length_numbers 1 (upto_of net u g) in omega (arith, n, m, p))
+    ∙ get-past (unit_of table.credits net u g).rows (k - 1) (let n = length-map (range_with_len 1 (upto_of net u g)) (λ k. held_saved (row table.credits (data_channels net u) k g)) in let m = length-range_with_len 1 (upto_of net u g) in omega (arith, n, m, p))
 
 -- what was collected is the row of the unit's whole history
 pub saved-there : (net : Net) → HasWays net → (credits : ℕ) (table : Snapshot) (w : World) (u k : ℕ) (i : UnitId) → table.credits ≡ credits → actor_of net u ≡ OfUnit i

@@ -8,12 +8,12 @@ use Rattle.sl_machine.specs.Machine.{After}
 use Rattle.sl_layout.specs.declared.actor.ActorId.TheVariants.{Observer}
 use Rattle.sl_layout.specs.declared.actor.Sort.TheVariants.{Begin as BeginSort}
 use Rattle.sl_net.specs.declared.input.Snapshot.{Snapshot}
-use Rattle.sl_parts.specs.Parts.{numbers_from}
 use Rattle.sl_layout.specs.Net.{Net, link_of, link_numbers, links_into, links_from, links_out, action_choice, units, unit_place, place_in}
 use Rattle.sl_layout.specs.Wires.{out_of}
 use Rattle.sl_net.specs.Wired.{IsNet, IsWired}
 use Rattle.sl_parts.proofs.Lists.{distinct-filter, distinct-from, each-index, each-passes}
 use Rattle.std.proofs.lemmas.Simd.{map-map}
+use Rattle.std.specs.List.{range_with_len}
 use Rattle.sl_wire.specs.declared.message.Msg.{Msg}
 use Rattle.sl_wire.specs.declared.message.Msg.TheVariants as wire
 use Rattle.sl_wire.specs.Sizes.{Sizes}
@@ -57,11 +57,11 @@ out-at net i p =
     ∙ place-at (links_from net 0) 0 i (distinct-filter (λ l. (link_of net l).from == 0) (link_numbers net) (distinct-from 0 (length net.links))) p ∙ (omega arith)
 
 each-sent : (net : Net) (sizes : Sizes) (us : ℕ → History) (told : ℕ → ℕ) (k : ℕ) (ls : List ℕ) (j : ℕ) → ((i : ℕ) → i < length ls → out_of net (get_or ls i 0) ≡ j + i)
-    → AreSent net sizes us 0 told (send_all (BeginMsg k) ls) (map (λ out. (out, wire.Begin k)) (numbers_from j (length ls)))
+    → AreSent net sizes us 0 told (send_all (BeginMsg k) ls) (map (λ out. (out, wire.Begin k)) (range_with_len j (length ls)))
 each-sent net sizes us told k [] j h = tt
 each-sent net sizes us told k (l ∷ ls) j h = (
   ((let e = h 0 (omega arith) in omega (arith, e)), refl),
-  each-sent net sizes us told k ls (suc j) (λ i p. let e = h (suc i) (omega (arith, p)) in omega (arith, e)),
+  each-sent net sizes us told k ls (j + 1) (λ i p. let e = h (suc i) (omega (arith, p)) in omega (arith, e)),
 )
 
 begins-sent : (net : Net) (sizes : Sizes) (us : ℕ → History) (told : ℕ → ℕ) (k : ℕ) → links_out net 0 BeginSort ≡ links_from net 0

@@ -1,8 +1,8 @@
 -- Places, numbers and least numbers in lists, as the observer uses them.
-use Rattle.std.proofs.Common.{◌≡◌, ℕ, zero, suc, ◌+◌, ◌<◌, ◌≤◌, List, [], ◌∷◌, ◌++◌, length, refl, sym, ap, subst, ◌∙◌, arith, inl, inr, eq-eqb, get_or}
+use Rattle.std.proofs.Common.{◌≡◌, ℕ, zero, suc, ◌+◌, ◌<◌, ◌≤◌, List, [], ◌∷◌, ◌++◌, length, refl, sym, ap, subst, ◌∙◌, arith, inl, inr, eq-eqb, get_or, add-one}
 use Rattle.std.specs.Prelude.{◌⊎◌, ◌&&◌, true, false, nat_eq, map, take, replicate, if◌then◌else◌, slice_set}
 use Rattle.std.proofs.lemmas.Bool.Decides.{eqb_tells}
-use Rattle.sl_parts.specs.Parts.{numbers_from}
+use Rattle.std.specs.List.{range_with_len}
 use Rattle.sl_layout.specs.Net.{place_in}
 use Rattle.sl_saves.specs.declared.entry.Saved.{Saved}
 use Rattle.sl_parts.specs.Lists.{Member, Distinct}
@@ -46,18 +46,19 @@ map-set f g (x ∷ xs) (suc k) y l h e = let a = h 0 (omega arith) (λ q. absurd
 
 -- Numbers.
 
-pub numbers-more : (s d e : ℕ) → numbers_from s (d + e) ≡ numbers_from s d ++ numbers_from (s + d) e
-numbers-more s zero e = let y : 0 + e ≡ e = omega arith in let z : s ≡ s + 0 = omega arith in ap (numbers_from s) y ∙ ap (λ n. numbers_from n e) z
-numbers-more s (suc d) e = let y : suc d + e ≡ suc (d + e) = omega arith in let z : suc s + d ≡ s + suc d = omega arith in
-    ap (numbers_from s) y ∙ ap (λ ns. s ∷ ns) (numbers-more (suc s) d e ∙ ap (λ n. numbers_from (suc s) d ++ numbers_from n e) z)
+pub numbers-more : (s d e : ℕ) → range_with_len s (d + e) ≡ range_with_len s d ++ range_with_len (s + d) e
+numbers-more s zero e = let y : 0 + e ≡ e = omega arith in let z : s ≡ s + 0 = omega arith in ap (range_with_len s) y ∙ ap (λ n. range_with_len n e) z
+numbers-more s (suc d) e = let y : suc d + e ≡ suc (d + e) = omega arith in let z : s + 1 + d ≡ s + suc d = omega arith in
+    ap (range_with_len s) y ∙ ap (λ ns. s ∷ ns) (numbers-more (s + 1) d e ∙ ap (λ n. range_with_len (s + 1) d ++ range_with_len n e) z)
 
-pub map-numbers : {A : Type 0} (f g : ℕ → A) (s n : ℕ) → ((k : ℕ) → s ≤ k → k < s + n → f k ≡ g k) → map f (numbers_from s n) ≡ map g (numbers_from s n)
+pub map-numbers : {A : Type 0} (f g : ℕ → A) (s n : ℕ) → ((k : ℕ) → s ≤ k → k < s + n → f k ≡ g k) → map f (range_with_len s n) ≡ map g (range_with_len s n)
 map-numbers f g s zero h = refl
-map-numbers f g s (suc n) h = let a = h s (omega arith) (omega arith) in let b = map-numbers f g (suc s) n (λ k p q. h k (omega (arith, p)) (omega (arith, q))) in λ i. a i ∷ b i
+map-numbers f g s (suc n) h = let a = h s (omega arith) (omega arith) in let b = map-numbers f g (s + 1) n (λ k p q. h k (omega (arith, p)) (omega (arith, q))) in λ i. a i ∷ b i
 
-pub rows-follow : (f : ℕ → Saved) (a d : ℕ) → is_after a (map (λ k. (k, f k)) (numbers_from (suc a) d)) ≡ true
+pub rows-follow : (f : ℕ → Saved) (a d : ℕ) → is_after a (map (λ k. (k, f k)) (range_with_len (suc a) d)) ≡ true
 rows-follow f a zero = refl
-rows-follow f a (suc d) = ap (λ b. b && is_after (suc a) (map (λ k. (k, f k)) (numbers_from (suc (suc a)) d))) (eq-eqb (suc a) (suc a) refl) ∙ rows-follow f (suc a) d
+rows-follow f a (suc d) = ap (λ b. b && is_after (suc a) (map (λ k. (k, f k)) (range_with_len (suc a + 1) d))) (eq-eqb (suc a) (suc a) refl)
+    ∙ ap (λ s. is_after (suc a) (map (λ k. (k, f k)) (range_with_len s d))) (add-one (suc a)) ∙ rows-follow f (suc a) d
 
 -- Eight numbers.
 

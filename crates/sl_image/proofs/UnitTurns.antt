@@ -1,10 +1,11 @@
 -- What a unit's machine makes of a message, against the puts of the step.
 --     Ends ..     the state after a message stands for the history after the step, and the puts for its puts
-use Rattle.std.proofs.Common.{◌≡◌, ℕ, ◌+◌, ◌-◌, ◌^◌, ◌<◌, ◌≤◌, List, [], ◌++◌, length, refl, sym, ap, subst, ◌∙◌, Option, Some, None, arith, inl, inr}
+use Rattle.std.proofs.Common.{◌≡◌, ℕ, ◌+◌, ◌-◌, ◌^◌, ◌<◌, ◌≤◌, List, [], ◌++◌, length, refl, sym, ap, subst, ◌∙◌, Option, Some, None, arith, inl, inr, zero-add}
 use Rattle.std.specs.Prelude.{◌⊎◌, true, false, Bool, ◌&&◌, not, ◌==◌, if◌then◌else◌, map, is_none, slice_get, option_and_then}
 use Rattle.std.proofs.lemmas.Bool.{cases_lt, eq-eqb, ne_eqb}
 use Rattle.std.proofs.lemmas.List.{length-map}
 use Rattle.std.proofs.lemmas.Option.{slice_get-get_or, slice_get_past}
+use Rattle.std.proofs.lemmas.List.FromFn.{get_or-map-range_with_len, length-range_with_len}
 use Rattle.sl_machine.specs.Machine.{After}
 use Rattle.sl_layout.specs.declared.actor.Side.{Side}
 use Rattle.sl_layout.specs.declared.actor.Side.TheVariants.{Ingress, Egress}
@@ -15,7 +16,6 @@ use Rattle.sl_net.specs.declared.input.Packet.{Packet}
 use Rattle.sl_net.specs.declared.input.Snapshot.{Snapshot}
 use Rattle.sl_parts.specs.Parts.{Parts, below}
 use Rattle.sl_layout.specs.Net.{Net, actor_of, links_out}
-use Rattle.sl_parts.proofs.Lists.{at_below, length_numbers}
 use Rattle.sl_route.specs.Least.{least}
 use Rattle.sl_route.specs.Route.{next_port, least_walks, first_port}
 use Rattle.sl_saves.specs.declared.entry.View.{View}
@@ -69,11 +69,11 @@ pub port-is : (net : Net) (u d host : ℕ) (n : Snapshot) → port_to (wires_at 
 port-is net u d host n = by_cases (cases_lt host (length net.parts.hosts))
   where
     long : length (map (next_port net.parts d) (below (length net.parts.hosts))) ≡ length net.parts.hosts
-    long = length-map (below (length net.parts.hosts)) (next_port net.parts d) ∙ length_numbers 0 (length net.parts.hosts)
+    long = length-map (below (length net.parts.hosts)) (next_port net.parts d) ∙ length-range_with_len 0 (length net.parts.hosts)
 
     by_cases : (host < length net.parts.hosts) ⊎ (length net.parts.hosts ≤ host) → option_and_then (λ port. port) (slice_get (map (next_port net.parts d) (below (length net.parts.hosts))) host) ≡ next_port net.parts d host
     by_cases (inl p) = ap (option_and_then (λ port. port)) (slice_get-get_or (map (next_port net.parts d) (below (length net.parts.hosts))) host None (omega (arith, p, long)))
-        ∙ at_below (next_port net.parts d) (length net.parts.hosts) host None p
+        ∙ get_or-map-range_with_len (next_port net.parts d) 0 (length net.parts.hosts) host _ None p (zero-add host)
     by_cases (inr p) = ap (option_and_then (λ port. port)) (slice_get_past (map (next_port net.parts d) (below (length net.parts.hosts))) host (omega (arith, p, long))) ∙ sym (no-port net.parts d host p)
 
 -- A packet's further way at an ingress unit, after the history h.

@@ -1,10 +1,10 @@
 // The observer's machine stands for the histories of a world. The functions do nothing: their
 // contracts are the laws, and the proofs are in proofs/.
 ghost use Rattle.std.specs.Prelude.{◌≡◌, ◌≢◌, ◌≤◌, ◌<◌, ◌+◌, ◌^◌, ℕ, [], List, length, map, Some, None};
+ghost use Rattle.std.specs.List.{range_with_len};
 ghost use Rattle.sl_layout.specs.declared.actor.UnitId.{UnitId};
 ghost use Rattle.sl_layout.specs.declared.actor.ActorId.TheVariants.{Unit as OfUnit};
 ghost use Rattle.sl_net.specs.declared.input.Snapshot.{Snapshot};
-ghost use Rattle.sl_parts.specs.Parts.{numbers_from};
 ghost use Rattle.sl_layout.specs.Net.{actor_of, action_choice, units, unit_place, data_channels};
 ghost use Rattle.sl_net.specs.Wired.{IsNet};
 ghost use Rattle.sl_wire.specs.declared.message.Msg.{Msg};
@@ -125,7 +125,7 @@ pub fn observers_give_findings()
     ensures list { (s : Setup) (lost : Losses) (table : Snapshot) (es : List Entry) (o : ObserverState)
         → IsNet s.net → IsTableOf s table → SendsShort s → length es < 2 ^ 40
         → IsObserverOf s.net table (world s lost es) o → IsFinished s lost (world s lost es)
-        → map (finding_by o.issued (map account_of o.units)) (numbers_from 1 s.count) ≡ (findings s lost es).list }
+        → map (finding_by o.issued (map account_of o.units)) (range_with_len 1 s.count) ≡ (findings s lost es).list }
 {
     nets_are_wired();
     rows_are_held();

@@ -17,9 +17,10 @@ use Rattle.sl_parts.specs.Valid.{IsValid}
 use Rattle.sl_layout.specs.Groups.{grouped, places_in_groups}
 use Rattle.sl_layout.specs.Wires.{HasEnds, out_of}
 use Rattle.sl_parts.specs.Lists.{Member}
-use Rattle.sl_parts.proofs.Lists.{each-imp, each-of, each-map, each-from_all, all-from_each, length_numbers, length_flat_le}
+use Rattle.sl_parts.proofs.Lists.{each-imp, each-of, each-map, each-from_all, all-from_each, length_flat_le}
 use Rattle.sl_layout.proofs.Grouping.{map_same}
 use Rattle.std.proofs.lemmas.List.{length-map}
+use Rattle.std.proofs.lemmas.List.FromFn.{length-range_with_len}
 use Rattle.sl_layout.proofs.Sizes.{few_used, few_units}
 use Rattle.sl_layout.proofs.Actors.{same_actor_refl, actor-member}
 use Rattle.sl_layout.proofs.Senders.{IsLink, each-link}
@@ -65,7 +66,7 @@ few_to_unit parts d p Egress v =
     omega (arith, length-append xs ((Control d, Poll) ∷ []), length-map {B = Incoming} (used_ports parts d) (λ q. (ingress d q, Crossbar)), few_used parts d v)
 
 few_incoming : (parts : Parts) (a : ActorId) → IsValid parts → length (incoming parts a) ≤ 64
-few_incoming parts Observer v = omega (arith, length-map {B = Incoming} (below (length parts.devices)) (λ d. (Control d, Done)), length_numbers 0 (length parts.devices), v.devices)
+few_incoming parts Observer v = omega (arith, length-map {B = Incoming} (below (length parts.devices)) (λ d. (Control d, Done)), length-range_with_len 0 (length parts.devices), v.devices)
 few_incoming parts (Control d) v = omega (
   arith,
   few_units parts d v,

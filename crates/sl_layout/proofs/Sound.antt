@@ -1,22 +1,23 @@
 -- The wiring of a net is sound: each link has a place of its own at both ends, and no place there is empty.
-use Rattle.std.proofs.Common.{◌≡◌, ◌≢◌, ℕ, zero, suc, ◌+◌, ◌<◌, ◌≤◌, List, [], ◌∷◌, length, get_or, map, refl, sym, ap, subst, ◌∙◌, arith, Bool, true, false, inl, inr, eq-eqb, eqb-true}
+use Rattle.std.proofs.Common.{◌≡◌, ◌≢◌, ℕ, zero, suc, ◌+◌, ◌<◌, ◌≤◌, List, [], ◌∷◌, length, get_or, map, refl, sym, ap, subst, ◌∙◌, arith, Bool, true, false, inl, inr, eq-eqb, eqb-true, zero-add}
 use Rattle.std.specs.Prelude.{◌⊎◌, ◌&&◌, ◌==◌, if◌then◌else◌, filter, slice_index}
 use Rattle.std.proofs.lemmas.Bool.{and_parts, and_from, cases_lt, false_from_ne_true}
 use Rattle.std.proofs.lemmas.Bool.Decides.{eqb_tells}
 use Rattle.std.proofs.lemmas.List.{get_or-map}
 use Rattle.sl_machine.specs.Plan.{IsSound, link_in, link_out, link_at as wired_at}
-use Rattle.sl_parts.specs.Parts.{Parts, below, numbers_from}
+use Rattle.sl_parts.specs.Parts.{Parts, below}
 use Rattle.sl_layout.specs.declared.actor.ActorId.{ActorId}
 use Rattle.sl_layout.specs.declared.actor.ActorId.TheVariants.{Observer, Control, Unit as OfUnit, Host as OfHost}
 use Rattle.sl_layout.specs.declared.actor.LinkPart.{LinkPart}
 use Rattle.sl_layout.specs.Net.{Net, net_of, nobody, link_of, no_link, links_into, links_from, place_in, choice_of}
 use Rattle.sl_layout.specs.Wires.{HasEnds, AreWires, out_of}
 use Rattle.sl_layout.specs.Groups.{Sorted}
-use Rattle.std.specs.List.{All}
+use Rattle.std.specs.List.{All, range_with_len}
 use Rattle.sl_layout.specs.Wiring.{actions_of, wired_link, plan_of}
 use Rattle.sl_parts.specs.Lists.{Member, Distinct}
-use Rattle.sl_parts.proofs.Lists.{distinct-filter, distinct-from, member-filter, member-from, inside, each-below, each-both, each-index, at_below, length_below, length_numbers, length_filter_le}
+use Rattle.sl_parts.proofs.Lists.{distinct-filter, distinct-from, member-filter, member-from, inside, each-below, each-both, each-index, length_filter_le}
 use Rattle.std.proofs.lemmas.List.{length-map}
+use Rattle.std.proofs.lemmas.List.FromFn.{get_or-map-range_with_len, length-map-range_with_len, length-range_with_len}
 
 -- Places in a list with no element twice.
 
@@ -45,15 +46,15 @@ place-at n (x ∷ xs) (suc i) d h = by_test (place-at (suc n) xs i d.1 (omega ar
 
 abbrev first : (ℕ → Bool) → ℕ → ℕ → ℕ
 first t s zero = 0
-first t s (suc c) = if t s then 0 else first t (suc s) c + 1
+first t s (suc c) = if t s then 0 else first t (s + 1) c + 1
 
 first-is : (t : ℕ → Bool) (s c l : ℕ) → s ≤ l → l < s + c → t l ≡ true → ((k : ℕ) → k < l → t k ≡ false) → s + first t s c ≡ l
 first-is t s zero l a b q f = absurd (omega arith)
-first-is t s (suc c) l a b q f = by_order (λ j. first-is t (suc s) c l j (omega arith) q f) (cases_lt s l)
+first-is t s (suc c) l a b q f = by_order (λ j. first-is t (s + 1) c l j (omega arith) q f) (cases_lt s l)
   where
-    by_order : (suc s ≤ l → suc s + first t (suc s) c ≡ l) → (s < l) ⊎ (l ≤ s) → s + (if t s then 0 else first t (suc s) c + 1) ≡ l
-    by_order ih (inl k) = ap (λ b. s + (if b then 0 else first t (suc s) c + 1)) (f s k) ∙ omega (arith, ih k)
-    by_order ih (inr k) = let e : l ≡ s = omega arith in ap (λ b. s + (if b then 0 else first t (suc s) c + 1)) (ap t (sym e) ∙ q) ∙ omega arith
+    by_order : (s + 1 ≤ l → s + 1 + first t (s + 1) c ≡ l) → (s < l) ⊎ (l ≤ s) → s + (if t s then 0 else first t (s + 1) c + 1) ≡ l
+    by_order ih (inl k) = ap (λ b. s + (if b then 0 else first t (s + 1) c + 1)) (f s k) ∙ omega (arith, ih (omega arith))
+    by_order ih (inr k) = let e : l ≡ s = omega arith in ap (λ b. s + (if b then 0 else first t (s + 1) c + 1)) (ap t (sym e) ∙ q) ∙ omega arith
 
 -- Numbers grouped by a key, each with its place in its group.
 
@@ -105,13 +106,13 @@ first_each key n a o h =
 
 -- The wiring.
 
-wired-out : (net : Net) (s c a o : ℕ) → link_out (map (wired_link net) (numbers_from s c)) a o ≡ first (λ l. ((link_of net l).from == a) && (out_of net l == o)) s c
+wired-out : (net : Net) (s c a o : ℕ) → link_out (map (wired_link net) (range_with_len s c)) a o ≡ first (λ l. ((link_of net l).from == a) && (out_of net l == o)) s c
 wired-out net s zero a o = refl
-wired-out net s (suc c) a o = ap (λ n. if ((link_of net s).from == a) && (out_of net s == o) then 0 else n + 1) (wired-out net (suc s) c a o)
+wired-out net s (suc c) a o = ap (λ n. if ((link_of net s).from == a) && (out_of net s == o) then 0 else n + 1) (wired-out net (s + 1) c a o)
 
-wired-in : (net : Net) (s c a o : ℕ) → link_in (map (wired_link net) (numbers_from s c)) a o ≡ first (λ l. ((link_of net l).to == a) && (choice_of net l == o)) s c
+wired-in : (net : Net) (s c a o : ℕ) → link_in (map (wired_link net) (range_with_len s c)) a o ≡ first (λ l. ((link_of net l).to == a) && (choice_of net l == o)) s c
 wired-in net s zero a o = refl
-wired-in net s (suc c) a o = ap (λ n. if ((link_of net s).to == a) && (choice_of net s == o) then 0 else n + 1) (wired-in net (suc s) c a o)
+wired-in net s (suc c) a o = ap (λ n. if ((link_of net s).to == a) && (choice_of net s == o) then 0 else n + 1) (wired-in net (s + 1) c a o)
 
 few_actions : (a : ActorId) → actions_of a ≤ 2
 few_actions Observer = omega arith
@@ -121,11 +122,11 @@ few_actions (OfHost h) = omega arith
 
 pub sound : (net : Net) → length net.actors ≤ 1217 → length net.links ≤ 77888 → ((l : ℕ) → l < length net.links → HasEnds net (link_of net l)) → IsSound (plan_of net)
 sound net actors_few links_few ends = record {
-  outs_each = length_below (λ a. length (links_from net a)) n ∙ sym ins;
+  outs_each = length-map-range_with_len (λ a. length (links_from net a)) 0 n ∙ sym ins;
   actions_each = length-map net.actors actions_of ∙ sym ins;
   actors_fit = omega (arith, ins);
   links_fit = omega (arith, count);
-  choices_fit = λ a h. omega (arith, ins_at a (omega (arith, ins, h)), length_filter_le (λ l. (link_of net l).to == a) (below m), length_numbers 0 m, few_at a (omega (arith, ins, h)));
+  choices_fit = λ a h. omega (arith, ins_at a (omega (arith, ins, h)), length_filter_le (λ l. (link_of net l).to == a) (below m), length-range_with_len 0 m, few_at a (omega (arith, ins, h)));
   from_below = λ l h. subst (λ k. k.from < length (plan_of net).ins) (sym (wire l (omega (arith, count, h)))) (omega (arith, ins, (ends l (omega (arith, count, h))).from));
   to_below = λ l h. subst (λ k. k.to < length (plan_of net).ins) (sym (wire l (omega (arith, count, h)))) (omega (arith, ins, (ends l (omega (arith, count, h))).to));
   out_below = λ l h. subst (λ k. k.out < slice_index (plan_of net).outs k.from) (sym (wire l (omega (arith, count, h))))
@@ -149,22 +150,22 @@ sound net actors_few links_few ends = record {
     m = length net.links
 
     ins : length (plan_of net).ins ≡ length net.actors
-    ins = length_below (λ a. length (links_into net a)) (length net.actors)
+    ins = length-map-range_with_len (λ a. length (links_into net a)) 0 (length net.actors)
 
     count : length (plan_of net).links ≡ length net.links
-    count = length_below (wired_link net) (length net.links)
+    count = length-map-range_with_len (wired_link net) 0 (length net.links)
 
     ins_at : (a : ℕ) → a < length net.actors → slice_index (plan_of net).ins a ≡ length (links_into net a)
-    ins_at a h = at_below (λ a. length (links_into net a)) (length net.actors) a 0 h
+    ins_at a h = get_or-map-range_with_len (λ a. length (links_into net a)) 0 (length net.actors) a _ 0 h (zero-add a)
 
     outs_at : (a : ℕ) → a < length net.actors → slice_index (plan_of net).outs a ≡ length (links_from net a)
-    outs_at a h = at_below (λ a. length (links_from net a)) (length net.actors) a 0 h
+    outs_at a h = get_or-map-range_with_len (λ a. length (links_from net a)) 0 (length net.actors) a _ 0 h (zero-add a)
 
     few_at : (a : ℕ) → a < length net.actors → slice_index (plan_of net).actions a ≤ 2
     few_at a h = subst (λ k. k ≤ 2) (sym (get_or-map actions_of net.actors a nobody 0 h)) (few_actions (get_or net.actors a nobody))
 
     wire : (l : ℕ) → l < length net.links → wired_at (plan_of net).links l ≡ wired_link net l
-    wire l h = at_below (wired_link net) (length net.links) l _ h
+    wire l h = get_or-map-range_with_len (wired_link net) 0 (length net.links) l _ _ h (zero-add l)
 
 pub sound_wires : (parts : Parts) (links : List LinkPart) (into from : Sorted) → AreWires parts links into from → IsSound (plan_of (net_of parts))
 sound_wires parts links into from w = sound (net_of parts) w.few_actors (subst (λ ks. length ks ≤ 77888) w.links_are w.few) (λ l h. subst (All (HasEnds (net_of parts))) w.links_are w.ends l no_link h)

@@ -15,8 +15,9 @@ use Rattle.sl_model.specs.Frame.{plain_frame}
 use Rattle.sl_model.specs.Setup.{Setup, frames_of}
 use Rattle.sl_model.specs.Words.{weigh}
 use Rattle.sl_parts.specs.Lists.{Member}
-use Rattle.sl_parts.proofs.Lists.{filter-map, numbers-suc, length_numbers, each-passes, distinct-filter, distinct-from, each-at, each-below, kept-member}
+use Rattle.sl_parts.proofs.Lists.{filter-map, numbers-suc, each-passes, distinct-filter, distinct-from, each-at, each-below, kept-member}
 use Rattle.std.proofs.lemmas.List.{length-map}
+use Rattle.std.proofs.lemmas.List.FromFn.{length-range_with_len}
 use Rattle.sl_model.proofs.Distance.{all_channels, all_frames, channels_of, frames_at, observer_of, observers}
 use Rattle.sl_model.proofs.Priced.{once}
 use Rattle.sl_model.proofs.Sums.{tally-is, weigh-at-most, weigh-filtered, weigh-flat, weigh-keyed, weigh-once, weigh-ones-is, weigh-plus, weigh-same-each, weigh-swap}
@@ -103,7 +104,7 @@ host_of (OfHost h) = h
 host_of _ = 0
 
 flow-many : (f : Flow) → length (flow_packets f) ≡ f.count
-flow-many f = length-map (below f.count) (packet_in f) ∙ length_numbers 0 f.count
+flow-many f = length-map (below f.count) (packet_in f) ∙ length-range_with_len 0 f.count
 
 frames-many : (s : Setup) (h : ℕ) → length (frames_of s h) ≡ weigh (λ f. if f.from == h then f.count else 0) s.flows + weigh (λ r. if r.from == h then 1 else 0) s.raws
 frames-many s h = omega (

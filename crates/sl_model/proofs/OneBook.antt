@@ -1,8 +1,8 @@
 -- The book of a run is the only one.
 use Rattle.std.proofs.Common.{◌≡◌, ℕ, List, [], ◌∷◌, ◌++◌, length, take, drop, refl, sym, subst, ap, ◌∙◌}
 use Rattle.std.proofs.lemmas.List.{length-map, take-append-drop}
+use Rattle.std.specs.List.{range_with_len}
 use Rattle.sl_machine.specs.declared.wiring.Entry.{Entry as BookEntry}
-use Rattle.sl_parts.specs.Parts.{numbers_from}
 use Rattle.sl_net.specs.Input.{Input}
 use Rattle.sl_model.specs.History.{Losses}
 use Rattle.sl_model.specs.Setup.{setup_of}
@@ -49,4 +49,4 @@ one-book i lost a b m n p q = (same-book a b turns numbers, counts)
     lengths = sym (length-map a (λ (e : BookEntry). (e.actor, e.choice))) ∙ ap length turns ∙ length-map b (λ (e : BookEntry). (e.actor, e.choice))
 
     numbers : numbers_of a ≡ numbers_of b
-    numbers = p.numbers ∙ ap (numbers_from 1) lengths ∙ sym q.numbers
+    numbers = p.numbers ∙ ap (range_with_len 1) lengths ∙ sym q.numbers

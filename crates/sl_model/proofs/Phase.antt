@@ -2,8 +2,8 @@
 use Rattle.std.proofs.Common.{◌+◌, ◌++◌, ◌-◌, ◌<◌, ◌==◌, List, None, Some, ap, drop, inl, inr, length, not, refl, subst, suc, sym, zero, ℕ, ◌∙◌, ◌∷◌, ◌≡◌, ◌≤◌, arith, []}
 use Rattle.std.specs.Prelude.{Bool, false, flat_map, option_map, slice_get, true, ◌⊎◌, if◌then◌else◌}
 use Rattle.std.proofs.lemmas.Option.{get_or_from_slice_get, slice_get_within}
+use Rattle.std.specs.List.{range_with_len}
 use Rattle.sl_layout.specs.Net.{Net, action_choice, actor_of, choice_of, link_numbers, link_of, links_into, links_out, nobody, unit_place}
-use Rattle.sl_parts.specs.Parts.{numbers_from}
 use Rattle.sl_layout.specs.Serving.{Served, served}
 use Rattle.sl_net.specs.Wired.{receives, unit_receives}
 use Rattle.sl_layout.specs.declared.actor.ActorId.{ActorId}
@@ -275,7 +275,7 @@ phase-starts s lost w h k = record { quiet = none (length s.net.links) 0 (λ l b
     drop-all (suc n) [] q = absurd (omega (arith, q))
     drop-all (suc n) (x ∷ xs) q = drop-all n xs (omega (arith, q))
 
-    none : (n start : ℕ) → ((l : ℕ) → l < start + n → l < length s.net.links) → weigh (λ l. weigh (loud l) (on_way s.net lost w l)) (numbers_from start n) ≡ 0
+    none : (n start : ℕ) → ((l : ℕ) → l < start + n → l < length s.net.links) → weigh (λ l. weigh (loud l) (on_way s.net lost w l)) (range_with_len start n) ≡ 0
     none zero start b = refl
     none (suc n) start b = let e : on_way s.net lost w start ≡ [] = drop-all (taken_by s.net start (receiver s.net w start)) (carried s.net lost w start) (h start (b start (omega arith))) in
-        omega (arith, ap (weigh (loud start)) e, none n (suc start) (λ l m. b l (omega (arith, m))))
+        omega (arith, ap (weigh (loud start)) e, none n (start + 1) (λ l m. b l (omega (arith, m))))

@@ -3,7 +3,8 @@
 use Rattle.std.proofs.Common.{◌+◌, ◌++◌, ◌<◌, ◌==◌, List, None, Option, Some, ap, inl, inr, length, refl, subst, suc, sym, zero, ℕ, ◌∙◌, ◌∷◌, ◌≡◌, ◌≤◌, arith, []}
 use Rattle.std.specs.Prelude.{map, min, option_and_then, true, unwrap_or, ◌⊎◌}
 use Rattle.std.proofs.lemmas.Bool.{cases_lt, eqb-true}
-use Rattle.sl_parts.specs.Parts.{Parts, numbers_from}
+use Rattle.std.specs.List.{range_with_len}
+use Rattle.sl_parts.specs.Parts.{Parts}
 use Rattle.sl_parts.specs.declared.parts.CablePart.{CablePart}
 use Rattle.sl_parts.specs.declared.parts.PortRef.{PortRef}
 use Rattle.sl_route.specs.Route.{Walk, cables_from, end_of, first_nonempty, first_port, host_port, least_walks, length_of, next_port, turned, walks, walks_between}
@@ -28,11 +29,11 @@ pub record IsFirst {A : Type 0} (f : ℕ → List A) (s n : ℕ) (xs : List A) :
   pub below : place < s + n
   pub is : f place ≡ xs
 
-pub first-is : {A : Type 0} (f : ℕ → List A) (s n : ℕ) (x : A) (xs : List A) → first_nonempty (map f (numbers_from s n)) ≡ x ∷ xs → IsFirst f s n (x ∷ xs)
+pub first-is : {A : Type 0} (f : ℕ → List A) (s n : ℕ) (x : A) (xs : List A) → first_nonempty (map f (range_with_len s n)) ≡ x ∷ xs → IsFirst f s n (x ∷ xs)
 first-is f s zero x xs h = absurd cc
-first-is f s (suc n) x xs h = by_list (f s) refl h (first-is f (suc s) n x xs)
+first-is f s (suc n) x xs h = by_list (f s) refl h (first-is f (s + 1) n x xs)
   where
-    by_list : (ys : List _) → f s ≡ ys → first_nonempty (ys ∷ map f (numbers_from (suc s) n)) ≡ x ∷ xs → (first_nonempty (map f (numbers_from (suc s) n)) ≡ x ∷ xs → IsFirst f (suc s) n (x ∷ xs)) → IsFirst f s (suc n) (x ∷ xs)
+    by_list : (ys : List _) → f s ≡ ys → first_nonempty (ys ∷ map f (range_with_len (s + 1) n)) ≡ x ∷ xs → (first_nonempty (map f (range_with_len (s + 1) n)) ≡ x ∷ xs → IsFirst f (s + 1) n (x ∷ xs)) → IsFirst f s (suc n) (x ∷ xs)
     by_list [] q k ih = let r = ih k in record { place = r.place; least = omega (arith, r.least); below = omega (arith, r.below); is = r.is }
     by_list (y ∷ ys) q k ih = record { place = s; least = omega arith; below = omega arith; is = q ∙ k }
 
@@ -40,25 +41,25 @@ first-is f s (suc n) x xs h = by_list (f s) refl h (first-is f (suc s) n x xs)
 pub record HasFirst {A : Type 0} (f : ℕ → List A) (s n k : ℕ) : Type 0 where
   pub head : A
   pub tail : List A
-  pub is : first_nonempty (map f (numbers_from s n)) ≡ head ∷ tail
+  pub is : first_nonempty (map f (range_with_len s n)) ≡ head ∷ tail
   pub place : ℕ
   pub no_later : place ≤ k
   pub here : f place ≡ head ∷ tail
 
 pub first-before : {A : Type 0} (f : ℕ → List A) (s n k : ℕ) (x : A) → s ≤ k → k < s + n → Member x (f k) → HasFirst f s n k
 first-before f s zero k x a b m = absurd (omega (arith, a, b))
-first-before f s (suc n) k x a b m = by_list (f s) refl (λ c. first-before f (suc s) n k x c (omega (arith, b)) m)
+first-before f s (suc n) k x a b m = by_list (f s) refl (λ c. first-before f (s + 1) n k x c (omega (arith, b)) m)
   where
-    not-here : [] ≡ f s → suc s ≤ k
+    not-here : [] ≡ f s → s + 1 ≤ k
     not-here q = by_cases (cases_lt s k)
       where
-        by_cases : (s < k) ⊎ (k ≤ s) → suc s ≤ k
-        by_cases (inl c) = c
+        by_cases : (s < k) ⊎ (k ≤ s) → s + 1 ≤ k
+        by_cases (inl c) = omega arith
         by_cases (inr c) = let e : k ≡ s = omega (arith, a, c) in absurd (subst (Member x) (ap f e ∙ sym q) m)
 
-    by_list : (ys : List _) → f s ≡ ys → (suc s ≤ k → HasFirst f (suc s) n k) → HasFirst f s (suc n) k
-    by_list [] q ih = let r = ih (not-here (sym q)) in record { head = r.head; tail = r.tail; is = ap (λ ys. first_nonempty (ys ∷ map f (numbers_from (suc s) n))) q ∙ r.is; place = r.place; no_later = r.no_later; here = r.here }
-    by_list (y ∷ ys) q ih = record { head = y; tail = ys; is = ap (λ zs. first_nonempty (zs ∷ map f (numbers_from (suc s) n))) q; place = s; no_later = a; here = q }
+    by_list : (ys : List _) → f s ≡ ys → (s + 1 ≤ k → HasFirst f (s + 1) n k) → HasFirst f s (suc n) k
+    by_list [] q ih = let r = ih (not-here (sym q)) in record { head = r.head; tail = r.tail; is = ap (λ ys. first_nonempty (ys ∷ map f (range_with_len (s + 1) n))) q ∙ r.is; place = r.place; no_later = r.no_later; here = r.here }
+    by_list (y ∷ ys) q ih = record { head = y; tail = ys; is = ap (λ zs. first_nonempty (zs ∷ map f (range_with_len (s + 1) n))) q; place = s; no_later = a; here = q }
 
 -- Walks.
 

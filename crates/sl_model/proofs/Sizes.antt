@@ -1,7 +1,8 @@
 -- How many steps a world has.
-use Rattle.std.proofs.Common.{◌≡◌, ℕ, zero, suc, ◌+◌, ◌≤◌, List, [], ◌∷◌, length, refl, sym, subst, Option, Some, None, arith}
+use Rattle.std.proofs.Common.{◌≡◌, ℕ, zero, suc, ◌+◌, ◌≤◌, List, [], ◌∷◌, length, refl, sym, subst, Option, Some, None, arith, ap}
 use Rattle.std.specs.Prelude.{slice_set, filter, map, Bool, true, false, cond}
-use Rattle.sl_parts.specs.Parts.{numbers_from, below}
+use Rattle.std.specs.List.{range_with_len}
+use Rattle.sl_parts.specs.Parts.{below}
 use Rattle.sl_layout.specs.Net.{Net, units, is_unit, actor_of}
 use Rattle.sl_layout.specs.declared.actor.ActorId.{ActorId}
 use Rattle.sl_model.specs.declared.message.Step.{Step}
@@ -42,9 +43,9 @@ weigh-filter f p [] = omega arith
 weigh-filter f p (x ∷ xs) = elim (p x) as (λ b. weigh f (cond b (x ∷ filter p xs) (filter p xs)) ≤ f x + weigh f xs)
     [ true ↦ (let k = weigh-filter f p xs in omega (arith, k)) | false ↦ (let k = weigh-filter f p xs in omega (arith, k)) ]
 
-weigh-shift : (f g : ℕ → ℕ) → ((k : ℕ) → f (suc k) ≡ g k) → (s n : ℕ) → weigh f (numbers_from (suc s) n) ≡ weigh g (numbers_from s n)
+weigh-shift : (f g : ℕ → ℕ) → ((k : ℕ) → f (suc k) ≡ g k) → (s n : ℕ) → weigh f (range_with_len (suc s) n) ≡ weigh g (range_with_len s n)
 weigh-shift f g h s zero = refl
-weigh-shift f g h s (suc n) = let k = weigh-shift f g h (suc s) n in let e = h s in omega (arith, k, e)
+weigh-shift f g h s (suc n) = let m : suc s + 1 ≡ suc (s + 1) = omega arith in omega (arith, weigh-shift f g h (s + 1) n, h s, ap (λ k. weigh f (range_with_len k n)) m)
 
 weigh-below : (w : World) → weigh (λ u. length (history w u)) (below (length w)) ≡ steps_in w
 weigh-below [] = refl

@@ -3,6 +3,7 @@ use Rattle.std.proofs.Common.{List, [], ◌∷◌, ◌∙◌, ap, refl, ◌*◌,
 use Rattle.std.specs.Prelude.{Bool, map}
 use Rattle.std.specs.List.{sum}
 use Rattle.std.proofs.lemmas.List.Sums.{sum_by-cons}
+use Rattle.std.proofs.lemmas.List.FromFn.{length-range_with_len}
 use Rattle.sl_net.specs.Input.{Input}
 use Rattle.sl_layout.specs.Net.{Net, actor_of, actors_of, is_unit, net_of, units}
 use Rattle.sl_parts.specs.Parts.{Parts, below}
@@ -12,7 +13,7 @@ use Rattle.sl_net.specs.declared.input.Flow.{Flow}
 use Rattle.sl_model.specs.Bound.{bound, bound_of, frame_count, input_bound, is_sweep, links_of_sort}
 use Rattle.sl_model.specs.Setup.{Setup, setup_of}
 use Rattle.sl_model.specs.Words.{tally, weigh}
-use Rattle.sl_parts.proofs.Lists.{length_numbers, length_filter_le}
+use Rattle.sl_parts.proofs.Lists.{length_filter_le}
 use Rattle.sl_model.proofs.NetWiring.{wiring}
 use Rattle.sl_model.proofs.Rounds.{mul-le}
 use Rattle.sl_model.proofs.SortCounts.{few-cables, few-crossings, few-inits}
@@ -42,7 +43,7 @@ record IsSmallNet (net : Net) : Type 0 where
 small-net : (parts : Parts) → IsWired (net_of parts) → IsSmallNet (net_of parts)
 small-net parts t = record {
   devices = t.valid.devices;
-  units_in = omega (arith, length_filter_le (λ a. is_unit (actor_of (net_of parts) a)) (below (length (actors_of parts))), length_numbers 0 (length (actors_of parts)), few);
+  units_in = omega (arith, length_filter_le (λ a. is_unit (actor_of (net_of parts) a)) (below (length (actors_of parts))), length-range_with_len 0 (length (actors_of parts)), few);
   inits = few-inits parts t;
   crossings = few-crossings parts t;
   cables = few-cables parts t;

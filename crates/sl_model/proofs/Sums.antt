@@ -3,11 +3,13 @@ use Rattle.std.proofs.Common.{◌*◌, ◌+◌, ◌++◌, ◌<◌, mul-add, ◌=
 use Rattle.std.specs.Prelude.{Bool, cond, false, filter, flat_map, map, nat_eq, true, ◌⊎◌, if◌then◌else◌}
 use Rattle.std.proofs.lemmas.Bool.{cases_lt}
 use Rattle.std.proofs.lemmas.Bool.Decides.{eqb_tells}
-use Rattle.sl_parts.specs.Parts.{below, numbers_from}
+use Rattle.sl_parts.specs.Parts.{below}
 use Rattle.sl_parts.specs.Lists.{Each, Distinct, Member}
-use Rattle.sl_parts.proofs.Lists.{length_numbers, distinct-map, each-passes, member-of-map, distinct-filter, each-at, kept-member, member-from}
+use Rattle.sl_parts.proofs.Lists.{distinct-map, each-passes, member-of-map, distinct-filter, each-at, kept-member, member-from}
 use Rattle.sl_model.specs.Words.{tally, weigh}
 use Rattle.std.proofs.lemmas.List.{length-map}
+use Rattle.std.proofs.lemmas.List.FromFn.{length-range_with_len}
+use Rattle.std.specs.List.{range_with_len}
 
 pub weigh-append : {A : Type 0} (f : A → ℕ) (xs ys : List A) → weigh f (xs ++ ys) ≡ weigh f xs + weigh f ys
 weigh-append f [] ys = omega arith
@@ -59,44 +61,44 @@ weigh-falls f g n (y ∷ ys) x h (inr m) d = omega (arith, h.0, weigh-falls f g 
 -- Sums over numbers.
 
 -- of the numbers from a start on, at most one is k
-weigh-none : (f : ℕ → ℕ) (k start n : ℕ) → k < start → weigh (λ l. cond (k == l) (f l) 0) (numbers_from start n) ≡ 0
+weigh-none : (f : ℕ → ℕ) (k start n : ℕ) → k < start → weigh (λ l. cond (k == l) (f l) 0) (range_with_len start n) ≡ 0
 weigh-none f k start zero h = refl
-weigh-none f k start (suc n) h = by_tells (eqb_tells k start) (weigh-none f k (suc start) n (omega (arith, h)))
+weigh-none f k start (suc n) h = by_tells (eqb_tells k start) (weigh-none f k (start + 1) n (omega (arith, h)))
   where
-    by_tells : ((nat_eq k start ≡ true) × (k ≡ start)) ⊎ ((nat_eq k start ≡ false) × (k ≡ start → ⊥)) → weigh (λ l. cond (k == l) (f l) 0) (numbers_from (suc start) n) ≡ 0
-        → cond (k == start) (f start) 0 + weigh (λ l. cond (k == l) (f l) 0) (numbers_from (suc start) n) ≡ 0
+    by_tells : ((nat_eq k start ≡ true) × (k ≡ start)) ⊎ ((nat_eq k start ≡ false) × (k ≡ start → ⊥)) → weigh (λ l. cond (k == l) (f l) 0) (range_with_len (start + 1) n) ≡ 0
+        → cond (k == start) (f start) 0 + weigh (λ l. cond (k == l) (f l) 0) (range_with_len (start + 1) n) ≡ 0
     by_tells (inl q) r = absurd (omega (arith, h, q.1))
-    by_tells (inr q) r = subst (λ b. cond b (f start) 0 + weigh (λ l. cond (k == l) (f l) 0) (numbers_from (suc start) n) ≡ 0) (sym q.0) (omega (arith, r))
+    by_tells (inr q) r = subst (λ b. cond b (f start) 0 + weigh (λ l. cond (k == l) (f l) 0) (range_with_len (start + 1) n) ≡ 0) (sym q.0) (omega (arith, r))
 
-pub weigh-once : (f : ℕ → ℕ) (k start n : ℕ) → weigh (λ l. cond (k == l) (f l) 0) (numbers_from start n) ≤ f k
+pub weigh-once : (f : ℕ → ℕ) (k start n : ℕ) → weigh (λ l. cond (k == l) (f l) 0) (range_with_len start n) ≤ f k
 weigh-once f k start zero = omega arith
-weigh-once f k start (suc n) = by_tells (eqb_tells k start) (weigh-once f k (suc start) n)
+weigh-once f k start (suc n) = by_tells (eqb_tells k start) (weigh-once f k (start + 1) n)
   where
     rest : ℕ
-    rest = weigh (λ l. cond (k == l) (f l) 0) (numbers_from (suc start) n)
+    rest = weigh (λ l. cond (k == l) (f l) 0) (range_with_len (start + 1) n)
 
-    by_tells : ((nat_eq k start ≡ true) × (k ≡ start)) ⊎ ((nat_eq k start ≡ false) × (k ≡ start → ⊥)) → weigh (λ l. cond (k == l) (f l) 0) (numbers_from (suc start) n) ≤ f k
-        → cond (k == start) (f start) 0 + weigh (λ l. cond (k == l) (f l) 0) (numbers_from (suc start) n) ≤ f k
-    by_tells (inl q) r = let z : weigh (λ l. cond (k == l) (f l) 0) (numbers_from (suc start) n) ≡ 0 = weigh-none f k (suc start) n (omega (arith, q.1)) in
-        let e : f start ≡ f k = ap f (sym q.1) in subst (λ b. cond b (f start) 0 + weigh (λ l. cond (k == l) (f l) 0) (numbers_from (suc start) n) ≤ f k) (sym q.0) (omega (arith, z, e))
-    by_tells (inr q) r = subst (λ b. cond b (f start) 0 + weigh (λ l. cond (k == l) (f l) 0) (numbers_from (suc start) n) ≤ f k) (sym q.0) (omega (arith, r))
+    by_tells : ((nat_eq k start ≡ true) × (k ≡ start)) ⊎ ((nat_eq k start ≡ false) × (k ≡ start → ⊥)) → weigh (λ l. cond (k == l) (f l) 0) (range_with_len (start + 1) n) ≤ f k
+        → cond (k == start) (f start) 0 + weigh (λ l. cond (k == l) (f l) 0) (range_with_len (start + 1) n) ≤ f k
+    by_tells (inl q) r = let z : weigh (λ l. cond (k == l) (f l) 0) (range_with_len (start + 1) n) ≡ 0 = weigh-none f k (start + 1) n (omega (arith, q.1)) in
+        let e : f start ≡ f k = ap f (sym q.1) in subst (λ b. cond b (f start) 0 + weigh (λ l. cond (k == l) (f l) 0) (range_with_len (start + 1) n) ≤ f k) (sym q.0) (omega (arith, z, e))
+    by_tells (inr q) r = subst (λ b. cond b (f start) 0 + weigh (λ l. cond (k == l) (f l) 0) (range_with_len (start + 1) n) ≤ f k) (sym q.0) (omega (arith, r))
 
 -- sums that differ at one number
-weigh-same : (f g : ℕ → ℕ) (a start n : ℕ) → ((x : ℕ) → (x ≡ a → ⊥) → g x ≡ f x) → a < start → weigh g (numbers_from start n) ≡ weigh f (numbers_from start n)
+weigh-same : (f g : ℕ → ℕ) (a start n : ℕ) → ((x : ℕ) → (x ≡ a → ⊥) → g x ≡ f x) → a < start → weigh g (range_with_len start n) ≡ weigh f (range_with_len start n)
 weigh-same f g a start zero same h = refl
-weigh-same f g a start (suc n) same h = omega (arith, same start (λ e. omega (arith, e, h)), weigh-same f g a (suc start) n same (omega (arith, h)))
+weigh-same f g a start (suc n) same h = omega (arith, same start (λ e. omega (arith, e, h)), weigh-same f g a (start + 1) n same (omega (arith, h)))
 
-pub weigh-one : (f g : ℕ → ℕ) (a start n : ℕ) → ((x : ℕ) → (x ≡ a → ⊥) → g x ≡ f x) → start ≤ a → a < start + n → weigh g (numbers_from start n) + f a ≡ weigh f (numbers_from start n) + g a
+pub weigh-one : (f g : ℕ → ℕ) (a start n : ℕ) → ((x : ℕ) → (x ≡ a → ⊥) → g x ≡ f x) → start ≤ a → a < start + n → weigh g (range_with_len start n) + f a ≡ weigh f (range_with_len start n) + g a
 weigh-one f g a start zero same h k = absurd (omega (arith, h, k))
-weigh-one f g a start (suc n) same h k = by_tells (eqb_tells start a) (λ b. weigh-one f g a (suc start) n same b (omega (arith, k)))
+weigh-one f g a start (suc n) same h k = by_tells (eqb_tells start a) (λ b. weigh-one f g a (start + 1) n same b (omega (arith, k)))
   where
-    by_tells : ((nat_eq start a ≡ true) × (start ≡ a)) ⊎ ((nat_eq start a ≡ false) × (start ≡ a → ⊥)) → (suc start ≤ a → weigh g (numbers_from (suc start) n) + f a ≡ weigh f (numbers_from (suc start) n) + g a)
-        → (g start + weigh g (numbers_from (suc start) n)) + f a ≡ (f start + weigh f (numbers_from (suc start) n)) + g a
-    by_tells (inl q) ih = omega (arith, weigh-same f g a (suc start) n same (omega (arith, q.1)), ap f q.1, ap g q.1)
+    by_tells : ((nat_eq start a ≡ true) × (start ≡ a)) ⊎ ((nat_eq start a ≡ false) × (start ≡ a → ⊥)) → (start + 1 ≤ a → weigh g (range_with_len (start + 1) n) + f a ≡ weigh f (range_with_len (start + 1) n) + g a)
+        → (g start + weigh g (range_with_len (start + 1) n)) + f a ≡ (f start + weigh f (range_with_len (start + 1) n)) + g a
+    by_tells (inl q) ih = omega (arith, weigh-same f g a (start + 1) n same (omega (arith, q.1)), ap f q.1, ap g q.1)
     by_tells (inr q) ih = omega (arith, same start q.1, ih (above (cases_lt start a)))
       where
-        above : ((start < a) ⊎ (a ≤ start)) → suc start ≤ a
-        above (inl m) = m
+        above : ((start < a) ⊎ (a ≤ start)) → start + 1 ≤ a
+        above (inl m) = omega arith
         above (inr m) = absurd (q.1 (omega (arith, h, m)))
 
 -- the order of two sums
@@ -180,7 +182,7 @@ distinct-within xs (y ∷ ys) d k = omega (arith, not-this y xs d, distinct-with
 
 -- elements with keys of their own below n
 pub few-keys : {A : Type 0} (key : A → ℕ) (n : ℕ) (xs : List A) → Distinct xs → ((x y : A) → Member x xs → Member y xs → key x ≡ key y → x ≡ y) → ((x : A) → Member x xs → key x < n) → length xs ≤ n
-few-keys key n xs d one few = omega (arith, length-map xs key, length_numbers 0 n, distinct-within (map key xs) (below n) (distinct-map key xs one d) within)
+few-keys key n xs d one few = omega (arith, length-map xs key, length-range_with_len 0 n, distinct-within (map key xs) (below n) (distinct-map key xs one d) within)
   where
     within : (k : ℕ) → Member k (map key xs) → Member k (below n)
     within k m = let r = member-of-map key k xs m in let p : key r.0 < n = few r.0 r.1 in member-from k 0 n (omega arith) (omega (arith, p, r.2))

@@ -1,11 +1,12 @@
 -- The totals of a unit's row are the values of its data channels.
-use Rattle.std.proofs.Common.{◌≡◌, ℕ, zero, suc, ◌+◌, ◌<◌, ◌≤◌, List, [], ◌∷◌, ◌++◌, length, refl, sym, ap, subst, ◌∙◌, None, arith, inl, inr}
+use Rattle.std.proofs.Common.{◌≡◌, ℕ, zero, suc, ◌+◌, ◌<◌, ◌≤◌, List, [], ◌∷◌, ◌++◌, length, refl, sym, ap, subst, ◌∙◌, None, arith, inl, inr, add-one}
 use Rattle.std.specs.Prelude.{◌⊎◌, if◌then◌else◌, map, take, replicate, IsTrue}
 use Rattle.std.proofs.lemmas.Bool.{ne_eqb}
 use Rattle.std.proofs.lemmas.Option.{get_or_from_slice_get}
+use Rattle.std.specs.List.{range_with_len}
 use Rattle.sl_layout.specs.declared.actor.Sort.{Sort}
 use Rattle.sl_layout.specs.declared.actor.Sort.TheVariants.{Cable, Crossbar}
-use Rattle.sl_parts.specs.Parts.{numbers_from, below}
+use Rattle.sl_parts.specs.Parts.{below}
 use Rattle.sl_layout.specs.Net.{Net, same_sort, link_of, link_at, links_into, choice_of, choices_of, data_channels, place_in}
 use Rattle.sl_net.specs.Wired.{IsWired}
 use Rattle.sl_saves.specs.declared.entry.Total.{Total}
@@ -43,20 +44,20 @@ distinct-channels net u = distinct-append (choices_of net u Cable) (choices_of n
     once : (t : Sort) → Distinct (choices_of net u t)
     once t = distinct-filter (λ c. same_sort (link_of net (link_at net u c)).sort t) (below (length (links_into net u))) (distinct-from 0 (length (links_into net u)))
 
-by-place : {A : Type 0} (g : ℕ → A) (n : ℕ) (xs : List ℕ) → Distinct xs → map (λ c. g (place_in n c xs)) xs ≡ map g (numbers_from n (length xs))
+by-place : {A : Type 0} (g : ℕ → A) (n : ℕ) (xs : List ℕ) → Distinct xs → map (λ c. g (place_in n c xs)) xs ≡ map g (range_with_len n (length xs))
 by-place g n [] d = refl
 by-place g n (y ∷ ys) d = let head = ap g (place-here n y y ys refl) in
     let rest = map-each (λ c. g (place_in n c (y ∷ ys))) (λ c. g (place_in (suc n) c ys)) ys
     (each-of (λ c. g (place_in n c (y ∷ ys)) ≡ g (place_in (suc n) c ys)) ys (λ c m. ap g (place-past n c y ys (λ e. d.0 (subst (λ z. Member z ys) (sym e) m))))) in
-    (λ i. head i ∷ rest i) ∙ ap (λ r. g n ∷ r) (by-place g (suc n) ys d.1)
+    (λ i. head i ∷ rest i) ∙ ap (λ r. g n ∷ r) (by-place g (suc n) ys d.1) ∙ ap (λ s. g n ∷ map g (range_with_len s (length ys))) (sym (add-one n))
 
 -- Places past the data channels are 0.
 
-fill : (g : ℕ → Total) (s n m k : ℕ) → m ≤ k → ((j : ℕ) → s + n ≤ j → g j ≡ no_total) → take m (map g (numbers_from s n) ++ replicate k no_total) ≡ map g (numbers_from s m)
+fill : (g : ℕ → Total) (s n m k : ℕ) → m ≤ k → ((j : ℕ) → s + n ≤ j → g j ≡ no_total) → take m (map g (range_with_len s n) ++ replicate k no_total) ≡ map g (range_with_len s m)
 fill g s n zero k p z = refl
-fill g s (suc n) (suc m) k p z = ap (λ r. g s ∷ r) (fill g (suc s) n m k (omega (arith, p)) (λ j q. z j (omega (arith, q))))
+fill g s (suc n) (suc m) k p z = ap (λ r. g s ∷ r) (fill g (s + 1) n m k (omega (arith, p)) (λ j q. z j (omega (arith, q))))
 fill g s zero (suc m) zero p z = absurd (omega (arith, p))
-fill g s zero (suc m) (suc k) p z = let head = sym (z s (omega arith)) in let rest = fill g (suc s) zero m k (omega (arith, p)) (λ j q. z j (omega (arith, q))) in
+fill g s zero (suc m) (suc k) p z = let head = sym (z s (omega arith)) in let rest = fill g (s + 1) zero m k (omega (arith, p)) (λ j q. z j (omega (arith, q))) in
     λ i. head i ∷ rest i
 
 none-on : (j n : ℕ) (xs : List Credit) → Each (λ x. x.channel < n) xs → n ≤ j → total_on j xs ≡ no_total

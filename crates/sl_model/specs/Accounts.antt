@@ -4,7 +4,7 @@
 --     accounts n net w    those of all units, by what the observer knows of them
 --     finding_by n xs k   the finding of k by accounts, where n snapshots were issued
 use Rattle.std.specs.Prelude.{ℕ, ◌-◌, List, [], map, nat_lt, nat_le, ◌==◌, if◌then◌else◌, Option, Some, None, slice_get, unwrap_or, option_and_then}
-use Rattle.sl_parts.specs.Parts.{numbers_from}
+use Rattle.std.specs.List.{range_with_len}
 use Rattle.sl_layout.specs.Net.{Net, units, data_channels}
 use Rattle.sl_saves.specs.declared.entry.Saved.{Saved}
 use Rattle.sl_saves.specs.declared.entry.Saved.TheVariants.{Value, Skipped, Miscredited}
@@ -34,7 +34,7 @@ account n net u h = record {
   id = id h;
   last = map (λ c. last c h) (data_channels net u);
   floor = floor_of net u h;
-  rows = map (λ k. row n (data_channels net u) k h) (numbers_from 1 (upto_of net u h));
+  rows = map (λ k. row n (data_channels net u) k h) (range_with_len 1 (upto_of net u h));
 }
 
 abbrev pub accounts : ℕ → Net → World → List Account

@@ -1,11 +1,11 @@
 -- The findings of a run, as data.
 use Rattle.std.specs.Prelude.{ℕ, Bool, false, List, [], ◌++◌, map, filter, length, take, replicate}
+use Rattle.std.specs.List.{range_with_len}
 use Rattle.sl_layout.specs.declared.actor.Side.TheVariants.{Ingress}
 use Rattle.sl_layout.specs.declared.actor.ActorId.{ActorId}
 use Rattle.sl_layout.specs.declared.actor.ActorId.TheVariants.{Unit as OfUnit}
 use Rattle.sl_layout.specs.declared.actor.Sort.{Sort}
 use Rattle.sl_layout.specs.declared.actor.Sort.TheVariants.{Cable, Crossbar, Init, Notice}
-use Rattle.sl_parts.specs.Parts.{numbers_from}
 use Rattle.sl_layout.specs.Net.{Net, same_side, same_sort, actor_of, link_of, link_at, link_numbers, action_choice, units, hosts, data_channels}
 use Rattle.sl_layout.specs.Devices.{device_of}
 use Rattle.sl_saves.specs.declared.entry.Total.{Total}
@@ -64,7 +64,7 @@ drops_of net w = record { bad = over_ingress net w (λ d h. bad h); expired = ov
 -- Losses. The links of each lossy kind are those of one sort.
 
 abbrev pub lost_on : Net → Losses → World → ℕ → ℕ
-lost_on net lost w l = tally (λ n. lost l n) (numbers_from 1 (length (put l (sender net w l))))
+lost_on net lost w l = tally (λ n. lost l n) (range_with_len 1 (length (put l (sender net w l))))
 
 abbrev pub lost_of : Net → Losses → World → Sort → ℕ
 lost_of net lost w sort = weigh (lost_on net lost w) (filter (λ l. same_sort (link_of net l).sort sort) (link_numbers net))
@@ -85,7 +85,7 @@ findings_in s lost w = record {
   issued = issued s.net (observer w);
   floor = floor s.net w;
   resent = resent s.net (observer w);
-  list = map (finding s.credits s.net lost w) (numbers_from 1 s.count);
+  list = map (finding s.credits s.net lost w) (range_with_len 1 s.count);
   sent = map (sent_by s.net w) (hosts s.net);
   delivered = map (delivered_to w) (hosts s.net);
   drops = drops_of s.net w;

@@ -1,7 +1,7 @@
 -- The book of the run of an input: its script, and then finishing.
 use Rattle.std.specs.Prelude.{◌≡◌, ℕ, List, length, take, drop}
+use Rattle.std.specs.List.{range_with_len}
 use Rattle.sl_machine.specs.declared.wiring.Entry.{Entry as BookEntry}
-use Rattle.sl_parts.specs.Parts.{numbers_from}
 use Rattle.sl_net.specs.Input.{Input}
 use Rattle.sl_model.specs.History.{Losses}
 use Rattle.sl_model.specs.Setup.{setup_of}
@@ -17,4 +17,4 @@ pub record IsBookOfRun (i : Input) (lost : Losses) (book : List BookEntry) (fron
   pub script : take front (schedule_of book) ≡ kept (setup_of i) lost (expand i.net i.script)
   pub finishing : IsFin (setup_of i) lost (world (setup_of i) lost (take front (schedule_of book))) (drop front (schedule_of book))
   pub legal : IsLegal (setup_of i) lost (schedule_of book)
-  pub numbers : numbers_of book ≡ numbers_from 1 (length book)
+  pub numbers : numbers_of book ≡ range_with_len 1 (length book)

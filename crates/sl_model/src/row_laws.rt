@@ -2,9 +2,9 @@
 // of them, and the findings that these give. The functions do nothing: their contracts are the
 // laws, and the proofs are in proofs/. Most call the law that nets are wired.
 ghost use Rattle.std.specs.Prelude.{◌≡◌, ℕ, ◌^◌, ◌<◌, ◌≤◌, List, [], ◌++◌, length, map, Some, None};
+ghost use Rattle.std.specs.List.{range_with_len};
 ghost use Rattle.sl_layout.specs.declared.actor.UnitId.{UnitId};
 ghost use Rattle.sl_layout.specs.declared.actor.ActorId.TheVariants.{Unit as OfUnit};
-ghost use Rattle.sl_parts.specs.Parts.{numbers_from};
 ghost use Rattle.sl_layout.specs.Net.{actor_of, data_channels};
 ghost use Rattle.sl_saves.specs.Views.{held_saved};
 ghost use Rattle.sl_net.specs.Wired.{IsNet};
@@ -111,7 +111,7 @@ pub fn accounts_give_findings()
         → finding_by (issued s.net (observer (world s lost es))) (accounts s.credits s.net (world s lost es)) k
         ≡ finding s.credits s.net lost (world s lost es) k }
     ensures list { (s : Setup) (lost : Losses) (es : List Entry) → IsNet s.net → 1 ≤ s.credits → IsFinished s lost (world s lost es)
-        → map (finding_by (issued s.net (observer (world s lost es))) (accounts s.credits s.net (world s lost es))) (numbers_from 1 s.count)
+        → map (finding_by (issued s.net (observer (world s lost es))) (accounts s.credits s.net (world s lost es))) (range_with_len 1 s.count)
         ≡ (findings s lost es).list }
 {
     nets_are_wired();

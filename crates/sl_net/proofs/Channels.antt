@@ -1,6 +1,7 @@
 -- A unit has at most eight data channels, and takes initiations by one choice at most.
 use Rattle.std.proofs.Common.{◌≡◌, ℕ, suc, ◌+◌, ◌<◌, ◌≤◌, List, [], ◌∷◌, ◌++◌, length, refl, sym, ap, subst, ◌∙◌, Option, Some, None, arith, length-append, get_or}
 use Rattle.std.specs.Prelude.{true, false, Bool, if◌then◌else◌, filter, map}
+use Rattle.std.specs.List.{range_with_len}
 use Rattle.sl_layout.specs.declared.actor.ActorId.{ActorId}
 use Rattle.sl_layout.specs.declared.actor.ActorId.TheVariants.{Control, Unit as OfUnit}
 use Rattle.sl_layout.specs.declared.actor.UnitId.{UnitId}
@@ -9,7 +10,7 @@ use Rattle.sl_layout.specs.declared.actor.Side.TheVariants.{Ingress, Egress}
 use Rattle.sl_layout.specs.declared.actor.Sort.{Sort}
 use Rattle.sl_layout.specs.declared.actor.Sort.TheVariants.{Cable, Crossbar, Init, Poll}
 use Rattle.sl_parts.specs.declared.parts.PortRef.{PortRef}
-use Rattle.sl_parts.specs.Parts.{Parts, numbers_from, other_end, host_at, used_ports}
+use Rattle.sl_parts.specs.Parts.{Parts, other_end, host_at, used_ports}
 use Rattle.sl_parts.specs.Valid.{IsValid}
 use Rattle.sl_layout.specs.Net.{Net, Incoming, same_sort, ingress, actors_of, net_of, actor_of, link_of, link_at, links_into, choices_of, data_channels, incoming, unit_incoming, from_host_or_cable, place_of, links_to}
 use Rattle.sl_layout.proofs.Sizes.{few_used}
@@ -18,16 +19,16 @@ use Rattle.sl_net.proofs.NetWired.{into-links}
 
 -- How many choices take from links of a sort.
 
-count-from : {A : Type 0} (t : A → Bool) (f : ℕ → Bool) (s : ℕ) (d : A) (xs : List A) → ((i : ℕ) → i < length xs → f (s + i) ≡ t (get_or xs i d)) → length (filter f (numbers_from s (length xs))) ≡ length (filter t xs)
+count-from : {A : Type 0} (t : A → Bool) (f : ℕ → Bool) (s : ℕ) (d : A) (xs : List A) → ((i : ℕ) → i < length xs → f (s + i) ≡ t (get_or xs i d)) → length (filter f (range_with_len s (length xs))) ≡ length (filter t xs)
 count-from t f s d [] e = refl
-count-from t f s d (x ∷ xs) e = ap (λ b. length (if b then s ∷ filter f (numbers_from (suc s) (length xs)) else filter f (numbers_from (suc s) (length xs)))) here
-    ∙ by_bool (t x) (count-from t f (suc s) d xs (λ i p. let n : suc s + i ≡ s + suc i = omega arith in ap f n ∙ e (suc i) (omega (arith, p))))
+count-from t f s d (x ∷ xs) e = ap (λ b. length (if b then s ∷ filter f (range_with_len (s + 1) (length xs)) else filter f (range_with_len (s + 1) (length xs)))) here
+    ∙ by_bool (t x) (count-from t f (s + 1) d xs (λ i p. let n : s + 1 + i ≡ s + suc i = omega arith in ap f n ∙ e (suc i) (omega (arith, p))))
   where
     here : f s ≡ t x
     here = let n : s ≡ s + 0 = omega arith in ap f n ∙ e 0 (omega arith)
 
-    by_bool : (b : Bool) → length (filter f (numbers_from (suc s) (length xs))) ≡ length (filter t xs)
-        → length (if b then s ∷ filter f (numbers_from (suc s) (length xs)) else filter f (numbers_from (suc s) (length xs))) ≡ length (if b then x ∷ filter t xs else filter t xs)
+    by_bool : (b : Bool) → length (filter f (range_with_len (s + 1) (length xs))) ≡ length (filter t xs)
+        → length (if b then s ∷ filter f (range_with_len (s + 1) (length xs)) else filter f (range_with_len (s + 1) (length xs))) ≡ length (if b then x ∷ filter t xs else filter t xs)
     by_bool true ih = ap suc ih
     by_bool false ih = ih
 

@@ -1,5 +1,5 @@
 -- The observer's links: by the choice of a device come the Dones of its units.
-use Rattle.std.proofs.Common.{◌≡◌, ℕ, ◌<◌, length, refl, sym, ap, subst, ◌∙◌, Some, arith, get_or}
+use Rattle.std.proofs.Common.{◌≡◌, ℕ, ◌<◌, length, refl, sym, ap, subst, ◌∙◌, Some, arith, get_or, zero-add}
 use Rattle.std.specs.Prelude.{map, slice_get}
 use Rattle.std.proofs.lemmas.Option.{get_or_from_slice_get, slice_get_within}
 use Rattle.sl_layout.specs.declared.actor.ActorId.TheVariants.{Observer, Control, Unit as OfUnit}
@@ -11,12 +11,12 @@ use Rattle.sl_layout.specs.Net.{Net, net_of, actors_of, actor_of, link_of, links
 use Rattle.sl_parts.specs.Valid.{IsValid}
 use Rattle.sl_net.specs.Wired.{home, Reports}
 use Rattle.sl_layout.proofs.Actors.{actor-at}
-use Rattle.sl_parts.proofs.Lists.{at_below, length_below}
 use Rattle.sl_net.proofs.Linked.{Joined, ends, link_from}
 use Rattle.sl_net.proofs.NetWired.{into-links}
 use Rattle.std.proofs.lemmas.List.{length-map}
 use Rattle.std.proofs.lemmas.List.{get_or-map}
 use Rattle.std.proofs.lemmas.Simd.{map-map}
+use Rattle.std.proofs.lemmas.List.FromFn.{get_or-map-range_with_len, length-map-range_with_len}
 
 -- the link from the control plane of a device
 abbrev done_link : Parts → ℕ → LinkPart
@@ -47,13 +47,13 @@ choice-is-device parts u i v q r = of_control (sym (actor-at parts (Control c) l
 
     low : choice_of (net_of parts) r.done < length parts.devices
     low = let p = slice_get_within (links_into (net_of parts) 0) (choice_of (net_of parts) r.done) r.done r.done_taken in
-        let a = length-map (links_into (net_of parts) 0) (link_of (net_of parts)) in let b = ap length (observer-links parts) in let d = length_below (done_link parts) (length parts.devices) in omega (arith, p, a, b, d)
+        let a = length-map (links_into (net_of parts) 0) (link_of (net_of parts)) in let b = ap length (observer-links parts) in let d = length-map-range_with_len (done_link parts) 0 (length parts.devices) in omega (arith, p, a, b, d)
 
     from : (link_of (net_of parts) r.done).from ≡ place_of (Control (choice_of (net_of parts) r.done)) (actors_of parts)
     from = ap (λ l. (link_of (net_of parts) l).from) (sym (get_or_from_slice_get (links_into (net_of parts) 0) (choice_of (net_of parts) r.done) r.done 0 r.done_taken))
         ∙ ap (λ k. k.from) (sym (get_or-map (link_of (net_of parts)) (links_into (net_of parts) 0) (choice_of (net_of parts) r.done) 0 no_link (slice_get_within (links_into (net_of parts) 0) (choice_of (net_of parts) r.done) r.done r.done_taken))
         ∙ ap (λ ks. get_or ks (choice_of (net_of parts) r.done) no_link) (observer-links parts)
-        ∙ at_below (done_link parts) (length parts.devices) (choice_of (net_of parts) r.done) no_link low)
+        ∙ get_or-map-range_with_len (done_link parts) 0 (length parts.devices) (choice_of (net_of parts) r.done) _ no_link low (zero-add (choice_of (net_of parts) r.done)))
 
     of_control : Control c ≡ Control r.device → c ≡ r.device
     of_control e = cc

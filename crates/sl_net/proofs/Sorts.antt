@@ -7,9 +7,10 @@ use Rattle.std.proofs.lemmas.List.{get_or_past}
 use Rattle.std.proofs.lemmas.Option.{slice_get_within, slice_get-get_or, get_or_from_slice_get}
 use Rattle.sl_layout.specs.declared.actor.Sort.{Sort}
 use Rattle.sl_layout.specs.declared.actor.Sort.TheVariants.{FromHost, ToHost, Cable, Crossbar, Init, Poll, Notice, Dump, Begin, Done}
-use Rattle.sl_parts.specs.Parts.{below, numbers_from}
+use Rattle.sl_parts.specs.Parts.{below}
 use Rattle.sl_layout.specs.declared.actor.LinkPart.{LinkPart}
 use Rattle.std.proofs.lemmas.Simd.{map-map}
+use Rattle.std.specs.List.{range_with_len}
 use Rattle.sl_layout.specs.Wires.{out_of}
 use Rattle.sl_layout.specs.Net.{Net, link_of, link_at, link_numbers, links_into, links_from, links_out, no_link, choices_of, sort_number, same_sort, place_in, choice_of}
 use Rattle.sl_parts.specs.Lists.{Each, Member}
@@ -67,8 +68,8 @@ at-numbers t d (k ∷ ks) = by_bool (t k) (ap (λ ns. map (λ l. get_or (k ∷ k
     ∙ ap (map (λ l. get_or (k ∷ ks) l d)) (filter-map (λ l. t (get_or (k ∷ ks) l d)) (λ l. suc l) (below (length ks)))
     ∙ map-map (λ l. get_or (k ∷ ks) l d) (λ l. suc l) (filter (λ l. t (get_or ks l d)) (below (length ks))) ∙ at-numbers t d ks)
   where
-    by_bool : (b : Bool) → map (λ l. get_or (k ∷ ks) l d) (filter (λ l. t (get_or (k ∷ ks) l d)) (numbers_from 1 (length ks))) ≡ filter t ks
-        → map (λ l. get_or (k ∷ ks) l d) (cond b (0 ∷ filter (λ l. t (get_or (k ∷ ks) l d)) (numbers_from 1 (length ks))) (filter (λ l. t (get_or (k ∷ ks) l d)) (numbers_from 1 (length ks)))) ≡ cond b (k ∷ filter t ks) (filter t ks)
+    by_bool : (b : Bool) → map (λ l. get_or (k ∷ ks) l d) (filter (λ l. t (get_or (k ∷ ks) l d)) (range_with_len 1 (length ks))) ≡ filter t ks
+        → map (λ l. get_or (k ∷ ks) l d) (cond b (0 ∷ filter (λ l. t (get_or (k ∷ ks) l d)) (range_with_len 1 (length ks))) (filter (λ l. t (get_or (k ∷ ks) l d)) (range_with_len 1 (length ks)))) ≡ cond b (k ∷ filter t ks) (filter t ks)
     by_bool true h = ap (λ r. k ∷ r) h
     by_bool false h = h
 
@@ -110,16 +111,16 @@ pub record Found (n l : ℕ) (xs : List ℕ) : Type 0 where
   pub is_there : place_in n l xs ≡ n + place
   pub gets : slice_get xs place ≡ Some l
 
-found-in : (t : ℕ → Bool) (l start count n : ℕ) → start ≤ l → l < start + count → t l ≡ true → Found n l (filter t (numbers_from start count))
+found-in : (t : ℕ → Bool) (l start count n : ℕ) → start ≤ l → l < start + count → t l ≡ true → Found n l (filter t (range_with_len start count))
 found-in t l start zero n p q h = absurd (omega arith)
-found-in t l start (suc count) n p q h = by_tells (λ n r. found-in t l (suc start) count n r (omega (arith, q)) h) (t start) refl (eqb_tells start l)
+found-in t l start (suc count) n p q h = by_tells (λ n r. found-in t l (start + 1) count n r (omega (arith, q)) h) (t start) refl (eqb_tells start l)
   where
-    by_tells : ((n : ℕ) → suc start ≤ l → Found n l (filter t (numbers_from (suc start) count))) → (b : Bool) → t start ≡ b
+    by_tells : ((n : ℕ) → start + 1 ≤ l → Found n l (filter t (range_with_len (start + 1) count))) → (b : Bool) → t start ≡ b
         → ((nat_eq start l ≡ true) × (start ≡ l)) ⊎ ((nat_eq start l ≡ false) × (start ≡ l → ⊥))
-        → Found n l (cond b (start ∷ filter t (numbers_from (suc start) count)) (filter t (numbers_from (suc start) count)))
-    by_tells ih true z (inl x) = record { place = 0; is_there = ap (λ b. if b then n else place_in (suc n) l (filter t (numbers_from (suc start) count))) x.0 ∙ (omega arith); gets = ap Some x.1 }
+        → Found n l (cond b (start ∷ filter t (range_with_len (start + 1) count)) (filter t (range_with_len (start + 1) count)))
+    by_tells ih true z (inl x) = record { place = 0; is_there = ap (λ b. if b then n else place_in (suc n) l (filter t (range_with_len (start + 1) count))) x.0 ∙ (omega arith); gets = ap Some x.1 }
     by_tells ih true z (inr x) = let k : (start ≡ l → ⊥) = x.1 in let f = ih (suc n) (omega arith) in
-        record { place = suc f.place; is_there = ap (λ b. if b then n else place_in (suc n) l (filter t (numbers_from (suc start) count))) x.0 ∙ (omega (arith, f.is_there)); gets = f.gets }
+        record { place = suc f.place; is_there = ap (λ b. if b then n else place_in (suc n) l (filter t (range_with_len (start + 1) count))) x.0 ∙ (omega (arith, f.is_there)); gets = f.gets }
     by_tells ih false z (inl x) = absurd (let k : true ≡ false = sym h ∙ ap t (sym x.1) ∙ z in cc)
     by_tells ih false z (inr x) = ih n (let k : (start ≡ l → ⊥) = x.1 in omega arith)
 

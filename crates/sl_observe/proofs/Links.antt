@@ -2,10 +2,10 @@
 use Rattle.std.proofs.Common.{◌≡◌, ℕ, zero, suc, ◌+◌, ◌<◌, ◌∷◌, length, refl, sym, ap, ◌∙◌, arith}
 use Rattle.std.proofs.lemmas.Bool.{eqb-true}
 use Rattle.std.specs.Prelude.{Bool, true, false, cond, filter, ◌==◌}
+use Rattle.std.specs.List.{range_with_len}
 use Rattle.sl_layout.specs.declared.actor.Sort.{Sort}
 use Rattle.sl_layout.specs.declared.actor.Sort.TheVariants.{FromHost, ToHost, Cable, Crossbar, Init, Poll, Notice, Dump, Begin, Done}
 use Rattle.sl_layout.specs.declared.actor.ActorId.TheVariants.{Observer}
-use Rattle.sl_parts.specs.Parts.{numbers_from}
 use Rattle.sl_layout.specs.Net.{Net, same_sort, actor_of, link_of, links_from, links_out}
 use Rattle.sl_net.specs.Wired.{sends, IsWired}
 
@@ -22,13 +22,13 @@ observer_sends Begin e = refl
 observer_sends Done e = cc
 
 -- a filter of what passes already
-filter_again : (p q : ℕ → Bool) (s n : ℕ) → ((k : ℕ) → k < s + n → q k ≡ true → p k ≡ true) → filter p (filter q (numbers_from s n)) ≡ filter q (numbers_from s n)
+filter_again : (p q : ℕ → Bool) (s n : ℕ) → ((k : ℕ) → k < s + n → q k ≡ true → p k ≡ true) → filter p (filter q (range_with_len s n)) ≡ filter q (range_with_len s n)
 filter_again p q s zero f = refl
-filter_again p q s (suc n) f = by_first (q s) refl (filter_again p q (suc s) n (λ k h e. f k (omega arith) e))
+filter_again p q s (suc n) f = by_first (q s) refl (filter_again p q (s + 1) n (λ k h e. f k (omega arith) e))
   where
-    by_first : (b : Bool) → q s ≡ b → filter p (filter q (numbers_from (suc s) n)) ≡ filter q (numbers_from (suc s) n)
-        → filter p (cond b (s ∷ filter q (numbers_from (suc s) n)) (filter q (numbers_from (suc s) n))) ≡ cond b (s ∷ filter q (numbers_from (suc s) n)) (filter q (numbers_from (suc s) n))
-    by_first true e rest = ap (λ b. cond b (s ∷ filter p (filter q (numbers_from (suc s) n))) (filter p (filter q (numbers_from (suc s) n)))) (f s (omega arith) e) ∙ ap (λ r. s ∷ r) rest
+    by_first : (b : Bool) → q s ≡ b → filter p (filter q (range_with_len (s + 1) n)) ≡ filter q (range_with_len (s + 1) n)
+        → filter p (cond b (s ∷ filter q (range_with_len (s + 1) n)) (filter q (range_with_len (s + 1) n))) ≡ cond b (s ∷ filter q (range_with_len (s + 1) n)) (filter q (range_with_len (s + 1) n))
+    by_first true e rest = ap (λ b. cond b (s ∷ filter p (filter q (range_with_len (s + 1) n))) (filter p (filter q (range_with_len (s + 1) n)))) (f s (omega arith) e) ∙ ap (λ r. s ∷ r) rest
     by_first false e rest = rest
 
 pub begins_are_all : (net : Net) → IsWired net → links_out net 0 Begin ≡ links_from net 0

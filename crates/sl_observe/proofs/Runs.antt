@@ -1,13 +1,12 @@
 -- The observer over any turns.
 use Rattle.std.proofs.Common.{◌≡◌, ℕ, zero, suc, ◌+◌, ◌-◌, ◌<◌, ◌≤◌, ◌⊎◌, inl, inr, List, [], ◌∷◌, ◌++◌, length, refl, sym, ap, ◌∙◌, subst, map, set, get_or-set_same, get_or-set_other, arith}
 use Rattle.std.specs.Prelude.{Bool, true, false, cond, ◌&&◌, ◌==◌, Option, Some, None, slice_get, nat_lt, nat_le}
-use Rattle.std.specs.List.{All}
+use Rattle.std.specs.List.{All, range_with_len}
 use Rattle.std.proofs.lemmas.Bool.{cases_eq, cases_lt, and_parts, ltb-true, leb-true}
 use Rattle.std.proofs.lemmas.List.{set_past}
 use Rattle.std.proofs.lemmas.List.Elements.{All-nil, All-cons}
 use Rattle.sl_machine.specs.Machine.{After}
 use Rattle.sl_machine.specs.Turns.{Turn, Took, Acted, acted, after_turn, after}
-use Rattle.sl_parts.specs.Parts.{numbers_from}
 use Rattle.sl_saves.specs.declared.entry.Saved.{Saved}
 use Rattle.sl_wire.specs.declared.message.Done.{Done as Report}
 use Rattle.sl_wire.specs.declared.message.Msg.{Msg}
@@ -99,9 +98,9 @@ begins_are_of s action next e =
       | Resent f ↦ subst (λ (a : After ObserverState Msg). All (λ (p : ℕ × Msg). p.1 ≡ Begin a.state.issued) a.puts) (sym f) (each 0 s.outs s.issued)
     ]
   where
-    each : (start n k : ℕ) → All (λ (p : ℕ × Msg). p.1 ≡ Begin k) (map (λ out. (out, Begin k)) (numbers_from start n))
+    each : (start n k : ℕ) → All (λ (p : ℕ × Msg). p.1 ≡ Begin k) (map (λ out. (out, Begin k)) (range_with_len start n))
     each start zero k = All-nil (λ (p : ℕ × Msg). p.1 ≡ Begin k)
-    each start (suc n) k = All-cons (λ (p : ℕ × Msg). p.1 ≡ Begin k) (start, Begin k) (map (λ out. (out, Begin k)) (numbers_from (suc start) n)) refl (each (suc start) n k)
+    each start (suc n) k = All-cons (λ (p : ℕ × Msg). p.1 ≡ Begin k) (start, Begin k) (map (λ out. (out, Begin k)) (range_with_len (start + 1) n)) refl (each (start + 1) n k)
 
 pub issues_within : (s : ObserverState) (action : ℕ) (next : After ObserverState Msg) → observer_act s action ≡ Some next → (next.state.issued ≤ s.issued) ⊎ (next.state.issued ≤ register_floor s + s.snapshot.window)
 issues_within s action next e =

@@ -3,13 +3,13 @@ use Rattle.std.proofs.Common.{◌≡◌, ℕ, ◌+◌, ◌<◌, ◌≤◌, List,
 use Rattle.std.proofs.Common.{subst, get_or-set_same}
 use Rattle.std.specs.Prelude.{filter, cond, Bool, true, false, Option, Some, None}
 use Rattle.std.proofs.lemmas.List.{map-set, set-get_or, get_or-map, length-map, map_push, map_more}
+use Rattle.std.proofs.lemmas.List.FromFn.{length-range_with_len}
 use Rattle.sl_parts.specs.Parts.{below}
 use Rattle.sl_layout.specs.declared.actor.ActorId.TheVariants.{Unit as OfUnit}
 use Rattle.sl_layout.specs.declared.actor.UnitId.{UnitId}
 use Rattle.sl_layout.specs.Net.{Net, units, net_of, actors_of, is_unit, actor_of, nobody, data_channels}
 use Rattle.sl_layout.specs.Units.{AreUnits}
 use Rattle.sl_layout.specs.Wiring.{upstream_of, sender_by}
-use Rattle.sl_parts.proofs.Lists.{length_numbers}
 use Rattle.sl_layout.specs.Devices.{device_of}
 use Rattle.sl_observe.specs.Observer.{UnitState, unit_at, floors_of, new_unit, first_unit}
 use Rattle.sl_observe.specs.Kept.{Collected, states, collected_at, HasSpan, HaveSpans, HasRoom, IsKept}
@@ -38,7 +38,7 @@ filter_few p [] = omega arith
 filter_few p (x ∷ xs) = let h = filter_few p xs in elim (p x) as (λ b. length (cond b (x ∷ filter p xs) (filter p xs)) ≤ length (x ∷ xs)) [ true ↦ omega (arith, h) | false ↦ omega (arith, h) ]
 
 pub units_few : (net : Net) → length (units net) ≤ length net.actors
-units_few net = let h = filter_few (λ a. is_unit (actor_of net a)) (below (length net.actors)) in let e : length (below (length net.actors)) ≡ length net.actors = length_numbers 0 (length net.actors) in omega (arith, h, e)
+units_few net = let h = filter_few (λ a. is_unit (actor_of net a)) (below (length net.actors)) in let e : length (below (length net.actors)) ≡ length net.actors = length-range_with_len 0 (length net.actors) in omega (arith, h, e)
 
 -- the floors follow where a unit is changed and its floor is written
 pub floors_kept : (us vs : List UnitState) (floors : List ℕ) (k x : ℕ) (u : UnitState) → k < length us → floors ≡ floors_of us → vs ≡ set us k u → x ≡ (unit_at vs k).floor

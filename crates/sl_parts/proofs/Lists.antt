@@ -1,14 +1,12 @@
 -- Lemmas on lists, which the crates above use as they use those of std: what holds of each element, members, lists with no element twice; numbers
 -- counted up; filters, fronts, maps and joins.
-use Rattle.std.proofs.Common.{◌≡◌, ℕ, zero, suc, ◌+◌, ◌<◌, ◌≤◌, List, [], ◌∷◌, ◌++◌, length, refl, sym, ap, subst, ◌∙◌, arith, inl, inr, get_or, map, append-nil, append_assoc, zero-add, length-append, ◌*◌}
-use Rattle.std.specs.Prelude.{◌⊎◌, cond, true, false, Bool, filter, flat_map, Some, slice_get, ◌&&◌, nat_eq}
-use Rattle.std.specs.List.{All}
+use Rattle.std.proofs.Common.{◌≡◌, ℕ, zero, suc, ◌+◌, ◌<◌, ◌≤◌, List, [], ◌∷◌, ◌++◌, length, refl, sym, ap, subst, ◌∙◌, arith, inl, inr, get_or, map, length-append, ◌*◌, add-one, zero-add}
+use Rattle.std.specs.Prelude.{◌⊎◌, cond, true, false, Bool, filter, flat_map, ◌&&◌}
+use Rattle.std.specs.List.{All, range_with_len}
 use Rattle.std.proofs.lemmas.Bool.{cases_lt}
-use Rattle.sl_parts.specs.Parts.{below, numbers_from}
-use Rattle.std.proofs.Math.Numerals.{add-one}
-use Rattle.std.proofs.lemmas.List.{map-append, length-map}
-use Rattle.std.proofs.lemmas.Grind.{flat_map-append}
-use Rattle.std.proofs.lemmas.Bool.Decides.{eqb_tells}
+use Rattle.std.proofs.lemmas.List.{flat_map_more}
+use Rattle.std.proofs.lemmas.List.Elements.{filter-append}
+use Rattle.sl_parts.specs.Parts.{below}
 use Rattle.sl_parts.specs.Lists.{Each, Member, Distinct}
 
 pub each-from_all : {A : Type 0} (P : A → Type 0) (xs : List A) → All P xs → Each P xs
@@ -36,9 +34,9 @@ pub each-flat : {A B : Type 0} (P : B → Type 0) (f : A → List B) (xs : List 
 each-flat P f [] h = tt
 each-flat P f (x ∷ xs) h = each-append P (f x) (flat_map f xs) h.0 (each-flat P f xs h.1)
 
-pub each-from : (P : ℕ → Type 0) (start n : ℕ) → ((i : ℕ) → start ≤ i → i < start + n → P i) → Each P (numbers_from start n)
+pub each-from : (P : ℕ → Type 0) (start n : ℕ) → ((i : ℕ) → start ≤ i → i < start + n → P i) → Each P (range_with_len start n)
 each-from P start zero h = tt
-each-from P start (suc n) h = (h start (omega arith) (omega arith), each-from P (suc start) n (λ i p q. h i (omega arith) (omega arith)))
+each-from P start (suc n) h = (h start (omega arith) (omega arith), each-from P (start + 1) n (λ i p q. h i (omega arith) (omega arith)))
 
 pub each-below : (P : ℕ → Type 0) (n : ℕ) → ((i : ℕ) → i < n → P i) → Each P (below n)
 each-below P n h = each-from P 0 n (λ i p q. h i (omega arith))
@@ -79,11 +77,11 @@ member-filter t a (x ∷ xs) (inr m) h = by_bool (member-filter t a xs m h) (t x
     by_bool ih true = inr ih
     by_bool ih false = ih
 
-pub member-from : (i start n : ℕ) → start ≤ i → i < start + n → Member i (numbers_from start n)
+pub member-from : (i start n : ℕ) → start ≤ i → i < start + n → Member i (range_with_len start n)
 member-from i start zero p q = absurd (omega arith)
-member-from i start (suc n) p q = by_cases (λ k. member-from i (suc start) n k (omega arith)) (cases_lt start i)
+member-from i start (suc n) p q = by_cases (λ k. member-from i (start + 1) n (omega arith) (omega arith)) (cases_lt start i)
   where
-    by_cases : (start < i → Member i (numbers_from (suc start) n)) → (start < i) ⊎ (i ≤ start) → (i ≡ start) ⊎ Member i (numbers_from (suc start) n)
+    by_cases : (start < i → Member i (range_with_len (start + 1) n)) → (start < i) ⊎ (i ≤ start) → (i ≡ start) ⊎ Member i (range_with_len (start + 1) n)
     by_cases ih (inl k) = inr (ih k)
     by_cases ih (inr k) = inl (omega arith)
 
@@ -144,14 +142,14 @@ distinct-flat f key [] d e k = tt
 distinct-flat f key (x ∷ xs) d e k = distinct-append (f x) (flat_map f xs) e.0 (distinct-flat f key xs d.1 e.1 k)
     (λ b p q. d.0 (member-key f key x b xs k (each-at (λ b. key b ≡ x) b (f x) (k x) p) q))
 
-pub above : (i s n : ℕ) → Member i (numbers_from s n) → s ≤ i
+pub above : (i s n : ℕ) → Member i (range_with_len s n) → s ≤ i
 above i s zero m = absurd m
 above i s (suc n) (inl q) = omega arith
-above i s (suc n) (inr m) = omega (arith, above i (suc s) n m)
+above i s (suc n) (inr m) = omega (arith, above i (s + 1) n m)
 
-pub distinct-from : (s n : ℕ) → Distinct (numbers_from s n)
+pub distinct-from : (s n : ℕ) → Distinct (range_with_len s n)
 distinct-from s zero = tt
-distinct-from s (suc n) = ((λ m. let k : suc s ≤ s = above s (suc s) n m in omega arith), distinct-from (suc s) n)
+distinct-from s (suc n) = ((λ m. let k : s + 1 ≤ s = above s (s + 1) n m in omega arith), distinct-from (s + 1) n)
 
 -- each element at a place
 pub each-index : {A : Type 0} (P : A → Type 0) (xs : List A) (i : ℕ) (d : A) → Each P xs → i < length xs → P (get_or xs i d)
@@ -164,65 +162,24 @@ inside (y ∷ ys) (suc i) d p = inr (inside ys i d (omega arith))
 
 -- Loops that count up, and what they make of the numbers.
 
-pub numbers-more : (s n : ℕ) → numbers_from s (suc n) ≡ numbers_from s n ++ (s + n) ∷ []
+pub numbers-more : (s n : ℕ) → range_with_len s (suc n) ≡ range_with_len s n ++ (s + n) ∷ []
 numbers-more s zero = let e : s ≡ s + 0 = omega arith in ap (λ k. k ∷ []) e
-numbers-more s (suc n) = let e : suc s + n ≡ s + suc n = omega arith in ap (λ r. s ∷ r) (numbers-more (suc s) n) ∙ ap (λ k. s ∷ (numbers_from (suc s) n ++ k ∷ [])) e
+numbers-more s (suc n) = let e : s + 1 + n ≡ s + suc n = omega arith in ap (λ r. s ∷ r) (numbers-more (s + 1) n) ∙ ap (λ k. s ∷ (range_with_len (s + 1) n ++ k ∷ [])) e
 
 pub below_more : (n : ℕ) → below (n + 1) ≡ below n ++ n ∷ []
-below_more n = let z : 0 + n ≡ n = omega arith in ap below (add-one n) ∙ numbers-more 0 n ∙ ap (λ k. below n ++ k ∷ []) z
-
-pub length_numbers : (s n : ℕ) → length (numbers_from s n) ≡ n
-length_numbers s zero = refl
-length_numbers s (suc n) = ap suc (length_numbers (suc s) n)
-
-pub number_at : (s n i d : ℕ) → i < n → get_or (numbers_from s n) i d ≡ s + i
-number_at s zero i d h = absurd (omega arith)
-number_at s (suc n) zero d h = omega arith
-number_at s (suc n) (suc i) d h = number_at (suc s) n i d (omega arith) ∙ omega arith
-
-pub filter-push : {A : Type 0} (p : A → Bool) (xs : List A) (x : A) → filter p (xs ++ x ∷ []) ≡ filter p xs ++ cond (p x) (x ∷ []) []
-filter-push p [] x = refl
-filter-push p (y ∷ ys) x = elim (p y) as (λ b. cond b (y ∷ filter p (ys ++ x ∷ [])) (filter p (ys ++ x ∷ [])) ≡ cond b (y ∷ filter p ys) (filter p ys) ++ cond (p x) (x ∷ []) [])
-    [ true ↦ ap (λ r. y ∷ r) (filter-push p ys x) | false ↦ filter-push p ys x ]
+below_more n = ap below (add-one n) ∙ numbers-more 0 n ∙ ap (λ k. below n ++ k ∷ []) (zero-add n)
 
 pub filter_below_more : (p : ℕ → Bool) (n : ℕ) → filter p (below (n + 1)) ≡ filter p (below n) ++ cond (p n) (n ∷ []) []
-filter_below_more p n = ap (filter p) (below_more n) ∙ filter-push p (below n) n
-
-pub map_below_more : {A : Type 0} (f : ℕ → A) (n : ℕ) → map f (below (n + 1)) ≡ map f (below n) ++ f n ∷ []
-map_below_more f n = ap (map f) (below_more n) ∙ map-append f (below n) (n ∷ [])
+filter_below_more p n = ap (filter p) (below_more n) ∙ filter-append p (below n) (n ∷ [])
 
 pub flat_map_below_more : {A : Type 0} (f : ℕ → List A) (n : ℕ) → flat_map f (below (n + 1)) ≡ flat_map f (below n) ++ f n
-flat_map_below_more f n = ap (flat_map f) (below_more n) ∙ flat_map-append f (below n) (n ∷ []) ∙ ap (λ r. flat_map f (below n) ++ r) (append-nil (f n))
+flat_map_below_more f n = ap (flat_map f) (below_more n) ∙ sym (flat_map_more f [] (below n) n)
 
--- the i-th of a list that is made of the numbers
-pub at_below : {A : Type 0} (f : ℕ → A) (n i : ℕ) (d : A) → i < n → get_or (map f (below n)) i d ≡ f i
-at_below f n i d h = at_from 0 n i h ∙ ap f (zero-add i)
-  where
-    at_from : (s n i : ℕ) → i < n → get_or (map f (numbers_from s n)) i d ≡ f (s + i)
-    at_from s zero i h = absurd (omega arith)
-    at_from s (suc n) zero h = ap f (omega arith)
-    at_from s (suc n) (suc i) h = at_from (suc s) n i (omega arith) ∙ ap f (omega arith)
-
-pub length_below : {A : Type 0} (f : ℕ → A) (n : ℕ) → length (map f (below n)) ≡ n
-length_below f n = let e : length (map f (below n)) ≡ length (below n) = simp length-map in e ∙ length_numbers 0 n
-
-pub numbers-suc : (s n : ℕ) → numbers_from (suc s) n ≡ map suc (numbers_from s n)
+pub numbers-suc : (s n : ℕ) → range_with_len (suc s) n ≡ map suc (range_with_len s n)
 numbers-suc s zero = refl
-numbers-suc s (suc n) = ap (λ r. suc s ∷ r) (numbers-suc (suc s) n)
-
-pub map_numbers_more : {A : Type 0} (f : ℕ → A) (s n : ℕ) → map f (numbers_from s (n + 1)) ≡ map f (numbers_from s n) ++ f (s + n) ∷ []
-map_numbers_more f s n = ap (λ k. map f (numbers_from s k)) (add-one n) ∙ ap (map f) (numbers-more s n) ∙ map-append f (numbers_from s n) ((s + n) ∷ [])
-
-pub number-found : (s n i : ℕ) → i < n → slice_get (numbers_from s n) i ≡ Some (s + i)
-number-found s zero i h = absurd (omega (arith, h))
-number-found s (suc n) zero h = let e : s ≡ s + 0 = omega arith in ap Some e
-number-found s (suc n) (suc i) h = let e : suc s + i ≡ s + suc i = omega arith in number-found (suc s) n i (omega (arith, h)) ∙ ap Some e
+numbers-suc s (suc n) = let e : suc s + 1 ≡ suc (s + 1) = omega arith in ap (λ r. suc s ∷ r) (ap (λ k. range_with_len k n) e ∙ numbers-suc (s + 1) n)
 
 -- Loops over a list.
-
-pub flat_map-push : {A B : Type 0} (f : A → List B) (xs : List A) (x : A) → flat_map f (xs ++ x ∷ []) ≡ flat_map f xs ++ f x
-flat_map-push f [] x = append-nil (f x)
-flat_map-push f (y ∷ ys) x = ap (λ r. f y ++ r) (flat_map-push f ys x) ∙ sym (append_assoc (f y) (flat_map f ys) (f x))
 
 -- Filters, fronts, maps and joins.
 
@@ -253,18 +210,6 @@ each-back P (x ∷ xs) ys h = each-back P xs ys h.1
 pub each-both-of : {A : Type 0} (P Q R : A → Type 0) (xs : List A) → ((x : A) → P x → Q x → R x) → Each P xs → Each Q xs → Each R xs
 each-both-of P Q R [] f p q = tt
 each-both-of P Q R (x ∷ xs) f p q = (f x p.0 q.0, each-both-of P Q R xs f p.1 q.1)
-
--- of the numbers below n that pass
-pub each-member : (P : ℕ → Type 0) (t : ℕ → Bool) (start n i : ℕ) → Each P (filter t (numbers_from start n)) → start ≤ i → i < start + n → t i ≡ true → P i
-each-member P t start zero i e p q h = absurd (omega arith)
-each-member P t start (suc n) i e p q h = by_tells (λ e k. each-member P t (suc start) n i e k (omega arith) h) (t start) refl e (eqb_tells i start)
-  where
-    by_tells : (Each P (filter t (numbers_from (suc start) n)) → suc start ≤ i → P i) → (b : Bool) → t start ≡ b → Each P (cond b (start ∷ filter t (numbers_from (suc start) n)) (filter t (numbers_from (suc start) n)))
-        → ((nat_eq i start ≡ true) × (i ≡ start)) ⊎ ((nat_eq i start ≡ false) × (i ≡ start → ⊥)) → P i
-    by_tells ih true z e (inl x) = subst P (sym x.1) e.0
-    by_tells ih true z e (inr x) = ih e.1 (let k : (i ≡ start → ⊥) = x.1 in omega arith)
-    by_tells ih false z e (inl x) = absurd (let k : true ≡ false = sym h ∙ ap t x.1 ∙ z in cc)
-    by_tells ih false z e (inr x) = ih e (let k : (i ≡ start → ⊥) = x.1 in omega arith)
 
 -- Members.
 

@@ -1,6 +1,6 @@
 -- The parts of a net, and which of a device's ports are used.
-use Rattle.std.specs.Prelude.{ℕ, suc, zero, Bool, ◌&&◌, ◌||◌, List, [], ◌∷◌, map, filter, ◌==◌, if◌then◌else◌, Option, Some, None, slice_index_or}
-use Rattle.std.specs.List.{list_any}
+use Rattle.std.specs.Prelude.{ℕ, suc, Bool, ◌&&◌, ◌||◌, List, [], ◌∷◌, map, filter, ◌==◌, if◌then◌else◌, Option, Some, None, slice_index_or}
+use Rattle.std.specs.List.{list_any, range_with_len}
 use Rattle.sl_parts.specs.declared.parts.PortRef.{PortRef}
 use Rattle.sl_parts.specs.declared.parts.CablePart.{CablePart}
 use Rattle.sl_parts.specs.declared.parts.DevicePart.{DevicePart}
@@ -11,13 +11,9 @@ pub record Parts : Type 0 where
   pub cables : List CablePart
   pub hosts : List HostPart
 
-abbrev pub numbers_from : ℕ → ℕ → List ℕ
-numbers_from start zero = []
-numbers_from start (suc count) = start ∷ numbers_from (suc start) count
-
 -- the numbers below a number, ascending
 abbrev pub below : ℕ → List ℕ
-below count = numbers_from 0 count
+below count = range_with_len 0 count
 
 abbrev pub same_port : PortRef → PortRef → Bool
 same_port p q = (p.device == q.device) && (p.port == q.port)

@@ -1,12 +1,13 @@
 -- A schedule followed entry by entry.
-use Rattle.std.proofs.Common.{◌≡◌, ℕ, suc, ◌+◌, ◌<◌, ◌^◌, List, [], ◌∷◌, ◌++◌, length, get_or, drop, refl, sym, ap, subst, ◌∙◌, Option, Some, None, arith, append-nil, append_assoc}
+use Rattle.std.proofs.Common.{◌≡◌, ℕ, suc, ◌+◌, ◌<◌, ◌^◌, List, [], ◌∷◌, ◌++◌, length, get_or, drop, refl, sym, ap, subst, ◌∙◌, Option, Some, None, arith, append-nil, append_assoc, zero-add}
 use Rattle.std.specs.Prelude.{map, slice_get, IsSome}
 use Rattle.std.proofs.Math.Seq.{drop-cons}
 use Rattle.std.proofs.Math.ListN.{drop_of_length-le}
 use Rattle.std.proofs.lemmas.List.Elements.{All-nil, All-cons}
 use Rattle.std.specs.List.{All}
+use Rattle.std.proofs.lemmas.List.FromFn.{get_or-map-range_with_len, length-map-range_with_len}
 use Rattle.sl_parts.specs.Parts.{below}
-use Rattle.sl_parts.proofs.Lists.{at_below, length_below, inside}
+use Rattle.sl_parts.proofs.Lists.{inside}
 use Rattle.sl_layout.specs.Net.{Net, link_of, links_into, action_choice}
 use Rattle.sl_net.specs.Input.{Input}
 use Rattle.sl_net.specs.Wired.{IsWired}
@@ -45,10 +46,10 @@ pub first-follows : (i : Input) → TakesTurns → Follows i (start i.net) no_pu
 first-follows i turns = record {
   ran = turns.ran (setup_of i) (losses i) [];
   sized = sized-start (setup_of i);
-  lanes_each = length_below (first_lane i) (length i.net.links);
-  feeds_each = length_below (first_feed (setup_of i)) (length i.net.actors);
-  lane = λ l low b. subst (LaneIs i (start i.net) no_putters l) (sym (at_below (first_lane i) (length i.net.links) l (new_lane None) low)) (first-lane turns i l);
-  feed = λ a low. subst (FeedIs (setup_of i) (start i.net) a) (sym (at_below (first_feed (setup_of i)) (length i.net.actors) a no_feed low)) (first-feed turns (setup_of i) a);
+  lanes_each = length-map-range_with_len (first_lane i) 0 (length i.net.links);
+  feeds_each = length-map-range_with_len (first_feed (setup_of i)) 0 (length i.net.actors);
+  lane = λ l low b. subst (LaneIs i (start i.net) no_putters l) (sym (get_or-map-range_with_len (first_lane i) 0 (length i.net.links) l _ (new_lane None) low (zero-add l))) (first-lane turns i l);
+  feed = λ a low. subst (FeedIs (setup_of i) (start i.net) a) (sym (get_or-map-range_with_len (first_feed (setup_of i)) 0 (length i.net.actors) a _ no_feed low (zero-add a))) (first-feed turns (setup_of i) a);
 }
 
 pub few-first : (i : Input) (ls : List ℕ) → AreFew (map (first_lane i) ls)

@@ -2,9 +2,9 @@
 use Rattle.std.proofs.Common.{◌≡◌, ℕ, ◌≤◌, List, [], ◌++◌, length, take, drop, sym, ap, ◌∙◌, subst, refl}
 use Rattle.std.proofs.lemmas.List.{length-map}
 use Rattle.std.proofs.Math.Seq.{take-append_seam, drop-append_seam}
+use Rattle.std.specs.List.{range_with_len}
 use Rattle.sl_machine.specs.declared.wiring.Entry.{Entry as BookEntry}
 use Rattle.sl_machine.specs.Plan.{IsSound}
-use Rattle.sl_parts.specs.Parts.{numbers_from}
 use Rattle.sl_net.specs.Input.{Input}
 use Rattle.sl_net.specs.Wired.{IsNet}
 use Rattle.sl_layout.specs.Wiring.{plan_of}
@@ -88,7 +88,7 @@ module _ (turns : TakesTurns) (i : Input) (lost : Losses) (v u t : Scene NodeSta
     finishing = subst (λ es. IsFin (setup_of i) lost (world (setup_of i) lost es) (drop (length u.book) (schedule_of t.book))) (script-book ∙ sym front-is)
         (subst (IsFin (setup_of i) lost (world_of (case_of i lost) u)) (sym rest-is) ends.finishes);
     legal = stands.legal;
-    numbers = subst (λ (b : List BookEntry). numbers_of b ≡ numbers_from 1 (length b)) (sym whole-book) (numbers (first ++ ends.turns)).numbers;
+    numbers = subst (λ (b : List BookEntry). numbers_of b ≡ range_with_len 1 (length b)) (sym whole-book) (numbers (first ++ ends.turns)).numbers;
   }
 
   reached : world_of (case_of i lost) u ≡ world (setup_of i) lost (expand i.net i.script)

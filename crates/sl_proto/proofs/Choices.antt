@@ -1,8 +1,9 @@
 -- Passes, sweeps and the resend entry are choices of a net.
-use Rattle.std.proofs.Common.{◌≡◌, ℕ, suc, ◌+◌, ◌<◌, List, [], ◌∷◌, ◌++◌, length, refl, sym, ap, subst, arith}
+use Rattle.std.proofs.Common.{◌≡◌, ℕ, suc, ◌+◌, ◌<◌, List, [], ◌∷◌, ◌++◌, length, refl, sym, ap, subst, arith, zero-add}
 use Rattle.std.specs.Prelude.{Bool, true, false, slice_index}
 use Rattle.std.specs.List.{All}
 use Rattle.std.proofs.lemmas.List.{get_or-map}
+use Rattle.std.proofs.lemmas.List.FromFn.{get_or-map-range_with_len, length-map-range_with_len}
 use Rattle.sl_machine.specs.Plan.{HasChoice}
 use Rattle.sl_layout.specs.declared.actor.ActorId.{ActorId}
 use Rattle.sl_layout.specs.declared.actor.ActorId.TheVariants.{Observer, Control, Unit as OfUnit, Host as OfHost}
@@ -10,7 +11,7 @@ use Rattle.sl_parts.specs.Parts.{Parts}
 use Rattle.sl_layout.specs.Net.{Net, net_of, nobody, actors_of, actor_of, links_into}
 use Rattle.sl_layout.specs.Wiring.{plan_of, actions_of}
 use Rattle.sl_parts.specs.Lists.{Each}
-use Rattle.sl_parts.proofs.Lists.{all-from_each, each-append, each-map, each-flat, each-below, at_below, length_below}
+use Rattle.sl_parts.proofs.Lists.{all-from_each, each-append, each-map, each-flat, each-below}
 use Rattle.sl_model.specs.World.{Entry}
 use Rattle.sl_model.specs.Schedule.{of_actors, link_entries, first_action, pass_actions, pass_of, sweep_of, sweeps, resend_entry}
 
@@ -19,8 +20,8 @@ IsChoice net e = HasChoice (plan_of net) e.0 e.1
 
 pub choice-of : (net : Net) (a c : ℕ) → a < length net.actors → c < length (links_into net a) + actions_of (actor_of net a) → HasChoice (plan_of net) a c
 choice-of net a c low few =
-    let each : length (plan_of net).ins ≡ length net.actors = length_below (λ a. length (links_into net a)) (length net.actors) in
-    let ins : slice_index (plan_of net).ins a ≡ length (links_into net a) = at_below (λ a. length (links_into net a)) (length net.actors) a 0 low in
+    let each : length (plan_of net).ins ≡ length net.actors = length-map-range_with_len (λ a. length (links_into net a)) 0 (length net.actors) in
+    let ins : slice_index (plan_of net).ins a ≡ length (links_into net a) = get_or-map-range_with_len (λ a. length (links_into net a)) 0 (length net.actors) a _ 0 low (zero-add a) in
     let actions : slice_index (plan_of net).actions a ≡ actions_of (actor_of net a) = get_or-map actions_of net.actors a nobody 0 low in
     record { actor_below = omega (arith, each, low); choice_below = omega (arith, ins, actions, few) }
 

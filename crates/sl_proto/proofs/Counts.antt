@@ -1,5 +1,5 @@
 -- The numbers of the links and actions of the nodes.
-use Rattle.std.proofs.Common.{◌≡◌, ℕ, suc, ◌+◌, ◌-◌, ◌<◌, ◌≤◌, List, [], ◌∷◌, ◌++◌, length, sym, ap, subst, ◌∙◌, Option, Some, None, get_or, map, arith, inl, inr}
+use Rattle.std.proofs.Common.{◌≡◌, ℕ, suc, ◌+◌, ◌-◌, ◌<◌, ◌≤◌, List, [], ◌∷◌, ◌++◌, length, sym, ap, subst, ◌∙◌, Option, Some, None, get_or, map, arith, inl, inr, zero-add}
 use Rattle.std.specs.Prelude.{◌⊎◌, true, false, if◌then◌else◌, nat_eq, slice_index}
 use Rattle.std.proofs.lemmas.Bool.Decides.{eqb_tells}
 use Rattle.std.proofs.lemmas.List.{length-map, map_push}
@@ -20,8 +20,8 @@ use Rattle.sl_layout.specs.Wiring.{plan_of, actions_of, wired_link, wired_links}
 use Rattle.sl_parts.specs.Lists.{Member}
 use Rattle.sl_net.specs.Ways.{HasWays}
 use Rattle.sl_layout.proofs.Actors.{place-at}
-use Rattle.sl_parts.proofs.Lists.{length_numbers, map_below_more}
 use Rattle.std.proofs.lemmas.Simd.{map-map}
+use Rattle.std.proofs.lemmas.List.FromFn.{length-range_with_len, map-range_with_len_more}
 use Rattle.sl_model.proofs.SortCounts.{all_at}
 use Rattle.sl_unit.specs.Step.{UnitState, counts_of}
 use Rattle.sl_layout.specs.Devices.{device_of}
@@ -40,7 +40,7 @@ place_is net a x made = subst (λ n. a < length n.actors → actor_of n a ≡ x 
 pub unit_fits : (net : Net) (a : ℕ) (u : UnitId) (ports : List (Option ℕ)) (n : Snapshot) → actor_of net a ≡ OfUnit u → counts_of (wires_of net a ports n) ≡ counts_at net a
 unit_fits net a u ports n q =
     let ins : length (map (entrance_by net a) (below (length (links_into net a)))) ≡ length (links_into net a) =
-    length-map (below (length (links_into net a))) (entrance_by net a) ∙ length_numbers 0 (length (links_into net a)) in
+    length-map (below (length (links_into net a))) (entrance_by net a) ∙ length-range_with_len 0 (length (links_into net a)) in
     let outs : length (map (exit_by net) (links_from net a)) ≡ length (links_from net a) = length-map (links_from net a) (exit_by net) in
     let actions : 0 ≡ actions_of (actor_of net a) = sym (ap actions_of q) in
     λ i. record { ins = ins i; outs = outs i; actions = actions i }
@@ -74,7 +74,7 @@ fits_of net nodes h =
     }
 
 pub link_count : (net : Net) → length (wired_links net) ≡ length net.links
-link_count net = length-map (link_numbers net) (wired_link net) ∙ length_numbers 0 (length net.links)
+link_count net = length-map (link_numbers net) (wired_link net) ∙ length-range_with_len 0 (length net.links)
 
 -- Units by their places.
 
@@ -114,7 +114,7 @@ pub node_added : (input : Input) (count : ℕ) (nodes more : List Node) (node : 
 node_added input count nodes more node pushed so_far state counts ready =
     subst (AreNodes input (count + 1)) (sym pushed)
     (record {
-      states = map_push node_state nodes node ∙ ap (λ xs. xs ++ node_state node ∷ []) so_far.states ∙ ap (λ x. map (first_at input) (below count) ++ x ∷ []) state ∙ sym (map_below_more (first_at input) count);
-      counts = map_push node_counts nodes node ∙ ap (λ xs. xs ++ node_counts node ∷ []) so_far.counts ∙ ap (λ x. map (counts_at input.net) (below count) ++ x ∷ []) counts ∙ sym (map_below_more (counts_at input.net) count);
+      states = map_push node_state nodes node ∙ ap (λ xs. xs ++ node_state node ∷ []) so_far.states ∙ ap (λ x. map (first_at input) (below count) ++ x ∷ []) state ∙ sym (map-range_with_len_more (first_at input) 0 count _ (zero-add count));
+      counts = map_push node_counts nodes node ∙ ap (λ xs. xs ++ node_counts node ∷ []) so_far.counts ∙ ap (λ x. map (counts_at input.net) (below count) ++ x ∷ []) counts ∙ sym (map-range_with_len_more (counts_at input.net) 0 count _ (zero-add count));
       ready = All-push (λ n. node_ready n ≡ None) nodes node so_far.ready ready;
     })

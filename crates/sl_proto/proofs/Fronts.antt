@@ -2,7 +2,7 @@
 use Rattle.std.proofs.Common.{◌≡◌, ℕ, zero, suc, ◌+◌, ◌-◌, ◌<◌, List, [], ◌∷◌, ◌++◌, length, refl, sym, ap, subst, ◌∙◌, Option, Some, None, arith, append_assoc, append-nil, get_or, take, drop, take-append-drop}
 use Rattle.std.specs.Prelude.{◌≢◌, true, false}
 use Rattle.std.proofs.lemmas.Grind.{flat_map-append}
-use Rattle.std.proofs.lemmas.List.{take_more}
+use Rattle.std.proofs.lemmas.List.{take_more, flat_map_more}
 use Rattle.sl_net.specs.declared.input.Script1.{Script1}
 use Rattle.sl_layout.specs.Net.{Net}
 use Rattle.sl_net.specs.Wired.{IsNet}
@@ -13,7 +13,7 @@ use Rattle.sl_model.specs.World.{Entry, run, world, kept_from}
 use Rattle.sl_model.specs.Books.{schedule_of}
 use Rattle.sl_model.specs.Schedule.{settling_pass, sweeps, resend_entry, passes_of, expand_one, expand}
 use Rattle.sl_model.specs.End.{settle, finish, then_from, again_from, sweep_round, after_sweeps, is_collected, rose, IsFin}
-use Rattle.sl_parts.proofs.Lists.{flat_map-push, flat_map_below_more}
+use Rattle.sl_parts.proofs.Lists.{flat_map_below_more}
 use Rattle.sl_model.proofs.Trails.{kept-append}
 use Rattle.sl_model.proofs.Finished.{append-splits, then-splits}
 use Rattle.sl_world.specs.Scene.{Scene}
@@ -68,7 +68,7 @@ pub front-script : (s : Setup) (lost : Losses) (old mid new : Run) (net : Net) (
 front-script s lost old mid new net script i d h f g =
     front-longer s lost old new (expand net (take (i + 1) script)) (expand net script) (expand net (drop (i + 1) script))
     (ap (expand net) (sym (take-append-drop (i + 1) script)) ∙ flat_map-append (expand_one net) (take (i + 1) script) (drop (i + 1) script))
-    (subst (λ xs. FollowsFront s lost old xs new) (sym (ap (expand net) (take_more script i d h) ∙ flat_map-push (expand_one net) (take i script) (get_or script i d)))
+    (subst (λ xs. FollowsFront s lost old xs new) (flat_map_more (expand_one net) [] (take i script) (get_or script i d) ∙ sym (ap (expand net) (take_more script i d h)))
     (front-after s lost old mid new (expand net (take i script)) (expand_one net (get_or script i d)) f g))
 
 -- so many entries of a script

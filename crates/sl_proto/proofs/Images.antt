@@ -1,8 +1,9 @@
 -- A turn of a scene that stands for a world leads to one that stands for the world after it.
-use Rattle.std.proofs.Common.{◌≡◌, ℕ, zero, suc, ◌+◌, ◌^◌, ◌<◌, ◌≤◌, List, [], ◌∷◌, ◌++◌, length, refl, sym, ap, subst, ◌∙◌, Some, None, arith, inl, inr, length-append, append-nil, length-set, drop}
+use Rattle.std.proofs.Common.{◌≡◌, ℕ, zero, suc, ◌+◌, ◌^◌, ◌<◌, ◌≤◌, List, [], ◌∷◌, ◌++◌, length, refl, sym, ap, subst, ◌∙◌, Some, None, arith, inl, inr, length-append, append-nil, length-set, drop, zero-add}
 use Rattle.std.specs.Prelude.{◌⊎◌, true, false, Bool, cond, nat_eq, if◌then◌else◌, slice_get, slice_set, option_and_then, unwrap_or}
 use Rattle.std.proofs.lemmas.Bool.{cases_lt, ne_eqb}
 use Rattle.std.proofs.lemmas.Bool.Decides.{eqb_tells}
+use Rattle.std.proofs.lemmas.List.FromFn.{get_or-map-range_with_len, length-map-range_with_len}
 use Rattle.sl_machine.specs.Machine.{After}
 use Rattle.sl_machine.specs.Plan.{IsSound, link_in, link_out, link_at}
 use Rattle.sl_layout.specs.declared.actor.Sort.{Sort}
@@ -18,7 +19,7 @@ use Rattle.sl_model.specs.declared.message.Message.TheVariants.{Done as DoneMsg}
 use Rattle.sl_model.specs.declared.message.Put.{Put}
 use Rattle.sl_model.specs.declared.message.Step.{Step}
 use Rattle.sl_parts.specs.Lists.{Each}
-use Rattle.sl_parts.proofs.Lists.{each-imp, each-both-of, at_below, length_below}
+use Rattle.sl_parts.proofs.Lists.{each-imp, each-both-of}
 use Rattle.sl_model.specs.History.{History, World, Losses, history, done_of, taken, takes, put, on_link, without_lost}
 use Rattle.sl_model.specs.Setup.{Setup}
 use Rattle.sl_model.specs.World.{IsLossTable, carried}
@@ -153,13 +154,13 @@ put-small s a l (step ∷ h) z m = let ih = put-small s a l h z m.1 in let k = o
 -- Wiring.
 
 pub wire-at : (net : Net) (l : ℕ) → l < length net.links → link_at (plan_of net).links l ≡ wired_link net l
-wire-at net l p = at_below (wired_link net) (length net.links) l _ p
+wire-at net l p = get_or-map-range_with_len (wired_link net) 0 (length net.links) l _ _ p (zero-add l)
 
 pub wires-each : (net : Net) → length (plan_of net).links ≡ length net.links
-wires-each net = length_below (wired_link net) (length net.links)
+wires-each net = length-map-range_with_len (wired_link net) 0 (length net.links)
 
 pub actors-each : (net : Net) → length (plan_of net).ins ≡ length net.actors
-actors-each net = length_below (λ a. length (links_into net a)) (length net.actors)
+actors-each net = length-map-range_with_len (λ a. length (links_into net a)) 0 (length net.actors)
 
 pub link-in-is : (net : Net) → HasWays net → (a c l : ℕ) → IsSound (plan_of net) → slice_get (links_into net a) c ≡ Some l → link_in (plan_of net).links a c ≡ l
 link-in-is net ways a c l sound k = let i = ways.into a c l k in let w = wire-at net l i.is_link in

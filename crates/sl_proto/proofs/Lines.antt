@@ -2,9 +2,9 @@
 --     IsLine net sizes us a lost told n ms line     the link stands for one on which these were put, and n of those that are not lost were taken
 use Rattle.std.proofs.Common.{◌≡◌, ℕ, zero, suc, ◌+◌, ◌^◌, ◌<◌, ◌≤◌, List, [], ◌∷◌, ◌++◌, length, refl, sym, ap, subst, ◌∙◌, Option, Some, None, arith, length-append, append-nil, drop}
 use Rattle.std.specs.Prelude.{true, false, Bool, if◌then◌else◌}
+use Rattle.std.specs.List.{range_with_len}
 use Rattle.sl_machine.specs.Counting.{one_more}
 use Rattle.sl_loss.specs.Loss.{Loss, is_lost, loses_next, after_put}
-use Rattle.sl_parts.specs.Parts.{numbers_from}
 use Rattle.sl_layout.specs.Net.{Net}
 use Rattle.sl_wire.specs.declared.message.Msg.{Msg}
 use Rattle.sl_wire.specs.Sizes.{Sizes}
@@ -17,7 +17,7 @@ use Rattle.sl_proto.specs.Image.{tell_all, AreQueued, GoesOn}
 use Rattle.sl_proto.proofs.Queues.{queue-push}
 
 abbrev pub counted : (ℕ → Bool) → List Message → ℕ
-counted lost ms = tally lost (numbers_from 1 (length ms))
+counted lost ms = tally lost (range_with_len 1 (length ms))
 
 pub record IsLine (net : Net) (sizes : Sizes) (us : ℕ → History) (a : ℕ) (lost : ℕ → Bool) (told : ℕ → ℕ) (n : ℕ) (ms : List Message) (line : Line Msg) : Type 0 where
   pub within : n ≤ length (without_lost lost 0 ms)
@@ -41,19 +41,19 @@ drop-front zero xs ys p = refl
 drop-front (suc n) [] ys p = absurd (omega (arith, p))
 drop-front (suc n) (x ∷ xs) ys p = drop-front n xs ys (omega (arith, p))
 
-numbers-push : (s n : ℕ) → numbers_from s (suc n) ≡ numbers_from s n ++ (s + n) ∷ []
+numbers-push : (s n : ℕ) → range_with_len s (suc n) ≡ range_with_len s n ++ (s + n) ∷ []
 numbers-push s zero = let e : s ≡ s + 0 = omega arith in ap (λ k. k ∷ []) e
-numbers-push s (suc n) = ap (λ r. s ∷ r) (numbers-push (suc s) n ∙ ap (λ k. numbers_from (suc s) n ++ k ∷ []) (omega arith))
+numbers-push s (suc n) = ap (λ r. s ∷ r) (numbers-push (s + 1) n ∙ ap (λ k. range_with_len (s + 1) n ++ k ∷ []) (omega arith))
 
 tally-push : (lost : ℕ → Bool) (xs : List ℕ) (k : ℕ) → tally lost (xs ++ k ∷ []) ≡ tally lost xs + (if lost k then 1 else 0)
 tally-push lost [] k = omega arith
 tally-push lost (x ∷ xs) k = let ih = tally-push lost xs k in omega (arith, ih)
 
-tally-small : (lost : ℕ → Bool) (s n : ℕ) → tally lost (numbers_from s n) ≤ n
+tally-small : (lost : ℕ → Bool) (s n : ℕ) → tally lost (range_with_len s n) ≤ n
 tally-small lost s zero = omega arith
-tally-small lost s (suc n) = by_bool (lost s) (tally-small lost (suc s) n)
+tally-small lost s (suc n) = by_bool (lost s) (tally-small lost (s + 1) n)
   where
-    by_bool : (b : Bool) → tally lost (numbers_from (suc s) n) ≤ n → (if b then 1 else 0) + tally lost (numbers_from (suc s) n) ≤ suc n
+    by_bool : (b : Bool) → tally lost (range_with_len (s + 1) n) ≤ n → (if b then 1 else 0) + tally lost (range_with_len (s + 1) n) ≤ suc n
     by_bool true ih = omega (arith, ih)
     by_bool false ih = omega (arith, ih)
 
@@ -75,8 +75,8 @@ line-put net sizes us a lost told n ms line m x few i s = record {
       (subst (λ ks. AreQueued net sizes us a told ks (if lost (suc (length ms)) then line.queue else line.queue ++ x ∷ [])) (sym (ap (drop n) pushed ∙ drop-front n (without_lost lost 0 ms) (if lost (suc (length ms)) then [] else m ∷ []) i.within))
       (by_bool (lost (suc (length ms)))));
   loss = subst (λ k. GoesOn lost k (after_put line.loss)) (sym long) (goes-on lost (length ms) line.loss few i.loss);
-  count = ap (λ b. if b then one_more line.lost else line.lost) next ∙ more (lost (suc (length ms))) ∙ sym (ap (λ k. tally lost (numbers_from 1 k)) long ∙ ap (tally lost) (numbers-push 1 (length ms))
-      ∙ tally-push lost (numbers_from 1 (length ms)) (1 + length ms) ∙ ap (λ k. counted lost ms + (if lost k then 1 else 0)) (omega arith));
+  count = ap (λ b. if b then one_more line.lost else line.lost) next ∙ more (lost (suc (length ms))) ∙ sym (ap (λ k. tally lost (range_with_len 1 k)) long ∙ ap (tally lost) (numbers-push 1 (length ms))
+      ∙ tally-push lost (range_with_len 1 (length ms)) (1 + length ms) ∙ ap (λ k. counted lost ms + (if lost k then 1 else 0)) (omega arith));
 }
   where
     long : length (ms ++ m ∷ []) ≡ suc (length ms)

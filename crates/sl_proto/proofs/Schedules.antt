@@ -3,6 +3,7 @@ use Rattle.std.proofs.Common.{◌≡◌, ℕ, zero, suc, ◌+◌, ◌^◌, ◌<�
 use Rattle.std.specs.Prelude.{if◌then◌else◌, slice_index_or, unwrap_or}
 use Rattle.std.specs.Option.{option_and_then}
 use Rattle.std.proofs.lemmas.List.{length-map, get_or-map}
+use Rattle.std.specs.List.{range_with_len}
 use Rattle.sl_machine.specs.Machine.{Rules}
 use Rattle.sl_loss.specs.Loss.{Loss}
 use Rattle.sl_layout.specs.Net.{link_of, choice_of}
@@ -13,7 +14,6 @@ use Rattle.sl_model.specs.declared.message.Message.{Message}
 use Rattle.sl_model.specs.declared.message.Step.{Step}
 use Rattle.sl_model.specs.History.{World, Losses, history, taken, put, without_lost}
 use Rattle.sl_model.specs.Words.{tally}
-use Rattle.sl_parts.specs.Parts.{numbers_from}
 use Rattle.sl_model.specs.Setup.{Setup}
 use Rattle.sl_model.specs.World.{Entry, start, next_step, turn, after, run, world, IsLegalFrom, kept_from}
 use Rattle.sl_model.specs.Window.{on_way}
@@ -116,7 +116,7 @@ module _ {S : Type 0} (turns : TakesTurns) (s : Setup) (lost : Losses) (sizes : 
   first-line l loss g = let none : put l (history (start s.net) (link_of s.net l).from) ≡ [] = ap (put l) (turns.starts s.net (link_of s.net l).from) in record {
     queue = subst (λ ms. AreQueued s.net sizes (history (start s.net)) (link_of s.net l).from (told_by (choice_of s.net l) (history (start s.net) (link_of s.net l).to)) ms []) (sym (nothing-on-way l)) tt;
     loss = subst (λ ms. GoesOn (lost l) (length ms) loss) (sym none) g;
-    count = sym (ap (λ ms. tally (λ k. lost l k) (numbers_from 1 (length ms))) none);
+    count = sym (ap (λ ms. tally (λ k. lost l k) (range_with_len 1 (length ms))) none);
   }
 
   pub first-image : (states : List S) (losses : List (Option Loss)) → IsFirst s lost Stands states losses → IsImage s lost sizes Stands (start s.net) (first_scene (plan_of s.net) states losses)

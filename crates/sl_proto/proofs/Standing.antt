@@ -1,8 +1,8 @@
 -- Scenes of nodes that stand for the worlds of their own books, along schedules.
 use Rattle.std.proofs.Common.{◌≡◌, ℕ, suc, ◌+◌, ◌^◌, ◌<◌, List, [], ◌∷◌, ◌++◌, length, refl, sym, ap, subst, ◌∙◌, arith, append-nil}
 use Rattle.std.proofs.lemmas.List.{length-map, map-append}
+use Rattle.std.specs.List.{range_with_len}
 use Rattle.sl_machine.specs.declared.wiring.Entry.{Entry as BookEntry}
-use Rattle.sl_parts.specs.Parts.{numbers_from}
 use Rattle.sl_layout.specs.Net.{Net}
 use Rattle.sl_wire.specs.declared.message.Msg.{Msg}
 use Rattle.sl_wire.specs.Sizes.{sizes_of}
@@ -23,10 +23,9 @@ use Rattle.sl_proto.proofs.Schedules.{all-image, grown-book}
 
 -- Books numbered from 1.
 
-numbers-numbered : (n : ℕ) (es : List Entry) → numbers_of (numbered_from n es) ≡ numbers_from (n + 1) (length es)
+numbers-numbered : (n : ℕ) (es : List Entry) → numbers_of (numbered_from n es) ≡ range_with_len (n + 1) (length es)
 numbers-numbered n [] = refl
-numbers-numbered n (e ∷ es) = let z : (n + 1) + 1 ≡ suc (n + 1) = omega arith in
-    ap (λ r. (n + 1) ∷ r) (numbers-numbered (n + 1) es ∙ ap (λ k. numbers_from k (length es)) z)
+numbers-numbered n (e ∷ es) = ap (λ r. (n + 1) ∷ r) (numbers-numbered (n + 1) es)
 
 length-numbered : (n : ℕ) (es : List Entry) → length (numbered_from n es) ≡ length es
 length-numbered n [] = refl
@@ -35,7 +34,7 @@ length-numbered n (e ∷ es) = ap suc (length-numbered (n + 1) es)
 pub numbered_book : (book : List BookEntry) (es : List Entry) → book ≡ numbered_from 0 es → IsBookOfTurns (record { entries = book }) es
 numbered_book book es h = record {
   schedule = ap schedule_of h ∙ schedule_of-numbered_from 0 es;
-  numbers = ap numbers_of h ∙ numbers-numbered 0 es ∙ ap (numbers_from 1) (sym (ap length h ∙ length-numbered 0 es));
+  numbers = ap numbers_of h ∙ numbers-numbered 0 es ∙ ap (range_with_len 1) (sym (ap length h ∙ length-numbered 0 es));
 }
 
 -- a book that grew by numbered entries

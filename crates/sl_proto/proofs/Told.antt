@@ -1,7 +1,7 @@
 -- What a scene of nodes tells is what the world of histories that it stands for says.
 use Rattle.std.proofs.Common.{◌≡◌, ℕ, zero, suc, ◌+◌, ◌-◌, ◌*◌, ◌^◌, ◌<◌, ◌≤◌, List, [], ◌∷◌, ◌++◌, length, refl, sym, ap, subst, ◌∙◌, Option, Some, None, arith, take, get_or, append-nil, append_assoc}
 use Rattle.std.specs.Prelude.{min, ◌&&◌, true, false, Bool, if◌then◌else◌, filter, map, slice_get}
-use Rattle.std.specs.List.{fold}
+use Rattle.std.specs.List.{fold, range_with_len}
 use Rattle.std.proofs.lemmas.List.{get_or-map, take_more}
 use Rattle.std.proofs.lemmas.Option.{slice_get_within, get_or_from_slice_get}
 use Rattle.sl_machine.specs.declared.wiring.Entry.{Entry as BookEntry}
@@ -12,13 +12,14 @@ use Rattle.sl_layout.specs.declared.actor.Side.TheVariants.{Ingress, Egress}
 use Rattle.sl_layout.specs.declared.actor.Sort.{Sort}
 use Rattle.sl_layout.specs.declared.actor.Sort.TheVariants.{Cable, Crossbar, Init, Notice}
 use Rattle.sl_net.specs.declared.input.Snapshot.{Snapshot}
-use Rattle.sl_parts.specs.Parts.{numbers_from, below}
+use Rattle.sl_parts.specs.Parts.{below}
 use Rattle.sl_layout.specs.Net.{Net, same_side, same_sort, actor_of, link_of, link_numbers, is_unit, is_host, units, hosts, data_channels}
 use Rattle.sl_layout.specs.Devices.{device_of}
 use Rattle.sl_net.specs.Input.{Input}
 use Rattle.sl_net.specs.Wired.{IsNet, IsWired}
-use Rattle.sl_parts.proofs.Lists.{length_numbers, filter-and}
+use Rattle.sl_parts.proofs.Lists.{filter-and}
 use Rattle.std.proofs.lemmas.List.{length-map}
+use Rattle.std.proofs.lemmas.List.FromFn.{length-range_with_len}
 use Rattle.sl_saves.specs.Views.{held_saved}
 use Rattle.sl_wire.specs.declared.message.Msg.{Msg}
 use Rattle.sl_wire.specs.Sizes.{sizes_of}
@@ -50,13 +51,13 @@ use Rattle.sl_proto.proofs.Images.{put-small, wires-each}
 -- Lists.
 
 numbers-from : {A : Type 0} (f : A → Option ℕ) (test : ℕ → Bool) (g : ℕ → ℕ) (n : ℕ) (xs : List A) → ((i : ℕ) (x : A) → slice_get xs i ≡ Some x → f x ≡ (if test (n + i) then Some (g (n + i)) else None))
-    → numbers f xs ≡ map g (filter test (numbers_from n (length xs)))
+    → numbers f xs ≡ map g (filter test (range_with_len n (length xs)))
 numbers-from f test g n [] h = refl
 numbers-from {A} f test g n (x ∷ xs) h = ap (λ o. listed o ++ numbers f xs) (h 0 x refl ∙ ap (λ j. if test j then Some (g j) else None) (let e : n + 0 ≡ n = omega arith in e))
-    ∙ by_bool (test n) (numbers-from f test g (suc n) xs (λ i y e. h (suc i) y e ∙ ap (λ j. if test j then Some (g j) else None) (let k : n + suc i ≡ suc n + i = omega arith in k)))
+    ∙ by_bool (test n) (numbers-from f test g (n + 1) xs (λ i y e. h (suc i) y e ∙ ap (λ j. if test j then Some (g j) else None) (let k : n + suc i ≡ n + 1 + i = omega arith in k)))
   where
-    by_bool : (b : Bool) → numbers f xs ≡ map g (filter test (numbers_from (suc n) (length xs)))
-        → listed (if b then Some (g n) else None) ++ numbers f xs ≡ map g (if b then n ∷ filter test (numbers_from (suc n) (length xs)) else filter test (numbers_from (suc n) (length xs)))
+    by_bool : (b : Bool) → numbers f xs ≡ map g (filter test (range_with_len (n + 1) (length xs)))
+        → listed (if b then Some (g n) else None) ++ numbers f xs ≡ map g (if b then n ∷ filter test (range_with_len (n + 1) (length xs)) else filter test (range_with_len (n + 1) (length xs)))
     by_bool true rest = ap (λ r. g n ∷ r) rest
     by_bool false rest = rest
 
@@ -65,13 +66,13 @@ numbers-are : {A : Type 0} (f : A → Option ℕ) (test : ℕ → Bool) (g : ℕ
 numbers-are f test g n xs e h = numbers-from f test g 0 xs (λ i x q. h i x q ∙ ap (λ j. if test j then Some (g j) else None) (let k : i ≡ 0 + i = omega arith in k)) ∙ ap (λ m. map g (filter test (below m))) e
 
 weigh-from : {A : Type 0} (f : A → ℕ) (test : ℕ → Bool) (g : ℕ → ℕ) (n : ℕ) (xs : List A) → ((i : ℕ) (x : A) → slice_get xs i ≡ Some x → f x ≡ (if test (n + i) then g (n + i) else 0))
-    → weigh f xs ≡ weigh g (filter test (numbers_from n (length xs)))
+    → weigh f xs ≡ weigh g (filter test (range_with_len n (length xs)))
 weigh-from f test g n [] h = refl
 weigh-from {A} f test g n (x ∷ xs) h = ap (λ m. m + weigh f xs) (h 0 x refl ∙ ap (λ j. if test j then g j else 0) (let e : n + 0 ≡ n = omega arith in e))
-    ∙ by_bool (test n) (weigh-from f test g (suc n) xs (λ i y e. h (suc i) y e ∙ ap (λ j. if test j then g j else 0) (let k : n + suc i ≡ suc n + i = omega arith in k)))
+    ∙ by_bool (test n) (weigh-from f test g (n + 1) xs (λ i y e. h (suc i) y e ∙ ap (λ j. if test j then g j else 0) (let k : n + suc i ≡ n + 1 + i = omega arith in k)))
   where
-    by_bool : (b : Bool) → weigh f xs ≡ weigh g (filter test (numbers_from (suc n) (length xs)))
-        → (if b then g n else 0) + weigh f xs ≡ weigh g (if b then n ∷ filter test (numbers_from (suc n) (length xs)) else filter test (numbers_from (suc n) (length xs)))
+    by_bool : (b : Bool) → weigh f xs ≡ weigh g (filter test (range_with_len (n + 1) (length xs)))
+        → (if b then g n else 0) + weigh f xs ≡ weigh g (if b then n ∷ filter test (range_with_len (n + 1) (length xs)) else filter test (range_with_len (n + 1) (length xs)))
     by_bool true rest = ap (λ m. g n + m) rest
     by_bool false rest = (let z : 0 + weigh f xs ≡ weigh f xs = omega arith in z) ∙ rest
 
@@ -80,21 +81,21 @@ weigh-are : {A : Type 0} (f : A → ℕ) (test : ℕ → Bool) (g : ℕ → ℕ)
 weigh-are f test g n xs e h = weigh-from f test g 0 xs (λ i x q. h i x q ∙ ap (λ j. if test j then g j else 0) (let k : i ≡ 0 + i = omega arith in k)) ∙ ap (λ m. weigh g (filter test (below m))) e
 
 -- of the numbers that pass a test
-weigh-same : (f g : ℕ → ℕ) (test : ℕ → Bool) (s n : ℕ) → ((k : ℕ) → k < s + n → f k ≡ g k) → weigh f (filter test (numbers_from s n)) ≡ weigh g (filter test (numbers_from s n))
+weigh-same : (f g : ℕ → ℕ) (test : ℕ → Bool) (s n : ℕ) → ((k : ℕ) → k < s + n → f k ≡ g k) → weigh f (filter test (range_with_len s n)) ≡ weigh g (filter test (range_with_len s n))
 weigh-same f g test s zero h = refl
-weigh-same f g test s (suc n) h = by_bool (test s) (weigh-same f g test (suc s) n (λ k p. h k (omega (arith, p))))
+weigh-same f g test s (suc n) h = by_bool (test s) (weigh-same f g test (s + 1) n (λ k p. h k (omega (arith, p))))
   where
-    by_bool : (b : Bool) → weigh f (filter test (numbers_from (suc s) n)) ≡ weigh g (filter test (numbers_from (suc s) n))
-        → weigh f (if b then s ∷ filter test (numbers_from (suc s) n) else filter test (numbers_from (suc s) n)) ≡ weigh g (if b then s ∷ filter test (numbers_from (suc s) n) else filter test (numbers_from (suc s) n))
+    by_bool : (b : Bool) → weigh f (filter test (range_with_len (s + 1) n)) ≡ weigh g (filter test (range_with_len (s + 1) n))
+        → weigh f (if b then s ∷ filter test (range_with_len (s + 1) n) else filter test (range_with_len (s + 1) n)) ≡ weigh g (if b then s ∷ filter test (range_with_len (s + 1) n) else filter test (range_with_len (s + 1) n))
     by_bool true rest = let e = h s (omega arith) in omega (arith, e, rest)
     by_bool false rest = rest
 
-weigh-few : (f : ℕ → ℕ) (test : ℕ → Bool) (s n : ℕ) → ((k : ℕ) → k < s + n → f k < 2 ^ 40) → weigh f (filter test (numbers_from s n)) ≤ n * 2 ^ 40
+weigh-few : (f : ℕ → ℕ) (test : ℕ → Bool) (s n : ℕ) → ((k : ℕ) → k < s + n → f k < 2 ^ 40) → weigh f (filter test (range_with_len s n)) ≤ n * 2 ^ 40
 weigh-few f test s zero h = omega arith
-weigh-few f test s (suc n) h = by_bool (test s) (weigh-few f test (suc s) n (λ k p. h k (omega (arith, p))))
+weigh-few f test s (suc n) h = by_bool (test s) (weigh-few f test (s + 1) n (λ k p. h k (omega (arith, p))))
   where
-    by_bool : (b : Bool) → weigh f (filter test (numbers_from (suc s) n)) ≤ n * 2 ^ 40
-        → weigh f (if b then s ∷ filter test (numbers_from (suc s) n) else filter test (numbers_from (suc s) n)) ≤ suc n * 2 ^ 40
+    by_bool : (b : Bool) → weigh f (filter test (range_with_len (s + 1) n)) ≤ n * 2 ^ 40
+        → weigh f (if b then s ∷ filter test (range_with_len (s + 1) n) else filter test (range_with_len (s + 1) n)) ≤ suc n * 2 ^ 40
     by_bool true rest = let e = h s (omega arith) in omega (arith, e, rest)
     by_bool false rest = omega (arith, rest)
 
@@ -191,7 +192,7 @@ first-actor net n = subst (λ m. (actor_of m 0 ≡ Observer) × (0 < length m.ac
 unit-collected : (credits : ℕ) (net : Net) (u : ℕ) (g : History) → length (data_channels net u) ≤ 8 → HasRows net u (unit_of credits net u g)
 unit-collected credits net u g few = record {
   channels = refl;
-  rows = length-map (numbers_from 1 (upto_of net u g)) (λ k. held_saved (row credits (data_channels net u) k g)) ∙ length_numbers 1 (upto_of net u g)
+  rows = length-map (range_with_len 1 (upto_of net u g)) (λ k. held_saved (row credits (data_channels net u) k g)) ∙ length-range_with_len 1 (upto_of net u g)
       ∙ sym (ap (fold min (unit_of credits net u g).id) (channels-are net u g few));
 }
 
@@ -246,8 +247,8 @@ module _ (turns : TakesTurns) (s : Setup) (table : Snapshot) (lost : Losses) (es
       one l p = let w = world s lost es in
           let h = sender s.net w l in
           let a = (image.lines l (omega (arith, p))).count in
-          let b = tally-most (λ n. lost l n) (numbers_from 1 (length (put l h))) in
-          let c = length_numbers 1 (length (put l h)) in
+          let b = tally-most (λ n. lost l n) (range_with_len 1 (length (put l h))) in
+          let c = length-range_with_len 1 (length (put l h)) in
           let d = put-small s (link_of s.net l).from l h wired ((turns.ran s lost es).made (link_of s.net l).from) in
           let e = turns.few s lost es (link_of s.net l).from in
           omega (arith, a, b, c, d, e, few)
@@ -275,7 +276,7 @@ module _ (turns : TakesTurns) (s : Setup) (table : Snapshot) (lost : Losses) (es
   }
 
   pub told_is : (o : ObserverState) → register_floor o ≡ floor s.net (world s lost es) → o.issued ≡ issued s.net (observer (world s lost es)) → o.resent ≡ resent s.net (observer (world s lost es))
-      → map (finding_by o.issued (accounts_of o)) (numbers_from 1 s.count) ≡ (findings s lost es).list → told s.net s.count v o ≡ findings s lost es
+      → map (finding_by o.issued (accounts_of o)) (range_with_len 1 s.count) ≡ (findings s lost es).list → told s.net s.count v o ≡ findings s lost es
   told_is o f k r list = λ i. record {
     issued = k i;
     floor = f i;

@@ -1,7 +1,7 @@
 -- Laws of runs for the loops that follow schedules, settle and finish.
 use Rattle.std.proofs.Common.{◌≡◌, ℕ, zero, suc, ◌+◌, ◌-◌, ◌<◌, List, [], ◌∷◌, ◌++◌, length, refl, sym, ap, subst, ◌∙◌, Option, Some, None, arith, append-nil, length-append, get_or, take}
 use Rattle.std.specs.Prelude.{◌≢◌, true, false, Bool}
-use Rattle.std.proofs.lemmas.List.{take_more}
+use Rattle.std.proofs.lemmas.List.{take_more, flat_map_more}
 use Rattle.sl_net.specs.declared.input.Script1.{Script1}
 use Rattle.sl_layout.specs.Net.{Net}
 use Rattle.sl_model.specs.History.{World, Losses}
@@ -9,7 +9,7 @@ use Rattle.sl_model.specs.Setup.{Setup}
 use Rattle.sl_model.specs.World.{Entry, run, kept_from}
 use Rattle.sl_model.specs.Schedule.{settling_pass, sweeps, resend_entry, passes_of, expand_one, expand}
 use Rattle.sl_model.specs.End.{settle, finish, append_to, then_from, again_from, sweep_round, after_sweeps, is_collected, rose}
-use Rattle.sl_parts.proofs.Lists.{flat_map-push, flat_map_below_more}
+use Rattle.sl_parts.proofs.Lists.{flat_map_below_more}
 use Rattle.sl_model.proofs.Turns.{run-append}
 use Rattle.sl_model.proofs.Trails.{run-kept, kept-append}
 use Rattle.sl_proto.specs.declared.finishing.Round.{Round}
@@ -38,7 +38,7 @@ follows-passes s lost old mid new es n f g = subst (λ xs. Follows s lost old xs
 pub follows-script : (s : Setup) (lost : Losses) (old mid new : Run) (net : Net) (script : List Script1) (i : ℕ) (d : Script1) → i < length script → Follows s lost old (expand net (take i script)) mid
     → Follows s lost mid (expand_one net (get_or script i d)) new → Follows s lost old (expand net (take (i + 1) script)) new
 follows-script s lost old mid new net script i d h f g = subst (λ xs. Follows s lost old xs new)
-    (sym (ap (expand net) (take_more script i d h) ∙ flat_map-push (expand_one net) (take i script) (get_or script i d)))
+    (flat_map_more (expand_one net) [] (take i script) (get_or script i d) ∙ sym (ap (expand net) (take_more script i d h)))
     (follows-append s lost old mid new (expand net (take i script)) (expand_one net (get_or script i d)) f g)
 
 pub follows-goes : (s : Setup) (lost : Losses) (old new : Run) (es : List Entry) → Follows s lost old es new → Goes s lost old (kept_from s lost old.world es) new

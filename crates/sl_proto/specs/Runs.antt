@@ -3,9 +3,9 @@
 --     Goes, Follows              what a run does by some entries, none of which is idle, or by any entries
 --     IsBookOfTurns b es         the book of a run from nothing whose turns are these
 use Rattle.std.specs.Prelude.{◌≡◌, List, ◌++◌, length}
+use Rattle.std.specs.List.{range_with_len}
 use Rattle.sl_machine.specs.declared.wiring.Entry.{Entry as BookEntry}
 use Rattle.sl_machine.specs.Book.{Book}
-use Rattle.sl_parts.specs.Parts.{numbers_from}
 use Rattle.sl_model.specs.History.{World, Losses}
 use Rattle.sl_model.specs.Setup.{Setup}
 use Rattle.sl_model.specs.World.{Entry, run, kept_from}
@@ -34,4 +34,4 @@ pub record Goes (s : Setup) (lost : Losses) (old : Run) (es : List Entry) (new :
 -- numbered from 1
 pub record IsBookOfTurns (b : Book) (es : List Entry) : Type 0 where
   pub schedule : schedule_of b.entries ≡ es
-  pub numbers : numbers_of b.entries ≡ numbers_from 1 (length b.entries)
+  pub numbers : numbers_of b.entries ≡ range_with_len 1 (length b.entries)

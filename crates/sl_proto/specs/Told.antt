@@ -4,10 +4,9 @@
 --     CanTell net v o       what is asked of a scene v of the net whose observer has the state o
 --     told net count v o    its findings of so many snapshots
 use Rattle.std.specs.Prelude.{◌≡◌, ℕ, ◌<◌, ◌^◌, min, List, map, filter, length, take, Option, Some, None, slice_index}
-use Rattle.std.specs.List.{fold}
+use Rattle.std.specs.List.{fold, range_with_len}
 use Rattle.sl_layout.specs.declared.actor.Sort.{Sort}
 use Rattle.sl_layout.specs.declared.actor.Sort.TheVariants.{Cable, Crossbar, Init, Notice}
-use Rattle.sl_parts.specs.Parts.{numbers_from}
 use Rattle.sl_layout.specs.Net.{Net, same_sort, link_of, link_numbers, units, data_channels}
 use Rattle.sl_saves.specs.declared.entry.Saved.{Saved}
 use Rattle.sl_saves.specs.declared.entry.Saved.TheVariants.{Value}
@@ -88,7 +87,7 @@ told net count v o = record {
   issued = o.issued;
   floor = register_floor o;
   resent = o.resent;
-  list = map (finding_by o.issued (accounts_of o)) (numbers_from 1 count);
+  list = map (finding_by o.issued (accounts_of o)) (range_with_len 1 count);
   sent = numbers sent_told v.states;
   delivered = numbers delivered_told v.states;
   drops = all_drops v.states;

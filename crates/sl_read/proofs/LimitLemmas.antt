@@ -5,12 +5,13 @@ use Rattle.std.specs.List.{All, position, position_or_len}
 use Rattle.std.proofs.lemmas.Bool.{ltb-false, leb-true, eqb-false, eqb-true}
 use Rattle.std.proofs.lemmas.Grind.{common_steps}
 use Rattle.std.proofs.lemmas.List.Sums.{fails_before_first}
+use Rattle.std.proofs.lemmas.List.FromFn.{length-range_with_len}
 use Rattle.sl_parts.specs.declared.parts.CablePart.{CablePart}
 use Rattle.sl_parts.specs.declared.parts.DevicePart.{DevicePart}
 use Rattle.sl_parts.specs.Lists.{Each}
 use Rattle.sl_parts.specs.Parts.{Parts, below}
 use Rattle.sl_parts.specs.Valid.{AreVersioned}
-use Rattle.sl_parts.proofs.Lists.{all-from_each, length_filter_le, length_numbers}
+use Rattle.sl_parts.proofs.Lists.{all-from_each, length_filter_le}
 use Rattle.sl_layout.specs.Net.{Net, actor_of, is_unit, units}
 use Rattle.sl_net.specs.declared.input.Snapshot.{Snapshot}
 use Rattle.sl_form.specs.declared.path.TableName.TheVariants as table
@@ -47,7 +48,7 @@ parts_versioned devices version cables hosts parts v e h =
 
 -- units are actors
 pub units_few : (net : Net) → length (units net) ≤ length net.actors
-units_few net = omega (arith, length_filter_le (λ a. is_unit (actor_of net a)) (below (length net.actors)), length_numbers 0 (length net.actors))
+units_few net = omega (arith, length_filter_le (λ a. is_unit (actor_of net a)) (below (length net.actors)), length-range_with_len 0 (length net.actors))
 
 carried_wide : (bits version : ℕ) → (version == 1) ≡ false → IsVersion version → IsCarried bits version
 carried_wide bits version h v = let other = eqb-false version 1 h in inr (omega (arith, v, other))

@@ -1,8 +1,8 @@
 -- Loops that leave out what is lost.
-use Rattle.std.proofs.Common.{◌≡◌, ℕ, suc, ◌+◌, ◌<◌, List, [], ◌∷◌, ◌++◌, length, refl, ap, ◌∙◌, take, get_or, arith, length-take}
+use Rattle.std.proofs.Common.{◌≡◌, ℕ, suc, ◌+◌, ◌<◌, List, [], ◌∷◌, ◌++◌, length, refl, ap, ◌∙◌, take, get_or, arith, length-take, add-one}
 use Rattle.std.specs.Prelude.{Bool, true, false, cond, if◌then◌else◌}
 use Rattle.std.proofs.lemmas.List.{take_more}
-use Rattle.sl_parts.specs.Parts.{numbers_from}
+use Rattle.std.specs.List.{range_with_len}
 use Rattle.sl_model.specs.declared.message.Message.{Message}
 use Rattle.sl_model.specs.Words.{tally}
 use Rattle.sl_model.specs.History.{without_lost}
@@ -28,11 +28,12 @@ without_more lost xs i d h = let few : 1 + length (take i xs) ≡ i + 1 = omega 
     ap (without_lost lost 0) (take_more xs i d h) ∙ without-snoc lost 0 (take i xs) (get_or xs i d) ∙ ap (λ k. without_lost lost 0 (take i xs) ++ cond (lost k) [] (get_or xs i d ∷ [])) few
 
 -- what is kept and what is lost is all
-pub lost_and_kept : (lost : ℕ → Bool) (n : ℕ) (xs : List Message) → length (without_lost lost n xs) + tally lost (numbers_from (suc n) (length xs)) ≡ length xs
+pub lost_and_kept : (lost : ℕ → Bool) (n : ℕ) (xs : List Message) → length (without_lost lost n xs) + tally lost (range_with_len (suc n) (length xs)) ≡ length xs
 lost_and_kept lost n [] = refl
-lost_and_kept lost n (x ∷ xs) = by_bool (lost (suc n)) (lost_and_kept lost (suc n) xs)
+lost_and_kept lost n (x ∷ xs) =
+    by_bool (lost (suc n)) (ap (λ k. length (without_lost lost (suc n) xs) + tally lost (range_with_len k (length xs))) (add-one (suc n)) ∙ lost_and_kept lost (suc n) xs)
   where
-    by_bool : (b : Bool) → length (without_lost lost (suc n) xs) + tally lost (numbers_from (suc (suc n)) (length xs)) ≡ length xs
-        → length (if b then without_lost lost (suc n) xs else x ∷ without_lost lost (suc n) xs) + ((if b then 1 else 0) + tally lost (numbers_from (suc (suc n)) (length xs))) ≡ suc (length xs)
+    by_bool : (b : Bool) → length (without_lost lost (suc n) xs) + tally lost (range_with_len (suc n + 1) (length xs)) ≡ length xs
+        → length (if b then without_lost lost (suc n) xs else x ∷ without_lost lost (suc n) xs) + ((if b then 1 else 0) + tally lost (range_with_len (suc n + 1) (length xs))) ≡ suc (length xs)
     by_bool true q = omega (arith, q)
     by_bool false q = omega (arith, q)

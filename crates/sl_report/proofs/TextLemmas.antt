@@ -3,11 +3,10 @@ use Rattle.std.proofs.Common.{◌≡◌, ℕ, suc, ◌+◌, ◌<◌, ◌≤◌, 
 use Rattle.std.proofs.lemmas.List.{drop_more, drop_all, append-nil, map-append}
 use Rattle.std.proofs.lemmas.Bool.{cases_order}
 use Rattle.std.specs.Prelude.{codes, decimal}
-use Rattle.std.specs.List.{flat_map}
+use Rattle.std.specs.List.{flat_map, range_with_len}
 use Rattle.sl_parts.specs.declared.parts.HostPart.{HostPart}
 use Rattle.sl_layout.specs.declared.actor.Sort.{Sort}
 use Rattle.sl_layout.specs.declared.actor.Sort.TheVariants.{Cable, Crossbar}
-use Rattle.sl_parts.specs.Parts.{numbers_from}
 use Rattle.sl_model.specs.Findings.{channel_links}
 use Rattle.sl_layout.specs.Net.{Net, net_of, units, link_of, link_at, links_into, choices_of, same_sort}
 use Rattle.sl_saves.specs.declared.entry.Total.{Total}
@@ -110,16 +109,16 @@ pub some_actors : (net : Net) → net ≡ net_of net.parts → 0 < length net.ac
 some_actors net e = subst (λ (n : Net). 0 < length n.actors) (sym e) (omega arith)
 
 -- the elements of a list that pass, found by their places
-by_places : (q : ℕ → Bool) (f : ℕ → ℕ) (start : ℕ) (xs : List ℕ) → ((i : ℕ) → i < length xs → f (start + i) ≡ get_or xs i 0) → map f (filter (λ c. q (f c)) (numbers_from start (length xs))) ≡ filter q xs
+by_places : (q : ℕ → Bool) (f : ℕ → ℕ) (start : ℕ) (xs : List ℕ) → ((i : ℕ) → i < length xs → f (start + i) ≡ get_or xs i 0) → map f (filter (λ c. q (f c)) (range_with_len start (length xs))) ≡ filter q xs
 by_places q f start [] h = refl
 by_places q f start (x ∷ xs) h =
-    let later = λ (i : ℕ) (l : i < length xs). let e : start + suc i ≡ suc start + i = omega arith in subst (λ (n : ℕ). f n ≡ get_or xs i 0) e (h (suc i) (omega arith)) in
-    go (q x) refl (by_places q f (suc start) xs later)
+    let later = λ (i : ℕ) (l : i < length xs). let e : start + suc i ≡ start + 1 + i = omega arith in subst (λ (n : ℕ). f n ≡ get_or xs i 0) e (h (suc i) (omega arith)) in
+    go (q x) refl (by_places q f (start + 1) xs later)
   where
     here : f start ≡ x
     here = let e : start + 0 ≡ start = omega arith in subst (λ (n : ℕ). f n ≡ x) e (h 0 (omega arith))
 
-    go : (t : Bool) → q x ≡ t → map f (filter (λ c. q (f c)) (numbers_from (suc start) (length xs))) ≡ filter q xs → map f (filter (λ c. q (f c)) (numbers_from start (length (x ∷ xs)))) ≡ filter q (x ∷ xs)
+    go : (t : Bool) → q x ≡ t → map f (filter (λ c. q (f c)) (range_with_len (start + 1) (length xs))) ≡ filter q xs → map f (filter (λ c. q (f c)) (range_with_len start (length (x ∷ xs)))) ≡ filter q (x ∷ xs)
     go true t rest = let u : q (f start) ≡ true = ap q here ∙ t in rw (t, u) (cc (here, rest))
     go false t rest = let u : q (f start) ≡ false = ap q here ∙ t in rw (t, u) rest
 

@@ -1,5 +1,5 @@
 -- The neighbours that the cables of a net make.
-use Rattle.std.proofs.Common.{◌≡◌, ◌≢◌, ℕ, zero, suc, ◌+◌, ◌<◌, ◌≤◌, List, [], ◌∷◌, ◌++◌, length, get_or, set, take, refl, sym, ap, subst, ◌∙◌, arith, inl, inr, append-nil}
+use Rattle.std.proofs.Common.{◌≡◌, ◌≢◌, ℕ, zero, suc, ◌+◌, ◌<◌, ◌≤◌, List, [], ◌∷◌, ◌++◌, length, get_or, set, take, refl, sym, ap, subst, ◌∙◌, arith, inl, inr, append-nil, zero-add}
 use Rattle.std.specs.Prelude.{◌⊎◌, Bool, true, false, cond, ◌&&◌, ◌||◌, ◌==◌, map, filter}
 use Rattle.std.specs.List.{All, AllByRecursion, list_any}
 use Rattle.std.proofs.lemmas.Bool.{cases_lt, ne_eqb}
@@ -7,12 +7,12 @@ use Rattle.std.proofs.lemmas.Bool.Decides.{eqb_tells}
 use Rattle.std.proofs.lemmas.List.{map-append, get_or_past, length-set, get_or-set_same, get_or-set_other}
 use Rattle.std.proofs.lemmas.List.Elements.{All-weaker, All-map, All-append, All-filter, All-same, filter_more, recursion_from_All}
 use Rattle.std.proofs.lemmas.List.Folds.{list_any-append}
+use Rattle.std.proofs.lemmas.List.FromFn.{get_or-map-range_with_len, length-map-range_with_len, fill_by_all}
 use Rattle.sl_parts.specs.declared.parts.PortRef.{PortRef}
 use Rattle.sl_parts.specs.declared.parts.CablePart.{CablePart}
-use Rattle.sl_parts.specs.Parts.{Parts, numbers_from, below}
+use Rattle.sl_parts.specs.Parts.{Parts, below}
 use Rattle.sl_parts.specs.Ports.{IsNear}
 use Rattle.sl_parts.specs.Valid.{IsPort, IsValid}
-use Rattle.sl_parts.proofs.Lists.{at_below, length_below}
 use Rattle.sl_route.specs.declared.neighbours.Neighbour.{Neighbour}
 use Rattle.sl_route.specs.Route.{Walk, turned, cables_from, walks_between}
 use Rattle.sl_route.specs.Graph.{Graph, neighbour_by, neighbours_of, neighbours_at, leads, reaches, IsGraph}
@@ -47,21 +47,10 @@ listed-more cs i d none h = let c = get_or cs i none in
     ap (map neighbour_by) (filter_more (λ c. c.a.device == d) cs i none h) ∙ map-append neighbour_by (filter (λ c. c.a.device == d) (take i cs)) (cond (c.a.device == d) (c ∷ []) [])
     ∙ ap (λ r. listed_of (take i cs) d ++ r) (elim (c.a.device == d) as (λ b. map neighbour_by (cond b (c ∷ []) []) ≡ cond b (neighbour_by c ∷ []) []) [ true ↦ refl | false ↦ refl ])
 
--- a list that is f at each place
-pub made-of : {A : Type 0} (f : ℕ → A) (n : ℕ) (xs : List A) (d : A) → length xs ≡ n → ((i : ℕ) → i < n → get_or xs i d ≡ f i) → xs ≡ map f (below n)
-made-of {A} f n xs d k h = from 0 n xs k (λ i l. let z : i ≡ 0 + i = omega arith in h i l ∙ ap f z)
-  where
-    from : (s n : ℕ) (xs : List A) → length xs ≡ n → ((i : ℕ) → i < n → get_or xs i d ≡ f (s + i)) → xs ≡ map f (numbers_from s n)
-    from s zero [] k h = refl
-    from s zero (x ∷ xs) k h = absurd (omega (arith, k))
-    from s (suc n) [] k h = absurd (omega (arith, k))
-    from s (suc n) (x ∷ xs) k h = let z : s + 0 ≡ s = omega arith in
-        ap (λ y. y ∷ xs) (h 0 (omega arith) ∙ ap f z) ∙ ap (λ r. f s ∷ r) (from (suc s) n xs (omega (arith, k)) (λ i l. let j : s + suc i ≡ suc s + i = omega arith in h (suc i) (omega (arith, l)) ∙ ap f j))
-
 pub table-more : (cs : List CablePart) (n i : ℕ) (none : CablePart) → i < length cs → (get_or cs i none).a.device < n
     → set (map (listed_of (take i cs)) (below n)) (get_or cs i none).a.device (get_or (map (listed_of (take i cs)) (below n)) (get_or cs i none).a.device [] ++ neighbour_by (get_or cs i none) ∷ [])
     ≡ map (listed_of (take (i + 1) cs)) (below n)
-table-more cs n i none h l = made-of (listed_of (take (i + 1) cs)) n (set table x row) [] (length-set table x row ∙ length_below (listed_of (take i cs)) n) (λ d k. by_tells d k (eqb_tells x d))
+table-more cs n i none h l = fill_by_all (listed_of (take (i + 1) cs)) (set table x row) n [] (length-set table x row ∙ length-map-range_with_len (listed_of (take i cs)) 0 n) (λ d k. by_tells d k (eqb_tells x d))
   where
     x : ℕ
     x = (get_or cs i none).a.device
@@ -73,10 +62,10 @@ table-more cs n i none h l = made-of (listed_of (take (i + 1) cs)) n (set table 
     row = get_or table x [] ++ neighbour_by (get_or cs i none) ∷ []
 
     by_tells : (d : ℕ) → d < n → (((x == d) ≡ true) × (x ≡ d)) ⊎ (((x == d) ≡ false) × (x ≢ d)) → get_or (set table x row) d [] ≡ listed_of (take (i + 1) cs) d
-    by_tells d k (inl t) = ap (λ y. get_or (set table x row) y []) (sym t.1) ∙ get_or-set_same table x row [] (omega (arith, l, length_below (listed_of (take i cs)) n))
-        ∙ ap (λ r. r ++ neighbour_by (get_or cs i none) ∷ []) (at_below (listed_of (take i cs)) n x [] l ∙ ap (listed_of (take i cs)) t.1)
+    by_tells d k (inl t) = ap (λ y. get_or (set table x row) y []) (sym t.1) ∙ get_or-set_same table x row [] (omega (arith, l, length-map-range_with_len (listed_of (take i cs)) 0 n))
+        ∙ ap (λ r. r ++ neighbour_by (get_or cs i none) ∷ []) (get_or-map-range_with_len (listed_of (take i cs)) 0 n x _ [] l (zero-add x) ∙ ap (listed_of (take i cs)) t.1)
         ∙ sym (listed-more cs i d none h ∙ ap (λ b. listed_of (take i cs) d ++ cond b (neighbour_by (get_or cs i none) ∷ []) []) t.0)
-    by_tells d k (inr t) = get_or-set_other table x d row [] (λ q. t.1 (sym q)) ∙ at_below (listed_of (take i cs)) n d [] k
+    by_tells d k (inr t) = get_or-set_other table x d row [] (λ q. t.1 (sym q)) ∙ get_or-map-range_with_len (listed_of (take i cs)) 0 n d _ [] k (zero-add d)
         ∙ sym (listed-more cs i d none h ∙ ap (λ b. listed_of (take i cs) d ++ cond b (neighbour_by (get_or cs i none) ∷ []) []) t.0 ∙ append-nil (listed_of (take i cs) d))
 
 -- The graph of a net.
@@ -93,8 +82,8 @@ pub row-is : (parts : Parts) (d : ℕ) → IsValid parts → neighbours_at (grap
 row-is parts d v = by_order (cases_lt d (length parts.devices))
   where
     by_order : (d < length parts.devices) ⊎ (length parts.devices ≤ d) → neighbours_at (graph_of parts) d ≡ neighbours_of parts d
-    by_order (inl l) = at_below (neighbours_of parts) (length parts.devices) d [] l
-    by_order (inr l) = get_or_past (graph_of parts) d [] (omega (arith, l, length_below (neighbours_of parts) (length parts.devices)))
+    by_order (inl l) = get_or-map-range_with_len (neighbours_of parts) 0 (length parts.devices) d _ [] l (zero-add d)
+    by_order (inr l) = get_or_past (graph_of parts) d [] (omega (arith, l, length-map-range_with_len (neighbours_of parts) 0 (length parts.devices)))
         ∙ sym (ap (map neighbour_by) (none-from (length parts.devices) d (directed parts) l (recursion_from_All (IsJoined (length parts.devices)) (directed parts) (all-joined parts v))))
 
 pub any-map : (q : Neighbour → Bool) (cs : List CablePart) → list_any q (map neighbour_by cs) ≡ list_any (λ c. q (neighbour_by c)) cs
@@ -133,9 +122,9 @@ leads-is parts x d v = ap (list_any (λ k. k.device == d)) (row-is parts x v) �
 
 pub is-graph : (parts : Parts) → IsValid parts → IsGraph (graph_of parts)
 is-graph parts v = record {
-  few = omega (arith, length_below (neighbours_of parts) n, v.devices);
+  few = omega (arith, length-map-range_with_len (neighbours_of parts) 0 n, v.devices);
   near = λ d. All-same (λ k. k.device < length (graph_of parts)) _ _ (row-is parts d v)
-      (subst (λ m. All (λ k. k.device < m) (neighbours_of parts d)) (sym (length_below (neighbours_of parts) n))
+      (subst (λ m. All (λ k. k.device < m) (neighbours_of parts d)) (sym (length-map-range_with_len (neighbours_of parts) 0 n))
       (All-map (λ k. k.device < n) neighbour_by (cables_from parts d) (All-filter (λ c. c.a.device == d) (λ c. c.b.device < n) (directed parts) (All-weaker (IsJoined n) (λ c. c.b.device < n) (λ c j. j.b.device) (directed parts) (all-joined parts v)))));
   both_ways = λ x d. leads-is parts x d v
       ∙ ap (λ b. b || list_any (λ c. joins x d (turned c)) parts.cables) (list_any-same (joins x d) (λ c. joins d x (turned c)) parts.cables (λ c. and-turned (c.a.device == x) (c.b.device == d)))

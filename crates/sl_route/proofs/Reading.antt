@@ -1,13 +1,13 @@
 -- What the kept ways tell.
-use Rattle.std.proofs.Common.{◌≡◌, ℕ, ◌<◌, ◌≤◌, List, length, get_or, map, refl, ap, ◌∙◌, arith}
+use Rattle.std.proofs.Common.{◌≡◌, ℕ, ◌<◌, ◌≤◌, List, length, get_or, map, refl, ap, ◌∙◌, arith, zero-add}
 use Rattle.std.specs.Prelude.{None, option_and_then}
 use Rattle.std.proofs.lemmas.List.{length-map}
 use Rattle.std.proofs.lemmas.Option.{slice_get_past}
+use Rattle.std.proofs.lemmas.List.FromFn.{get_or-map-range_with_len, length-map-range_with_len}
 use Rattle.sl_parts.specs.declared.parts.PortRef.{PortRef}
 use Rattle.sl_parts.specs.declared.parts.HostPart.{HostPart}
 use Rattle.sl_parts.specs.Parts.{Parts, below}
 use Rattle.sl_layout.specs.Net.{Net}
-use Rattle.sl_parts.proofs.Lists.{at_below, length_below}
 use Rattle.sl_route.specs.Least.{least}
 use Rattle.sl_route.specs.Route.{least_walks, length_of, first_port, host_port, hops, next_port}
 use Rattle.sl_route.specs.Ways.{Ways}
@@ -27,12 +27,12 @@ no-port parts d h l = ap (option_and_then (λ (at : PortRef). least (map (first_
 
 pub length-routes : (net : Net) → length (routes_of net) ≡ length net.parts.hosts
 unfolding routes_of
-length-routes net = length_below (ways_of net.parts) (length net.parts.hosts)
+length-routes net = length-map-range_with_len (ways_of net.parts) 0 (length net.parts.hosts)
 
 -- the ways to a host
 pub way-is : (net : Net) (routes : List Ways) (h : ℕ) (w : Ways) → routes ≡ routes_of net → h < length routes → ((d : Ways) → w ≡ get_or routes h d) → w ≡ ways_of net.parts h
 unfolding routes_of
-way-is net routes h w r l g = g w ∙ ap (λ rs. get_or rs h w) r ∙ at_below (ways_of net.parts) (length net.parts.hosts) h w (omega (arith, l, ap length r, length_below (ways_of net.parts) (length net.parts.hosts)))
+way-is net routes h w r l g = g w ∙ ap (λ rs. get_or rs h w) r ∙ get_or-map-range_with_len (ways_of net.parts) 0 (length net.parts.hosts) h _ w (omega (arith, l, ap length r, length-map-range_with_len (ways_of net.parts) 0 (length net.parts.hosts))) (zero-add h)
 
 pub hops-kept : (parts : Parts) (h : ℕ) → (ways_of parts h).hops ≡ map (λ d. hops parts d h) (below (length parts.devices))
 unfolding ways_of

@@ -5,12 +5,12 @@ use Rattle.std.specs.List.{AllByRecursion, Contains, list_any}
 use Rattle.std.proofs.lemmas.Bool.{cases_lt, and_parts, eq-eqb, eqb-true}
 use Rattle.std.proofs.lemmas.List.Elements.{recursion_from_All, All-contains, All-contains_itself}
 use Rattle.std.proofs.lemmas.List.Folds.{list_any_at}
+use Rattle.std.proofs.lemmas.List.FromFn.{get_or-range_with_len, length-map-range_with_len, length-range_with_len}
 use Rattle.sl_parts.specs.declared.parts.PortRef.{PortRef}
 use Rattle.sl_parts.specs.declared.parts.CablePart.{CablePart}
 use Rattle.sl_parts.specs.declared.parts.HostPart.{HostPart}
 use Rattle.sl_parts.specs.Parts.{Parts, below}
 use Rattle.sl_parts.specs.Valid.{IsPort, IsValid}
-use Rattle.sl_parts.proofs.Lists.{number_at, length_numbers, length_below}
 use Rattle.sl_route.specs.declared.neighbours.Neighbour.{Neighbour}
 use Rattle.sl_route.specs.Route.{Walk, cables_from, host_port, hops}
 use Rattle.sl_route.specs.Graph.{Graph, neighbours_of, neighbours_at, reaches, within, IsGraph, is_at}
@@ -62,7 +62,7 @@ abbrev level : Graph → ℕ → ℕ → Bool
 level g e n = list_any (λ d. is_at n (within g e n d)) (below (length g))
 
 any-below : (test : ℕ → Bool) (n d : ℕ) → d < n → test d ≡ true → list_any test (below n) ≡ true
-any-below test n d l h = list_any_at test (below n) d 0 (let k : length (below n) ≡ n = length_numbers 0 n in omega (arith, k, l)) (ap test (number_at 0 n d 0 l ∙ zero-add d) ∙ h)
+any-below test n d l h = list_any_at test (below n) d 0 (let k : length (below n) ≡ n = length-range_with_len 0 n in omega (arith, k, l)) (ap test (get_or-range_with_len 0 n d 0 l ∙ zero-add d) ∙ h)
 
 newly-reached : (g : Graph) (e n d : ℕ) → d < length g → within g e n d ≡ None → reaches g e (suc n) d ≡ true → level g e (suc n) ≡ false → ⊥
 unfolding within
@@ -184,7 +184,7 @@ reaches-within g e n m d i l s k r h = by_ends (ends-or-grows g e (suc n) l)
 
     by_ends : Ends g e (suc n) ⊎ (suc n < tally (is_reached g e (suc n)) (below (length g))) → ⊥
     by_ends (inl t) = by_first t.0 t.1 t.2 (within g e t.0 d) refl
-    by_ends (inr t) = let all = tally-all (is_reached g e (suc n)) (below (length g)) in let size : length (below (length g)) ≡ length g = length_numbers 0 (length g) in omega (arith, t, all, size, s)
+    by_ends (inr t) = let all = tally-all (is_reached g e (suc n)) (below (length g)) in let size : length (below (length g)) ≡ length g = length-range_with_len 0 (length g) in omega (arith, t, all, size, s)
 
 -- The hops of the definition are those of the walks.
 
@@ -206,7 +206,7 @@ unfolding within
 hops-least parts d h at v q = by_count (length parts.devices) refl (host-near parts h at v q)
   where
     size : length (graph_of parts) ≡ length parts.devices
-    size = length_below (neighbours_of parts) (length parts.devices)
+    size = length-map-range_with_len (neighbours_of parts) 0 (length parts.devices)
 
     of_within : (n : ℕ) → length parts.devices ≡ suc n → at.device < length parts.devices → (o : Option ℕ) → within (graph_of parts) at.device n d ≡ o → AreHops parts d at.device o
     of_within n s l None p = λ walk w.

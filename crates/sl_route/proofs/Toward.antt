@@ -4,12 +4,13 @@ use Rattle.std.specs.Prelude.{Bool, true, false, cond, ◌&&◌, ◌||◌, ◌==
 use Rattle.std.specs.List.{AllByRecursion, list_any}
 use Rattle.std.proofs.lemmas.List.{map-append}
 use Rattle.std.proofs.lemmas.List.Elements.{All-same, filter_more, recursion_from_All}
+use Rattle.std.proofs.lemmas.List.FromFn.{length-map-range_with_len, fill_by_all}
 use Rattle.sl_parts.specs.declared.parts.PortRef.{PortRef}
 use Rattle.sl_parts.specs.declared.parts.CablePart.{CablePart}
 use Rattle.sl_parts.specs.declared.parts.HostPart.{HostPart}
 use Rattle.sl_parts.specs.Parts.{Parts, below}
 use Rattle.sl_parts.specs.Valid.{IsValid}
-use Rattle.sl_parts.proofs.Lists.{numbers-more, length_below}
+use Rattle.sl_parts.proofs.Lists.{numbers-more}
 use Rattle.sl_layout.proofs.Grouping.{map_same}
 use Rattle.sl_route.specs.declared.neighbours.Neighbour.{Neighbour}
 use Rattle.sl_route.specs.Least.{least, least_in}
@@ -19,7 +20,7 @@ use Rattle.sl_route.specs.Ways.{Ways}
 use Rattle.sl_route.specs.Routes.{ways_of}
 use Rattle.sl_route.proofs.Walks.{has, extended, between-suc, least-flat}
 use Rattle.sl_route.proofs.First.{first-is, first-at}
-use Rattle.sl_route.proofs.Graphs.{graph_of, row-is, reaches-is, is-graph, made-of}
+use Rattle.sl_route.proofs.Graphs.{graph_of, row-is, reaches-is, is-graph}
 
 -- The walks of the least length.
 
@@ -147,7 +148,7 @@ unfolding next_port
 port-is parts d h n at far v q s f = ap (option_and_then (λ at. least (map (first_port at.port) (least_walks parts d at.device)))) q
     ∙ ap (λ k. least (map (first_port at.port) (first_nonempty (map (walks_between parts d at.device) (below k))))) s
     ∙ ap (λ ws. least (map (first_port at.port) ws)) (walks-at parts d at.device n v)
-    ∙ port-at parts at.port d at.device n far (within (graph_of parts) at.device n d) v f (length_below (neighbours_of parts) (length parts.devices) ∙ s) refl
+    ∙ port-at parts at.port d at.device n far (within (graph_of parts) at.device n d) v f (length-map-range_with_len (neighbours_of parts) 0 (length parts.devices) ∙ s) refl
 
 pub ways-are : (parts : Parts) (h : ℕ) (at : PortRef) (ways : Ways) → IsValid parts → host_port parts h ≡ Some at → at.device < length parts.devices → IsFar (graph_of parts) at.device ways.hops
     → ways.ports ≡ map (λ d. port_toward at.port ways.hops (neighbours_at (graph_of parts) d) (get_or ways.hops d None)) (below (length (graph_of parts))) → ways ≡ ways_of parts h
@@ -155,7 +156,7 @@ unfolding ways_of
 ways-are parts h at ways v q l f p = by_count (length parts.devices) refl l
   where
     size : length (graph_of parts) ≡ length parts.devices
-    size = length_below (neighbours_of parts) (length parts.devices)
+    size = length-map-range_with_len (neighbours_of parts) 0 (length parts.devices)
 
     far-is : (n d : ℕ) → length parts.devices ≡ suc n → d < length parts.devices → get_or ways.hops d None ≡ within (graph_of parts) at.device n d
     far-is n d s k = f.each d (omega (arith, k, size)) n (size ∙ s)
@@ -167,7 +168,7 @@ ways-are parts h at ways v q l f p = by_count (length parts.devices) refl l
         ∙ map_same (λ d. port_toward at.port ways.hops (neighbours_at (graph_of parts) d) (get_or ways.hops d None)) (λ d. next_port parts d h) (length parts.devices)
         (λ d k. ap (port_toward at.port ways.hops (neighbours_at (graph_of parts) d)) (far-is n d s k) ∙ sym (port-is parts d h n at ways.hops v q s f)))
         ∙ ap (λ hs. record { ports = map (λ d. next_port parts d h) (below (length parts.devices)); hops = hs })
-        (made-of (λ d. hops parts d h) (length parts.devices) ways.hops None (f.size ∙ size) (λ d k. far-is n d s k ∙ sym (hops-are parts d h n at v q s)))
+        (fill_by_all (λ d. hops parts d h) ways.hops (length parts.devices) None (f.size ∙ size) (λ d k. far-is n d s k ∙ sym (hops-are parts d h n at v q s)))
 
 pub host-at : (hs : List HostPart) (i : ℕ) (h : HostPart) → i < length hs → h ≡ get_or hs i h → slice_get (map (λ host. host.at) hs) i ≡ Some h.at
 host-at [] i h l q = absurd (omega (arith, l))

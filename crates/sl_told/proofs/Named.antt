@@ -1,15 +1,16 @@
 -- The texts of units and of their data channels name them; and how many hosts a net has.
 use Rattle.std.proofs.Common.{◌≡◌, ℕ, zero, suc, ◌-◌, ◌<◌, ◌≤◌, List, [], ◌∷◌, ◌++◌, length, get_or, map, true, false, not, Some, refl, sym, ap, subst, ◌∙◌, ◌⊎◌, inl, inr, arith, append_assoc, Bool}
 use Rattle.std.specs.Prelude.{codes, decimal, ◌==◌, if◌then◌else◌, slice_get, slice_index_or, cond, filter, flat_map}
-use Rattle.std.specs.List.{All, list_all}
+use Rattle.std.specs.List.{All, list_all, range_with_len}
 use Rattle.std.proofs.lemmas.Bool.{and_parts, lt-ltb, cases_lt}
 use Rattle.std.proofs.lemmas.List.{append_cancel_left, append-nil, get_or-map, get_or_past, length-map}
 use Rattle.std.proofs.lemmas.List.Elements.{All-head, All-tail}
 use Rattle.std.proofs.lemmas.Option.{slice_get_within, get_or_from_slice_get}
+use Rattle.std.proofs.lemmas.List.FromFn.{length-range_with_len}
 use Rattle.sl_parts.specs.Lists.{Each, Distinct}
-use Rattle.sl_parts.specs.Parts.{Parts, below, numbers_from, used_ports}
+use Rattle.sl_parts.specs.Parts.{Parts, below, used_ports}
 use Rattle.sl_parts.specs.Text.{IsName, is_name_byte}
-use Rattle.sl_parts.proofs.Lists.{each-append, each-below, each-both, each-imp, each-index, each-at, one-place, distinct-append, distinct-filter, distinct-from, each-of, each-flat, numbers-suc, filter-map, length_numbers}
+use Rattle.sl_parts.proofs.Lists.{each-append, each-below, each-both, each-imp, each-index, each-at, one-place, distinct-append, distinct-filter, distinct-from, each-of, each-flat, numbers-suc, filter-map}
 use Rattle.sl_layout.specs.declared.actor.Side.{Side}
 use Rattle.sl_layout.specs.declared.actor.Side.TheVariants.{Ingress, Egress}
 use Rattle.sl_layout.specs.declared.actor.UnitId.{UnitId}
@@ -242,8 +243,8 @@ places p (x ∷ xs) d = go (p x)
     (ap (λ ns. length (filter (λ i. p (get_or (x ∷ xs) i d)) ns)) (numbers-suc 0 (length xs)) ∙ ap length (filter-map (λ i. p (get_or (x ∷ xs) i d)) suc (below (length xs)))
     ∙ length-map (filter (λ i. p (get_or xs i d)) (below (length xs))) suc ∙ places p xs d)
   where
-    go : (b : Bool) → length (filter (λ i. p (get_or (x ∷ xs) i d)) (numbers_from 1 (length xs))) ≡ length (filter p xs)
-        → length (cond b (0 ∷ filter (λ i. p (get_or (x ∷ xs) i d)) (numbers_from 1 (length xs))) (filter (λ i. p (get_or (x ∷ xs) i d)) (numbers_from 1 (length xs)))) ≡ length (cond b (x ∷ filter p xs) (filter p xs))
+    go : (b : Bool) → length (filter (λ i. p (get_or (x ∷ xs) i d)) (range_with_len 1 (length xs))) ≡ length (filter p xs)
+        → length (cond b (0 ∷ filter (λ i. p (get_or (x ∷ xs) i d)) (range_with_len 1 (length xs))) (filter (λ i. p (get_or (x ∷ xs) i d)) (range_with_len 1 (length xs)))) ≡ length (cond b (x ∷ filter p xs) (filter p xs))
     go true e = ap suc e
     go false e = e
 
@@ -267,4 +268,4 @@ no_hosts parts = each-flat (λ a. is_host a ≡ false) (λ d. Control d ∷ unit
 pub host_count : (net : Net) → net ≡ net_of net.parts → length (hosts net) ≡ length net.parts.hosts
 host_count net made = ap (λ (n : Net). length (hosts n)) made ∙ places is_host (actors_of net.parts) nobody
     ∙ ap length (filter-none is_host (flat_map (λ d. Control d ∷ units_of net.parts d) (below (length net.parts.devices))) (map OfHost (below (length net.parts.hosts))) (no_hosts net.parts))
-    ∙ all_hosts (below (length net.parts.hosts)) ∙ length_numbers 0 (length net.parts.hosts)
+    ∙ all_hosts (below (length net.parts.hosts)) ∙ length-range_with_len 0 (length net.parts.hosts)

@@ -3,7 +3,7 @@ use Rattle.std.proofs.Common.{◌≡◌, ℕ, zero, suc, ◌+◌, ◌*◌, ◌-�
 use Rattle.std.specs.Prelude.{◌==◌, cond, if◌then◌else◌, flat_map, option_map, slice_get, unwrap_or, filter}
 use Rattle.std.proofs.lemmas.Bool.{eqb-true}
 use Rattle.sl_parts.specs.Lists.{Each, Member, Distinct}
-use Rattle.sl_parts.proofs.Lists.{each-of, each-map, each-flat, each-append, distinct-filter, distinct-from, each-imp, each-from, each-from_all, each-passes, length_filter_le, length_numbers}
+use Rattle.sl_parts.proofs.Lists.{each-of, each-map, each-flat, each-append, distinct-filter, distinct-from, each-imp, each-from, each-from_all, each-passes, length_filter_le}
 use Rattle.sl_layout.specs.declared.actor.Side.{Side}
 use Rattle.sl_layout.specs.declared.actor.Side.TheVariants.{Ingress, Egress}
 use Rattle.sl_layout.specs.declared.actor.UnitId.{UnitId}
@@ -28,7 +28,8 @@ use Rattle.sl_model.specs.Puts.{send, send_all, crossbar_to, onward, route, rout
 use Rattle.sl_model.specs.Setup.{Setup, frames_of}
 use Rattle.std.proofs.lemmas.List.{length-map, length-replicate}
 use Rattle.std.proofs.lemmas.List.Elements.{All-replicate}
-use Rattle.sl_parts.specs.Parts.{numbers_from}
+use Rattle.std.proofs.lemmas.List.FromFn.{length-range_with_len}
+use Rattle.std.specs.List.{range_with_len}
 use Rattle.sl_layout.specs.Devices.{device_of}
 use Rattle.sl_net.specs.Ways.{IsChoice}
 use Rattle.sl_net.specs.Wired.{IsNet, IsWired}
@@ -394,7 +395,7 @@ module _ (s : Setup) (lost : Losses) (es : List Entry) (known : IsKnown s lost e
   rows_for_sayable k (NotIssued unit floor) = refl
 
   each_finding : Each (IsSayableFinding s.net) (findings s lost es).list
-  each_finding = each-map (IsSayableFinding s.net) (finding s.credits s.net lost w) (numbers_from 1 s.count)
+  each_finding = each-map (IsSayableFinding s.net) (finding s.credits s.net lost w) (range_with_len 1 s.count)
       (each-from (λ k. IsSayableFinding s.net (finding s.credits s.net lost w k)) 1 s.count
       (λ k low high. record { verdict = verdict_small s.net s.credits w k (omega (arith, high, known.count)) id_small floor_small; rows = rows_for_sayable k (verdict s.credits s.net w k) }))
 
@@ -423,21 +424,21 @@ module _ (s : Setup) (lost : Losses) (es : List Entry) (known : IsKnown s lost e
   lost_few l h =
       let a = (link_of s.net l).from in
       let p = put_few s l h (λ b g step m. known.turns.puts s b g step m) a (history w a) ((known.turns.ran s lost es).made a) in
-      omega (arith, tally_most (λ n. lost l n) (numbers_from 1 (length (put l (history w a)))), length_numbers 1 (length (put l (history w a))), p, steps a)
+      omega (arith, tally_most (λ n. lost l n) (range_with_len 1 (length (put l (history w a)))), length-range_with_len 1 (length (put l (history w a))), p, steps a)
 
   lost_small : (t : Sort) → is_lossy_sort t ≡ true → IsSmall (lost_of s.net lost w t)
   lost_small t h =
       let ls = filter (λ l. same_sort (link_of s.net l).sort t) (link_numbers s.net) in
       let p = weigh_most (lost_on s.net lost w) ls (each-imp (λ l. same_sort (link_of s.net l).sort t ≡ true) (λ l. lost_on s.net lost w l ≤ 2 ^ 42) ls
       (λ l e. lost_few l (ap is_lossy_sort (known.wired.ways.is_sort l t e) ∙ h)) (each-passes (λ l. same_sort (link_of s.net l).sort t) (link_numbers s.net))) in
-      omega (arith, p, length_filter_le (λ l. same_sort (link_of s.net l).sort t) (link_numbers s.net), length_numbers 0 (length s.net.links), known.links)
+      omega (arith, p, length_filter_le (λ l. same_sort (link_of s.net l).sort t) (link_numbers s.net), length-range_with_len 0 (length s.net.links), known.links)
 
   pub runs_sayable : IsSayable s.net s.count (findings s lost es)
   runs_sayable = record {
     issued = omega (arith, known.issues, known.count);
     floor = floor_small;
     resent = taken_few (suc (action_choice s.net 0)) 0;
-    numbers = numbers_same (numbers_from 1 s.count);
+    numbers = numbers_same (range_with_len 1 s.count);
     each = each_finding;
     sent = counts_sayable (sent_by s.net w) (λ a. taken_few (action_choice s.net a) a);
     delivered = counts_sayable (delivered_to w) (λ a. taken_few 0 a);

@@ -2,8 +2,8 @@
 --     IsSmall n                a number of 64 bits
 --     IsSayable net count f    findings on so many snapshots of the net
 use Rattle.std.specs.Prelude.{◌≡◌, ℕ, ◌<◌, ◌^◌, max, List, [], ◌∷◌, map, length, drop}
+use Rattle.std.specs.List.{range_with_len}
 use Rattle.sl_parts.specs.Lists.{Each}
-use Rattle.sl_parts.specs.Parts.{numbers_from}
 use Rattle.sl_layout.specs.Net.{Net, units}
 use Rattle.sl_saves.specs.declared.entry.Total.{Total}
 use Rattle.sl_saves.specs.Keeping.{no_total}
@@ -96,7 +96,7 @@ pub record IsSayable (net : Net) (count : ℕ) (f : Findings) : Type 0 where
   pub issued : IsSmall f.issued
   pub floor : IsSmall f.floor
   pub resent : IsSmall f.resent
-  pub numbers : map (λ finding. finding.k) f.list ≡ numbers_from 1 count
+  pub numbers : map (λ finding. finding.k) f.list ≡ range_with_len 1 count
   pub each : Each (IsSayableFinding net) f.list
   pub sent : AreSayableCounts net f.sent
   pub delivered : AreSayableCounts net f.delivered

@@ -3,8 +3,9 @@ use Rattle.std.proofs.Common.{◌≡◌, ℕ, zero, suc, ◌+◌, ◌-◌, ◌<�
 use Rattle.std.specs.Prelude.{cond, true, false, Bool, filter, nat_lt, not, ◌⊎◌, ◌==◌, ◌&&◌, ◌||◌, if◌then◌else◌}
 use Rattle.std.proofs.lemmas.Bool.{lt-ltb}
 use Rattle.std.proofs.lemmas.Bool.Decides.{eqb_tells}
+use Rattle.std.specs.List.{range_with_len}
 use Rattle.sl_machine.specs.Machine.{After, is_fitting, puts_on, send_all}
-use Rattle.sl_parts.specs.Parts.{below, numbers_from}
+use Rattle.sl_parts.specs.Parts.{below}
 use Rattle.sl_layout.specs.declared.actor.Sort.TheVariants as sort
 use Rattle.sl_net.specs.declared.input.Packet.{Packet}
 use Rattle.sl_layout.specs.Net.{same_sort}
@@ -28,15 +29,15 @@ use Rattle.sl_unit.specs.Step.{UnitState, send, data_frame, probe_frame, onward,
 use Rattle.sl_unit.proofs.Ways.{sort_of, ways_apart}
 
 -- a number below the first is on none of the links
-low_absent : (m : Msg) (p : ℕ → Bool) (o t k : ℕ) → o < t → puts_on o (send_all m (filter p (numbers_from t k))) ≡ false
+low_absent : (m : Msg) (p : ℕ → Bool) (o t k : ℕ) → o < t → puts_on o (send_all m (filter p (range_with_len t k))) ≡ false
 low_absent m p o t zero h = refl
-low_absent m p o t (suc k) h = by_bool (p t) (low_absent m p o (suc t) k (omega arith)) (eqb_tells t o)
+low_absent m p o t (suc k) h = by_bool (p t) (low_absent m p o (t + 1) k (omega arith)) (eqb_tells t o)
   where
-    by_bool : (b : Bool) → puts_on o (send_all m (filter p (numbers_from (suc t) k))) ≡ false → (((t == o) ≡ true) × (t ≡ o)) ⊎ (((t == o) ≡ false) × (t ≡ o → ⊥))
-        → puts_on o (send_all m (cond b (t ∷ filter p (numbers_from (suc t) k)) (filter p (numbers_from (suc t) k)))) ≡ false
+    by_bool : (b : Bool) → puts_on o (send_all m (filter p (range_with_len (t + 1) k))) ≡ false → (((t == o) ≡ true) × (t ≡ o)) ⊎ (((t == o) ≡ false) × (t ≡ o → ⊥))
+        → puts_on o (send_all m (cond b (t ∷ filter p (range_with_len (t + 1) k)) (filter p (range_with_len (t + 1) k)))) ≡ false
     by_bool false r e = r
     by_bool true r (inl e) = absurd (omega (arith, e.1))
-    by_bool true r (inr e) = ap (λ b. b || puts_on o (send_all m (filter p (numbers_from (suc t) k)))) e.0 ∙ r
+    by_bool true r (inr e) = ap (λ b. b || puts_on o (send_all m (filter p (range_with_len (t + 1) k)))) e.0 ∙ r
 
 -- and so is a number that doesn't pass
 other_absent : (m : Msg) (q : ℕ → Bool) (o : ℕ) (xs : List ℕ) → q o ≡ false → puts_on o (send_all m (filter q xs)) ≡ false
@@ -58,20 +59,20 @@ on_append o (p ∷ ps) qs h k = by_bool (p.0 == o) h (λ h. on_append o ps qs h 
     by_bool false h f = f h
 
 all_fit : (n : ℕ) (m : Msg) (p : ℕ → Bool) (ps : List (ℕ × Msg)) (s k : ℕ) → s + k ≤ n → is_fitting n ps ≡ true → ((o : ℕ) → p o ≡ true → puts_on o ps ≡ false)
-    → is_fitting n (send_all m (filter p (numbers_from s k)) ++ ps) ≡ true
+    → is_fitting n (send_all m (filter p (range_with_len s k)) ++ ps) ≡ true
 all_fit n m p ps s zero h f a = f
-all_fit n m p ps s (suc k) h f a = by_bool (p s) refl (all_fit n m p ps (suc s) k (omega arith) f a)
+all_fit n m p ps s (suc k) h f a = by_bool (p s) refl (all_fit n m p ps (s + 1) k (omega arith) f a)
   where
     rest : List (ℕ × Msg)
-    rest = send_all m (filter p (numbers_from (suc s) k)) ++ ps
+    rest = send_all m (filter p (range_with_len (s + 1) k)) ++ ps
 
-    by_bool : (b : Bool) → p s ≡ b → is_fitting n (send_all m (filter p (numbers_from (suc s) k)) ++ ps) ≡ true
-        → is_fitting n (send_all m (cond b (s ∷ filter p (numbers_from (suc s) k)) (filter p (numbers_from (suc s) k))) ++ ps) ≡ true
+    by_bool : (b : Bool) → p s ≡ b → is_fitting n (send_all m (filter p (range_with_len (s + 1) k)) ++ ps) ≡ true
+        → is_fitting n (send_all m (cond b (s ∷ filter p (range_with_len (s + 1) k)) (filter p (range_with_len (s + 1) k))) ++ ps) ≡ true
     by_bool false e r = r
     by_bool true e r = let t : nat_lt s n ≡ true = lt-ltb s n (omega arith) in
-        let q : puts_on s (send_all m (filter p (numbers_from (suc s) k)) ++ ps) ≡ false = on_append s (send_all m (filter p (numbers_from (suc s) k))) ps (low_absent m p s (suc s) k (omega arith)) (a s e) in
-        ap (λ b. b && (not (puts_on s (send_all m (filter p (numbers_from (suc s) k)) ++ ps)) && is_fitting n (send_all m (filter p (numbers_from (suc s) k)) ++ ps))) t
-        ∙ ap (λ b. not b && is_fitting n (send_all m (filter p (numbers_from (suc s) k)) ++ ps)) q ∙ r
+        let q : puts_on s (send_all m (filter p (range_with_len (s + 1) k)) ++ ps) ≡ false = on_append s (send_all m (filter p (range_with_len (s + 1) k))) ps (low_absent m p s (s + 1) k (omega arith)) (a s e) in
+        ap (λ b. b && (not (puts_on s (send_all m (filter p (range_with_len (s + 1) k)) ++ ps)) && is_fitting n (send_all m (filter p (range_with_len (s + 1) k)) ++ ps))) t
+        ∙ ap (λ b. not b && is_fitting n (send_all m (filter p (range_with_len (s + 1) k)) ++ ps)) q ∙ r
 
 -- puts on a way, before puts that don't go on its links
 way_first : (w : Wires) (a : Way) (m : Msg) (ps : List (ℕ × Msg)) → is_fitting (length w.exits) ps ≡ true → ((o : ℕ) → is_out a w.exits o ≡ true → puts_on o ps ≡ false)

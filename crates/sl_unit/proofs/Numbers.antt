@@ -1,5 +1,5 @@
 -- The outgoing links of a unit by their numbers.
-use Rattle.std.proofs.Common.{◌≡◌, ℕ, suc, ◌<◌, List, [], ◌∷◌, length, refl, sym, ap, subst, ◌∙◌, map, get_or, inl, inr}
+use Rattle.std.proofs.Common.{◌≡◌, ℕ, suc, ◌<◌, List, [], ◌∷◌, length, refl, sym, ap, subst, ◌∙◌, map, get_or, inl, inr, zero-add}
 use Rattle.std.specs.Prelude.{cond, true, false, Bool, filter, ◌⊎◌, ◌==◌, ◌&&◌}
 use Rattle.std.proofs.lemmas.Bool.{eq-eqb, eqb-true}
 use Rattle.std.proofs.lemmas.Bool.Decides.{eqb_tells}
@@ -9,8 +9,9 @@ use Rattle.sl_parts.specs.Parts.{below}
 use Rattle.sl_layout.specs.Net.{Net, actor_of, egress, link_of, link_numbers, links_from, links_into, links_out, place_in, same_actor, same_sort}
 use Rattle.sl_layout.specs.Wires.{out_of}
 use Rattle.sl_parts.specs.Lists.{Distinct, Each, Member}
-use Rattle.sl_parts.proofs.Lists.{filter-map, numbers-suc, at_below, each-passes, distinct-filter, distinct-from, each-at, each-of, kept-member}
+use Rattle.sl_parts.proofs.Lists.{filter-map, numbers-suc, each-passes, distinct-filter, distinct-from, each-at, each-of, kept-member}
 use Rattle.std.proofs.lemmas.Simd.{map-map}
+use Rattle.std.proofs.lemmas.List.FromFn.{get_or-map-range_with_len}
 use Rattle.sl_unit.specs.declared.wires.Way.{Way}
 use Rattle.sl_unit.specs.declared.wires.Way.TheVariants.{All, Toward}
 use Rattle.sl_unit.specs.declared.wires.Entrance.TheVariants.{Other}
@@ -84,4 +85,4 @@ toward_are net a device port = numbered net a (Toward device port)
     ∙ ap (map (out_of net)) (both (λ l. same_sort (link_of net l).sort Crossbar) (λ l. same_actor (actor_of net (link_of net l).to) (egress device port)) (links_from net a))
 
 pub entrances_are : (net : Net) (a c : ℕ) → c < length (links_into net a) → get_or (entrances_of net a) c Other ≡ entrance_by net a c
-entrances_are net a c h = at_below (entrance_by net a) (length (links_into net a)) c Other h
+entrances_are net a c h = get_or-map-range_with_len (entrance_by net a) 0 (length (links_into net a)) c _ Other h (zero-add c)

@@ -2,24 +2,25 @@
 use Rattle.std.proofs.Common.{◌≡◌, ℕ, zero, suc, ◌+◌, ◌-◌, ◌<◌, List, [], ◌∷◌, ◌++◌, length, refl, sym, ap, subst, ◌∙◌, arith, append_assoc, length-append}
 use Rattle.std.specs.Prelude.{cond, true, false, Bool, filter}
 use Rattle.std.proofs.lemmas.List.{length-map}
-use Rattle.sl_parts.specs.Parts.{below, numbers_from}
+use Rattle.std.specs.List.{range_with_len}
+use Rattle.sl_parts.specs.Parts.{below}
 use Rattle.sl_parts.proofs.Lists.{filter_below_more}
 use Rattle.sl_wire.specs.declared.message.Msg.{Msg}
 use Rattle.sl_machine.specs.Machine.{send_all}
 
-grows : (p : ℕ → Bool) (s i k : ℕ) → p (s + i) ≡ true → length (filter p (numbers_from s i)) < length (filter p (numbers_from s (i + suc k)))
+grows : (p : ℕ → Bool) (s i k : ℕ) → p (s + i) ≡ true → length (filter p (range_with_len s i)) < length (filter p (range_with_len s (i + suc k)))
 grows p s zero k t = let e : s + 0 ≡ s = omega arith in let z : 0 + suc k ≡ suc k = omega arith in
-    subst (λ n. 0 < length (filter p (numbers_from s n))) (sym z) (by_bool (p s) (subst (λ n. p n ≡ true) e t))
+    subst (λ n. 0 < length (filter p (range_with_len s n))) (sym z) (by_bool (p s) (subst (λ n. p n ≡ true) e t))
   where
-    by_bool : (b : Bool) → b ≡ true → 0 < length (cond b (s ∷ filter p (numbers_from (suc s) k)) (filter p (numbers_from (suc s) k)))
+    by_bool : (b : Bool) → b ≡ true → 0 < length (cond b (s ∷ filter p (range_with_len (s + 1) k)) (filter p (range_with_len (s + 1) k)))
     by_bool true h = omega arith
     by_bool false h = cc
 grows p s (suc i) k t = let z : suc i + suc k ≡ suc (i + suc k) = omega arith in
-    subst (λ n. length (filter p (numbers_from s (suc i))) < length (filter p (numbers_from s n))) (sym z)
-    (by_bool (p s) (grows p (suc s) i k (subst (λ n. p n ≡ true) (let e : s + suc i ≡ suc s + i = omega arith in e) t)))
+    subst (λ n. length (filter p (range_with_len s (suc i))) < length (filter p (range_with_len s n))) (sym z)
+    (by_bool (p s) (grows p (s + 1) i k (subst (λ n. p n ≡ true) (let e : s + suc i ≡ s + 1 + i = omega arith in e) t)))
   where
-    by_bool : (b : Bool) → length (filter p (numbers_from (suc s) i)) < length (filter p (numbers_from (suc s) (i + suc k)))
-        → length (cond b (s ∷ filter p (numbers_from (suc s) i)) (filter p (numbers_from (suc s) i))) < length (cond b (s ∷ filter p (numbers_from (suc s) (i + suc k))) (filter p (numbers_from (suc s) (i + suc k))))
+    by_bool : (b : Bool) → length (filter p (range_with_len (s + 1) i)) < length (filter p (range_with_len (s + 1) (i + suc k)))
+        → length (cond b (s ∷ filter p (range_with_len (s + 1) i)) (filter p (range_with_len (s + 1) i))) < length (cond b (s ∷ filter p (range_with_len (s + 1) (i + suc k))) (filter p (range_with_len (s + 1) (i + suc k))))
     by_bool true h = omega arith
     by_bool false h = h
 

@@ -2,12 +2,13 @@
 use Rattle.std.proofs.Common.{◌≡◌, ℕ, suc, ◌+◌, ◌-◌, ◌≤◌, List, [], ◌∷◌, length, refl, sym, subst, ◌∙◌, Option, Some, None, arith, length-append, get_or, inl, inr}
 use Rattle.std.specs.Prelude.{cond, true, false, Bool, filter, ◌⊎◌, ◌==◌, ◌&&◌, if◌then◌else◌}
 use Rattle.std.proofs.lemmas.Bool.Decides.{eqb_tells}
+use Rattle.std.proofs.lemmas.List.FromFn.{length-range_with_len}
 use Rattle.sl_parts.specs.Parts.{below}
 use Rattle.sl_layout.specs.declared.actor.Sort.{Sort}
 use Rattle.sl_layout.specs.declared.actor.Sort.TheVariants as sort
 use Rattle.sl_net.specs.declared.input.Packet.{Packet}
 use Rattle.sl_layout.specs.Net.{same_sort, sort_number, same_actor, egress}
-use Rattle.sl_parts.proofs.Lists.{length_numbers, length_filter_le}
+use Rattle.sl_parts.proofs.Lists.{length_filter_le}
 use Rattle.sl_unit.specs.declared.wires.Exit.{Exit}
 use Rattle.sl_unit.specs.declared.wires.Way.{Way}
 use Rattle.sl_unit.specs.declared.wires.Way.TheVariants.{All, Toward}
@@ -20,7 +21,7 @@ use Rattle.sl_unit.specs.Step.{data_frame, probe_frame, onward, routed, passed, 
 use Rattle.sl_unit.proofs.Outs.{length_sent}
 
 pub outs_few : (way : Way) (exits : List Exit) → length (outs way exits) ≤ length exits
-outs_few way exits = omega (arith, length_filter_le (is_out way exits) (below (length exits)), length_numbers 0 (length exits))
+outs_few way exits = omega (arith, length_filter_le (is_out way exits) (below (length exits)), length-range_with_len 0 (length exits))
 
 -- three tests of which nothing passes two
 abbrev Apart : {A : Type 0} → (A → Bool) → (A → Bool) → Type 0
@@ -78,14 +79,14 @@ pub three_ways : (a b c : Way) (exits : List Exit) → same_sort (sort_of a) (so
 three_ways a b c exits x y z = omega (
   arith,
   three (is_out a exits) (is_out b exits) (is_out c exits) (below (length exits)) (λ n. ways_apart a b x (get_or exits n no_exit)) (λ n. ways_apart a c y (get_or exits n no_exit)) (λ n. ways_apart b c z (get_or exits n no_exit)),
-  length_numbers 0 (length exits),
+  length-range_with_len 0 (length exits),
 )
 
 pub two_ways : (a b : Way) (exits : List Exit) → same_sort (sort_of a) (sort_of b) ≡ false → length (outs a exits) + length (outs b exits) ≤ length exits
 two_ways a b exits x = omega (
   arith,
   three (is_out a exits) (is_out b exits) (λ n. false) (below (length exits)) (λ n. ways_apart a b x (get_or exits n no_exit)) (λ n t. refl) (λ n t. refl),
-  length_numbers 0 (length exits),
+  length-range_with_len 0 (length exits),
 )
 
 -- With a notice.

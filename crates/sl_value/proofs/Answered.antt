@@ -2,11 +2,10 @@
 use Rattle.std.proofs.Common.{◌≡◌, ℕ, ◌-◌, ◌<◌, List, [], ◌∷◌, map, refl, sym, ap, subst, ◌∙◌, None, arith}
 use Rattle.std.specs.Prelude.{cond, slice_get}
 use Rattle.std.proofs.lemmas.Bool.{ne_eqb}
-use Rattle.std.proofs.lemmas.List.{length-map}
 use Rattle.std.proofs.lemmas.Option.{slice_get_past}
-use Rattle.sl_parts.specs.Parts.{numbers_from}
+use Rattle.std.proofs.lemmas.List.FromFn.{length-map-range_with_len}
+use Rattle.std.specs.List.{range_with_len}
 use Rattle.sl_parts.specs.Lists.{Each, Member}
-use Rattle.sl_parts.proofs.Lists.{each-of, each-map, length_numbers}
 use Rattle.sl_layout.specs.declared.actor.Sort.TheVariants.{Poll}
 use Rattle.sl_layout.specs.Net.{Net, link_of, links_out, unit_place}
 use Rattle.sl_layout.specs.Serving.{Served, serving, served}
@@ -17,13 +16,14 @@ use Rattle.sl_value.specs.declared.whole.Whole.{Whole}
 use Rattle.sl_value.specs.Reading.{counted}
 use Rattle.sl_value.specs.Valued.{UnitValues, value_of, value_in}
 use Rattle.sl_value.specs.Standing.{kept_told, AreKept, IsToldOf, AnswersAsTold}
+use Rattle.sl_value.proofs.Lists.{each-of, each-map}
 use Rattle.sl_value.proofs.Takes.{IsJoined, joined}
 use Rattle.sl_value.proofs.Collected.{value-number, entry-of}
 
-value-above : (f : ℕ → Whole) (m k : ℕ) → m < k → value_of (map f (numbers_from 1 m)) k ≡ None
-value-above f m k h = let size = length-map (numbers_from 1 m) f in let count = length_numbers 1 m in
-    ap (λ b. cond b None (slice_get (map f (numbers_from 1 m)) (k - 1))) (ne_eqb k 0 (λ e. omega (arith, e, h)))
-    ∙ slice_get_past (map f (numbers_from 1 m)) (k - 1) (omega (arith, h, size, count))
+value-above : (f : ℕ → Whole) (m k : ℕ) → m < k → value_of (map f (range_with_len 1 m)) k ≡ None
+value-above f m k h = let size = length-map-range_with_len f 1 m in
+    ap (λ b. cond b None (slice_get (map f (range_with_len 1 m)) (k - 1))) (ne_eqb k 0 (λ e. omega (arith, e, h)))
+    ∙ slice_get_past (map f (range_with_len 1 m)) (k - 1) (omega (arith, h, size))
 
 no-entry : (net : Net) (us : ℕ → History) (a place k : ℕ) (vs : List Served) → Each (λ v. unit_place net v.unit ≡ place → ⊥) vs
     → value_in (map (kept_told net us a) vs) place k ≡ None

@@ -1,14 +1,13 @@
 -- In a finished world each control plane keeps the value of each snapshot that is issued and not pending.
-use Rattle.std.proofs.Common.{◌≡◌, ℕ, suc, ◌+◌, ◌-◌, ◌<◌, ◌≤◌, List, [], ◌∷◌, ◌++◌, map, refl, sym, ap, subst, ◌∙◌, Option, Some, None, arith, inl, inr}
-use Rattle.std.specs.Prelude.{Bool, true, false, cond, ◌==◌, nat_eq, nat_le, min, ◌⊎◌, slice_get, option_map, IsTrue}
-use Rattle.std.specs.List.{fold}
+use Rattle.std.proofs.Common.{◌≡◌, ℕ, suc, ◌-◌, ◌<◌, ◌≤◌, List, [], ◌∷◌, ◌++◌, map, refl, sym, ap, subst, ◌∙◌, Option, Some, None, arith, inl, inr}
+use Rattle.std.specs.Prelude.{Bool, true, false, cond, ◌==◌, nat_eq, nat_le, min, ◌⊎◌, slice_get, IsTrue}
+use Rattle.std.specs.List.{fold, range_with_len}
 use Rattle.std.proofs.lemmas.Bool.{lt-ltb, le-ltb, le-leb, lt-leb, cases_lt, ne_eqb}
 use Rattle.std.proofs.lemmas.Bool.Decides.{eqb_tells}
 use Rattle.std.proofs.lemmas.List.{map-append}
-use Rattle.std.proofs.lemmas.Option.{slice_get-map}
-use Rattle.sl_parts.specs.Parts.{numbers_from}
+use Rattle.std.proofs.lemmas.Option.{slice_get_read}
+use Rattle.std.proofs.lemmas.List.FromFn.{get_or-map-range_with_len, length-map-range_with_len}
 use Rattle.sl_parts.specs.Lists.{Each, Member}
-use Rattle.sl_parts.proofs.Lists.{each-of, each-at, member-parts, number-found}
 use Rattle.sl_layout.specs.declared.actor.ActorId.TheVariants.{Unit as OfUnit}
 use Rattle.sl_layout.specs.declared.actor.UnitId.{UnitId}
 use Rattle.sl_layout.specs.declared.actor.Sort.{Sort}
@@ -35,6 +34,7 @@ use Rattle.sl_value.specs.Reading.{counted}
 use Rattle.sl_value.specs.Valued.{UnitValues, value_of, value_in}
 use Rattle.sl_value.specs.Standing.{values_told, kept_told, AreKept}
 use Rattle.sl_value.specs.Verdicts.{lagging, value_verdict, valued}
+use Rattle.sl_value.proofs.Lists.{each-of, each-at, member-parts}
 use Rattle.sl_value.proofs.Told.{counted-first}
 use Rattle.sl_value.proofs.Takes.{IsJoined, joined}
 
@@ -88,12 +88,10 @@ fold-above k n f (c ∷ cs) h e = let q = e.0 in fold-above k (min n (f c)) f cs
 
 -- The entry of a unit among those that are kept.
 
-number-at : (f : ℕ → Whole) (n m j : ℕ) → j < m → slice_get (map f (numbers_from n m)) j ≡ Some (f (n + j))
-number-at f n m j h = slice_get-map f (numbers_from n m) j ∙ ap (option_map f) (number-found n m j h)
-
-pub value-number : (f : ℕ → Whole) (m k : ℕ) → 1 ≤ k → k ≤ m → value_of (map f (numbers_from 1 m)) k ≡ Some (f k)
-value-number f m k one le = let z : 1 + (k - 1) ≡ k = omega (arith, one) in
-    ap (λ b. cond b None (slice_get (map f (numbers_from 1 m)) (k - 1))) (ne_eqb k 0 (λ e. omega (arith, e, one))) ∙ number-at f 1 m (k - 1) (omega (arith, one, le)) ∙ ap (λ x. Some (f x)) z
+pub value-number : (f : ℕ → Whole) (m k : ℕ) → 1 ≤ k → k ≤ m → value_of (map f (range_with_len 1 m)) k ≡ Some (f k)
+value-number f m k one le = let low : k - 1 < m = omega (arith, one, le) in
+    ap (λ b. cond b None (slice_get (map f (range_with_len 1 m)) (k - 1))) (ne_eqb k 0 (λ e. omega (arith, e, one)))
+    ∙ slice_get_read (map f (range_with_len 1 m)) m (k - 1) (f k) (sym (length-map-range_with_len f 1 m)) low (sym (get_or-map-range_with_len f 1 m (k - 1) k (f k) low (omega (arith, one))))
 
 pub entry-of : (net : Net) (us : ℕ → History) (a u k : ℕ) (i : UnitId) (z : IsWired net) → actor_of net u ≡ OfUnit i → (r : Reports net u) → (ks : List ℕ) → Each (λ x. IsJoined net a x) ks → Member r.poll ks
     → value_in (map (kept_told net us a) (map (serving net a) ks)) (unit_place net u) k ≡ value_of (kept_told net us a (serving net a r.poll)).values k

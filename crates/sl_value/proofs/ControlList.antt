@@ -1,9 +1,9 @@
 -- The control planes among the nodes of a net are those of its devices, in order.
-use Rattle.std.proofs.Common.{◌≡◌, ℕ, zero, suc, ◌+◌, List, [], ◌∷◌, ◌++◌, length, map, refl, sym, ap, ◌∙◌, Option, Some, None, arith, append-nil}
+use Rattle.std.proofs.Common.{◌≡◌, ℕ, zero, suc, ◌<◌, List, [], ◌∷◌, ◌++◌, length, map, refl, sym, ap, ◌∙◌, Option, Some, None, arith, append-nil, zero-add}
 use Rattle.std.specs.Prelude.{slice_get, slice_index_or, flat_map}
-use Rattle.std.proofs.lemmas.Option.{slice_get_within}
+use Rattle.std.proofs.lemmas.Option.{slice_get_within, slice_get_read}
+use Rattle.std.proofs.lemmas.List.FromFn.{get_or-range_with_len, length-range_with_len}
 use Rattle.sl_parts.specs.Parts.{Parts, below, used_ports}
-use Rattle.sl_parts.proofs.Lists.{length_numbers, number-found}
 use Rattle.sl_layout.specs.declared.actor.ActorId.{ActorId}
 use Rattle.sl_layout.specs.declared.actor.ActorId.TheVariants.{Observer, Control, Unit as OfUnit, Host as OfHost}
 use Rattle.sl_layout.specs.Net.{Net, ingress, egress, units_of, actors_of, nobody, actor_of}
@@ -125,17 +125,18 @@ module _ (net : Net) (made : IsNet net) (z : IsWired net) (ss : List ValueNodeSt
   devices = numbers-map (λ o. o) device_kept net.actors ∙ ap (λ (n : Net). numbers device_kept n.actors) made.made ∙ devices-are net.parts
 
   control-each : length (controls_in ss) ≡ length net.parts.devices
-  control-each = as-many (map device_kept net.actors) ss all ∙ ap length devices ∙ length_numbers 0 (length net.parts.devices)
+  control-each = as-many (map device_kept net.actors) ss all ∙ ap length devices ∙ length-range_with_len 0 (length net.parts.devices)
 
   -- the control at a place is that of the device with this number
   control-node : (d : ℕ) (c : ValueState) → slice_get (controls_in ss) d ≡ Some c → slice_get ss (control_of net d) ≡ Some (Valued c)
   control-node d c e =
       let r = at-place (map device_kept net.actors) ss d c all e in
       let low = slice_get_within (controls_in ss) d c e in
-      let found : Some (0 + d) ≡ Some r.device =
-      sym (number-found 0 (length net.parts.devices) d (omega (arith, low, control-each))) ∙ sym (ap (λ ns. slice_get ns d) devices) ∙ r.listed in
-      let sum : 0 + d ≡ r.device = cc in
-      let is : r.device ≡ d = omega (arith, sum) in
+      let n : ℕ = length net.parts.devices in
+      let within : d < length net.parts.devices = omega (arith, low, control-each) in
+      let found : Some d ≡ Some r.device = sym (slice_get_read (below n) n d d (sym (length-range_with_len 0 n)) within (sym (get_or-range_with_len 0 n d d within ∙ zero-add d)))
+      ∙ sym (ap (λ ns. slice_get ns d) devices) ∙ r.listed in
+      let is : r.device ≡ d = cc in
       let actor : actor_of net r.actor ≡ Control d = is-control net.actors r.actor r.device r.keeps ∙ ap Control is in
       ap (slice_get ss) (z.numbered r.actor (Control d) actor (λ x. cc)) ∙ r.node
 

@@ -3,7 +3,6 @@ use Rattle.std.proofs.Common.{◌≡◌, ℕ, ◌^◌, ◌<◌, ◌≤◌, List,
 use Rattle.std.specs.Prelude.{Bool, true, false, cond, ◌==◌, ◌⊎◌, flat_map, slice_get, option_map, option_and_then}
 use Rattle.sl_machine.specs.Machine.{After}
 use Rattle.sl_parts.specs.Lists.{Each, Member}
-use Rattle.sl_parts.proofs.Lists.{each-of}
 use Rattle.sl_layout.specs.declared.actor.ActorId.{ActorId}
 use Rattle.sl_layout.specs.declared.actor.ActorId.TheVariants.{Observer, Control, Unit as OfUnit, Host as OfHost}
 use Rattle.sl_layout.specs.declared.actor.Sort.TheVariants.{Poll}
@@ -35,6 +34,7 @@ use Rattle.sl_proto.specs.Machines.{MachineSimulates, MachineActSimulates, Follo
 use Rattle.sl_value.specs.Valued.{UnitValues, ValueState, kept_after, kept_by, first_done, with_kept}
 use Rattle.sl_value.specs.Nodes.{ValueNodeState, Other, Valued, value_node_take, value_node_act, value_node_rules}
 use Rattle.sl_value.specs.Standing.{values_told, kept_told, AreKept, ValueStands}
+use Rattle.sl_value.proofs.Lists.{each-of}
 use Rattle.sl_value.proofs.Takes.{Counts, joined, of_some, kept-same, kept-dump}
 
 -- What laws of lower crates say.

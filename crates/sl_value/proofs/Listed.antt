@@ -1,18 +1,17 @@
 -- Lists that are made one element after the other.
 use Rattle.std.proofs.Common.{◌≡◌, ℕ, zero, suc, ◌+◌, ◌<◌, List, [], ◌∷◌, ◌++◌, length, map, take, refl, sym, ap, ◌∙◌, Option, Some, arith, add-one, append_assoc, append-nil}
 use Rattle.std.specs.Prelude.{slice_index, slice_get}
-use Rattle.std.proofs.lemmas.List.{map-append, map_more}
+use Rattle.std.proofs.lemmas.List.{map_more}
+use Rattle.std.specs.List.{range_with_len}
+use Rattle.std.proofs.lemmas.List.FromFn.{map-range_with_len_more}
 use Rattle.sl_model.specs.Words.{listed, numbers}
-use Rattle.sl_parts.specs.Parts.{numbers_from}
-use Rattle.sl_value.proofs.Told.{numbers-split}
 
 -- with the next element
 pub next-of : {B : Type 0} (f : ℕ → B) (xs : List ℕ) (i : ℕ) (ys : List B) (y : B) → i < length xs → ys ≡ map f (take i xs) → y ≡ f (slice_index xs i) → ys ++ y ∷ [] ≡ map f (take (i + 1) xs)
 next-of f xs i ys y h e q = ap (λ zs. zs ++ y ∷ []) e ∙ ap (λ z. map f (take i xs) ++ z ∷ []) q ∙ sym (map_more f xs i 0 h)
 
-pub next-number : {B : Type 0} (f : ℕ → B) (n : ℕ) (ys : List B) (y : B) → ys ≡ map f (numbers_from 1 n) → y ≡ f (n + 1) → ys ++ y ∷ [] ≡ map f (numbers_from 1 (n + 1))
-next-number f n ys y e q = let z : 1 + n ≡ n + 1 = omega arith in
-    ap (λ zs. zs ++ y ∷ []) e ∙ ap (λ z. map f (numbers_from 1 n) ++ z ∷ []) (q ∙ sym (ap f z)) ∙ sym (map-append f (numbers_from 1 n) ((1 + n) ∷ [])) ∙ sym (ap (map f) (numbers-split 1 n 1))
+pub next-number : {B : Type 0} (f : ℕ → B) (n : ℕ) (ys : List B) (y : B) → ys ≡ map f (range_with_len 1 n) → y ≡ f (n + 1) → ys ++ y ∷ [] ≡ map f (range_with_len 1 (n + 1))
+next-number f n ys y e q = ap (λ zs. zs ++ y ∷ []) e ∙ ap (λ z. map f (range_with_len 1 n) ++ z ∷ []) q ∙ sym (map-range_with_len_more f 1 n (n + 1) (omega arith))
 
 numbers-take : {A : Type 0} (f : A → Option ℕ) (xs : List A) (i : ℕ) (x : A) → slice_get xs i ≡ Some x → numbers f (take (suc i) xs) ≡ numbers f (take i xs) ++ listed (f x)
 numbers-take f [] i x e = absurd (cc)

@@ -1,8 +1,33 @@
--- Lists whose elements are changed one after the other.
-use Rattle.std.proofs.Common.{◌≡◌, ℕ, zero, suc, ◌<◌, List, [], ◌∷◌, ◌++◌, length, map, take, drop, get_or, sym, ap, ◌∙◌, arith}
-use Rattle.std.specs.Prelude.{slice_set}
-use Rattle.std.specs.List.{AllByRecursion}
+-- Elements of lists, lists whose elements are changed one after the other, and numbers that pass a test.
+use Rattle.std.proofs.Common.{◌≡◌, ℕ, zero, suc, ◌+◌, ◌<◌, ◌≤◌, List, [], ◌∷◌, ◌++◌, length, map, take, drop, get_or, refl, sym, ap, subst, ◌∙◌, arith, inl, inr, Bool, true, false}
+use Rattle.std.specs.Prelude.{◌⊎◌, cond, filter, if◌then◌else◌, slice_set}
+use Rattle.std.specs.List.{AllByRecursion, range_with_len}
 use Rattle.std.proofs.lemmas.List.{map-set, set-get_or, get_or-map}
+use Rattle.std.proofs.lemmas.Bool.{eq-eqb, ne_eqb}
+use Rattle.sl_parts.specs.Lists.{Each, Member}
+use Rattle.sl_layout.specs.Net.{place_in}
+
+pub each-of : {A : Type 0} (P : A → Type 0) (xs : List A) → ((x : A) → Member x xs → P x) → Each P xs
+each-of P [] f = tt
+each-of P (x ∷ xs) f = (f x (inl refl), each-of P xs (λ y m. f y (inr m)))
+
+pub each-at : {A : Type 0} (P : A → Type 0) (x : A) (xs : List A) → Each P xs → Member x xs → P x
+each-at P x [] e m = absurd m
+each-at P x (y ∷ ys) e (inl q) = subst P (sym q) e.0
+each-at P x (y ∷ ys) e (inr m) = each-at P x ys e.1 m
+
+pub each-map : {A B : Type 0} (P : B → Type 0) (f : A → B) (xs : List A) → Each (λ x. P (f x)) xs → Each P (map f xs)
+each-map P f [] h = tt
+each-map P f (x ∷ xs) h = (h.0, each-map P f xs h.1)
+
+pub member-parts : {A : Type 0} (x : A) (xs ys : List A) → Member x (xs ++ ys) → Member x xs ⊎ Member x ys
+member-parts x [] ys m = inr m
+member-parts x (y ∷ xs) ys (inl q) = inl (inl q)
+member-parts x (y ∷ xs) ys (inr m) = by_parts (member-parts x xs ys m)
+  where
+    by_parts : Member x xs ⊎ Member x ys → ((x ≡ y) ⊎ Member x xs) ⊎ Member x ys
+    by_parts (inl k) = inl (inr k)
+    by_parts (inr k) = inr k
 
 -- the elements up to a place are changed by f, and so is the next
 pub next-changed : {A : Type 0} (f : A → A) (xs : List A) (i : ℕ) (x y : A) → i < length xs → x ≡ get_or (map f (take i xs) ++ drop i xs) i x → y ≡ f x
@@ -25,3 +50,26 @@ pub all-next : {A : Type 0} (P : A → Type 0) (xs : List A) (i : ℕ) (y : A) �
 all-next P [] i y h all p = absurd (omega arith)
 all-next P (z ∷ zs) zero y h all p = (p, tt)
 all-next P (z ∷ zs) (suc i) y h all p = (all.0, all-next P zs i y (omega arith) all.1 p)
+
+-- each of the numbers from s on that pass is at least s
+least-passing : (p : ℕ → Bool) (s n i : ℕ) → i < length (filter p (range_with_len s n)) → s ≤ get_or (filter p (range_with_len s n)) i 0
+least-passing p s zero i h = absurd (omega arith)
+least-passing p s (suc n) i h = by_bool (filter p (range_with_len (s + 1) n)) (least-passing p (s + 1) n) (p s) i h
+  where
+    by_bool : (rest : List ℕ) → ((j : ℕ) → j < length rest → s + 1 ≤ get_or rest j 0) → (b : Bool) (i : ℕ) → i < length (cond b (s ∷ rest) rest) → s ≤ get_or (cond b (s ∷ rest) rest) i 0
+    by_bool rest ih true zero h = omega arith
+    by_bool rest ih true (suc i) h = omega (arith, ih i (omega arith))
+    by_bool rest ih false i h = omega (arith, ih i h)
+
+-- the i-th of the numbers that pass stands at the place i
+pub number-place : (p : ℕ → Bool) (s n m i : ℕ) → i < length (filter p (range_with_len s n)) → place_in m (get_or (filter p (range_with_len s n)) i 0) (filter p (range_with_len s n)) ≡ m + i
+number-place p s zero m i h = absurd (omega arith)
+number-place p s (suc n) m i h = by_bool (filter p (range_with_len (s + 1) n)) (least-passing p (s + 1) n) (number-place p (s + 1) n) (p s) i h
+  where
+    by_bool : (rest : List ℕ) → ((j : ℕ) → j < length rest → s + 1 ≤ get_or rest j 0) → ((q j : ℕ) → j < length rest → place_in q (get_or rest j 0) rest ≡ q + j) → (b : Bool) (i : ℕ)
+        → i < length (cond b (s ∷ rest) rest) → place_in m (get_or (cond b (s ∷ rest) rest) i 0) (cond b (s ∷ rest) rest) ≡ m + i
+    by_bool rest up ih true zero h = ap (λ b. if b then m else place_in (suc m) s rest) (eq-eqb s s refl) ∙ omega arith
+    by_bool rest up ih true (suc i) h =
+        let low = up i (omega arith) in
+        ap (λ b. if b then m else place_in (suc m) (get_or rest i 0) rest) (ne_eqb s (get_or rest i 0) (λ e. omega (arith, e, low))) ∙ ih (suc m) i (omega arith) ∙ omega arith
+    by_bool rest up ih false i h = ih m i h

@@ -1,12 +1,13 @@
 -- What a finished world of nodes that keep values tells is what its histories say.
-use Rattle.std.proofs.Common.{◌≡◌, ℕ, ◌+◌, ◌-◌, ◌<◌, ◌≤◌, List, length, map, get_or, refl, sym, ap, subst, ◌∙◌, Some, None, arith, inl, inr}
+use Rattle.std.proofs.Common.{◌≡◌, ℕ, ◌+◌, ◌-◌, ◌<◌, ◌≤◌, List, length, map, get_or, refl, sym, ap, subst, ◌∙◌, Some, None, arith, inl, inr, zero-add}
 use Rattle.std.specs.Prelude.{true, ◌⊎◌, slice_get, slice_index, option_map}
-use Rattle.std.specs.List.{All}
+use Rattle.std.specs.List.{All, range_with_len}
 use Rattle.std.proofs.lemmas.List.{length-map, get_or-map}
 use Rattle.std.proofs.lemmas.List.Elements.{All-map}
 use Rattle.std.proofs.lemmas.Option.{slice_get_cases, slice_get_within, slice_get-get_or, slice_get-map}
-use Rattle.sl_parts.specs.Parts.{numbers_from, below}
-use Rattle.sl_parts.proofs.Lists.{each-index, each-passes, each-from, all-from_each, distinct-filter, distinct-from, length_numbers, number_at}
+use Rattle.std.proofs.lemmas.List.Elements.{filter_passes}
+use Rattle.std.proofs.lemmas.List.FromFn.{get_or-range_with_len, length-range_with_len}
+use Rattle.sl_parts.specs.Parts.{below}
 use Rattle.sl_layout.specs.declared.actor.ActorId.{ActorId}
 use Rattle.sl_layout.specs.declared.actor.ActorId.TheVariants.{Observer, Control, Unit as OfUnit, Host as OfHost}
 use Rattle.sl_layout.specs.declared.actor.UnitId.{UnitId}
@@ -27,7 +28,6 @@ use Rattle.sl_model.specs.Losses.{losses}
 use Rattle.sl_model.specs.Setup.{setup_of}
 use Rattle.sl_model.specs.Window.{IsInWindow}
 use Rattle.sl_model.specs.World.{world}
-use Rattle.sl_image.proofs.ObserverLists.{place-at}
 use Rattle.sl_world.specs.Scene.{Scene}
 use Rattle.sl_proto.specs.Standing.{case_of, StandsFor}
 use Rattle.sl_proto.specs.Told.{HasAllRows, accounts_of, told}
@@ -40,18 +40,19 @@ use Rattle.sl_value.specs.declared.verdict.ValueVerdict.{ValueVerdict}
 use Rattle.sl_value.specs.declared.verdict.ValueVerdict.TheVariants.{Whole as IsWhole, Pending, NotIssued}
 use Rattle.sl_value.specs.Outcome.{control_for, value_at, CanList}
 use Rattle.sl_value.specs.Controls.{controls_in, device_at, answer_of, IsAnswered}
+use Rattle.sl_value.proofs.Lists.{number-place}
 use Rattle.sl_value.proofs.Collected.{KnownVerdicts, valued-is, told-value}
 use Rattle.sl_value.proofs.ControlList.{control-at, are-controls}
 
 -- Lists.
 
-same-at : {A : Type 0} (f g : ℕ → A) (n count : ℕ) → map f (numbers_from n count) ≡ map g (numbers_from n count) → (k : ℕ) → n ≤ k → k < n + count → f k ≡ g k
+same-at : {A : Type 0} (f g : ℕ → A) (n count : ℕ) → map f (range_with_len n count) ≡ map g (range_with_len n count) → (k : ℕ) → n ≤ k → k < n + count → f k ≡ g k
 same-at f g n count e k low high =
-    let ks : List ℕ = numbers_from n count in
-    let size = length_numbers n count in
+    let ks : List ℕ = range_with_len n count in
+    let size = length-range_with_len n count in
     let within : k - n < length ks = omega (arith, size, low, high) in
     let sum : n + (k - n) ≡ k = omega (arith, low) in
-    let is : get_or ks (k - n) 0 ≡ k = number_at n count (k - n) 0 (omega (arith, low, high)) ∙ sum in
+    let is : get_or ks (k - n) 0 ≡ k = get_or-range_with_len n count (k - n) 0 (omega (arith, low, high)) ∙ sum in
     ap f (sym is) ∙ sym (get_or-map f ks (k - n) 0 (f 0) within) ∙ ap (λ ys. get_or ys (k - n) (f 0)) e ∙ get_or-map g ks (k - n) 0 (f 0) within ∙ ap g is
 
 get-some : {A : Type 0} (xs : List A) (i : ℕ) → i < length xs → (x : A) × (slice_get xs i ≡ Some x)
@@ -81,11 +82,10 @@ control-is net u i z q r =
 listed-unit : (net : Net) (unit : ℕ) → unit < length (units net) → (i : UnitId) × (actor_of net (slice_index (units net) unit) ≡ OfUnit i)
 listed-unit net unit low = let is_one = λ (a : ℕ). is_unit (actor_of net a) in
     unit-of (actor_of net (slice_index (units net) unit))
-    (each-index (λ a. is_one a ≡ true) (units net) unit 0 (each-passes is_one (below (length net.actors))) low)
+    (filter_passes is_one (below (length net.actors)) unit 0 low)
 
 listed-place : (net : Net) (unit : ℕ) → unit < length (units net) → unit_place net (slice_index (units net) unit) ≡ unit
-listed-place net unit low = let e : 0 + unit ≡ unit = omega arith in
-    place-at (units net) 0 unit (distinct-filter (λ a. is_unit (actor_of net a)) (below (length net.actors)) (distinct-from 0 (length net.actors))) low ∙ e
+listed-place net unit low = number-place (λ a. is_unit (actor_of net a)) 0 (length net.actors) 0 unit low ∙ zero-add unit
 
 module _ (i : Input) (v : Scene ValueNodeState Msg) (z : IsWired i.net) (stands : StandsFor i.net (case_of i (losses i)) (plain_scene v))
     (window : IsInWindow (setup_of i) (losses i) (world (setup_of i) (losses i) (schedule_of v.book))) (known : KnownVerdicts (setup_of i) (world (setup_of i) (losses i) (schedule_of v.book)))
@@ -174,7 +174,7 @@ module _ (i : Input) (v : Scene ValueNodeState Msg) (z : IsWired i.net) (stands 
       by_verdict (Pending u l) q here = absurd (cc)
       by_verdict (NotIssued u n) q here = absurd (cc)
 
-  pub answered : IsNet i.net → (count : ℕ) → All (IsAnswered i.net (controls_in v.states)) (map (value_finding i.net w) (numbers_from 1 count))
-  answered made count = All-map (IsAnswered i.net (controls_in v.states)) (value_finding i.net w) (numbers_from 1 count)
-      (all-from_each (λ k. IsAnswered i.net (controls_in v.states) (value_finding i.net w k)) (numbers_from 1 count)
-      (each-from (λ k. IsAnswered i.net (controls_in v.states) (value_finding i.net w k)) 1 count (λ k one le. answered-by made k one)))
+  pub answered : IsNet i.net → (count : ℕ) → All (IsAnswered i.net (controls_in v.states)) (map (value_finding i.net w) (range_with_len 1 count))
+  answered made count = All-map (IsAnswered i.net (controls_in v.states)) (value_finding i.net w) (range_with_len 1 count)
+      (λ n d low. subst (λ k. IsAnswered i.net (controls_in v.states) (value_finding i.net w k))
+      (sym (get_or-range_with_len 1 count n d (let size = length-range_with_len 1 count in omega (arith, low, size)))) (answered-by made (1 + n) (omega arith)))

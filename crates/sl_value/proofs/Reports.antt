@@ -1,9 +1,9 @@
 -- What a control plane puts on a dump can be read by the dump's view.
 use Rattle.std.proofs.Common.{◌≡◌, ℕ, zero, suc, ◌+◌, ◌-◌, ◌<◌, ◌≤◌, List, [], ◌∷◌, ◌++◌, length, map, take, refl, sym, ap, subst, ◌∙◌, Option, Some, None, arith}
 use Rattle.std.specs.Prelude.{Bool, true, false, ◌&&◌, ◌==◌, cond, nat_lt, nat_le, min, flat_map}
-use Rattle.std.specs.List.{AllByRecursion, list_all, fold}
+use Rattle.std.specs.List.{AllByRecursion, list_all, fold, range_with_len}
 use Rattle.std.proofs.lemmas.Bool.{ltb-true, leb-true, eqb-true}
-use Rattle.sl_parts.specs.Parts.{numbers_from}
+use Rattle.std.proofs.lemmas.List.FromFn.{length-map-range_with_len}
 use Rattle.sl_saves.specs.declared.entry.View.{View}
 use Rattle.sl_saves.specs.Views.{Place, walk}
 use Rattle.sl_wire.specs.declared.message.Dump.{Dump}
@@ -35,11 +35,11 @@ weaken : (P Q : ℕ → Type 0) → ((j : ℕ) → P j → Q j) → (js : List �
 weaken P Q f [] p = tt
 weaken P Q f (j ∷ js) p = (f j p.0, weaken P Q f js p.1)
 
-each-within : (n count : ℕ) → AllByRecursion (λ j. (n ≤ j) × (j < n + count)) (numbers_from n count)
+each-within : (n count : ℕ) → AllByRecursion (λ j. (n ≤ j) × (j < n + count)) (range_with_len n count)
 each-within n zero = tt
 each-within n (suc count) = (
   (omega arith, omega arith),
-  weaken (λ j. (suc n ≤ j) × (j < suc n + count)) (λ j. (n ≤ j) × (j < n + suc count)) (λ j p. let a = p.0 in let b = p.1 in (omega (arith, a), omega (arith, b))) (numbers_from (suc n) count) (each-within (suc n) count),
+  weaken (λ j. (n + 1 ≤ j) × (j < n + 1 + count)) (λ j. (n ≤ j) × (j < n + suc count)) (λ j p. let a = p.0 in let b = p.1 in (omega (arith, a), omega (arith, b))) (range_with_len (n + 1) count) (each-within (n + 1) count),
 )
 
 -- The rows of a report.
@@ -52,9 +52,9 @@ live (p ∷ ps) e = let b = both (nat_le 1 p.slot.back) (list_all (λ q. nat_le 
 pub each-in-span : (a b : ℕ) → AllByRecursion (λ j. (suc a ≤ j) × (j ≤ b)) (span a b)
 each-in-span a b = by_length (b - a) refl
   where
-    by_length : (n : ℕ) → b - a ≡ n → AllByRecursion (λ j. (suc a ≤ j) × (j ≤ b)) (numbers_from (suc a) n)
+    by_length : (n : ℕ) → b - a ≡ n → AllByRecursion (λ j. (suc a ≤ j) × (j ≤ b)) (range_with_len (suc a) n)
     by_length zero e = tt
-    by_length (suc n) e = weaken (λ j. (suc a ≤ j) × (j < suc a + suc n)) (λ j. (suc a ≤ j) × (j ≤ b)) (λ j p. let q = p.1 in (p.0, omega (arith, q, e))) (numbers_from (suc a) (suc n)) (each-within (suc a) (suc n))
+    by_length (suc n) e = weaken (λ j. (suc a ≤ j) × (j < suc a + suc n)) (λ j. (suc a ≤ j) × (j ≤ b)) (λ j p. let q = p.1 in (p.0, omega (arith, q, e))) (range_with_len (suc a) (suc n)) (each-within (suc a) (suc n))
 
 readable : (view : View) (id m k : ℕ) → m ≤ id → is_readable view id k ≡ true → (1 ≤ k) × (k ≤ m) → CanRead view id k
 readable view id m k h e r = let b = both (nat_lt id (k + length view.slots)) (is_live view id k) e in record {
@@ -73,14 +73,10 @@ rows-read view id m (k ∷ ks) h t r = (readable view id m k h t.0 r.0, rows-rea
 few-rows : (ring : ℕ) (view : View) (id a b : ℕ) → length view.slots ≡ ring → b ≤ id → AllByRecursion (λ k. is_readable view id k ≡ true) (span a b) → length (map (row view id) (span a b)) ≤ ring
 few-rows ring view id a b size h t = by_length (b - a) refl t
   where
-    numbered : (n count : ℕ) → length (map (row view id) (numbers_from n count)) ≡ count
-    numbered n zero = refl
-    numbered n (suc count) = let e = numbered (suc n) count in omega (arith, e)
-
-    by_length : (n : ℕ) → b - a ≡ n → AllByRecursion (λ k. is_readable view id k ≡ true) (numbers_from (suc a) n) → length (map (row view id) (numbers_from (suc a) n)) ≤ ring
+    by_length : (n : ℕ) → b - a ≡ n → AllByRecursion (λ k. is_readable view id k ≡ true) (range_with_len (suc a) n) → length (map (row view id) (range_with_len (suc a) n)) ≤ ring
     by_length zero e t = omega arith
     by_length (suc n) e t = let near = ltb-true id (suc a + length view.slots) (both (nat_lt id (suc a + length view.slots)) (is_live view id (suc a)) t.0).0 in
-        let len = numbered (suc a) (suc n) in omega (arith, len, near, size, h, e)
+        let len = length-map-range_with_len (row view id) (suc a) (suc n) in omega (arith, len, near, size, h, e)
 
 -- The report of a dump that is taken.
 

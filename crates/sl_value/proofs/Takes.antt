@@ -1,13 +1,11 @@
 -- What a control plane keeps after a turn.
 use Rattle.std.proofs.Common.{◌≡◌, ℕ, suc, ◌+◌, ◌-◌, ◌<◌, ◌≤◌, List, [], ◌∷◌, ◌++◌, length, map, refl, sym, ap, subst, ◌∙◌, Option, Some, None, arith, inl, inr}
 use Rattle.std.specs.Prelude.{Bool, true, false, ◌==◌, nat_eq, ◌⊎◌, cond, max, flat_map, slice_get, option_and_then}
-use Rattle.std.specs.List.{AllByRecursion}
+use Rattle.std.specs.List.{AllByRecursion, range_with_len}
 use Rattle.std.proofs.lemmas.Bool.{eq-eqb, eqb-true}
 use Rattle.std.proofs.lemmas.Bool.Decides.{eqb_tells}
 use Rattle.std.proofs.lemmas.Simd.{map-map}
-use Rattle.sl_parts.specs.Parts.{numbers_from}
 use Rattle.sl_parts.specs.Lists.{Each, Member}
-use Rattle.sl_parts.proofs.Lists.{each-of, each-at}
 use Rattle.sl_layout.specs.declared.actor.ActorId.TheVariants.{Control, Unit as OfUnit}
 use Rattle.sl_layout.specs.declared.actor.UnitId.{UnitId}
 use Rattle.sl_layout.specs.declared.actor.Sort.TheVariants.{Poll, Dump}
@@ -38,6 +36,7 @@ use Rattle.sl_value.specs.declared.whole.Whole.{Whole}
 use Rattle.sl_value.specs.Reading.{value_read, counted}
 use Rattle.sl_value.specs.Valued.{UnitValues, first_done, or_done, values_by, kept_of, kept_by}
 use Rattle.sl_value.specs.Standing.{values_told, kept_told}
+use Rattle.sl_value.proofs.Lists.{each-of, each-at}
 use Rattle.sl_value.proofs.Reports.{first-append, each-in-span, both}
 use Rattle.sl_value.proofs.Told.{heard-nothing, heard-other, heard-here, upto-id, values-grow, values-same}
 
@@ -230,7 +229,7 @@ module _ (net : Net) (sizes : Sizes) (us ws : ℕ → History) (a d l n : ℕ) (
       let gap : reached_by told r - old ≡ upto_of net u g - old = omega (arith, upto, rise) in
       let id_is : told.id ≡ id g = ap (λ (x : Numbers). x.id) t.numbers in
       map-map (λ (x : ℕ × Saved). value_read dump.view told.id x.0) (row dump.view told.id) (span old (reached_by told r))
-      ∙ ap (λ c. map (value_read dump.view told.id) (numbers_from (suc old) c)) gap
+      ∙ ap (λ c. map (value_read dump.view told.id) (range_with_len (suc old) c)) gap
       ∙ ap (λ x. map (value_read dump.view x) (span old (upto_of net u g))) id_is
       ∙ same-on (λ j. (suc old ≤ j) × (j ≤ upto_of net u g)) (value_read dump.view (id g)) (λ j. counted j g) (span old (upto_of net u g)) (each-in-span old (upto_of net u g))
       (λ j p. let low = p.0 in let high = p.1 in let top = upto-id net u g in let near = t.brings.near j low in let size = t.dumps.size in

@@ -1,5 +1,5 @@
 -- The texts of lists, from a place on.
-use Rattle.std.proofs.Common.{◌≡◌, ℕ, ◌+◌, ◌<◌, ◌≤◌, min, List, [], ◌∷◌, ◌++◌, length, get_or, drop, refl, ◌⊎◌, inl, inr, arith}
+use Rattle.std.proofs.Common.{◌≡◌, ℕ, ◌+◌, ◌<◌, ◌≤◌, min, List, [], ◌∷◌, ◌++◌, length, get_or, drop, refl, sym, ap, ◌∙◌, append-nil, ◌⊎◌, inl, inr, arith}
 use Rattle.std.proofs.lemmas.List.{drop_more, drop_all}
 use Rattle.std.proofs.lemmas.Bool.{cases_order}
 use Rattle.std.specs.List.{flat_map}
@@ -29,3 +29,7 @@ lines_none net us vs i h = go (cases_order (length us) i) (cases_order (length v
 pub findings_more : (net : Net) (fs : List ValueFinding) (i : ℕ) (d : ValueFinding) → i < length fs
     → flat_map (value_finding_text net) (drop i fs) ≡ value_finding_text net (get_or fs i d) ++ flat_map (value_finding_text net) (drop (i + 1) fs)
 findings_more net fs i d h = rw (drop_more fs i d h) refl
+
+-- where nothing is left to write, all is written
+pub written_all : (out old rest whole : List ℕ) → out ++ rest ≡ old ++ whole → rest ≡ [] → out ≡ old ++ whole
+written_all out old rest whole e none = sym (append-nil out) ∙ ap (λ r. out ++ r) (sym none) ∙ e

@@ -4,7 +4,7 @@ use Rattle.std.specs.Prelude.{Bool, true, false, ◌==◌, nat_eq, ◌⊎◌, if
 use Rattle.std.proofs.lemmas.Bool.{lt-ltb, le-ltb, cases_lt}
 use Rattle.std.proofs.lemmas.Bool.Decides.{eqb_tells}
 use Rattle.std.proofs.lemmas.List.{map-append}
-use Rattle.sl_parts.specs.Parts.{numbers_from}
+use Rattle.std.specs.List.{range_with_len}
 use Rattle.sl_layout.specs.Net.{Net, data_channels}
 use Rattle.sl_control.specs.Rows.{span}
 use Rattle.sl_model.specs.declared.message.Message.{Message}
@@ -76,26 +76,26 @@ counted-first k n (s ∷ h) q = by_cases (cases_lt (length h) n) (counted-first 
 
 -- Lists of numbers.
 
-pub numbers-split : (n a b : ℕ) → numbers_from n (a + b) ≡ numbers_from n a ++ numbers_from (n + a) b
-numbers-split n zero b = let e : zero + b ≡ b = omega arith in let f : n ≡ n + zero = omega arith in ap (numbers_from n) e ∙ ap (λ m. numbers_from m b) f
-numbers-split n (suc a) b = let e : suc a + b ≡ suc (a + b) = omega arith in let f : suc n + a ≡ n + suc a = omega arith in
-    ap (numbers_from n) e ∙ ap (λ xs. n ∷ xs) (numbers-split (suc n) a b ∙ ap (λ m. numbers_from (suc n) a ++ numbers_from m b) f)
+pub numbers-split : (n a b : ℕ) → range_with_len n (a + b) ≡ range_with_len n a ++ range_with_len (n + a) b
+numbers-split n zero b = let e : zero + b ≡ b = omega arith in let f : n ≡ n + zero = omega arith in ap (range_with_len n) e ∙ ap (λ m. range_with_len m b) f
+numbers-split n (suc a) b = let e : suc a + b ≡ suc (a + b) = omega arith in let f : n + 1 + a ≡ n + suc a = omega arith in
+    ap (range_with_len n) e ∙ ap (λ xs. n ∷ xs) (numbers-split (n + 1) a b ∙ ap (λ m. range_with_len (n + 1) a ++ range_with_len m b) f)
 
-pub numbers-span : (a b : ℕ) → a ≤ b → numbers_from 1 b ≡ numbers_from 1 a ++ span a b
+pub numbers-span : (a b : ℕ) → a ≤ b → range_with_len 1 b ≡ range_with_len 1 a ++ span a b
 numbers-span a b h = let e : b ≡ a + (b - a) = omega (arith, h) in let f : 1 + a ≡ suc a = omega arith in
-    ap (numbers_from 1) e ∙ numbers-split 1 a (b - a) ∙ ap (λ m. numbers_from 1 a ++ numbers_from m (b - a)) f
+    ap (range_with_len 1) e ∙ numbers-split 1 a (b - a) ∙ ap (λ m. range_with_len 1 a ++ range_with_len m (b - a)) f
 
 -- two functions on the numbers of a list, each of which is at most b
-map-below : (f g : ℕ → Whole) (b n count : ℕ) → n + count ≤ suc b → ((k : ℕ) → k ≤ b → f k ≡ g k) → map f (numbers_from n count) ≡ map g (numbers_from n count)
+map-below : (f g : ℕ → Whole) (b n count : ℕ) → n + count ≤ suc b → ((k : ℕ) → k ≤ b → f k ≡ g k) → map f (range_with_len n count) ≡ map g (range_with_len n count)
 map-below f g b n zero h e = refl
-map-below f g b n (suc count) h e = let x = e n (omega (arith, h)) in let y = map-below f g b (suc n) count (omega (arith, h)) e in λ i. x i ∷ y i
+map-below f g b n (suc count) h e = let x = e n (omega (arith, h)) in let y = map-below f g b (n + 1) count (omega (arith, h)) e in λ i. x i ∷ y i
 
 -- what m steps told is told by n steps, and the values of the numbers between
 pub values-grow : (net : Net) (u m n : ℕ) (h : History) → ((k : ℕ) → k ≤ id (first m h) → k ≤ id (first n h)) → upto_of net u (first m h) ≤ upto_of net u (first n h)
     → values_told net u (first n h) ≡ values_told net u (first m h) ++ map (λ k. counted k (first n h)) (span (upto_of net u (first m h)) (upto_of net u (first n h)))
 values-grow net u m n h ids up =
     ap (map (λ k. counted k (first n h))) (numbers-span (upto_of net u (first m h)) (upto_of net u (first n h)) up)
-    ∙ map-append (λ k. counted k (first n h)) (numbers_from 1 (upto_of net u (first m h))) (span (upto_of net u (first m h)) (upto_of net u (first n h)))
+    ∙ map-append (λ k. counted k (first n h)) (range_with_len 1 (upto_of net u (first m h))) (span (upto_of net u (first m h)) (upto_of net u (first n h)))
     ∙ ap (λ vs. vs ++ map (λ k. counted k (first n h)) (span (upto_of net u (first m h)) (upto_of net u (first n h))))
     (map-below (λ k. counted k (first n h)) (λ k. counted k (first m h)) (upto_of net u (first m h)) 1 (upto_of net u (first m h)) (omega arith)
     (λ k q. let low : k ≤ id (first m h) = omega (arith, q, upto-id net u (first m h)) in counted-first k n h (ids k low) ∙ sym (counted-first k m h low)))
@@ -103,5 +103,5 @@ values-grow net u m n h ids up =
 pub values-same : (net : Net) (u m n : ℕ) (h : History) → ((k : ℕ) → k ≤ id (first m h) → k ≤ id (first n h)) → upto_of net u (first m h) ≡ upto_of net u (first n h)
     → values_told net u (first m h) ≡ values_told net u (first n h)
 values-same net u m n h ids up =
-    let none : span (upto_of net u (first m h)) (upto_of net u (first n h)) ≡ [] = let z : upto_of net u (first n h) - upto_of net u (first m h) ≡ 0 = omega (arith, up) in ap (numbers_from (suc (upto_of net u (first m h)))) z in
+    let none : span (upto_of net u (first m h)) (upto_of net u (first n h)) ≡ [] = let z : upto_of net u (first n h) - upto_of net u (first m h) ≡ 0 = omega (arith, up) in ap (range_with_len (suc (upto_of net u (first m h)))) z in
     sym (values-grow net u m n h ids (omega (arith, up)) ∙ ap (λ ks. values_told net u (first m h) ++ map (λ k. counted k (first n h)) ks) none ∙ append-nil (values_told net u (first m h)))

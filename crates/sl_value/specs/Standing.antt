@@ -4,7 +4,7 @@
 --     ValueStands s table w a state    in the world w this is the state of the actor a; table is the snapshot table
 --     AnswersAsTold net us a kept      where what the control plane a keeps has a value of a unit for a number, and which
 use Rattle.std.specs.Prelude.{◌≡◌, ℕ, ◌<◌, ◌≤◌, List, map, Option, Some, None}
-use Rattle.sl_parts.specs.Parts.{numbers_from}
+use Rattle.std.specs.List.{range_with_len}
 use Rattle.sl_parts.specs.Lists.{Each}
 use Rattle.sl_layout.specs.declared.actor.ActorId.{ActorId}
 use Rattle.sl_layout.specs.declared.actor.ActorId.TheVariants.{Control}
@@ -21,7 +21,7 @@ use Rattle.sl_value.specs.Valued.{UnitValues, value_in}
 use Rattle.sl_value.specs.Nodes.{ValueNodeState, Other, Valued, plain}
 
 abbrev pub values_told : Net → ℕ → History → List Whole
-values_told net u g = map (λ k. counted k g) (numbers_from 1 (upto_of net u g))
+values_told net u g = map (λ k. counted k g) (range_with_len 1 (upto_of net u g))
 
 abbrev pub kept_told : Net → (ℕ → History) → ℕ → Served → UnitValues
 kept_told net us a v = record { unit = unit_place net v.unit; values = values_told net v.unit (told_of us v (us a)) }

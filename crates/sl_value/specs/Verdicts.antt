@@ -4,8 +4,8 @@
 --     value_list i lost book   these of all snapshots of an input, in the world that a book leads to
 --     valued v                 the verdict, where v is the one with channel state
 use Rattle.std.specs.Prelude.{ℕ, List, [], map, nat_le, Option, Some, None, if◌then◌else◌}
+use Rattle.std.specs.List.{range_with_len}
 use Rattle.sl_machine.specs.declared.wiring.Entry.{Entry as BookEntry}
-use Rattle.sl_parts.specs.Parts.{numbers_from}
 use Rattle.sl_layout.specs.Net.{Net, units}
 use Rattle.sl_net.specs.Input.{Input}
 use Rattle.sl_model.specs.declared.verdict.Lag.{Lag}
@@ -40,7 +40,7 @@ value_finding net w k = record { k = k; verdict = value_verdict net w k; values 
 
 -- the findings of the input's snapshots in the world that a book leads to
 abbrev pub value_list : Input → Losses → List BookEntry → List ValueFinding
-value_list i lost book = map (value_finding i.net (world (setup_of i) lost (schedule_of book))) (numbers_from 1 i.snapshot.count)
+value_list i lost book = map (value_finding i.net (world (setup_of i) lost (schedule_of book))) (range_with_len 1 i.snapshot.count)
 
 abbrev pub valued : Verdict → ValueVerdict
 valued (with_channels.Pending unit lag) = Pending unit lag

@@ -1,7 +1,8 @@
 use Rattle.std.proofs.Common.{◌≡◌, ◌+◌, ◌∷◌, [], length, ap, sym, ◌∙◌, arith, length-append}
 use Rattle.std.specs.Prelude.{ℕ, Bool, true, false, cond, filter}
+use Rattle.std.proofs.lemmas.List.FromFn.{length-range_with_len}
 use Rattle.sl_parts.specs.Parts.{below}
-use Rattle.sl_parts.proofs.Lists.{filter_below_more, length_filter_le, length_numbers}
+use Rattle.sl_parts.proofs.Lists.{filter_below_more, length_filter_le}
 use Rattle.sl_balance.specs.Equal.{begins_by}
 use Rattle.sl_balance.proofs.equal.count_ports.Goals as goal
 use Rattle.sl_balance.proofs.equal.count_ports.Goals.{then-begins_by, else-begins_by}
@@ -17,7 +18,7 @@ more test n = ap length (filter_below_more test n) ∙ simp length-append (go (t
 pub overflow_add-count : goal.overflow_add-count
 overflow_add-count c =
     let few = length_filter_le (begins_by c.args.net.now.parts c.args.device c.args.host c.args.hops) (below c.loop-port.port) in
-    omega (arith, few, length_numbers 0 c.loop-port.port, c.loop-port.invariant)
+    omega (arith, few, length-range_with_len 0 c.loop-port.port, c.loop-port.invariant)
 
 pub loop-port-preserved : goal.loop-port-preserved
 loop-port-preserved c =

@@ -1,9 +1,9 @@
 use Rattle.std.proofs.Common.{◌≡◌, ℕ, ◌^◌, ◌<◌, Vec, Global, length, map, sym, subst, ap, ◌∙◌, arith, rules}
 use Rattle.std.proofs.lemmas.List.{length-map}
 use Rattle.std.proofs.lemmas.Result.{IfOk-weaker}
+use Rattle.std.proofs.lemmas.List.FromFn.{length-map-range_with_len}
 use Rattle.sl_machine.specs.Plan.{Plan, IsSound}
 use Rattle.sl_machine.specs.Fit.{Fits, HasCounts}
-use Rattle.sl_parts.proofs.Lists.{length_below}
 use Rattle.sl_layout.specs.Net.{links_into, link_numbers}
 use Rattle.sl_layout.specs.Wiring.{plan_of, wired_link}
 use Rattle.sl_net.specs.Input.{Input}
@@ -29,7 +29,7 @@ run_machines-requires-clause-fit g c =
     let fit : Fits node_counts c.wiring-wiring.result.now c.in_ok-nodes.nodes.items c.in_ok-losses.losses.items = record {
       sound = c.wiring-wiring.ensures.sound;
       machines_fit = subst (λ (p : Plan). HasCounts node_counts p c.in_ok-nodes.nodes.items) (sym plan) c.in_ok-nodes.ensures.fit;
-      losses_fit = c.in_ok-losses.ensures.each ∙ sym (length_below (wired_link i.net) (length i.net.links)) ∙ sym (ap (λ (p : Plan). length p.links) plan);
+      losses_fit = c.in_ok-losses.ensures.each ∙ sym (length-map-range_with_len (wired_link i.net) 0 (length i.net.links)) ∙ sym (ap (λ (p : Plan). length p.links) plan);
     } in
     search (rules, fit)
 
@@ -45,7 +45,7 @@ pub run_machines-requires-clause-few : goal.run_machines-requires-clause-few
 run_machines-requires-clause-few g c =
     let i = c.args.input.now in
     let many : length c.in_ok-nodes.nodes.items ≡ length i.net.actors =
-    sym (length-map c.in_ok-nodes.nodes.items (λ a. (node_counts a).ins)) ∙ ap length c.in_ok-nodes.ensures.fit.ins_are ∙ length_below (λ a. length (links_into i.net a)) (length i.net.actors) in
+    sym (length-map c.in_ok-nodes.nodes.items (λ a. (node_counts a).ins)) ∙ ap length c.in_ok-nodes.ensures.fit.ins_are ∙ length-map-range_with_len (λ a. length (links_into i.net a)) 0 (length i.net.actors) in
     omega (arith, many, c.requires.few)
 
 pub returns : goal.returns

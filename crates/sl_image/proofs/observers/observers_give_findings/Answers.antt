@@ -1,6 +1,6 @@
 use Rattle.std.proofs.Common.{◌≤◌, ap, subst, ◌∙◌}
 use Rattle.std.specs.Prelude.{map}
-use Rattle.sl_parts.specs.Parts.{numbers_from}
+use Rattle.std.specs.List.{range_with_len}
 use Rattle.sl_layout.specs.Net.{unit_place, data_channels}
 use Rattle.sl_net.specs.declared.input.Snapshot.{Snapshot}
 use Rattle.sl_model.specs.Setup.{Setup}
@@ -27,7 +27,7 @@ returns-clause-collected c s lost table es o k n f t l h one p =
 
 pub returns-clause-list : goal.returns-clause-list
 returns-clause-list c s lost table es o n f t l h done =
-    ap (λ o. map (finding_by o.issued (map account_of o.units)) (numbers_from 1 s.count)) h
-    ∙ ap (λ xs. map (finding_by (issued s.net (observer (world s lost es))) xs) (numbers_from 1 s.count))
+    ap (λ o. map (finding_by o.issued (map account_of o.units)) (range_with_len 1 s.count)) h
+    ∙ ap (λ xs. map (finding_by (issued s.net (observer (world s lost es))) xs) (range_with_len 1 s.count))
     (accounts-are s.net s.credits table (world s lost es) f.credits (c.nets_are_wired.ensures s.net n) (λ u k. c.rows_are_held.ensures s lost es (data_channels s.net u) u k (known (unit_place s.net u) (observer (world s lost es))) t l))
     ∙ c.accounts_give_findings.ensures.list s lost es n (some s table f) done

@@ -1,8 +1,7 @@
-use Rattle.std.proofs.Common.{◌++◌, ap, sym, ◌∙◌, take, get_or}
-use Rattle.std.proofs.lemmas.List.{take_more}
+use Rattle.std.proofs.Common.{◌++◌, ap, sym, ◌∙◌, take, get_or, []}
+use Rattle.std.proofs.lemmas.List.{take_more, flat_map_more}
 use Rattle.sl_net.specs.declared.input.Script1.TheVariants.{Pass}
 use Rattle.sl_model.specs.Schedule.{expand_one, expand}
-use Rattle.sl_parts.proofs.Lists.{flat_map-push}
 use Rattle.sl_proto.proofs.schedule.expand.Goals as goal
 
 pub loop-line-preserved : goal.loop-line-preserved
@@ -11,5 +10,5 @@ loop-line-preserved c =
     let script = c.args.script.now in
     let i = c.loop-line.line-index in
     let line = get_or script i (Pass 0) in
-    c.in_ok-add_script.ensures ∙ ap (λ xs. xs ++ expand_one net line) c.loop-line.invariant ∙ sym (flat_map-push (expand_one net) (take i script) line)
+    c.in_ok-add_script.ensures ∙ ap (λ xs. xs ++ expand_one net line) c.loop-line.invariant ∙ flat_map_more (expand_one net) [] (take i script) line
     ∙ ap (expand net) (sym (take_more script i (Pass 0) c.loop-line-test.true))

@@ -1,8 +1,8 @@
 use Rattle.std.proofs.Common.{◌≡◌, ◌++◌, ◌∷◌, [], length, get_or, set, take, map, ap, ◌∙◌, arith}
 use Rattle.std.proofs.lemmas.List.Elements.{All-same}
+use Rattle.std.proofs.lemmas.List.FromFn.{length-map-range_with_len}
 use Rattle.sl_parts.specs.declared.parts.CablePart.{CablePart}
 use Rattle.sl_parts.specs.Parts.{Parts, below}
-use Rattle.sl_parts.proofs.Lists.{length_below}
 use Rattle.sl_route.specs.Route.{turned}
 use Rattle.sl_route.proofs.Walks.{directed}
 use Rattle.sl_route.proofs.Graphs.{IsJoined, all-joined, listed_of, table-more}
@@ -25,7 +25,7 @@ add_neighbour-requires c =
     let cables = c.deref-cable-items.result.now in
     let both : cables ≡ directed parts = c.deref-cable-items.ensures.value ∙ c.in_ok-cables.ensures ∙ ap (λ cs. cs ++ map turned cs) (c.deref.ensures.value ∙ ap (λ (p : Parts). p.cables) c.parts.view_is) in
     let joined : IsJoined (length parts.devices) (get_or cables c.loop-cable.cable-index none) = All-same (IsJoined (length parts.devices)) cables (directed parts) both (all-joined parts c.requires) c.loop-cable.cable-index none c.loop-cable-test.true in
-    omega (arith, joined.a.device, ap length c.loop-cable.invariant, length_below (listed_of (take c.loop-cable.cable-index cables)) (length parts.devices))
+    omega (arith, joined.a.device, ap length c.loop-cable.invariant, length-map-range_with_len (listed_of (take c.loop-cable.cable-index cables)) 0 (length parts.devices))
 
 pub loop-cable-preserved : goal.loop-cable-preserved
 loop-cable-preserved c =

@@ -1,9 +1,9 @@
-use Rattle.std.proofs.Common.{◌≡◌, ◌<◌, ◌++◌, ◌∷◌, [], length, get_or, map, sym, ap, subst, ◌∙◌, arith}
+use Rattle.std.proofs.Common.{◌≡◌, ◌<◌, ◌++◌, ◌∷◌, [], length, get_or, map, sym, ap, subst, ◌∙◌, arith, zero-add}
 use Rattle.std.specs.Prelude.{List, None}
+use Rattle.std.proofs.lemmas.List.FromFn.{length-map-range_with_len, map-range_with_len_more}
 use Rattle.sl_parts.specs.declared.parts.HostPart.{HostPart}
 use Rattle.sl_parts.specs.Parts.{Parts, below}
 use Rattle.sl_parts.specs.Valid.{IsPort}
-use Rattle.sl_parts.proofs.Lists.{length_below, map_below_more}
 use Rattle.sl_route.specs.Graph.{neighbours_of, neighbours_at, IsGraph, IsFar, port_toward}
 use Rattle.sl_route.specs.Routes.{ways_of}
 use Rattle.sl_route.proofs.Graphs.{graph_of, is-graph}
@@ -23,7 +23,7 @@ ways_to-requires-clause-device c =
     let is : h ≡ get_or parts.hosts i h = c.host-item.is ∙ ap (λ hs. get_or hs i h) hosts in
     let port : IsPort parts h.at = subst (λ (x : HostPart). IsPort parts x.at) (sym is) (c.requires.hosts i h within) in
     let table : c.deref.result.now ≡ graph_of parts = c.deref.ensures.value ∙ c.in_ok-table.ensures in
-    omega (arith, port.device, ap length table, length_below (neighbours_of parts) (length parts.devices))
+    omega (arith, port.device, ap length table, length-map-range_with_len (neighbours_of parts) 0 (length parts.devices))
 
 pub loop-host-preserved : goal.loop-host-preserved
 loop-host-preserved c =
@@ -39,4 +39,4 @@ loop-host-preserved c =
     let is_way : w ≡ ways_of parts i = ways-are parts i h.at w c.requires (host-at parts.hosts i h within is) port.device
     (subst (λ g. IsFar g h.at.device w.hops) table c.in_ok-ways_to.ensures.hops)
     (c.in_ok-ways_to.ensures.ports ∙ ap (λ g. map (λ d. port_toward h.at.port w.hops (neighbours_at g d) (get_or w.hops d None)) (below (length g))) table) in
-    c.in_ok-push.ensures.items ∙ ap (λ ways. ways ++ w ∷ []) c.loop-host.invariant ∙ ap (λ w. map (ways_of parts) (below i) ++ w ∷ []) is_way ∙ sym (map_below_more (ways_of parts) i)
+    c.in_ok-push.ensures.items ∙ ap (λ ways. ways ++ w ∷ []) c.loop-host.invariant ∙ ap (λ w. map (ways_of parts) (below i) ++ w ∷ []) is_way ∙ sym (map-range_with_len_more (ways_of parts) 0 i _ (zero-add i))

@@ -1,8 +1,8 @@
-use Rattle.std.proofs.Common.{◌≡◌, ◌++◌, ◌∷◌, [], ap, sym, ◌∙◌, map, get_or}
+use Rattle.std.proofs.Common.{◌≡◌, ◌++◌, ◌∷◌, [], ap, sym, ◌∙◌, map, get_or, zero-add}
+use Rattle.std.proofs.lemmas.List.FromFn.{map-range_with_len_more}
 use Rattle.sl_layout.specs.declared.actor.LinkPart.{LinkPart}
 use Rattle.sl_parts.specs.Parts.{below}
 use Rattle.sl_layout.specs.Net.{actor_of, data_channels, link_at, link_of, place_in}
-use Rattle.sl_parts.proofs.Lists.{map_below_more}
 use Rattle.sl_unit.specs.Made.{entrance, entrance_by, is_own}
 use Rattle.sl_unit.proofs.make.list_entrances.Goals as goal
 
@@ -19,4 +19,4 @@ loop-choice-preserved c =
     ∙ ap (is_own (actor_of net a)) (c.actor.ensures.actor ∙ ap (λ k. actor_of net k.from) l) in
     let e : c.entrance.result ≡ entrance_by net a i = c.entrance.ensures ∙ (λ j. entrance (s j) (p j) (o j)) in
     c.in_ok-push.ensures.items ∙ ap (λ xs. xs ++ c.entrance.result ∷ []) c.loop-choice.invariant
-    ∙ ap (λ x. map (entrance_by net a) (below i) ++ x ∷ []) e ∙ sym (map_below_more (entrance_by net a) i)
+    ∙ ap (λ x. map (entrance_by net a) (below i) ++ x ∷ []) e ∙ sym (map-range_with_len_more (entrance_by net a) 0 i _ (zero-add i))

@@ -1,8 +1,7 @@
 use Rattle.std.proofs.Common.{◌≡◌, ℕ, List, map, sym, ap, subst, ◌∙◌}
-use Rattle.std.specs.List.{All}
+use Rattle.std.specs.List.{All, range_with_len}
 use Rattle.std.proofs.lemmas.List.{length-map}
 use Rattle.sl_machine.specs.declared.wiring.Entry.{Entry}
-use Rattle.sl_parts.specs.Parts.{numbers_from}
 use Rattle.sl_net.specs.Input.{Input}
 use Rattle.sl_model.specs.declared.findings.Findings.{Findings}
 use Rattle.sl_model.specs.Books.{schedule_of}
@@ -46,9 +45,9 @@ returns-clause-list c =
     let i = c.args.input.now in
     let w = c.in_ok-world.world in
     c.in_ok-list.ensures
-    ∙ ap (λ (j : Input). map (value_finding j.net (world (setup_of j) (losses j) (schedule_of w.scene.book))) (numbers_from 1 c.input.inside.snapshot.count)) c.in_ok-world.ensures.input
-    ∙ ap (λ (j : Input). map (value_finding i.net (world (setup_of i) (losses i) (schedule_of w.scene.book))) (numbers_from 1 j.snapshot.count)) c.input.view_is
-    ∙ ap (λ (b : List Entry). map (value_finding i.net (world (setup_of i) (losses i) (schedule_of b))) (numbers_from 1 i.snapshot.count)) (sym c.into_parts-nodes.ensures.book)
+    ∙ ap (λ (j : Input). map (value_finding j.net (world (setup_of j) (losses j) (schedule_of w.scene.book))) (range_with_len 1 c.input.inside.snapshot.count)) c.in_ok-world.ensures.input
+    ∙ ap (λ (j : Input). map (value_finding i.net (world (setup_of i) (losses i) (schedule_of w.scene.book))) (range_with_len 1 j.snapshot.count)) c.input.view_is
+    ∙ ap (λ (b : List Entry). map (value_finding i.net (world (setup_of i) (losses i) (schedule_of b))) (range_with_len 1 i.snapshot.count)) (sym c.into_parts-nodes.ensures.book)
 
 pub returns-clause-sent : goal.returns-clause-sent
 returns-clause-sent c =
@@ -76,10 +75,10 @@ returns-clause-answered c =
     let es = schedule_of w.scene.book in
     let e = c.in_ok-world.ensures in
     let run : IsValueRun i w.scene = subst (λ (j : Input). IsValueRun j w.scene) e.input c.is_run.ensures in
-    let list : c.in_ok-list.list ≡ map (value_finding i.net (world s (losses i) es)) (numbers_from 1 i.snapshot.count) =
+    let list : c.in_ok-list.list ≡ map (value_finding i.net (world s (losses i) es)) (range_with_len 1 i.snapshot.count) =
     c.in_ok-list.ensures
-    ∙ ap (λ (j : Input). map (value_finding j.net (world (setup_of j) (losses j) es)) (numbers_from 1 c.input.inside.snapshot.count)) e.input
-    ∙ ap (λ (j : Input). map (value_finding i.net (world s (losses i) es)) (numbers_from 1 j.snapshot.count)) c.input.view_is in
+    ∙ ap (λ (j : Input). map (value_finding j.net (world (setup_of j) (losses j) es)) (range_with_len 1 c.input.inside.snapshot.count)) e.input
+    ∙ ap (λ (j : Input). map (value_finding i.net (world s (losses i) es)) (range_with_len 1 j.snapshot.count)) c.input.view_is in
     let controls : map (λ x. x.state) c.in_ok-controls.controls.items ≡ controls_in w.scene.states =
     c.in_ok-controls.ensures ∙ ap controls_in c.into_parts-nodes.ensures.nodes in
     subst (λ (cs : List ValueState). All (IsAnswered i.net cs) c.in_ok-list.list) (sym controls)

@@ -1,7 +1,6 @@
 use Rattle.std.proofs.Common.{arith, string_bytes, drop}
-use Rattle.sl_report.proofs.TextLemmas.{written_all}
 use Rattle.sl_value.specs.ValuesText.{value_lines}
-use Rattle.sl_value.proofs.Texts.{lines_none}
+use Rattle.sl_value.proofs.Texts.{lines_none, written_all}
 use Rattle.sl_value.proofs.text.push_values.Goals as goal
 
 pub returns : goal.returns

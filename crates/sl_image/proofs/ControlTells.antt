@@ -1,16 +1,16 @@
 -- What a dump tells a control plane of its unit.
 use Rattle.std.proofs.Common.{◌≡◌, ℕ, zero, suc, ◌+◌, ◌-◌, ◌<◌, ◌≤◌, List, [], ◌∷◌, length, refl, sym, ap, subst, ◌∙◌, Option, Some, None, arith, map}
 use Rattle.std.specs.Prelude.{◌^◌, ◌++◌, true, false, Bool, min, max, nat_lt, if◌then◌else◌, replicate, take, option_map, unwrap_or, slice_get}
-use Rattle.std.specs.List.{fold, list_all}
+use Rattle.std.specs.List.{fold, list_all, range_with_len}
 use Rattle.std.proofs.lemmas.Bool.{lt-ltb, eq-eqb, and_from}
 use Rattle.std.proofs.lemmas.List.{length-map}
 use Rattle.std.proofs.lemmas.Nat.{mod_below, pow_pos}
+use Rattle.sl_image.proofs.ObserverLists.{map-numbers}
 use Rattle.sl_ids.specs.declared.wid.Wid.{Wid}
 use Rattle.sl_ids.specs.Ids.{modulus, wrapped, unwrapped}
 use Rattle.sl_ids.specs.Wids.{wid}
 use Rattle.sl_layout.specs.declared.actor.Sort.TheVariants.{Init}
 use Rattle.sl_parts.specs.Lists.{Each}
-use Rattle.sl_parts.specs.Parts.{numbers_from}
 use Rattle.sl_layout.specs.Net.{Net, data_channels, choices_of}
 use Rattle.sl_layout.specs.Serving.{Served}
 use Rattle.sl_saves.specs.Calls.{number}
@@ -28,18 +28,21 @@ use Rattle.sl_model.specs.Knowledge.{upto_of}
 use Rattle.sl_model.specs.Calls.{calls}
 use Rattle.sl_model.specs.Rows.{row}
 use Rattle.sl_model.specs.Brought.{IsRaised}
-use Rattle.sl_image.specs.Messages.{eight, lasts, cpu_last, numbers_after, IsDumpOf, IsDoneOf, held_row}
+use Rattle.sl_model.specs.LastSeen.{lasts, cpu_last}
+use Rattle.sl_image.specs.Messages.{eight, numbers_after, IsDumpOf, IsDoneOf, held_row}
 use Rattle.sl_image.specs.ControlImage.{known_by}
 
 -- Numbers.
 
-map-above : {A : Type 0} (f g : ℕ → A) (a d : ℕ) → ((k : ℕ) → a < k → k ≤ a + d → f k ≡ g k) → map f (numbers_from (suc a) d) ≡ map g (numbers_from (suc a) d)
-map-above f g a zero h = refl
-map-above f g a (suc d) h = let x = h (suc a) (omega arith) (omega arith) in let y = map-above f g (suc a) d (λ k l m. h k (omega (arith, l)) (omega (arith, m))) in λ i. x i ∷ y i
+map-above : {A : Type 0} (f g : ℕ → A) (a d : ℕ) → ((k : ℕ) → a < k → k ≤ a + d → f k ≡ g k) → map f (range_with_len (suc a) d) ≡ map g (range_with_len (suc a) d)
+map-above f g a d h = map-numbers f g (suc a) d (λ k l m. h k l (omega (arith, m)))
 
-all-above : (p : ℕ → Bool) (a d : ℕ) → ((k : ℕ) → a < k → k ≤ a + d → p k ≡ true) → list_all p (numbers_from (suc a) d) ≡ true
-all-above p a zero h = refl
-all-above p a (suc d) h = and_from _ _ (h (suc a) (omega arith) (omega arith)) (all-above p (suc a) d (λ k l m. h k (omega (arith, l)) (omega (arith, m))))
+all-above : (p : ℕ → Bool) (a d : ℕ) → ((k : ℕ) → a < k → k ≤ a + d → p k ≡ true) → list_all p (range_with_len (suc a) d) ≡ true
+all-above p a d h = from (suc a) d (λ k l m. h k l (omega (arith, m)))
+  where
+    from : (s n : ℕ) → ((k : ℕ) → s ≤ k → k < s + n → p k ≡ true) → list_all p (range_with_len s n) ≡ true
+    from s zero h = refl
+    from s (suc n) h = and_from _ _ (h s (omega arith) (omega arith)) (from (s + 1) n (λ k l m. h k (omega (arith, l)) (omega (arith, m))))
 
 -- Eight registers.
 

@@ -16,7 +16,8 @@ use Rattle.sl_model.specs.declared.message.Step.{Step}
 use Rattle.sl_model.specs.History.{History, last, first, dump_of, taken, on_link, put}
 use Rattle.sl_model.specs.Knowledge.{dumped, is_outstanding, puts_on, asks, is_again}
 use Rattle.sl_model.specs.Puts.{send, poll_puts}
-use Rattle.sl_image.specs.Messages.{eight, lasts}
+use Rattle.sl_model.specs.LastSeen.{lasts}
+use Rattle.sl_image.specs.Messages.{eight}
 use Rattle.sl_model.specs.Polls.{IsAsked}
 use Rattle.sl_image.specs.ControlImage.{known_by}
 

@@ -1,15 +1,14 @@
 -- A unit as the observer has it: what a report changes.
 use Rattle.std.proofs.Common.{◌≡◌, ℕ, suc, ◌+◌, ◌-◌, ◌≤◌, [], ◌++◌, length, sym, ap, ◌∙◌, arith, inl, inr, eq-eqb}
 use Rattle.std.specs.Prelude.{◌⊎◌, ◌==◌, ◌&&◌, true, false, Bool, min, map, take, replicate, if◌then◌else◌}
-use Rattle.std.specs.List.{fold}
+use Rattle.std.specs.List.{fold, range_with_len}
 use Rattle.std.proofs.lemmas.Bool.{le-leb, and_from}
 use Rattle.std.proofs.lemmas.List.{map-append}
-use Rattle.sl_parts.specs.Parts.{numbers_from}
 use Rattle.sl_layout.specs.Net.{Net, actor_of, choices_of, data_channels}
 use Rattle.sl_layout.specs.declared.actor.Sort.TheVariants.{Init}
-use Rattle.sl_parts.proofs.Lists.{length_numbers}
 use Rattle.std.proofs.lemmas.List.{length-map}
 use Rattle.std.proofs.lemmas.Simd.{map-map}
+use Rattle.std.proofs.lemmas.List.FromFn.{length-range_with_len}
 use Rattle.sl_saves.specs.declared.entry.Saved.{Saved}
 use Rattle.sl_saves.specs.Views.{held_saved}
 use Rattle.sl_wire.specs.declared.message.Done.{Done}
@@ -19,7 +18,8 @@ use Rattle.sl_control.specs.Rows.{span}
 use Rattle.sl_model.specs.History.{History, id, last}
 use Rattle.sl_model.specs.Knowledge.{upto_of, floor_of}
 use Rattle.sl_model.specs.Rows.{row}
-use Rattle.sl_image.specs.Messages.{eight, lasts, held_row, IsDoneOf}
+use Rattle.sl_model.specs.LastSeen.{lasts}
+use Rattle.sl_image.specs.Messages.{eight, held_row, IsDoneOf}
 use Rattle.sl_image.specs.ObserverImage.{unit_of}
 use Rattle.sl_image.proofs.ControlUnits.{least-zero}
 use Rattle.sl_image.proofs.ObserverLists.{map-numbers, numbers-more, rows-follow, take-front, take-zeros}
@@ -37,11 +37,11 @@ pub record Brings (credits : ℕ) (net : Net) (u ring : ℕ) (before now : Histo
 
 -- The rows come next.
 
-row-count : (credits : ℕ) (net : Net) (u : ℕ) (g : History) (s n : ℕ) → length (map (held_row credits net u g) (numbers_from s n)) ≡ n
-row-count credits net u g s n = length-map (numbers_from s n) (held_row credits net u g) ∙ length_numbers s n
+row-count : (credits : ℕ) (net : Net) (u : ℕ) (g : History) (s n : ℕ) → length (map (held_row credits net u g) (range_with_len s n)) ≡ n
+row-count credits net u g s n = length-map (range_with_len s n) (held_row credits net u g) ∙ length-range_with_len s n
 
 count-before : (credits : ℕ) (net : Net) (u : ℕ) (g : History) → length (unit_of credits net u g).rows ≡ upto_of net u g
-count-before credits net u g = length-map (numbers_from 1 (upto_of net u g)) (held credits net u g) ∙ length_numbers 1 (upto_of net u g)
+count-before credits net u g = length-map (range_with_len 1 (upto_of net u g)) (held credits net u g) ∙ length-range_with_len 1 (upto_of net u g)
 
 pub channels-are : (net : Net) (u : ℕ) (g : History) → length (data_channels net u) ≤ 8 → take (length (data_channels net u)) (eight (lasts net u g)) ≡ lasts net u g
 channels-are net u g l = let n : length (lasts net u g) ≡ length (data_channels net u) = length-map (data_channels net u) (λ c. last c g) in
@@ -76,11 +76,11 @@ next-is credits net u ring before now d b = and_from _ _ (le-leb (length d.rows)
 rows-are : (credits : ℕ) (net : Net) (u ring : ℕ) (before now : History) (d : Done) → Brings credits net u ring before now d → (unit_of credits net u before).rows ++ map (λ r. r.1) d.rows ≡ (unit_of credits net u now).rows
 rows-are credits net u ring before now d b = let a = upto_of net u before in let c = upto_of net u now in let i = b.rises in
     ap (λ rs. rs ++ map (λ r. r.1) d.rows) (map-numbers (held credits net u before) (held credits net u now) 1 a (λ k p q. ap held_saved (sym (b.stays k (omega (arith, q))))))
-    ∙ ap (λ rs. map (held credits net u now) (numbers_from 1 a) ++ map (λ r. r.1) rs) b.of.rows
-    ∙ ap (λ rs. map (held credits net u now) (numbers_from 1 a) ++ rs) (map-map (λ r. r.1) (held_row credits net u now) (span a c))
-    ∙ sym (map-append (held credits net u now) (numbers_from 1 a) (span a c))
+    ∙ ap (λ rs. map (held credits net u now) (range_with_len 1 a) ++ map (λ r. r.1) rs) b.of.rows
+    ∙ ap (λ rs. map (held credits net u now) (range_with_len 1 a) ++ rs) (map-map (λ r. r.1) (held_row credits net u now) (span a c))
+    ∙ sym (map-append (held credits net u now) (range_with_len 1 a) (span a c))
     ∙ ap (map (held credits net u now)) (let e : a + (c - a) ≡ c = omega (arith, i) in let z : suc a ≡ 1 + a = omega arith in
-    ap (λ n. numbers_from 1 a ++ numbers_from n (c - a)) z ∙ sym (numbers-more 1 a (c - a)) ∙ ap (numbers_from 1) e)
+    ap (λ n. range_with_len 1 a ++ range_with_len n (c - a)) z ∙ sym (numbers-more 1 a (c - a)) ∙ ap (range_with_len 1) e)
 
 told-is : (credits : ℕ) (net : Net) (u ring : ℕ) (before now : History) (d : Done) → Brings credits net u ring before now d → told d (unit_of credits net u before) ≡ unit_of credits net u now
 told-is credits net u ring before now d b = let e = b.of.id in let l = b.of.last in let f = b.of.floor in let r = rows-are credits net u ring before now d b in
@@ -106,5 +106,5 @@ floor-zero : (net : Net) (u : ℕ) → floor_of net u [] ≡ 0
 floor-zero net u = ap (λ n. fold min n (map (λ c. last c []) (choices_of net u Init))) (upto-zero net u) ∙ least-zero (choices_of net u Init)
 
 pub unit-start : (credits : ℕ) (net : Net) (u : ℕ) → first_unit net u ≡ unit_of credits net u []
-unit-start credits net u = let l = sym (take-zeros (data_channels net u) 8 8 (omega arith)) in let f = sym (floor-zero net u) in let r = ap (λ n. map (held credits net u []) (numbers_from 1 n)) (sym (upto-zero net u)) in
+unit-start credits net u = let l = sym (take-zeros (data_channels net u) 8 8 (omega arith)) in let f = sym (floor-zero net u) in let r = ap (λ n. map (held credits net u []) (range_with_len 1 n)) (sym (upto-zero net u)) in
     λ i. record { device = device_of (actor_of net u); channels = length (data_channels net u); id = 0; last = l i; floor = f i; rows = r i }

@@ -30,7 +30,8 @@ use Rattle.sl_model.specs.History.{History, stamp_of, id, last}
 use Rattle.sl_model.specs.Counting.{packets, bytes, bad, expired, noroute}
 use Rattle.sl_model.specs.Counting.{counted_in}
 use Rattle.sl_model.specs.Calls.{calls, credit, credits_in}
-use Rattle.sl_image.specs.Messages.{eight, lasts, cpu_last}
+use Rattle.sl_model.specs.LastSeen.{lasts, cpu_last}
+use Rattle.sl_image.specs.Messages.{eight}
 use Rattle.sl_image.specs.UnitImage.{Keeps, HasRegisters, dropped}
 use Rattle.sl_model.proofs.Entries.{calls-rise, calls-stay}
 use Rattle.sl_model.proofs.Settled.{place-lt}

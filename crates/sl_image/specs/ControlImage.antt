@@ -16,7 +16,8 @@ use Rattle.sl_control.specs.Wires.{unit_wires, control_wires}
 use Rattle.sl_model.specs.declared.message.Put.{Put}
 use Rattle.sl_model.specs.History.{History, id}
 use Rattle.sl_model.specs.Knowledge.{upto_of, dumped, told_of, is_outstanding, is_again}
-use Rattle.sl_image.specs.Messages.{eight, lasts, cpu_last}
+use Rattle.sl_model.specs.LastSeen.{lasts, cpu_last}
+use Rattle.sl_image.specs.Messages.{eight}
 use Rattle.sl_image.specs.Simulates.{Simulates, ActSimulates}
 
 -- what is known of a unit of which the history g was told

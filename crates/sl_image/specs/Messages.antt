@@ -8,12 +8,11 @@
 --     IsMessage net sizes us a told m x   x stands for the message m that the actor a puts
 --     AreSent net sizes us a told ps xs   the puts of a machine stand for those of a step
 -- told gives for the place of each unit how many of its steps were told before.
-use Rattle.std.specs.Prelude.{◌≡◌, ℕ, ◌<◌, ◌≤◌, List, [], ◌∷◌, ◌++◌, map, take, length, replicate, slice_index, slice_get, option_map, unwrap_or, IsTrue}
+use Rattle.std.specs.Prelude.{◌≡◌, ℕ, ◌<◌, ◌≤◌, List, [], ◌∷◌, ◌++◌, map, take, length, replicate, slice_index, IsTrue}
 use Rattle.std.specs.List.{All}
 use Rattle.sl_ids.specs.Ids.{most_bits, modulus}
 use Rattle.sl_ids.specs.Wids.{wid}
-use Rattle.sl_layout.specs.declared.actor.Sort.TheVariants.{Init as InitSort}
-use Rattle.sl_layout.specs.Net.{Net, actor_of, units, unit_place, data_channels, choices_of}
+use Rattle.sl_layout.specs.Net.{Net, actor_of, units, unit_place, data_channels}
 use Rattle.sl_layout.specs.Wires.{out_of}
 use Rattle.sl_saves.specs.declared.entry.Saved.{Saved}
 use Rattle.sl_saves.specs.Views.{IsShown, held_saved}
@@ -31,22 +30,15 @@ use Rattle.sl_control.specs.Rows.{span}
 use Rattle.sl_model.specs.declared.message.Message.{Message}
 use Rattle.sl_model.specs.declared.message.Message.TheVariants.{Host, Data, Probe, Init, Poll, Notice, Dump as DumpMsg, Begin, Done as DoneMsg}
 use Rattle.sl_model.specs.declared.message.Put.{Put}
-use Rattle.sl_model.specs.History.{History, id, last, first}
+use Rattle.sl_model.specs.History.{History, id, first}
 use Rattle.sl_model.specs.Knowledge.{upto_of, floor_of}
 use Rattle.sl_model.specs.Calls.{calls}
 use Rattle.sl_model.specs.Rows.{row}
+use Rattle.sl_model.specs.LastSeen.{lasts, cpu_last}
 
 -- eight numbers, with 0 past those that there are
 abbrev pub eight : List ℕ → List ℕ
 eight xs = take 8 (xs ++ replicate 8 0)
-
--- the last-seen numbers of the data channels in order
-abbrev pub lasts : Net → ℕ → History → List ℕ
-lasts net u g = map (λ c. last c g) (data_channels net u)
-
--- that of initiations, 0 of an egress unit
-abbrev pub cpu_last : Net → ℕ → History → ℕ
-cpu_last net u g = unwrap_or (option_map (λ c. last c g) (slice_get (choices_of net u InitSort) 0)) 0
 
 -- a wrapped id stands for one number of a window, and a ring has a slot for each
 pub record HoldWindow (window : ℕ) (sizes : Sizes) : Type 0 where

@@ -6,10 +6,10 @@
 --     ObserverSimulates ..      a turn of the machine simulates a step of the observer; ObserverActSimulates an action
 --     seen_by net w u           what the observer has seen of the unit u
 use Rattle.std.specs.Prelude.{◌≡◌, ℕ, ◌<◌, ◌≤◌, List, Option, map, length, take}
+use Rattle.std.specs.List.{range_with_len}
 use Rattle.sl_machine.specs.Machine.{After}
 use Rattle.sl_ids.specs.Ids.{most_bits, modulus}
 use Rattle.sl_net.specs.declared.input.Snapshot.{Snapshot}
-use Rattle.sl_parts.specs.Parts.{numbers_from}
 use Rattle.sl_layout.specs.Net.{Net, actor_of, links_into, links_from, units, data_channels}
 use Rattle.sl_saves.specs.Views.{held_saved}
 use Rattle.sl_layout.specs.Devices.{device_of}
@@ -23,7 +23,8 @@ use Rattle.sl_model.specs.Setup.{Setup}
 use Rattle.sl_model.specs.Knowledge.{observer, known, issued, resent, collected, upto_of, floor_of, unit_floor}
 use Rattle.sl_model.specs.Rows.{row}
 use Rattle.sl_model.specs.Accounts.{Account}
-use Rattle.sl_image.specs.Messages.{CarryIds, eight, lasts}
+use Rattle.sl_model.specs.LastSeen.{lasts}
+use Rattle.sl_image.specs.Messages.{CarryIds, eight}
 use Rattle.sl_image.specs.Simulates.{Simulates, ActSimulates}
 
 -- the rows are those of the numbers that are collected, as slots hold them
@@ -34,7 +35,7 @@ unit_of n net u g = record {
   id = id g;
   last = eight (lasts net u g);
   floor = floor_of net u g;
-  rows = map (λ k. held_saved (row n (data_channels net u) k g)) (numbers_from 1 (upto_of net u g));
+  rows = map (λ k. held_saved (row n (data_channels net u) k g)) (range_with_len 1 (upto_of net u g));
 }
 
 abbrev pub observer_of : Net → Snapshot → World → ObserverState

@@ -24,7 +24,8 @@ use Rattle.sl_model.specs.declared.message.Put.{Put}
 use Rattle.sl_model.specs.History.{History, id}
 use Rattle.sl_model.specs.Counting.{packets, bytes, bad, expired, noroute}
 use Rattle.sl_model.specs.Calls.{calls}
-use Rattle.sl_image.specs.Messages.{eight, lasts, cpu_last}
+use Rattle.sl_model.specs.LastSeen.{lasts, cpu_last}
+use Rattle.sl_image.specs.Messages.{eight}
 use Rattle.sl_image.specs.Simulates.{Simulates}
 
 -- a number lies from another to less than the modulus above it, and their wrapped ids tell how far

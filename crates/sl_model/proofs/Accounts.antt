@@ -1,9 +1,10 @@
 -- Findings by what the observer knows are those of the world.
 use Rattle.std.proofs.Common.{◌≡◌, ℕ, zero, suc, ◌+◌, ◌-◌, ◌<◌, ◌≤◌, List, [], ◌∷◌, refl, sym, ap, subst, ◌∙◌, Option, Some, None, arith, inl, inr}
 use Rattle.std.specs.Prelude.{◌⊎◌, true, false, Bool, ◌==◌, if◌then◌else◌, nat_lt, map, slice_get, option_and_then, unwrap_or, min}
-use Rattle.std.specs.List.{fold}
+use Rattle.std.specs.List.{fold, range_with_len}
 use Rattle.std.proofs.lemmas.Bool.{le-leb, lt-leb, cases_lt}
-use Rattle.sl_parts.specs.Parts.{numbers_from}
+use Rattle.std.proofs.lemmas.List.FromFn.{get_or-map-range_with_len, length-map-range_with_len}
+use Rattle.std.proofs.lemmas.Option.{slice_get_read}
 use Rattle.sl_layout.specs.Net.{Net, units, data_channels, unit_place}
 use Rattle.sl_net.specs.Wired.{IsWired}
 use Rattle.sl_model.specs.declared.verdict.Cause.{Cause}
@@ -42,10 +43,8 @@ map-one : {A B C : Type 0} (f : B → C) (g : A → B) (xs : List A) → map f (
 map-one f g [] = refl
 map-one f g (x ∷ xs) = ap (λ r. f (g x) ∷ r) (map-one f g xs)
 
-found : {A : Type 0} (f : ℕ → A) (s m i : ℕ) → i < m → slice_get (map f (numbers_from s m)) i ≡ Some (f (s + i))
-found f s zero i p = absurd (omega (arith, p))
-found f s (suc m) zero p = let e : s ≡ s + 0 = omega arith in ap (λ k. Some (f k)) e
-found f s (suc m) (suc i) p = let e : suc s + i ≡ s + suc i = omega arith in found f (suc s) m i (omega (arith, p)) ∙ ap (λ k. Some (f k)) e
+found : {A : Type 0} (f : ℕ → A) (s m i : ℕ) → i < m → slice_get (map f (range_with_len s m)) i ≡ Some (f (s + i))
+found f s m i p = slice_get_read (map f (range_with_len s m)) m i (f (s + i)) (sym (length-map-range_with_len f s m)) p (sym (get_or-map-range_with_len f s m i _ (f (s + i)) p refl))
 
 least-ge : (k n : ℕ) (xs : List ℕ) → k ≤ n → Each (λ x. k ≤ x) xs → k ≤ fold min n xs
 least-ge k n [] p e = p
@@ -97,12 +96,12 @@ judged-is n net w k one = ap (λ o. judged o (first_told (cause_by k) (accounts 
 
 -- Rows of a consistent snapshot.
 
-clear : (o : Option (ℕ × Lag)) (c : Option (ℕ × Cause)) → judged o c ≡ Consistent → (o ≡ None) × (c ≡ None)
+pub clear : (o : Option (ℕ × Lag)) (c : Option (ℕ × Cause)) → judged o c ≡ Consistent → (o ≡ None) × (c ≡ None)
 clear (Some l) c e = absurd cc
 clear None (Some c) e = absurd cc
 clear None None e = (refl, refl)
 
-no-cause : (n k : ℕ) (h : History) → cause n k h ≡ None → (skipped_to k h ≡ None) × (miscredits n k h ≡ [])
+pub no-cause : (n k : ℕ) (h : History) → cause n k h ≡ None → (skipped_to k h ≡ None) × (miscredits n k h ≡ [])
 no-cause n k h e = let p = of_parts (skipped_to k h) (least (miscredits n k h)) e in (p.0, none-least (miscredits n k h) p.1)
   where
     of_parts : (a o : Option ℕ) → first_cause a o ≡ None → (a ≡ None) × (o ≡ None)
@@ -191,6 +190,6 @@ pub finding-is : (s : Setup) (lost : Losses) (w : World) (k : ℕ) → IsWired s
 finding-is s lost w k n r some one e = let v = verdict-is s.credits s.net w k one e in
     ap (λ v. record { k = k; verdict = v; rows = rows_by (accounts s.credits s.net w) k v }) v ∙ ap (λ r. record { k = k; verdict = verdict s.credits s.net w k; rows = r }) (rows-by s lost w k n r some one e)
 
-pub map-from : {A : Type 0} (f g : ℕ → A) (start n : ℕ) → 1 ≤ start → ((k : ℕ) → 1 ≤ k → f k ≡ g k) → map f (numbers_from start n) ≡ map g (numbers_from start n)
+pub map-from : {A : Type 0} (f g : ℕ → A) (start n : ℕ) → 1 ≤ start → ((k : ℕ) → 1 ≤ k → f k ≡ g k) → map f (range_with_len start n) ≡ map g (range_with_len start n)
 map-from f g start zero p h = refl
-map-from f g start (suc n) p h = let e = h start p in let r = map-from f g (suc start) n (omega arith) h in λ i. e i ∷ r i
+map-from f g start (suc n) p h = let e = h start p in let r = map-from f g (start + 1) n (omega arith) h in λ i. e i ∷ r i

@@ -59,7 +59,7 @@ floor-up s lost w r b = of_units (units s.net) (each-least (unit_floor s.net w) 
 
 -- Up to F the verdict from what the observer knows is the verdict of the world.
 
-verdict-by : (n : ℕ) (net : Net) (w : World) (k : ℕ) → k ≤ issued net (observer w) → verdict n net w k ≡ issued_verdict n net w k
+pub verdict-by : (n : ℕ) (net : Net) (w : World) (k : ℕ) → k ≤ issued net (observer w) → verdict n net w k ≡ issued_verdict n net w k
 verdict-by n net w k p = ap (λ b. if b then issued_verdict n net w k else NotIssued (floor_holder net w) (floor net w)) (le-leb k (issued net (observer w)) p)
 
 no-lag-now : (s : Setup) (w : World) (k : ℕ) → Each (λ u. IsKept s.credits s.net u k (collected s.net w u) (history w u)) (units s.net) → first_told (λ u. lag s.net k u (history w u)) (units s.net) ≡ None

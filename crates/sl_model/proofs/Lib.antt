@@ -37,6 +37,7 @@ pub mod Carried
 pub mod Shorts
 pub mod Fields
 pub mod Brought
+pub mod LastSeen
 pub mod Polls
 pub mod Accounts
 -- Finishing, and the bound on turns.

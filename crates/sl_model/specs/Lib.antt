@@ -29,6 +29,7 @@ pub mod Late
 pub mod Window
 pub mod Passing
 pub mod Collected
+pub mod LastSeen
 -- What a unit's history saves, and how it is told.
 pub mod Calls
 pub mod Rows

@@ -12,6 +12,7 @@ mod row_laws;
 mod saved_laws;
 mod turn_laws;
 mod verdict;
+mod verdict_laws;
 
 pub use cut_laws::{
     channel_values_are_late_data, collected_rows_stay, collected_verdicts_are_known,
@@ -44,3 +45,6 @@ pub use saved_laws::{
 };
 pub use turn_laws::{links_pass_messages, worlds_take_turns};
 pub use verdict::{Cause, Lag, Verdict};
+pub use verdict_laws::{
+    consistent_snapshots_are_whole, last_seen_numbers_are_below, last_seen_numbers_tell_lags,
+};

@@ -1,5 +1,5 @@
 // The units of each device that have a cable.
-ghost use Rattle.std.specs.Prelude.{◌≡◌, ◌≤◌, IfOk, length, map};
+ghost use Rattle.std.specs.Prelude.{◌≡◌, IfOk, length, map};
 ghost use Rattle.sl_parts.specs.Parts.{below, same_port, has_cable};
 ghost use Rattle.sl_layout.specs.Net.{units, same_side};
 ghost use Rattle.sl_layout.specs.declared.actor.Side.TheVariants.{Egress};
@@ -52,40 +52,24 @@ fn is_cabled(parts: &Parts, device: u32, actor: ActorId) -> bool
     }
 }
 
-/// How many units a net has.
-pub fn unit_count(net: &Net) -> u32
-    ensures count { result ≡ length (units net.now) }
-    ensures few { result ≤ 1217 }
-{
-    let _actors = net.actors();
-    net.unit_actors().len() as u32
-}
-
 /// The egress units of a device that have a cable, by their places among the units.
 fn cabled(alloc: Global, net: &Net, device: u32) -> Result<Vec<u32>, AllocError>
     ensures { IfOk result (λ places. places.items ≡ cabled net.now device) }
 {
     let mut places = Vec::new(alloc);
-    for place in 0..unit_count(net) {
+    for place in 0..net.unit_count() {
         let actor = net.actor(net.unit_actor(place));
         push_if(&mut places, is_cabled(net.parts(), device, actor), place)?;
     }
     Ok(places)
 }
 
-/// How many devices a net has.
-pub fn device_count(net: &Net) -> u32
-    ensures { result ≡ length net.now.parts.devices }
-{
-    net.parts().devices.len() as u32
-}
-
-/// The same for each device in order.
+/// For each device in order, its egress units that have a cable, by their places among the units.
 pub fn list_cabled(alloc: Global, net: &Net) -> Result<Vec<Numbers>, AllocError>
     ensures { IfOk result (λ table. table.items ≡ map (cabled net.now) (below (length net.now.parts.devices))) }
 {
     let mut table = Vec::new(alloc);
-    for device in 0..device_count(net) {
+    for device in 0..net.device_count() {
         let items = cabled(alloc, net, device)?;
         table.push(Numbers { items })?;
     }

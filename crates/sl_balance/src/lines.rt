@@ -5,7 +5,7 @@ ghost use Rattle.sl_parts.specs.Parts.{below};
 ghost use Rattle.sl_balance.specs.Cabled.{cabled};
 ghost use Rattle.sl_balance.specs.Balance.{packets_at, line_of, device_line, finding_lines, balance, AreFew};
 
-use crate::cabled::{device_count, list_cabled, unit_count};
+use crate::cabled::list_cabled;
 use crate::line::Line1;
 use crate::spread::{highest_of, lowest_of, spread_of};
 use sl_machine::Memory;
@@ -71,8 +71,8 @@ fn push_lines(
     requires small { AreFew rows.now }
     ensures { OnOk result (lines.new.items ≡ lines.old.items ++ flat_map (device_line net.now k rows.now) (below (length net.now.parts.devices))) }
 {
-    let _units = unit_count(net);
-    for device in 0..device_count(net) {
+    let _units = net.unit_count();
+    for device in 0..net.device_count() {
         let counts = counts_at(alloc, rows, row(table, device as usize))?;
         push_line(lines, k, device, counts.as_slice())?;
     }

@@ -5,7 +5,6 @@ ghost use Rattle.sl_net.specs.Spelling.{device_name};
 ghost use Rattle.sl_route.specs.Routes.{IsRoutesOf};
 ghost use Rattle.sl_balance.specs.BalanceText.{table_line, line_text, paths_line, paths_text, device_paths, balance_text};
 
-use crate::cabled::device_count;
 use crate::equal::equal_ports;
 use crate::line::Line1;
 use sl_machine::Memory;
@@ -82,12 +81,6 @@ fn push_path(
     )
 }
 
-fn host_count(net: &Net) -> u32
-    ensures { result ≡ length net.now.parts.hosts }
-{
-    net.parts().hosts.len() as u32
-}
-
 /// Writes a line for each host.
 fn push_device_paths(
     out: &mut String,
@@ -99,7 +92,7 @@ fn push_device_paths(
     requires device { device < length net.now.parts.devices }
     ensures { OnOk result (string_bytes out.new ≡ string_bytes out.old ++ device_paths net.now.parts device) }
 {
-    for host in 0..host_count(net) {
+    for host in 0..net.host_count() {
         push_path(out, net, routes, device, host)?;
     }
     Ok(())
@@ -109,7 +102,7 @@ fn push_paths(out: &mut String, net: &Net, routes: &Routes) -> Result<(), AllocE
     requires { IsRoutesOf net.now routes.now }
     ensures { OnOk result (string_bytes out.new ≡ string_bytes out.old ++ flat_map (device_paths net.now.parts) (below (length net.now.parts.devices))) }
 {
-    for device in 0..device_count(net) {
+    for device in 0..net.device_count() {
         push_device_paths(out, net, routes, device)?;
     }
     Ok(())

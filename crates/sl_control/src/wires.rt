@@ -1,14 +1,13 @@
 // How the control plane of a device is joined in a net.
 ghost use Rattle.std.specs.Prelude.{◌≡◌, ◌<◌, ◌≤◌, ◌++◌, ◌∷◌, [], IfOk, OnOk, cond, length, map, slice_index_or};
-ghost use Rattle.std.specs.List.{All};
 ghost use Rattle.sl_layout.specs.declared.actor.ActorId.{ActorId};
-ghost use Rattle.sl_layout.specs.Net.{same_actor, place_of, actor_of, links_into, choices_of};
+ghost use Rattle.sl_layout.specs.Net.{same_actor, place_of, actor_of, choices_of};
 ghost use Rattle.sl_layout.specs.Serving.{choice_from, serving, served};
 ghost use Rattle.sl_layout.specs.Wires.{out_of};
 ghost use Rattle.sl_control.specs.Wires.{control_of, outs_of, unit_wires, unheard};
 
 use crate::known::{Known, UnitWires};
-use sl_net::{ActorId, Net, Sort, nets_are_wired, push_if};
+use sl_net::{ActorId, Net, Sort, choice_from, choices_of, nets_are_wired};
 use std::alloc::{AllocError, Global};
 
 fn is_control(actor: ActorId, device: u32) -> bool
@@ -48,22 +47,13 @@ pub fn control_of(net: &Net, device: u32) -> u32
     place_of(net.actors(), device) as u32
 }
 
-/// The place of a link among its sender's links.
-fn out_of(net: &Net, link: u32) -> u32
-    requires { link < length net.now.links }
-    ensures { result ≡ out_of net.now link }
-{
-    let wired = net.wiring();
-    wired.links[link as usize].out
-}
-
 /// Adds the place of a link among its sender's links where it passes.
 fn add_out(outs: &mut Vec<u32>, net: &Net, link: u32, passes: bool) -> Result<(), AllocError>
     requires { link < length net.now.links }
     ensures { OnOk result (outs.new.items ≡ outs.old.items ++ cond passes (out_of net.now link ∷ []) []) }
 {
     if passes {
-        outs.push(out_of(net, link))?;
+        outs.push(net.wire(link).out)?;
     }
     Ok(())
 }
@@ -96,22 +86,6 @@ pub fn done_of(alloc: Global, net: &Net, actor: u32) -> Result<u32, AllocError>
     Ok(first_of(&outs_of(alloc, net, actor, Sort::Done)?))
 }
 
-/// The choices of an actor that take from links of a sort.
-fn choices_of(alloc: Global, net: &Net, actor: u32, sort: Sort) -> Result<Vec<u32>, AllocError>
-    requires { actor < length net.now.actors }
-    ensures choices { IfOk result (λ choices. choices.items ≡ choices_of net.now actor sort) }
-    ensures few { IfOk result (λ choices. length choices.items ≤ 77888) }
-    ensures each { IfOk result (λ choices. All (λ c. c < length (links_into net.now actor)) choices.items) }
-{
-    let links = net.links_into(actor);
-    let mut choices = Vec::new(alloc);
-    for choice in 0..links.len() as u32 {
-        let link = net.link(links[choice as usize]);
-        push_if(&mut choices, link.sort.is(sort), choice)?;
-    }
-    Ok(choices)
-}
-
 /// The first number, or 0 where there is none.
 fn first_of(numbers: &[u32]) -> u32
     ensures { result ≡ slice_index_or numbers.now 0 0 }
@@ -120,27 +94,6 @@ fn first_of(numbers: &[u32]) -> u32
         Some(number) => *number,
         None => 0,
     }
-}
-
-/// The first choice of an actor that takes from a link of a sort that comes from a unit.
-fn choice_from(
-    alloc: Global,
-    net: &Net,
-    actor: u32,
-    unit: u32,
-    sort: Sort,
-) -> Result<u32, AllocError>
-    requires { actor < length net.now.actors }
-    ensures { IfOk result (λ choice. choice ≡ choice_from net.now actor unit sort) }
-{
-    let links = net.links_into(actor);
-    let choices = choices_of(alloc, net, actor, sort)?;
-    let mut found = Vec::new(alloc);
-    for choice in &choices {
-        let link = net.link(links[*choice as usize]);
-        push_if(&mut found, link.from == unit, *choice)?;
-    }
-    Ok(first_of(&found))
 }
 
 /// How many choices of an actor take from links of a sort.
@@ -165,7 +118,7 @@ fn unit_wires(alloc: Global, net: &Net, actor: u32, link: u32) -> Result<UnitWir
         place: net.unit_place(unit),
         notice: choice_from(alloc, net, actor, unit, Sort::Notice)?,
         dump: choice_from(alloc, net, actor, unit, Sort::Dump)?,
-        poll: out_of(net, link),
+        poll: net.wire(link).out,
         ingress: count_of(alloc, net, unit, Sort::Init)? > 0,
         channels: cables + crossbar,
     })

@@ -10,7 +10,6 @@ ghost use Rattle.sl_model.specs.End.{AllTaken, AllSent, KnowsAll, IsFinished, is
 ghost use Rattle.sl_ending.specs.Ending.{HasEnding};
 ghost use Rattle.sl_cut.specs.Sent.{HasSent};
 
-use crate::values::choice_of;
 use sl_ending::Ending;
 use sl_flow::packets_of;
 use sl_machine::Memory;
@@ -28,7 +27,7 @@ fn is_taken(alloc: Global, input: &Input, world: &World, link: u32) -> Result<bo
 {
     let part = input.net.link(link);
     let messages = carried(alloc, input, link, world.steps(part.from))?;
-    let choice = choice_of(&input.net, link);
+    let choice = input.net.wire(link).choice;
     Ok(taken(choice as usize, world.steps(part.to)) == messages.len())
 }
 

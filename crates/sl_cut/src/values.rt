@@ -1,7 +1,6 @@
 // The values of a snapshot: what units counted before their cuts, and what was in flight.
 ghost use Rattle.std.specs.Prelude.{◌≡◌, ◌≤◌, ◌<◌, ◌^◌, length, map, reverse, take, drop, IfOk, slice_index_or};
 ghost use Rattle.std.specs.List.{All};
-ghost use Rattle.sl_layout.specs.Net.{choice_of};
 ghost use Rattle.sl_model.specs.Words.{weigh};
 ghost use Rattle.sl_model.specs.Cut.{before, data_count, data_bytes, channel_value};
 ghost use Rattle.sl_model.specs.Findings.{channel_links, eight_totals, row};
@@ -45,15 +44,6 @@ fn rest_of(messages: &[Message], count: usize) -> &[Message]
     ensures bound { length result.now ≤ length messages.now }
 {
     &messages[count.min(messages.len())..]
-}
-
-/// The choice by which a link is taken.
-pub fn choice_of(net: &Net, link: u32) -> u32
-    requires { link < length net.now.links }
-    ensures { result ≡ choice_of net.now link }
-{
-    let wired = net.wiring();
-    wired.links[link as usize].choice
 }
 
 fn count_data(message: &Message) -> u64
@@ -107,7 +97,7 @@ fn channel_value(
     ensures { IfOk result (λ total. total ≡ channel_value input.now.net (losses input.now) world.now snapshot link) }
 {
     let ends = input.net.link(link);
-    let choice = choice_of(&input.net, link) as usize;
+    let choice = input.net.wire(link).choice as usize;
     let sender = before(snapshot, world.steps(ends.from));
     let messages = carried(alloc, input, link, sender)?;
     let receiver = world.steps(ends.to);

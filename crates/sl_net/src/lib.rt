@@ -2,6 +2,7 @@
 #![tactic(auto)]
 
 mod choice_of_text;
+mod choices;
 mod input;
 mod laws;
 mod matching;
@@ -10,6 +11,7 @@ mod spelling_laws;
 mod text_of_choice;
 
 pub use choice_of_text::find_choice;
+pub use choices::{choice_from, choices_of};
 pub use input::{Drop1, Flow, Input, LossSpec, Packet, RawPart, Script1, Snapshot};
 pub use laws::{nets_are_wired, nets_have_ways};
 pub use net::Net;

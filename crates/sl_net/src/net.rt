@@ -9,13 +9,13 @@ ghost use Rattle.sl_layout.specs.Roster.{IsActor};
 ghost use Rattle.sl_layout.specs.Wires.{HasEnds};
 ghost use Rattle.sl_net.specs.Spelling.{choice_count};
 ghost use Rattle.sl_layout.specs.Units.{AreUnits};
-ghost use Rattle.sl_layout.specs.Wiring.{kind_of, upstream_of, plan_of};
+ghost use Rattle.sl_layout.specs.Wiring.{kind_of, upstream_of, wired_link, plan_of};
 
 use sl_layout::{
     ActorId, Layout, LinkKind, LinkPart, Roster, Sort, UnitId, Units, Wires, actions_of,
     list_upstream, make_wiring,
 };
-use sl_machine::Wiring;
+use sl_machine::{Link, Wiring};
 use sl_parts::{NetFault, Numbers, Parts, row};
 use std::alloc::{AllocError, Global};
 use std::marker::Model;
@@ -88,6 +88,30 @@ impl Net {
         ensures valid { IsValid self.now.parts }
     {
         self.units.wires().roster().layout().parts()
+    }
+
+    /// How many devices there are.
+    pub fn device_count(&self) -> u32
+        ensures { result ≡ length self.now.parts.devices }
+    {
+        self.parts().devices.len() as u32
+    }
+
+    /// How many hosts there are.
+    pub fn host_count(&self) -> u32
+        ensures { result ≡ length self.now.parts.hosts }
+    {
+        self.parts().hosts.len() as u32
+    }
+
+    /// How many units there are.
+    pub fn unit_count(&self) -> u32
+        ensures count { result ≡ length (units self.now) }
+        ensures few { result ≤ 1217 }
+    {
+        // There are no more than actors.
+        let _actors = self.actors();
+        self.unit_actors().len() as u32
     }
 
     /// The actors in order.
@@ -203,6 +227,15 @@ impl Net {
         ensures sound { IsSound result.now }
     {
         &self.wiring
+    }
+
+    /// How a link is joined to its ends.
+    pub fn wire(&self, link: u32) -> Link
+        requires { link < length self.now.links }
+        ensures { result ≡ wired_link self.now link }
+    {
+        let wired = self.wiring();
+        wired.links[link as usize]
     }
 
     /// The senders of a unit's data channels in order. The unit is a place among the units, and

@@ -19,7 +19,7 @@ ghost use Rattle.sl_poll.specs.Reading.{breaks, read_after, reads, broken_by};
 use crate::listed::Listed;
 use crate::listener::Listener;
 use crate::reading::Polled;
-use crate::sums::{Pace, Sum, add_one, list_reads, no_sums, read_after, unit_count};
+use crate::sums::{Pace, Sum, add_one, list_reads, no_sums, read_after};
 use crate::trail::{Counted, Pair, Trail};
 use sl_machine::Memory;
 use sl_model::worlds_take_turns;
@@ -62,7 +62,7 @@ impl Polling {
         ensures pace { IfOk result (λ p. p.pace ≡ pace) }
         ensures first { IfOk result (λ p. HasRead net.now p p [] []) }
     {
-        let sums = no_sums(alloc, unit_count(net))?;
+        let sums = no_sums(alloc, net.unit_count())?;
         Ok(Polling {
             pace,
             sums,
@@ -77,7 +77,7 @@ impl Polling {
             IfOk result (λ polled. polled.reads ≡ map (read_by at cs) (below (length (units net.now)))) }
         ensures broken { IfOk result (λ polled. polled.broken ≡ self.broken) }
     {
-        let count = unit_count(net);
+        let count = net.unit_count();
         let items = list_reads(alloc, self.pace, self.sums.as_slice(), count)?;
         Ok(Polled {
             reads: Listed { items },

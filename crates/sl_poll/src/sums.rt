@@ -105,18 +105,10 @@ pub fn list_reads(
     Ok(reads)
 }
 
-/// How many units a net has.
-pub fn unit_count(net: &Net) -> u32
-    ensures { result ≡ length (units net.now) }
-{
-    let _actors = net.actors();
-    net.unit_actors().len() as u32
-}
-
 /// After how many entries all units are read.
 pub fn last_read(net: &Net, pace: Pace) -> u64
     ensures last { result ≡ read_after pace.count pace.start pace.gap (length (units net.now)) }
     ensures within { result ≤ pace.count }
 {
-    read_after(pace, unit_count(net))
+    read_after(pace, net.unit_count())
 }

@@ -1,11 +1,10 @@
 // The text of a reading.
 ghost use Rattle.std.specs.Prelude.{◌≡◌, ◌<◌, ◌++◌, Some, IfOk, OnOk, IfSome, length, flat_map, codes, string_bytes};
 ghost use Rattle.sl_poll.specs.PollText.{link_text, counts_text, read_line, times_text, broken_line, poll_text};
-ghost use Rattle.sl_layout.specs.Wiring.{wired_link};
 
 use crate::reading::{Polled, Read1};
 use crate::trail::Pair;
-use sl_machine::{Link, Memory};
+use sl_machine::Memory;
 use sl_net::{Line, Net, choice_text, nets_have_ways};
 use sl_report::{push_unit, unit_at};
 use std::alloc::{AllocError, Global};
@@ -52,14 +51,6 @@ fn times_bytes(alloc: Global, pair: Pair) -> Result<Vec<u8>, AllocError>
     Ok(format!(in alloc; " sent {put} received {take}\n")?.into_bytes())
 }
 
-fn wire_of(net: &Net, link: u32) -> Link
-    requires { link < length net.now.links }
-    ensures { result ≡ wired_link net.now link }
-{
-    let wired = net.wiring();
-    wired.links[link as usize]
-}
-
 /// The spelling of a link.
 fn link_text(alloc: Global, net: &Net, link: u32) -> Result<Line, Memory>
     requires { link < length net.now.links }
@@ -67,7 +58,7 @@ fn link_text(alloc: Global, net: &Net, link: u32) -> Result<Line, Memory>
 {
     nets_have_ways();
     let _part = net.link(link);
-    let wire = wire_of(net, link);
+    let wire = net.wire(link);
     choice_text(alloc, net, wire.to, wire.choice)
 }
 

@@ -1,6 +1,6 @@
 // The finding of a number, from what the observer collected.
 ghost use Rattle.std.specs.Prelude.{◌≡◌, ℕ, ◌<◌, ◌≤◌, length, take, map, [], ◌∷◌, ◌++◌, IfOk, OnOk};
-ghost use Rattle.sl_parts.specs.Parts.{numbers_from};
+ghost use Rattle.std.specs.List.{range_with_len};
 ghost use Rattle.sl_layout.specs.Net.{units};
 ghost use Rattle.sl_observe.specs.Observer.{unit_at, saved_of};
 ghost use Rattle.sl_model.specs.Words.{first_told};
@@ -15,16 +15,6 @@ use sl_net::Net;
 use sl_observe::Observer;
 use sl_saves::Saved;
 use std::alloc::Global;
-
-/// How many units a net has.
-#[tactic(auto, using(sl_observe::proofs::UnitLists::units_few))]
-fn unit_count(net: &Net) -> u32
-    ensures { result ≡ length (units net.now) }
-{
-    // A net has few actors, so the places of its units fit 32 bits.
-    let _ = net.actors();
-    net.units().len() as u32
-}
 
 /// The first of a unit's last-seen numbers, as many as there are.
 fn front(numbers: &[u64; 8], count: usize) -> &[u64]
@@ -71,7 +61,7 @@ fn first_lag(net: &Net, observer: &Observer, k: u64) -> Option<(u32, Lag)>
     requires { HasAllRows net.now observer.now.state }
     ensures { result ≡ first_told (lag_by k) (accounts_of observer.now.state) }
 {
-    for unit in 0..unit_count(net) {
+    for unit in 0..net.unit_count() {
         if let Some(lag) = lag_at(net, observer, unit, k) {
             return Some((unit, lag));
         }
@@ -98,7 +88,7 @@ fn first_cause(net: &Net, observer: &Observer, k: u64) -> Option<(u32, Cause)>
     requires first { 1 ≤ k }
     ensures { result ≡ first_told (cause_by k) (accounts_of observer.now.state) }
 {
-    for unit in 0..unit_count(net) {
+    for unit in 0..net.unit_count() {
         if let Some(cause) = cause_at(observer, unit, k) {
             return Some((unit, cause));
         }
@@ -112,7 +102,7 @@ fn holder(net: &Net, observer: &Observer) -> u32
     ensures { let o = observer.now.state in result ≡ place_or_zero (first_told (holds (floor_by o.issued (accounts_of o))) (accounts_of o)) }
 {
     let floor = observer.floor();
-    for unit in 0..unit_count(net) {
+    for unit in 0..net.unit_count() {
         if observer.seen(unit).floor == floor {
             return unit;
         }
@@ -180,7 +170,7 @@ fn rows(alloc: Global, net: &Net, observer: &Observer, k: u64) -> Result<Rows1, 
     ensures { IfOk result (λ rows. rows ≡ map (λ a. value_row (row_of k a)) (accounts_of observer.now.state)) }
 {
     let mut items = Vec::new(alloc);
-    for unit in 0..unit_count(net) {
+    for unit in 0..net.unit_count() {
         items.push(row_at(observer, unit, k))?;
     }
     Ok(Rows1 { items })
@@ -226,7 +216,7 @@ pub fn finding_list(
     count: u64,
 ) -> Result<FindingList, Memory>
     requires { HasAllRows net.now observer.now.state }
-    ensures { IfOk result (λ list. list ≡ map (finding_by observer.now.state.issued (accounts_of observer.now.state)) (numbers_from 1 count)) }
+    ensures { IfOk result (λ list. list ≡ map (finding_by observer.now.state.issued (accounts_of observer.now.state)) (range_with_len 1 count)) }
 {
     let mut items = Vec::new(alloc);
     for done in 0..count {

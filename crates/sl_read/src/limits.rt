@@ -1,7 +1,6 @@
 // Limits of an input that its numbers keep together.
-ghost use Rattle.std.specs.Prelude.{◌≡◌, ◌≤◌, ◌==◌, length};
+ghost use Rattle.std.specs.Prelude.{◌≡◌, ◌≤◌, ◌==◌};
 ghost use Rattle.std.specs.List.{position};
-ghost use Rattle.sl_layout.specs.Net.{units};
 ghost use Rattle.sl_form.specs.Refusals.{Answers};
 ghost use Rattle.sl_read.specs.Limits.{ids_carried, few_values, limits_kept};
 
@@ -39,21 +38,12 @@ fn ids_carried(snapshot: &Snapshot, cables: &[CablePart]) -> Result<(), Refusal>
     }
 }
 
-/// How many units a net has.
-fn unit_count(net: &Net) -> u64
-    ensures count { result ≡ length (units net.now) }
-    ensures few { result ≤ 1217 }
-{
-    let _actors = net.actors();
-    net.unit_actors().len() as u64
-}
-
 #[tactic(auto, unfolding(crate::specs::Limits::few_values))]
 fn few_values(net: &Net, snapshot: &Snapshot) -> Result<(), Refusal>
     requires { snapshot.now.count ≤ 100000 }
     ensures { result ≡ few_values net.now snapshot.now }
 {
-    let values = snapshot.count * unit_count(net);
+    let values = snapshot.count * u64::from(net.unit_count());
     if values > MOST_VALUES {
         return Err(Refusal::TooManyValues(values));
     }

@@ -8,10 +8,10 @@ ghost use Rattle.sl_model.specs.Puts.{send, send_all, poll_puts, dump_answer, co
 
 use crate::sends::add_out;
 use crate::tell::{put, puts_on, taken};
-use crate::wires::{action_choice, choice_from, links_out};
+use crate::wires::{action_choice, links_out};
 use sl_machine::Memory;
 use sl_model::{Message, Put, Step};
-use sl_net::{Net, Sort};
+use sl_net::{Net, Sort, choice_from};
 use std::alloc::Global;
 use std::marker::Model;
 

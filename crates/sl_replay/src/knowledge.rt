@@ -7,13 +7,14 @@ ghost use Rattle.sl_model.specs.Knowledge.{floor_of, unit_floor, floor, issued, 
 
 use crate::history::{World, first_steps};
 use crate::tell::{id, known, least_last, taken};
-use crate::wires::{action_choice, choices_of, data_channels, observer};
+use crate::wires::{action_choice, data_channels, observer};
 use sl_machine::Memory;
 use sl_model::Step;
-use sl_net::{Input, Net, Sort};
+use sl_net::{Input, Net, Sort, choices_of};
 use std::alloc::Global;
 
-/// The least of a unit's id and the last-seen numbers of its channels and of its initiations.
+/// The least of a unit's id, the last-seen numbers of its data channels and, for an ingress unit,
+/// the last-seen number of its initiations.
 pub fn floor_of(alloc: Global, net: &Net, unit: u32, steps: &[Step]) -> Result<u64, Memory>
     requires { unit < length net.now.actors }
     ensures { IfOk result (λ floor. floor ≡ floor_of net.now unit (reverse steps.now)) }

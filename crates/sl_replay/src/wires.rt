@@ -2,10 +2,9 @@
 ghost use Rattle.std.specs.Prelude.{◌≡◌, ◌≤◌, ◌<◌, length, IfOk};
 ghost use Rattle.std.specs.List.{All};
 ghost use Rattle.sl_layout.specs.Net.{is_host, links_into, links_out, choices_of, hosts, data_channels, action_choice};
-ghost use Rattle.sl_layout.specs.Serving.{choice_from};
 
 use sl_machine::Memory;
-use sl_net::{ActorId, Net, Sort, push_if};
+use sl_net::{ActorId, Net, Sort, choices_of, push_if};
 use std::alloc::Global;
 
 /// The observer's number.
@@ -32,22 +31,6 @@ pub fn links_out(alloc: Global, net: &Net, actor: u32, sort: Sort) -> Result<Vec
     Ok(links)
 }
 
-/// The choices of an actor that take from links of a sort.
-pub fn choices_of(alloc: Global, net: &Net, actor: u32, sort: Sort) -> Result<Vec<u32>, Memory>
-    requires { actor < length net.now.actors }
-    ensures choices { IfOk result (λ choices. choices.items ≡ choices_of net.now actor sort) }
-    ensures each { IfOk result (λ choices. All (λ c. c < length (links_into net.now actor)) choices.items) }
-    ensures few { IfOk result (λ choices. length choices.items ≤ 77888) }
-{
-    let links = net.links_into(actor);
-    let mut choices = Vec::new(alloc);
-    for choice in 0..links.len() as u32 {
-        let link = net.link(links[choice as usize]);
-        push_if(&mut choices, link.sort.is(sort), choice)?;
-    }
-    Ok(choices)
-}
-
 /// The data channels of a unit, as choices.
 pub fn data_channels(alloc: Global, net: &Net, unit: u32) -> Result<Vec<u32>, Memory>
     requires { unit < length net.now.actors }
@@ -58,27 +41,6 @@ pub fn data_channels(alloc: Global, net: &Net, unit: u32) -> Result<Vec<u32>, Me
     let mut choices = choices_of(alloc, net, unit, Sort::Cable)?;
     choices.extend_from_slice(&choices_of(alloc, net, unit, Sort::Crossbar)?)?;
     Ok(choices)
-}
-
-/// The first choice of an actor that takes from a link of a sort that comes from a unit, or 0.
-pub fn choice_from(
-    alloc: Global,
-    net: &Net,
-    actor: u32,
-    unit: u32,
-    sort: Sort,
-) -> Result<u32, Memory>
-    requires { actor < length net.now.actors }
-    ensures { IfOk result (λ choice. choice ≡ choice_from net.now actor unit sort) }
-{
-    let links = net.links_into(actor);
-    let choices = choices_of(alloc, net, actor, sort)?;
-    let mut found = Vec::new(alloc);
-    for choice in &choices {
-        let link = net.link(links[*choice as usize]);
-        push_if(&mut found, link.from == unit, *choice)?;
-    }
-    Ok(found.first().copied().unwrap_or(0))
 }
 
 /// The choice of an actor's first own action.

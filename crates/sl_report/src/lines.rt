@@ -7,28 +7,14 @@ use sl_model::{Drops, Findings, Lost};
 use sl_net::{HostPart, Name, Net, Parts};
 use std::alloc::AllocError;
 
-/// How many devices a net has.
-pub fn device_count(parts: &Parts) -> usize
-    ensures { result ≡ length parts.now.devices }
-{
-    parts.devices.len()
-}
-
-/// How many hosts a net has.
-pub fn host_count(parts: &Parts) -> usize
-    ensures { result ≡ length parts.now.hosts }
-{
-    parts.hosts.len()
-}
-
 /// Writes the sizes of a net with so many units.
 #[tactic(auto, unfolding(crate::specs::Report::network_line))]
 pub fn push_network(out: &mut String, net: &Net, count: usize) -> Result<(), AllocError>
     requires { count ≡ length (units net.now) }
     ensures { OnOk result (string_bytes out.new ≡ string_bytes out.old ++ network_line net.now) }
 {
-    let devices = device_count(net.parts());
-    let hosts = host_count(net.parts());
+    let devices = net.device_count();
+    let hosts = net.host_count();
     write!(
         out,
         "network devices {devices} units {count} hosts {hosts}\n"

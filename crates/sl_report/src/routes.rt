@@ -58,25 +58,13 @@ fn push_route(
     )
 }
 
-fn host_count(net: &Net) -> u32
-    ensures { result ≡ length net.now.parts.hosts }
-{
-    net.parts().hosts.len() as u32
-}
-
-fn device_count(net: &Net) -> u32
-    ensures { result ≡ length net.now.parts.devices }
-{
-    net.parts().devices.len() as u32
-}
-
 /// Writes the routes from a device to each host.
 fn push_device(out: &mut String, net: &Net, routes: &Routes, device: u32) -> Result<(), AllocError>
     requires routes { IsRoutesOf net.now routes.now }
     requires device { device < length net.now.parts.devices }
     ensures { OnOk result (string_bytes out.new ≡ string_bytes out.old ++ device_routes net.now.parts device) }
 {
-    for host in 0..host_count(net) {
+    for host in 0..net.host_count() {
         push_route(out, net, routes, device, host)?;
     }
     Ok(())
@@ -86,7 +74,7 @@ fn push_devices(out: &mut String, net: &Net, routes: &Routes) -> Result<(), Allo
     requires { IsRoutesOf net.now routes.now }
     ensures { OnOk result (string_bytes out.new ≡ string_bytes out.old ++ flat_map (device_routes net.now.parts) (below (length net.now.parts.devices))) }
 {
-    for device in 0..device_count(net) {
+    for device in 0..net.device_count() {
         push_device(out, net, routes, device)?;
     }
     Ok(())

@@ -4,7 +4,6 @@ ghost use Rattle.sl_layout.specs.Net.{units};
 ghost use Rattle.sl_report.specs.SummaryText.{is_consistent, is_inconsistent, is_pending, is_not_issued, count_verdicts};
 ghost use Rattle.sl_report.specs.SummaryText.{sample_line, sizes_line, traffic_line, verdicts_line, verdicts_text, lost_in_all, total_lost_line, summary_text};
 
-use crate::lines::{device_count, host_count};
 use sl_machine::Memory;
 use sl_model::{Finding, Findings, Lost, Verdict};
 use sl_net::{Input, Net};
@@ -101,12 +100,7 @@ fn push_sample(out: &mut String, n: u64) -> Result<(), AllocError>
 }
 
 #[tactic(auto, unfolding(crate::specs::SummaryText::sizes_line))]
-fn push_sizes(
-    out: &mut String,
-    devices: usize,
-    units: usize,
-    hosts: usize,
-) -> Result<(), AllocError>
+fn push_sizes(out: &mut String, devices: u32, units: u32, hosts: u32) -> Result<(), AllocError>
     ensures { OnOk result (string_bytes out.new ≡ string_bytes out.old ++ sizes_line devices units hosts) }
 {
     write!(out, "devices {devices} units {units} hosts {hosts}\n")
@@ -160,13 +154,7 @@ fn push_net(out: &mut String, net: &Net) -> Result<(), AllocError>
     ensures { OnOk result (string_bytes out.new ≡ string_bytes out.old
         ++ sizes_line (length net.now.parts.devices) (length (units net.now)) (length net.now.parts.hosts)) }
 {
-    let parts = net.parts();
-    push_sizes(
-        out,
-        device_count(parts),
-        net.unit_actors().len(),
-        host_count(parts),
-    )
+    push_sizes(out, net.device_count(), net.unit_count(), net.host_count())
 }
 
 /// The summary of the findings of a run of the sample input `n`.

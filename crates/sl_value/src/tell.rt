@@ -1,6 +1,6 @@
 // What a world of nodes that keep values tells.
 ghost use Rattle.std.specs.Prelude.{◌≡◌, ◌<◌, ◌≤◌, IfOk, Some, length, map, slice_index};
-ghost use Rattle.sl_parts.specs.Parts.{numbers_from};
+ghost use Rattle.std.specs.List.{range_with_len};
 ghost use Rattle.sl_layout.specs.Net.{actor_of, units};
 ghost use Rattle.sl_model.specs.History.{history};
 ghost use Rattle.sl_value.specs.declared.verdict.ValueVerdict.{ValueVerdict};
@@ -38,7 +38,7 @@ fn values(alloc: Global, world: &ValueWorld, k: u64) -> Result<Values, Memory>
     ensures { IfOk result (λ v. v ≡ map (λ u. counted k (history (world_after world.now) u)) (units world.now.input.net)) }
 {
     let mut items = Vec::new(alloc);
-    for unit in 0..world.unit_count() {
+    for unit in 0..world.net().unit_count() {
         match world.value(unit, k) {
             Some(value) => items.push(value)?,
             None => unreachable!(),
@@ -92,7 +92,7 @@ pub fn list(
     count: u64,
 ) -> Result<ValueList, Memory>
     requires { CanList world.now observer.now.state count }
-    ensures { IfOk result (λ l. l ≡ map (value_finding world.now.input.net (world_after world.now)) (numbers_from 1 count)) }
+    ensures { IfOk result (λ l. l ≡ map (value_finding world.now.input.net (world_after world.now)) (range_with_len 1 count)) }
 {
     let mut items = Vec::new(alloc);
     for done in 0..count {

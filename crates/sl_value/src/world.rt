@@ -109,17 +109,6 @@ impl<'a> ValueWorld<'a> {
         &input.net
     }
 
-    /// How many units the net has.
-    #[tactic(auto, using(sl_observe::proofs::UnitLists::units_few))]
-    pub fn unit_count(&self) -> u32
-        ensures { result ≡ length (units self.now.input.net) }
-    {
-        let input: &Input = self.input;
-        // A net has few actors, so the places of its units fit 32 bits.
-        let _ = input.net.actors();
-        input.net.unit_actors().len() as u32
-    }
-
     /// The value of a unit for a number, where its control plane keeps one.
     pub fn value(&self, unit: u32, k: u64) -> Option<Whole>
         requires unit { unit < length (units self.now.input.net) }

@@ -1,3 +1,4 @@
+use Rattle.sl_machine.specs.declared.wiring.Link.{Link}
 use Rattle.sl_cut.proofs.ForwardFindings.{total-same}
 use Rattle.sl_model.specs.Cut.{before, crossing, data_bytes, data_count}
 use Rattle.sl_model.specs.History.{carried_by, history, taken}
@@ -12,7 +13,7 @@ use Rattle.sl_cut.proofs.values.channel_value.Goals as goal
 
 pub returns : goal.returns
 returns c = let l = c.args.link in let net = c.args.input.now.net in let w = c.args.world.now in let k = c.args.snapshot in let n : c.input.inside.net ≡ net = ap (λ (i : Input). i.net) c.input.view_is in
-    let ends = c.link-ends.ensures.link ∙ ap (λ m. link_of m l) n in let choice = c.choice_of-choice.ensures ∙ ap (λ m. choice_of m l) n in
+    let ends = c.link-ends.ensures.link ∙ ap (λ m. link_of m l) n in let choice = ap (λ (k : Link). k.choice) c.wire-choice.ensures ∙ ap (λ m. choice_of m l) n in
     let sent : c.in_ok-messages.messages.items ≡ carried_by (losses c.args.input.now) l (before k (sender net w l)) = c.in_ok-messages.ensures
     ∙ ap (carried_by (losses c.args.input.now) l) (c.before-sender.ensures.value ∙ ap (before k) (c.steps.ensures.steps ∙ ap (λ e. history w e.from) ends)) in
     let taker : reverse c.steps-receiver.result.now ≡ receiver net w l = c.steps-receiver.ensures.steps ∙ ap (λ e. history w e.to) ends in

@@ -14,5 +14,5 @@ returns-clause-reads c = λ first ps cs h.
     c.in_ok-items.ensures
     ∙ ap (λ (k : Pace). map (read_of_sum (read_after k.count k.start k.gap) c.as_slice.result.now) (below c.unit_count-count.result)) h.pace
     ∙ ap (λ (xs : List Sum). map (read_of_sum at xs) (below c.unit_count-count.result)) c.as_slice.ensures.value
-    ∙ ap (λ n. map (read_of_sum at sums) (below n)) c.unit_count-count.ensures
+    ∙ ap (λ n. map (read_of_sum at sums) (below n)) c.unit_count-count.ensures.count
     ∙ reads_same at cs (length (units c.args.net.now)) sums h.sums

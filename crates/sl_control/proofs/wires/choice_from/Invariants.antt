@@ -1,7 +1,0 @@
-use Rattle.std.proofs.Common.{◌≡◌, take}
-use Rattle.std.specs.Prelude.{filter, slice_index_or, ◌==◌}
-use Rattle.sl_layout.specs.Net.{link_of}
-use Rattle.sl_control.proofs.wires.choice_from.Given as goal
-
-abbrev pub invariant-loop-choice : goal.invariant-loop-choice
-invariant-loop-choice l = l.found.items ≡ filter (λ c. (link_of l.net (slice_index_or l.links c 0)).from == l.unit) (take l.choice-index l.choice-items)

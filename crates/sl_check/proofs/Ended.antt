@@ -26,7 +26,7 @@ use Rattle.sl_proto.specs.Calls.{KeepsStanding}
 use Rattle.sl_ending.specs.Ending.{HasEnding}
 use Rattle.sl_ending.specs.declared.ending.Ending.TheVariants.{Idle, Unfinished, Finished}
 use Rattle.sl_check.specs.Polled.{newest, is_polled, all_polled, ends_well, choose_all, last_choices}
-use Rattle.sl_check.specs.Driven.{FirstIdle, TakesAll, IsIdle, StandsIn}
+use Rattle.sl_check.specs.Driven.{FirstIdle, TakesAll, IsIdle, StandsIn, Tells}
 
 -- The last choices of actors.
 
@@ -88,11 +88,6 @@ differs n m d = go (eqb_tells n m)
     go (inr p) = p.0
 
 -- What the observer tells.
-
-pub record Tells (s : Setup) (w : World) (o : ObserverState) : Type 0 where
-  pub floor : register_floor o ≡ floor s.net w
-  pub issued : o.issued ≡ issued s.net (observer w)
-  pub resent : o.resent ≡ resent s.net (observer w)
 
 collected-told : (s : Setup) (w : World) (o : ObserverState) → Tells s w o → ((register_floor o == o.issued) && (o.issued == s.count)) ≡ is_collected s w
 collected-told s w o t = ap (λ n. (n == o.issued) && (o.issued == s.count)) t.floor ∙ ap (λ n. (floor s.net w == n) && (n == s.count)) t.issued

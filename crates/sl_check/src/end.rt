@@ -1,16 +1,20 @@
 // How the run of a schedule ends, by the nodes of an input.
-ghost use Rattle.std.specs.Prelude.{◌≡◌, [], ◌&&◌, ◌==◌, IfOk, All};
+ghost use Rattle.std.specs.Prelude.{◌≡◌, [], ◌&&◌, ◌==◌, IfOk, All, Some, slice_get};
 ghost use Rattle.sl_machine.specs.Plan.{HasChoice};
 ghost use Rattle.sl_layout.specs.Wiring.{plan_of};
+ghost use Rattle.sl_net.specs.Input.{Input};
+ghost use Rattle.sl_wire.specs.declared.message.Msg.{Msg};
 ghost use Rattle.sl_model.specs.Losses.{losses};
 ghost use Rattle.sl_model.specs.Setup.{setup_of};
 ghost use Rattle.sl_model.specs.Books.{schedule_of};
-ghost use Rattle.sl_observe.specs.Observer.{register_floor};
+ghost use Rattle.sl_observe.specs.Observer.{ObserverState, register_floor};
+ghost use Rattle.sl_world.specs.Scene.{Scene};
 ghost use Rattle.sl_world.specs.World.{scene};
+ghost use Rattle.sl_proto.specs.Nodes.{NodeState, ObserverNode};
 ghost use Rattle.sl_proto.specs.Standing.{case_of, world_of, HasObserver};
 ghost use Rattle.sl_ending.specs.Ending.{HasEnding};
 ghost use Rattle.sl_check.specs.Polled.{ends_well};
-ghost use Rattle.sl_check.specs.Driven.{StandsIn};
+ghost use Rattle.sl_check.specs.Driven.{StandsIn, Tells};
 
 use crate::last::{all_polled, last_choices};
 use crate::laws::worlds_finish_well;
@@ -32,6 +36,15 @@ fn is_collected(input: &Input, observer: &Observer) -> bool
     observer.floor() == observer.issued() && observer.issued() == input.snapshot.count
 }
 
+/// The observer's node of a world of nodes tells what the world of histories says.
+fn observer_nodes_tell()
+    ensures { (i : Input) (v : Scene NodeState Msg) (o : ObserverState) → StandsIn i v → slice_get v.states 0 ≡ Some (ObserverNode o)
+        → Tells (setup_of i) (world_of (case_of i (losses i)) v) o }
+{
+    nets_are_wired();
+    observers_tell()
+}
+
 /// Whether a world that has these turns, and is settled, is finished: all snapshots are issued and
 /// collected, or no retry is left and the last step of each unit took a poll.
 fn ends_well(
@@ -45,8 +58,7 @@ fn ends_well(
     requires schedule { schedule_of (scene world.now).book ≡ schedule.now }
     ensures { IfOk result (λ ends. ends ≡ ends_well (setup_of input.now) (world_of (case_of input.now (losses input.now)) (scene world.now))) }
 {
-    nets_are_wired();
-    observers_tell();
+    observer_nodes_tell();
     worlds_take_turns();
     let observer = world.observer();
     if is_collected(input, observer) {

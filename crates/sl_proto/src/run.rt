@@ -1,8 +1,11 @@
 // The run of an input's script on its nodes, by whoever takes turns of them.
 ghost use Rattle.std.specs.Prelude.{◌≡◌, ◌<◌, ◌^◌, [], IfOk, length};
 ghost use Rattle.sl_layout.specs.Wiring.{plan_of};
+ghost use Rattle.sl_wire.specs.declared.message.Msg.{Msg};
 ghost use Rattle.sl_model.specs.Losses.{losses};
+ghost use Rattle.sl_world.specs.Scene.{Scene};
 ghost use Rattle.sl_world.specs.World.{scene};
+ghost use Rattle.sl_proto.specs.Nodes.{NodeState};
 ghost use Rattle.sl_proto.specs.Standing.{case_of, StandsFor, HasObserver};
 ghost use Rattle.sl_proto.specs.RunBook.{CanRun, IsFirstScene, IsRunBook};
 
@@ -22,6 +25,17 @@ use sl_net::Input;
 use sl_world::World;
 use std::alloc::Global;
 
+/// The scene where nothing has happened to the nodes of an input stands for the world of the empty
+/// book.
+fn first_scenes_stand(input: &Input)
+    requires { CanRun input.now }
+    ensures { (v : Scene NodeState Msg) → IsFirstScene input.now v → StandsFor input.now.net (case_of input.now (losses input.now)) v }
+{
+    nodes_stand_at_first();
+    inputs_spare_reliable_links();
+    let _wiring = input.net.wiring();
+}
+
 /// The world of an input's nodes before the first turn. It stands for that of the empty book.
 pub fn first_world(alloc: Global, input: &Input) -> Result<World<Node>, Memory>
     requires { CanRun input.now }
@@ -32,8 +46,7 @@ pub fn first_world(alloc: Global, input: &Input) -> Result<World<Node>, Memory>
     ensures book { IfOk result (λ w. (scene w).book ≡ []) }
 {
     nodes_stand_at_first();
-    inputs_spare_reliable_links();
-    let _wiring = input.net.wiring();
+    first_scenes_stand(input);
     let losses = make_losses(alloc, input)?;
     build_world(alloc, input, losses)
 }
@@ -50,12 +63,11 @@ pub fn run_script<T: Taker>(alloc: Global, input: &Input, taker: &mut T) -> Resu
     ensures fixed { T.fixed taker.new ≡ T.fixed taker.old }
 {
     nodes_stand_at_first();
-    inputs_spare_reliable_links();
+    first_scenes_stand(input);
     inputs_are_bounded();
     cuts_are_consistent();
     worlds_take_turns();
     books_grow_by_turns();
-    let _wiring = input.net.wiring();
     drive_script(alloc, &input.net, taker, input.script.as_slice())?;
     let front = taker.entries();
     finish(alloc, &input.net, taker)?;

@@ -1,7 +1,7 @@
 -- The world of nodes that keep values stands for histories.
 use Rattle.std.proofs.Common.{◌≡◌, ℕ, zero, suc, ◌+◌, List, [], ◌∷◌, length, map, refl, sym, ap, subst, ◌∙◌, Some, arith}
 use Rattle.std.specs.Prelude.{slice_get}
-use Rattle.sl_parts.specs.Parts.{numbers_from}
+use Rattle.std.specs.List.{range_with_len}
 use Rattle.sl_layout.specs.declared.actor.ActorId.{ActorId}
 use Rattle.sl_layout.specs.declared.actor.ActorId.TheVariants.{Observer, Control, Unit as OfUnit, Host as OfHost}
 use Rattle.sl_layout.specs.Net.{Net, actor_of, unit_place}
@@ -36,7 +36,7 @@ first-none n [] e = refl
 first-none n (s ∷ h) e = absurd (cc)
 
 none-told : (net : Net) (u : ℕ) (g : History) → g ≡ [] → values_told net u g ≡ []
-none-told net u [] e = let z : upto_of net u [] ≡ 0 = omega (arith, upto-id net u []) in ap (λ n. map (λ k. counted k []) (numbers_from 1 n)) z
+none-told net u [] e = let z : upto_of net u [] ≡ 0 = omega (arith, upto-id net u []) in ap (λ n. map (λ k. counted k []) (range_with_len 1 n)) z
 none-told net u (s ∷ g) e = absurd (cc)
 
 start-kept : TakesTurns → (net : Net) (a : ℕ) (vs : List Served) → map (λ v. no_values (unit_place net v.unit)) vs ≡ map (kept_told net (history (start net)) a) vs
@@ -45,29 +45,18 @@ start-kept turns net a (v ∷ vs) =
     let x = none-told net v.unit (told_of (history (start net)) v (history (start net) a)) (first-none (dumped v.dump (history (start net) a)) (history (start net) v.unit) (turns.starts net v.unit)) in
     let y = start-kept turns net a vs in λ i. record { unit = unit_place net v.unit; values = sym x i } ∷ y i
 
+-- an actor that stands as a node of another kind than a control plane's is no control plane
+no-control : (s : Setup) (table : Snapshot) (a : ℕ) (n : NodeState) → ((d : ℕ) → StandsAs s table (start s.net) a (Control d) n → ⊥) → (y : ActorId) → StandsAs s table (start s.net) a y n → IsNoControl y
+no-control s table a n other Observer h = tt
+no-control s table a n other (Control d) h = other d h
+no-control s table a n other (OfUnit i) h = tt
+no-control s table a n other (OfHost i) h = tt
+
 pub start-stands : TakesTurns → (s : Setup) (table : Snapshot) (a : ℕ) (n : NodeState) → NodeStands s table (start s.net) a n → ValueStands s table (start s.net) a (with_values s.net a n)
 start-stands turns s table a (ControlNode c) h = record { node = h; values = start-kept turns s.net a (served s.net a) }
-start-stands turns s table a (ObserverNode o) h = record { node = h; values = by_actor (actor_of s.net a) h }
-  where
-    by_actor : (y : ActorId) → StandsAs s table (start s.net) a y (ObserverNode o) → IsNoControl y
-    by_actor Observer h = tt
-    by_actor (Control d) h = h
-    by_actor (OfUnit i) h = tt
-    by_actor (OfHost i) h = tt
-start-stands turns s table a (UnitNode o) h = record { node = h; values = by_actor (actor_of s.net a) h }
-  where
-    by_actor : (y : ActorId) → StandsAs s table (start s.net) a y (UnitNode o) → IsNoControl y
-    by_actor Observer h = tt
-    by_actor (Control d) h = h
-    by_actor (OfUnit i) h = tt
-    by_actor (OfHost i) h = tt
-start-stands turns s table a (HostNode o) h = record { node = h; values = by_actor (actor_of s.net a) h }
-  where
-    by_actor : (y : ActorId) → StandsAs s table (start s.net) a y (HostNode o) → IsNoControl y
-    by_actor Observer h = tt
-    by_actor (Control d) h = h
-    by_actor (OfUnit i) h = tt
-    by_actor (OfHost i) h = tt
+start-stands turns s table a (ObserverNode o) h = record { node = h; values = no-control s table a (ObserverNode o) (λ d x. x) (actor_of s.net a) h }
+start-stands turns s table a (UnitNode o) h = record { node = h; values = no-control s table a (UnitNode o) (λ d x. x) (actor_of s.net a) h }
+start-stands turns s table a (HostNode o) h = record { node = h; values = no-control s table a (HostNode o) (λ d x. x) (actor_of s.net a) h }
 
 -- the first state of an actor
 pub with-at : (net : Net) (n : ℕ) (ss : List NodeState) (a : ℕ) (state : ValueNodeState) → slice_get (with_all net n ss) a ≡ Some state → (s : NodeState) × ((slice_get ss a ≡ Some s) × (state ≡ with_values net (n + a) s))

@@ -6,8 +6,7 @@ use Rattle.sl_model.specs.Setup.{setup_of}
 use Rattle.sl_model.specs.Books.{schedule_of}
 use Rattle.sl_world.specs.World.{scene}
 use Rattle.sl_proto.specs.Standing.{case_of, world_of}
-use Rattle.sl_proto.proofs.Endings.{stands-first}
-use Rattle.sl_check.proofs.Ended.{Tells, ends-as, polled-is, differs, last-length}
+use Rattle.sl_check.proofs.Ended.{ends-as, polled-is, differs, last-length}
 use Rattle.sl_check.proofs.end.ends_well.Goals as goal
 
 pub returns-then-is_collected : goal.returns-then-is_collected
@@ -16,12 +15,7 @@ returns-then-is_collected c =
     let x = case_of i (losses i) in
     let v = scene c.args.world.now in
     let o = c.observer-observer.result.now.state in
-    let is = stands-first i.net x v o (c.nets_are_wired.ensures i.net c.requires.stands.runnable.net).observer c.requires.stands c.observer-observer.ensures in
-    let tells : Tells (setup_of i) (world_of x v) o = record {
-      floor = c.observers_tell.ensures.floor x.setup x.lost x.table (schedule_of v.book) o is;
-      issued = c.observers_tell.ensures.issued x.setup x.lost x.table (schedule_of v.book) o is;
-      resent = c.observers_tell.ensures.resent x.setup x.lost x.table (schedule_of v.book) o is;
-    } in
+    let tells = c.observer_nodes_tell.ensures i v o c.requires.stands c.observer-observer.ensures in
     ends-as (setup_of i) (world_of x v) o true _ _ tells (sym c.is_collected.ensures ∙ c.if-is_collected.true) refl refl
 
 pub returns-then-resent-input : goal.returns-then-resent-input
@@ -30,12 +24,7 @@ returns-then-resent-input c =
     let x = case_of i (losses i) in
     let v = scene c.args.world.now in
     let o = c.observer-observer.result.now.state in
-    let is = stands-first i.net x v o (c.nets_are_wired.ensures i.net c.requires.stands.runnable.net).observer c.requires.stands c.observer-observer.ensures in
-    let tells : Tells (setup_of i) (world_of x v) o = record {
-      floor = c.observers_tell.ensures.floor x.setup x.lost x.table (schedule_of v.book) o is;
-      issued = c.observers_tell.ensures.issued x.setup x.lost x.table (schedule_of v.book) o is;
-      resent = c.observers_tell.ensures.resent x.setup x.lost x.table (schedule_of v.book) o is;
-    } in
+    let tells = c.observer_nodes_tell.ensures i v o c.requires.stands c.observer-observer.ensures in
     let retries : c.input.inside.snapshot.retries ≡ i.snapshot.retries = ap (λ (i : Input). i.snapshot.retries) c.input.view_is in
     ends-as (setup_of i) (world_of x v) o false false _ tells (sym c.is_collected.ensures ∙ c.if-is_collected.false)
     (differs o.resent i.snapshot.retries (λ e. c.if-resent-input.true (c.resent.ensures ∙ e ∙ sym retries))) refl
@@ -46,12 +35,7 @@ returns c =
     let x = case_of i (losses i) in
     let v = scene c.args.world.now in
     let o = c.observer-observer.result.now.state in
-    let is = stands-first i.net x v o (c.nets_are_wired.ensures i.net c.requires.stands.runnable.net).observer c.requires.stands c.observer-observer.ensures in
-    let tells : Tells (setup_of i) (world_of x v) o = record {
-      floor = c.observers_tell.ensures.floor x.setup x.lost x.table (schedule_of v.book) o is;
-      issued = c.observers_tell.ensures.issued x.setup x.lost x.table (schedule_of v.book) o is;
-      resent = c.observers_tell.ensures.resent x.setup x.lost x.table (schedule_of v.book) o is;
-    } in
+    let tells = c.observer_nodes_tell.ensures i v o c.requires.stands c.observer-observer.ensures in
     let retries : c.input.inside.snapshot.retries ≡ i.snapshot.retries = ap (λ (i : Input). i.snapshot.retries) c.input.view_is in
     let net : c.input.inside.net ≡ i.net = ap (λ (i : Input). i.net) c.input.view_is in
     let each : (length c.actors.result.now) ≡ length i.net.actors = ap length c.actors.ensures.now ∙ ap (λ (n : Net). length n.actors) net in

@@ -15,8 +15,4 @@ returns-clause-state c =
     c.in_ok-unit.ensures.state ∙ ap (λ a. first_unit input a side) here
 
 pub returns-clause-counts : goal.returns-clause-counts
-returns-clause-counts c =
-    let input = c.args.input.now in
-    let side = c.args.unit.side in
-    let here : slice_index (units input.net) c.unit_place-place.result ≡ c.args.actor = ap (slice_index (units input.net)) (c.unit_place-place.ensures ∙ ap (λ (i : Input). unit_place i.net c.args.actor) c.input.view_is) ∙ (unit_stands input.net c.args.actor c.args.unit c.nets_have_ways.ensures c.requires.actor).is in
-    unit_counts_are input c.args.actor c.args.unit side (unit_state c.in_ok-unit.unit) c.requires.actor (c.in_ok-unit.ensures.state ∙ ap (λ a. first_unit input a side) here)
+returns-clause-counts c = unit_counts_are c.args.input.now c.args.actor c.args.unit c.args.unit.side (unit_state c.in_ok-unit.unit) c.requires.actor (returns-clause-state c)

@@ -1,7 +1,5 @@
 use Rattle.std.proofs.Common.{◌≡◌, List, [], sym, subst, ap, ◌∙◌}
-use Rattle.sl_machine.specs.Plan.{IsSound}
 use Rattle.sl_layout.specs.Net.{Net}
-use Rattle.sl_layout.specs.Wiring.{plan_of}
 use Rattle.sl_net.specs.declared.input.Script1.{Script1}
 use Rattle.sl_net.specs.Input.{Input}
 use Rattle.sl_wire.specs.declared.message.Msg.{Msg}
@@ -13,7 +11,7 @@ use Rattle.sl_proto.specs.Nodes.{NodeState}
 use Rattle.sl_proto.specs.Runs.{Follows}
 use Rattle.sl_proto.specs.Standing.{case_of, run_at, StandsFor}
 use Rattle.sl_proto.specs.RunBook.{IsRunBook}
-use Rattle.sl_proto.proofs.Books.{runnable, is-run}
+use Rattle.sl_proto.proofs.Books.{is-run}
 use Rattle.sl_proto.proofs.run.run_script.Goals as goal
 
 pub returns-clause-stands : goal.returns-clause-stands
@@ -22,11 +20,8 @@ returns-clause-stands g c =
     let x = case_of i (losses i) in
     let v = g.T.Taker.scene c.args.taker.now in
     let net : c.input.inside.net ≡ i.net = ap (λ (i : Input). i.net) c.input.view_is in
-    let sound : IsSound (plan_of i.net) = subst IsSound (c.wiring-wiring.ensures.now ∙ ap (λ (i : Input). plan_of i.net) c.input.view_is) c.wiring-wiring.ensures.sound in
-    let can = runnable i (losses i) c.requires.can sound (c.inputs_spare_reliable_links.ensures i) in
-    let begun : StandsFor i.net x v = subst (StandsFor i.net x) (sym c.requires.first.is) (c.nodes_stand_at_first.ensures.stands i (losses i) c.requires.first.losses_are can c.requires.can.snapshot c.requires.first.new) in
     subst (λ (n : Net). StandsFor n x (g.T.Taker.scene c.finish.new.taker)) net
-    (c.finish.ensures.stands x (c.drive_script.ensures.stands x (subst (λ (n : Net). StandsFor n x v) (sym net) begun)))
+    (c.finish.ensures.stands x (c.drive_script.ensures.stands x (subst (λ (n : Net). StandsFor n x v) (sym net) (c.first_scenes_stand.ensures v c.requires.first))))
 
 pub returns-clause-book : goal.returns-clause-book
 returns-clause-book g c =
@@ -36,10 +31,7 @@ returns-clause-book g c =
     let u = g.T.Taker.scene c.drive_script.new.taker in
     let t = g.T.Taker.scene c.finish.new.taker in
     let net : c.input.inside.net ≡ i.net = ap (λ (i : Input). i.net) c.input.view_is in
-    let sound : IsSound (plan_of i.net) = subst IsSound (c.wiring-wiring.ensures.now ∙ ap (λ (i : Input). plan_of i.net) c.input.view_is) c.wiring-wiring.ensures.sound in
-    let can = runnable i (losses i) c.requires.can sound (c.inputs_spare_reliable_links.ensures i) in
-    let begun : StandsFor i.net x v = subst (StandsFor i.net x) (sym c.requires.first.is) (c.nodes_stand_at_first.ensures.stands i (losses i) c.requires.first.losses_are can c.requires.can.snapshot c.requires.first.new) in
-    let first : StandsFor c.input.inside.net x v = subst (λ (n : Net). StandsFor n x v) (sym net) begun in
+    let first : StandsFor c.input.inside.net x v = subst (λ (n : Net). StandsFor n x v) (sym net) (c.first_scenes_stand.ensures v c.requires.first) in
     let script : c.as_slice.result.now ≡ i.script = c.as_slice.ensures.value ∙ ap (λ (i : Input). i.script) c.input.view_is in
     let follows : Follows (setup_of i) (losses i) (run_at x v) (expand i.net i.script) (run_at x u) =
     subst (λ (s : List Script1). Follows (setup_of i) (losses i) (run_at x v) (expand i.net s) (run_at x u)) script

@@ -74,7 +74,7 @@ pub fn worlds_finish_well()
     polled_units_are_known()
 }
 
-/// A claim has one answer.
+/// A claim has at most one answer.
 pub fn claims_have_one_answer(input: &Input)
     ensures { (claim : List ℕ) (a b : Checked) → IsAnswer input.now claim a → IsAnswer input.now claim b → a ≡ b }
 {

@@ -57,10 +57,11 @@ pub fn forged_frames_put_nothing()
         → next_step s lost (world s lost es) e ≡ Some step → step.taken ≡ Some (HostMsg bytes) → packet_of bytes ≡ None → step.puts ≡ [] }
 {}
 
-/// All that a report tells of a unit is told of its history without the steps that took frames of
-/// hosts which are no plain frames: its id and last-seen ids, what it counted, what it dropped as
-/// expired or without a route, the calls on its saved entries, its values, rows and lags at each
-/// snapshot, and why it makes one inconsistent.
+/// All that a report tells of a unit, but the count of bad frames, is told of its history without
+/// the steps that took frames of hosts which are no plain frames: its id and last-seen ids, what it
+/// counted, what it dropped as expired or without a route, the calls on its saved entries, its
+/// values, rows and lags at each snapshot, and why it makes one inconsistent. Without these steps
+/// no frame is bad.
 pub fn forged_frames_change_nothing()
     ensures id { (h : History) → id (without_forged h) ≡ id h }
     ensures last { (c : ℕ) (h : History) → last c (without_forged h) ≡ last c h }

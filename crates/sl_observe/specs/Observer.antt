@@ -1,9 +1,9 @@
 -- The observer: what it stands for, and what its turns do. It issues snapshots by number, and collects what the units saved for each
 -- (Yaseen, Sonchack and Liu 2018).
---     observer_take      it takes a report on a unit
---     observer_act       it issues the next snapshot, or begins the last one again
---     register_floor           the number up to which it has collected all units
---     first_state        before its first turn
+--     observer_take     it takes a report on a unit
+--     observer_act      it issues the next snapshot, or begins the last one again
+--     register_floor    the number up to which it has collected all units
+--     first_state       before its first turn
 use Rattle.std.specs.Prelude.{ℕ, suc, ◌+◌, ◌-◌, Bool, true, ◌&&◌, ◌==◌, nat_lt, nat_le, if◌then◌else◌, List, [], ◌∷◌, ◌++◌, map, length, replicate, slice_get, slice_set, slice_index_or, Option, Some, None, unwrap_or}
 use Rattle.sl_machine.specs.Machine.{After, Rules, Counts, send_all}
 use Rattle.sl_layout.specs.Devices.{device_of}

@@ -26,7 +26,8 @@ impl Model for Rows {
     ghost view = { λ r. r.items.items };
 }
 
-/// What a control plane tells the observer of a unit.
+/// What a control plane tells the observer of a unit, by a dump that it took. The ids are whole
+/// numbers.
 #[derive(Debug, Drop)]
 pub struct Done {
     /// The unit's place among the units of the net.
@@ -35,10 +36,11 @@ pub struct Done {
     pub id: u64,
     /// Its last-seen ids on its data channels in order, 0 past them.
     pub last: [u64; 8],
-    /// The number that its id and all its last-seen ids have reached, that of its control plane
-    /// too where it is an ingress unit.
+    /// The least of its id, its last-seen ids on its data channels and, where it is an ingress
+    /// unit, the last-seen id of its control plane.
     pub floor: u64,
-    /// The rows that came.
+    /// What it saved for each number above those collected before, up to the least of its id and
+    /// its last-seen ids on its data channels.
     pub rows: Rows,
 }
 

@@ -3,10 +3,15 @@
 import argparse
 import os
 import sys
+from pathlib import Path
 
 from .inputs import Refusal
 from .program import NoProgram
 from .reports import NoReport
+
+
+# The one place of the version.
+VERSION = Path(__file__).resolve().parents[2] / "VERSION"
 
 
 class Trouble(Exception):
@@ -14,9 +19,11 @@ class Trouble(Exception):
 
 
 def parser(name, description, **more):
-    return argparse.ArgumentParser(
+    made = argparse.ArgumentParser(
         prog=name, description=description, formatter_class=argparse.RawDescriptionHelpFormatter, **more
     )
+    made.add_argument("--version", action="version", version=f"speedlight {VERSION.read_text(encoding='utf-8').strip()}")
+    return made
 
 
 def main(name, body):

@@ -195,8 +195,8 @@ fn check_turns(
 fn list_and_ring_are_read_alike(rt: HostRuntime) -> Result<(), Fail> {
     for credits in 1..5u8 {
         check_turns(&rt, rt.alloc(), 3, 3, credits)?;
-        check_turns(&rt, rt.alloc(), 7, 32, credits)?;
-        check_turns(&rt, rt.alloc(), 7, 33, credits)?;
+        check_turns(&rt, rt.alloc(), 7, 16, credits)?;
+        check_turns(&rt, rt.alloc(), 7, 17, credits)?;
         check_turns(&rt, rt.alloc(), 40, 40, credits)?;
     }
     Ok(())

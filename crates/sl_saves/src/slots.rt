@@ -12,7 +12,7 @@ use std::marker::Model;
 use std::mem;
 
 /// So many slots are not shared, since a copy of them costs less.
-const FEW: usize = 32;
+const FEW: usize = 16;
 
 /// A list of slots. Where it is shared, `items` has room for them and no slot.
 #[derive(Debug, Drop)]

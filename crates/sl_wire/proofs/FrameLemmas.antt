@@ -1,13 +1,13 @@
 -- A frame is read as the version, header and packet that it was made of.
 use Rattle.std.proofs.Common.{◌≡◌, ℕ, Result, Err, zero, suc, Some, subst, ◌<◌, length, get_or, drop, ◌+◌, ◌-◌, ◌*◌, ◌/◌, ◌%◌, ◌==◌, ◌||◌, Bool, true, false, List, [], ◌∷◌, Ok, refl, arith, sym, ◌∙◌, ap, inl, inr}
 use Rattle.std.proofs.lemmas.Bool.{and_parts, or_cases, or_left, eqb-true, eq-eqb}
-use Rattle.std.specs.Prelude.{slice_range}
+use Rattle.std.specs.Prelude.{slice_range, slice_index, IfOk}
 use Rattle.sl_wire.specs.declared.frame.Kind.{Kind}
 use Rattle.sl_wire.specs.declared.frame.Kind.TheVariants.{Plain, Carried, Probe, Init}
 use Rattle.sl_wire.specs.declared.frame.Header.{Header}
 use Rattle.sl_net.specs.declared.input.Packet.{Packet}
 use Rattle.sl_wire.specs.declared.frame.WireFault.{WireFault}
-use Rattle.sl_wire.specs.Frames.{frame, decoded, columns_decoded, check_of, check_in, id_in, kind_decoded, kind_byte, header_of, number, packet_fits, all_zero, packet_of, reserved_in, version_fits, id_fits, channel_fits, PacketFits, IsZeroPacket, IsBytes, IsFrame}
+use Rattle.sl_wire.specs.Frames.{frame, decoded, columns_decoded, check_of, check_in, id_in, kind_decoded, kind_byte, kind_of, header_of, number, packet_fits, all_zero, packet_of, reserved_in, version_fits, id_fits, channel_fits, PacketFits, IsZeroPacket, IsBytes, IsFrame}
 
 split : (n : ℕ) → n / 256 * 256 + n % 256 ≡ n
 split n = omega arith
@@ -77,10 +77,13 @@ zero_at [] e i = refl
 zero_at (x ∷ xs) e zero = eqb-true x 0 (and_parts (x == 0) (all_zero xs) e).0
 zero_at (x ∷ xs) e (suc i) = zero_at xs (and_parts (x == 0) (all_zero xs) e).1 i
 
+abbrev pub cells_by : (ℕ → ℕ) → List ℕ
+cells_by b = b 0 ∷ b 1 ∷ b 2 ∷ b 3 ∷ b 4 ∷ b 5 ∷ b 6 ∷ b 7 ∷ b 8 ∷ b 9 ∷ b 10 ∷ b 11 ∷ b 12 ∷ b 13 ∷ b 14 ∷ b 15
+    ∷ b 16 ∷ b 17 ∷ b 18 ∷ b 19 ∷ b 20 ∷ b 21 ∷ b 22 ∷ b 23 ∷ []
+
 module _ (m : ℕ) (b : ℕ → ℕ) (fits : (i : ℕ) → b i < 256) where
   abbrev cells : List ℕ
-  cells = b 0 ∷ b 1 ∷ b 2 ∷ b 3 ∷ b 4 ∷ b 5 ∷ b 6 ∷ b 7 ∷ b 8 ∷ b 9 ∷ b 10 ∷ b 11 ∷ b 12 ∷ b 13 ∷ b 14 ∷ b 15
-      ∷ b 16 ∷ b 17 ∷ b 18 ∷ b 19 ∷ b 20 ∷ b 21 ∷ b 22 ∷ b 23 ∷ []
+  cells = cells_by b
 
   -- the bytes from 16 on, in a version
   abbrev Ends : ℕ → Type 0
@@ -226,17 +229,31 @@ unfolding tail_at
 bytes_tail bs h zero = h
 bytes_tail bs h (suc i) = bytes_drop (tail_at i bs) (bytes_tail bs h i)
 
+-- what holds of any 24 cells holds of 24 bytes
+pub by_cells : (P : List ℕ → Type 0) → ((b : ℕ → ℕ) → ((i : ℕ) → b i < 256) → P (cells_by b)) → (bs : List ℕ) → length bs ≡ 24 → IsBytes bs → P bs
+unfolding tail_at
+by_cells P all bs l bytes = subst P (sym (cells_all 24 bs l)) (all (λ i. get_or (tail_at i bs) 0 0) (λ i. bytes_tail bs bytes i 0))
+
 -- what is decoded is the frame of it
 pub frame-spelled : (bits : ℕ) (bytes : List ℕ) (v : ℕ) (h : Header) (p : Packet) → IsBytes bytes → decoded bits bytes ≡ Ok (v, h, p) → IsFrame bits bytes v h p
-unfolding decoded tail_at
+unfolding decoded
 frame-spelled m bs v h p bytes e = go (length bs == 24) refl
   where
     go : (t : Bool) → (length bs == 24) ≡ t → IsFrame m bs v h p
     go false t = let bad = rw t at e in absurd (cc)
-    go true t =
-        let is : bs ≡ cells_of 24 bs = cells_all 24 bs (eqb-true (length bs) 24 t) in
-        let told : decoded m (cells_of 24 bs) ≡ Ok (v, h, p) = subst (λ (xs : List ℕ). decoded m xs ≡ Ok (v, h, p)) is e in
-        subst (λ (xs : List ℕ). IsFrame m xs v h p) (sym is) (found_cells m (λ i. get_or (tail_at i bs) 0 0) (λ i. bytes_tail bs bytes i 0) (v, h, p) told)
+    go true t = by_cells (λ (xs : List ℕ). decoded m xs ≡ Ok (v, h, p) → IsFrame m xs v h p) (λ b fits. found_cells m b fits (v, h, p))
+        bs (eqb-true (length bs) 24 t) bytes e
+
+pub frame-found : (bits : ℕ) (bytes : List ℕ) (r : Result (ℕ × Header × Packet) WireFault) → IsBytes bytes → r ≡ decoded bits bytes
+    → IfOk r (λ read. IsFrame bits bytes read.0 read.1 read.2)
+frame-found bits bytes (Ok x) fits e = frame-spelled bits bytes x.0 x.1 x.2 fits (sym e)
+frame-found bits bytes (Err fault) fits e = tt
+
+-- what 24 bytes say, by their kind
+pub decoded_by : (bits : ℕ) (bytes : List ℕ) (kind : Kind) → length bytes ≡ 24 → kind_of (slice_index bytes 0) ≡ Some kind
+    → decoded bits bytes ≡ kind_decoded bits bytes (Some kind)
+unfolding decoded
+decoded_by bits bytes kind l e = rw (l, e) refl
 
 -- what one frame is of is one
 pub frame-unique : (bits : ℕ) (bytes : List ℕ) (v w : ℕ) (h g : Header) (p q : Packet) → IsFrame bits bytes v h p → IsFrame bits bytes w g q → (v ≡ w) × (h ≡ g) × (p ≡ q)

@@ -120,6 +120,12 @@ number high low = high * 256 + low
 abbrev pub wide_number : ℕ → ℕ → ℕ
 wide_number high low = high * 65536 + low
 
+-- the eight bytes from a place on as one number
+abbrev pub word : List ℕ → ℕ → ℕ
+word bytes at =
+    ((((((slice_index bytes at * 256 + slice_index bytes (at + 1)) * 256 + slice_index bytes (at + 2)) * 256 + slice_index bytes (at + 3)) * 256
+    + slice_index bytes (at + 4)) * 256 + slice_index bytes (at + 5)) * 256 + slice_index bytes (at + 6)) * 256 + slice_index bytes (at + 7)
+
 abbrev pub all_zero : List ℕ → Bool
 all_zero [] = true
 all_zero (b ∷ bs) = b == 0 && all_zero bs

@@ -1,6 +1,6 @@
 // Frames as bytes, and bytes as frames.
-ghost use Rattle.std.specs.Prelude.{◌≡◌, ℕ, ◌/◌, ◌%◌, length, IfOk, Ok};
-ghost use Rattle.sl_wire.specs.Frames.{kind_of, kind_byte, channel_fits, version_fits, id_fits, check_of, number, wide_number, all_zero, packet_of, packet_fits, frame, plain_header, plain_frame, decoded, IsCanonical, IsFrame};
+ghost use Rattle.std.specs.Prelude.{◌≡◌, ◌≢◌, ◌≤◌, ◌+◌, ℕ, ◌/◌, ◌%◌, length, slice_range, IfOk, Ok, Some};
+ghost use Rattle.sl_wire.specs.Frames.{kind_of, kind_byte, channel_fits, stamp_fits, check_of, number, wide_number, word, all_zero, packet_of, packet_fits, reserved_in, kind_decoded, frame, plain_header, plain_frame, decoded, IsCanonical, IsFrame};
 
 use sl_ids::{Wid, Width};
 use sl_net::Packet;
@@ -84,21 +84,53 @@ pub fn decode(width: Width, bytes: &[u8]) -> Result<(u8, Header, Packet), WireFa
     if bytes.len() != 24 {
         return Err(WireFault::E1);
     }
-    let version = bytes[15];
-    let kind = match kind_of(bytes[0]) {
-        Some(kind) if version_fits(kind, version) => kind,
-        _ => return Err(WireFault::E2),
+    match kind_of(bytes[0]) {
+        None => Err(WireFault::E2),
+        Some(Kind::Plain) => decode_plain(bytes),
+        Some(kind) => decode_stamped(width, kind, bytes),
+    }
+}
+
+/// What 24 bytes say where byte 0 is that of a plain frame.
+#[tactic(auto, unfolding(crate::specs::Frames::decoded))]
+fn decode_plain(bytes: &[u8]) -> Result<(u8, Header, Packet), WireFault>
+    requires { length bytes.now ≡ 24 }
+    ensures { (bits : ℕ) → result ≡ kind_decoded bits bytes.now (Some Kind.Plain) }
+{
+    if bytes[15] != 1 {
+        return Err(WireFault::E2);
+    }
+    if number(bytes[2], bytes[3]) != 0 {
+        return Err(WireFault::E3);
+    }
+    if bytes[1] != 0 || !is_reserved(1, bytes) {
+        return Err(WireFault::E4);
+    }
+    let header = Header {
+        kind: Kind::Plain,
+        id: Wid { raw: 0 },
+        channel: 0,
     };
+    Ok((1, header, packet_of(bytes)))
+}
+
+/// What 24 bytes say where byte 0 is that of a kind with an id.
+#[tactic(auto, unfolding(crate::specs::Frames::decoded))]
+fn decode_stamped(width: Width, kind: Kind, bytes: &[u8]) -> Result<(u8, Header, Packet), WireFault>
+    requires bytes { length bytes.now ≡ 24 }
+    requires kind { kind ≢ Kind.Plain }
+    ensures { result ≡ kind_decoded width.bits bytes.now (Some kind) }
+{
+    let version = bytes[15];
+    if version != 1 && version != 2 {
+        return Err(WireFault::E2);
+    }
     let raw = number(bytes[2], bytes[3]);
-    if !id_fits(width, version, kind, raw) {
+    if !stamp_fits(width, version, raw) {
         return Err(WireFault::E3);
     }
     let channel = bytes[1];
-    let reserved = if version == 2 { 18 } else { 16 };
-    if !channel_fits(kind, channel)
-        || !packet_fits(kind, bytes)
-        || !all_zero(&bytes[reserved..24])
-    {
+    if !channel_fits(kind, channel) || !packet_fits(kind, bytes) || !is_reserved(version, bytes) {
         return Err(WireFault::E4);
     }
     if version == 2 && number(bytes[16], bytes[17]) != 65535 - raw {
@@ -153,6 +185,7 @@ pub fn frame_of(version: u8, header: &Header, packet: &Packet) -> Frame
     Frame { bytes }
 }
 
+#[inline(always)]
 #[tactic(auto, unfolding(crate::specs::Frames::packet_of))]
 fn packet_of(bytes: &[u8]) -> Packet
     requires { length bytes.now ≡ 24 }
@@ -205,22 +238,10 @@ fn channel_fits(kind: Kind, channel: u8) -> bool
     }
 }
 
-fn version_fits(kind: Kind, version: u8) -> bool
-    ensures { result ≡ version_fits kind version }
+fn stamp_fits(width: Width, version: u8, id: u16) -> bool
+    ensures { result ≡ stamp_fits width.bits version id }
 {
-    match kind {
-        Kind::Plain => version == 1,
-        _ => version == 1 || version == 2,
-    }
-}
-
-fn id_fits(width: Width, version: u8, kind: Kind, id: u16) -> bool
-    ensures { result ≡ id_fits width.bits version kind id }
-{
-    match kind {
-        Kind::Plain => id == 0,
-        _ => u32::from(id) < width.modulus() && (version == 2 || id < 256),
-    }
+    u32::from(id) < width.modulus() && (version == 2 || id < 256)
 }
 
 fn check_of(version: u8, id: u16) -> u16
@@ -235,19 +256,48 @@ fn packet_fits(kind: Kind, bytes: &[u8]) -> bool
 {
     match kind {
         Kind::Plain | Kind::Carried => true,
-        Kind::Probe | Kind::Init => all_zero(&bytes[4..15]),
+        Kind::Probe | Kind::Init => has_no_packet(bytes),
     }
 }
 
-fn all_zero(bytes: &[u8]) -> bool
-    ensures { result ≡ all_zero bytes.now }
+/// Whether the bytes of a packet are 0.
+fn has_no_packet(bytes: &[u8]) -> bool
+    requires { length bytes.now ≡ 24 }
+    ensures { result ≡ all_zero (slice_range bytes.now 4 15) }
 {
-    for byte in bytes {
-        if *byte != 0 {
-            return false;
-        }
+    eight(bytes, 4) == 0 && eight(bytes, 7) == 0
+}
+
+/// Whether the bytes after the version, and after the check of version 2, are 0.
+#[inline(always)]
+fn is_reserved(version: u8, bytes: &[u8]) -> bool
+    requires { length bytes.now ≡ 24 }
+    ensures { result ≡ all_zero (reserved_in version bytes.now) }
+{
+    let tail = eight(bytes, 16);
+    if version == 2 {
+        tail % 281_474_976_710_656 == 0
+    } else {
+        tail == 0
     }
-    true
+}
+
+/// The eight bytes from a place on as one number.
+#[inline(always)]
+fn eight(bytes: &[u8], at: usize) -> u64
+    requires { at + 8 ≤ length bytes.now }
+    ensures { result ≡ word bytes.now at }
+{
+    u64::from_be_bytes([
+        bytes[at],
+        bytes[at + 1],
+        bytes[at + 2],
+        bytes[at + 3],
+        bytes[at + 4],
+        bytes[at + 5],
+        bytes[at + 6],
+        bytes[at + 7],
+    ])
 }
 
 fn number(high: u8, low: u8) -> u16

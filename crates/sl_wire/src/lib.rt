@@ -15,4 +15,4 @@ pub use framed::Framed;
 pub use laws::one_frame;
 pub use message::{Done, Dump, Msg, Rows};
 pub use reach::reached;
-pub use wids::{are_wids, has_room, have_room, is_wid, unwrap_each};
+pub use wids::{are_wids, has_room, have_room, is_wid};

@@ -1,4 +1,5 @@
 pub mod Outs
+pub mod Spans
 pub mod Ways
 pub mod Fitting
 pub mod Channels

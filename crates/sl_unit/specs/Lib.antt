@@ -1,4 +1,5 @@
 pub mod Wires
+pub mod Spans
 pub mod Registers
 pub mod Step
 pub mod Made

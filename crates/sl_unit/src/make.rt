@@ -6,10 +6,11 @@ ghost use Rattle.sl_ids.specs.Ids.{most_bits};
 ghost use Rattle.sl_parts.specs.Parts.{version_at};
 ghost use Rattle.sl_route.specs.Routes.{IsRoutesOf};
 ghost use Rattle.sl_unit.specs.Wires.{IsSmall};
+ghost use Rattle.sl_unit.specs.Spans.{IsSpanOf, AreByPort, AreSpans};
 ghost use Rattle.sl_layout.specs.Devices.{device_of};
 ghost use Rattle.sl_unit.specs.Made.{side_of, port_of, is_own, entrance, entrances_of, exits_of, ports_of, version_of, wires_of};
 
-use crate::wires::{Entrance, Exit, Wires};
+use crate::wires::{Entrance, Exit, Span, Spans, Way, Wires};
 use sl_ids::Width;
 use sl_net::{ActorId, CablePart, Net, PortRef, Side, Snapshot, Sort, nets_are_wired, push_if};
 use sl_route::Routes;
@@ -146,6 +147,47 @@ fn list_exits(alloc: Global, net: &Net, actor: u32) -> Result<Vec<Exit>, AllocEr
     Ok(exits)
 }
 
+/// Where the outgoing links of a way lie: from the first of them to the last.
+fn span_of(exits: &[Exit], way: Way) -> Span
+    requires { length exits.now < 2 ^ 32 }
+    ensures { IsSpanOf way exits.now result }
+{
+    let mut span = Span { from: 0, end: 0 };
+    for i in 0..exits.len() {
+        if exits[i].leads(way) {
+            span = span.with(i as u32);
+        }
+    }
+    span
+}
+
+/// Where the crossbar links to the egress units of a device's first ports lie, by port.
+fn spans_by_port(exits: &[Exit], device: u32) -> [Span; 8]
+    requires { length exits.now < 2 ^ 32 }
+    ensures { AreByPort device exits.now 8 result }
+{
+    let mut spans = [Span { from: 0, end: 0 }; 8];
+    for port in 0..8 {
+        spans[port as usize] = span_of(exits, Way::Toward { device, port });
+    }
+    spans
+}
+
+/// Where the outgoing links of the ways that units use lie.
+fn spans_of(exits: &[Exit], device: u32) -> Spans
+    requires { length exits.now < 2 ^ 32 }
+    ensures { AreSpans device exits.now result }
+{
+    Spans {
+        cable: span_of(exits, Way::All(Sort::Cable)),
+        to_host: span_of(exits, Way::All(Sort::ToHost)),
+        crossbar: span_of(exits, Way::All(Sort::Crossbar)),
+        notice: span_of(exits, Way::All(Sort::Notice)),
+        dump: span_of(exits, Way::All(Sort::Dump)),
+        ports: spans_by_port(exits, device),
+    }
+}
+
 /// The next port of a device to each host.
 pub fn list_ports(
     alloc: Global,
@@ -216,11 +258,14 @@ pub fn make_wires(
     };
     let entrances = list_entrances(alloc, net, actor)?;
     let exits = list_exits(alloc, net, actor)?;
+    let device = device_of(unit);
+    let spans = spans_of(exits.as_slice(), device);
     Ok(Wires {
-        device: device_of(unit),
+        device,
         port: port_of(net, actor),
         entrances,
         exits,
+        spans,
         ports,
         width,
         version,

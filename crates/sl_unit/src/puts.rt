@@ -7,7 +7,7 @@ ghost use Rattle.sl_machine.specs.Machine.{send_all};
 ghost use Rattle.sl_unit.specs.Notes.{message_of};
 ghost use Rattle.sl_wire.specs.declared.message.Dump.{Dump};
 
-use crate::wires::{Exit, Way};
+use crate::wires::{Way, Wires};
 use sl_machine::Outputs;
 use sl_net::Sort;
 use sl_wire::{Boxed, Dump, Frame, Framed, Msg};
@@ -43,15 +43,16 @@ fn put_if(out: &mut Outputs<Msg>, goes: bool, link: u32, note: Note)
     }
 }
 
-/// Puts the message on each outgoing link of a way.
-pub fn put_on(exits: &[Exit], way: Way, note: Note, out: &mut Outputs<Msg>)
-    requires few { length exits.now < 2 ^ 32 }
-    requires room { length out.old.items + length (outs way exits.now) ≤ out.old.room }
-    ensures items { out.new.items ≡ out.old.items ++ send_all (message_of note) (outs way exits.now) }
+/// Puts the message on each outgoing link of a way. Most callers know the way.
+#[inline(always)]
+pub fn put_on(wires: &Wires, way: Way, note: Note, out: &mut Outputs<Msg>)
+    requires room { length out.old.items + length (outs way wires.now.exits) ≤ out.old.room }
+    ensures items { out.new.items ≡ out.old.items ++ send_all (message_of note) (outs way wires.now.exits) }
     ensures room { out.new.room ≡ out.old.room }
 {
-    for i in 0..exits.len() {
-        put_if(out, exits[i].leads(way), i as u32, note);
+    let span = wires.span(way);
+    for i in span.from..span.end {
+        put_if(out, wires.is_out(way, i), i, note);
     }
 }
 
@@ -73,15 +74,15 @@ fn put_dump_if(out: &mut Outputs<Msg>, goes: bool, link: u32, dumps: &mut Vec<Bo
 }
 
 /// Puts a dump, of some that are the same, on each link of dumps.
-pub fn put_dumps(exits: &[Exit], dumps: &mut Vec<Boxed<Dump>>, out: &mut Outputs<Msg>)
-    requires few { length exits.now < 2 ^ 32 }
-    requires room { length out.old.items + length (outs (Way.All Sort.Dump) exits.now) ≤ out.old.room }
-    requires dumps { length dumps.old.items ≡ length (outs (Way.All Sort.Dump) exits.now) }
-    ensures items { (dump : Dump) → All (λ d. d ≡ dump) dumps.old.items → out.new.items ≡ out.old.items ++ send_all (DumpMsg dump) (outs (Way.All Sort.Dump) exits.now) }
+pub fn put_dumps(wires: &Wires, dumps: &mut Vec<Boxed<Dump>>, out: &mut Outputs<Msg>)
+    requires room { length out.old.items + length (outs (Way.All Sort.Dump) wires.now.exits) ≤ out.old.room }
+    requires dumps { length dumps.old.items ≡ length (outs (Way.All Sort.Dump) wires.now.exits) }
+    ensures items { (dump : Dump) → All (λ d. d ≡ dump) dumps.old.items → out.new.items ≡ out.old.items ++ send_all (DumpMsg dump) (outs (Way.All Sort.Dump) wires.now.exits) }
     ensures room { out.new.room ≡ out.old.room }
 {
-    for i in 0..exits.len() {
-        let goes = exits[i].leads(Way::All(Sort::Dump));
-        put_dump_if(out, goes, i as u32, dumps);
+    let way = Way::All(Sort::Dump);
+    let span = wires.span(way);
+    for i in span.from..span.end {
+        put_dump_if(out, wires.is_out(way, i), i, dumps);
     }
 }

@@ -4,19 +4,20 @@ ghost use Rattle.sl_unit.specs.Wires.{outs};
 ghost use Rattle.sl_unit.specs.Room.{registers_of, HasDumps};
 
 use crate::registers::Registers;
-use crate::wires::{Exit, Way, Wires};
+use crate::wires::{Way, Wires};
 use sl_machine::Memory;
 use sl_net::Sort;
 use sl_wire::{Boxed, Dump};
 
 /// How many outgoing links a way has.
 #[tactic(auto, using(crate::proofs::Outs::many_more))]
-fn count_outs(exits: &[Exit], way: Way) -> usize
-    ensures { result ≡ length (outs way exits.now) }
+fn count_outs(wires: &Wires, way: Way) -> usize
+    ensures { result ≡ length (outs way wires.now.exits) }
 {
+    let span = wires.span(way);
     let mut count = 0;
-    for i in 0..exits.len() {
-        count += usize::from(exits[i].leads(way));
+    for i in span.from..span.end {
+        count += usize::from(wires.is_out(way, i));
     }
     count
 }
@@ -29,7 +30,7 @@ pub fn make_dumps(
 ) -> Result<(), Memory>
     ensures { OnOk result (HasDumps wires.now (registers_of registers.now) dumps.new.items) }
 {
-    let count = count_outs(wires.exits(), Way::All(Sort::Dump));
+    let count = count_outs(wires, Way::All(Sort::Dump));
     dumps.clear();
     let alloc = *dumps.allocator();
     for _i in 0..count {

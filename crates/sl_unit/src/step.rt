@@ -1,7 +1,8 @@
 // What a unit makes of the messages that it takes.
 ghost use Rattle.std.specs.Prelude.{◌≡◌, ◌+◌, ◌≤◌, ◌<◌, ◌++◌, ◌==◌, [], if◌then◌else◌, length};
 ghost use Rattle.sl_wire.specs.declared.message.Msg.TheVariants.{Poll, Notice};
-ghost use Rattle.sl_wire.specs.Carried.{bytes_on, frame_on};
+ghost use Rattle.sl_wire.specs.Carried.{bytes_on, frame_on, framed};
+ghost use Rattle.sl_wire.specs.Frames.{plain_header};
 ghost use Rattle.sl_unit.specs.Wires.{outs};
 ghost use Rattle.sl_unit.specs.Step.{data_frame, probe_frame, routed, passed, probed, initiated, plain_packet, send, take_at, from_host, cable_data, cable_probe, by_cable, crossbar_data, crossbar_probe, by_crossbar, initiation, by_init};
 ghost use Rattle.sl_unit.specs.Room.{registers_of, credits_of, state_of, HasDumps};
@@ -56,7 +57,7 @@ fn put_notice(wires: &Wires, ahead: u16, out: &mut Outputs<Msg>)
     ensures room { out.new.room ≡ out.old.room }
 {
     if ahead != 0 {
-        put_on(wires.exits(), Way::All(Sort::Notice), Note::Notice, out);
+        put_on(wires, Way::All(Sort::Notice), Note::Notice, out);
     }
 }
 
@@ -86,13 +87,32 @@ fn route(wires: &Wires, registers: &mut Registers, packet: Packet, out: &mut Out
                 hops: packet.hops - 1,
                 ..packet
             };
-            put_on(
-                wires.exits(),
-                way,
-                data_note(wires, registers, &onward),
-                out,
-            );
+            put_on(wires, way, data_note(wires, registers, &onward), out);
         }
+    }
+}
+
+/// Sends a data packet on over the cable.
+fn pass_to_cable(wires: &Wires, registers: &Registers, packet: &Packet, out: &mut Outputs<Msg>)
+    requires room { length out.old.items + length (outs (Way.All Sort.Cable) wires.now.exits) ≤ out.old.room }
+    ensures puts { out.new.items ≡ out.old.items ++ send wires.now (Way.All Sort.Cable) (data_frame wires.now (registers_of registers.now) packet.now) }
+    ensures room { out.new.room ≡ out.old.room }
+{
+    let way = Way::All(Sort::Cable);
+    if !wires.has_none(way) {
+        put_on(wires, way, data_note(wires, registers, packet), out);
+    }
+}
+
+/// Sends a data packet on to the host.
+fn pass_to_host(wires: &Wires, packet: &Packet, out: &mut Outputs<Msg>)
+    requires room { length out.old.items + length (outs (Way.All Sort.ToHost) wires.now.exits) ≤ out.old.room }
+    ensures puts { out.new.items ≡ out.old.items ++ send wires.now (Way.All Sort.ToHost) (framed 1 plain_header packet.now) }
+    ensures room { out.new.room ≡ out.old.room }
+{
+    let way = Way::All(Sort::ToHost);
+    if !wires.has_none(way) {
+        put_on(wires, way, Note::Frame(plain_frame(packet)), out);
     }
 }
 
@@ -104,11 +124,8 @@ fn pass(wires: &Wires, registers: &Registers, packet: &Packet, out: &mut Outputs
     ensures puts { out.new.items ≡ (passed wires.now packet.now (registers_of registers.now)).puts }
     ensures room { out.new.room ≡ out.old.room }
 {
-    let exits = wires.exits();
-    let onward = data_note(wires, registers, packet);
-    put_on(exits, Way::All(Sort::Cable), onward, out);
-    let plain = Note::Frame(plain_frame(packet));
-    put_on(exits, Way::All(Sort::ToHost), plain, out);
+    pass_to_cable(wires, registers, packet, out);
+    pass_to_host(wires, packet, out);
 }
 
 /// The packet of which the bytes are the plain frame.
@@ -279,7 +296,7 @@ fn probe(wires: &Wires, registers: &Registers, own: bool, out: &mut Outputs<Msg>
 {
     if own {
         let onward = probe_note(wires, registers);
-        put_on(wires.exits(), Way::All(Sort::Cable), onward, out);
+        put_on(wires, Way::All(Sort::Cable), onward, out);
     }
 }
 
@@ -362,7 +379,7 @@ fn initiate(wires: &Wires, registers: &Registers, out: &mut Outputs<Msg>)
     ensures room { out.new.room ≡ out.old.room }
 {
     let onward = probe_note(wires, registers);
-    put_on(wires.exits(), Way::All(Sort::Crossbar), onward, out);
+    put_on(wires, Way::All(Sort::Crossbar), onward, out);
 }
 
 /// Takes an initiation, as it is read.
@@ -416,5 +433,5 @@ pub fn take_poll(
     ensures puts { out.new.items ≡ (take_at Entrance.Poll (state_of wires.now registers.now) Poll).puts }
     ensures room { out.new.room ≡ out.old.room }
 {
-    put_dumps(wires.exits(), dumps, out);
+    put_dumps(wires, dumps, out);
 }

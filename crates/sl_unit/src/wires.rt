@@ -1,7 +1,9 @@
 // What a unit knows of its links.
-ghost use Rattle.std.specs.Prelude.{◌≡◌, ◌<◌, ◌^◌, length};
+ghost use Rattle.std.specs.Prelude.{◌≡◌, ◌+◌, ◌<◌, ◌^◌, ℕ, Bool, true, [], length};
 ghost use Rattle.sl_layout.specs.Net.{same_actor, egress};
-ghost use Rattle.sl_unit.specs.Wires.{IsSmall, entrance_at, leads, port_to};
+ghost use Rattle.sl_unit.specs.Wires.{IsSmall, entrance_at, leads, is_out, outs, port_to};
+ghost use Rattle.sl_unit.specs.Spans.{IsSpan, IsSpanOf};
+ghost use Rattle.sl_unit.specs.declared.wires.Way.{Way};
 
 use sl_ids::Width;
 use sl_net::{ActorId, Side, Sort};
@@ -69,6 +71,46 @@ impl Exit {
     }
 }
 
+/// Outgoing links: those from one number on, below another.
+#[derive(Clone, Copy)]
+pub struct Span {
+    /// The number of the first.
+    pub from: u32,
+    /// The number after that of the last.
+    pub end: u32,
+}
+
+impl Span {
+    /// The span with one link more, which lies after it.
+    pub fn with(self, link: u32) -> Span
+        requires { link + 1 < 2 ^ 32 }
+        ensures { (passes : ℕ → Bool) → IsSpan passes link self → IsSpan passes (link + 1) result }
+    {
+        let from = if self.end == 0 { link } else { self.from };
+        Span {
+            from,
+            end: link + 1,
+        }
+    }
+}
+
+/// Where the outgoing links of some ways lie, each way's among those of its span.
+#[derive(Clone, Copy)]
+pub struct Spans {
+    /// The links of the cable.
+    pub cable: Span,
+    /// The links to the host.
+    pub to_host: Span,
+    /// The links to egress units of the device.
+    pub crossbar: Span,
+    /// The links of notices.
+    pub notice: Span,
+    /// The links of dumps.
+    pub dump: Span,
+    /// The crossbar links to the egress units of the device's first ports, by port.
+    pub ports: [Span; 8],
+}
+
 /// What a unit knows of its links and of the routes from its device.
 #[derive(Drop)]
 pub struct Wires {
@@ -80,6 +122,8 @@ pub struct Wires {
     pub entrances: Vec<Entrance>,
     /// The outgoing links by their numbers.
     pub exits: Vec<Exit>,
+    /// Where those of some ways lie.
+    pub spans: Spans,
     /// The next port to each host, where there is a way.
     pub ports: Vec<Option<u8>>,
     /// The width of wrapped ids.
@@ -92,12 +136,14 @@ pub struct Wires {
 
 impl Model for Wires {
     ghost use Rattle.sl_unit.specs.Wires.{Wires, IsUsable};
+    ghost use Rattle.sl_unit.specs.Spans.{AreSpans};
 
     ghost Value = { Wires };
 
     ghost view = { λ w. record { device = w.device; port = w.port; entrances = w.entrances.items; exits = w.exits.items; ports = w.ports.items; bits = w.width.bits; version = w.version; actions = w.actions } };
 
-    ghost invariant = { λ w. IsUsable (record { device = w.device; port = w.port; entrances = w.entrances.items; exits = w.exits.items; ports = w.ports.items; bits = w.width.bits; version = w.version; actions = w.actions }) };
+    ghost invariant = { λ w. IsUsable (record { device = w.device; port = w.port; entrances = w.entrances.items; exits = w.exits.items; ports = w.ports.items; bits = w.width.bits; version = w.version; actions = w.actions })
+        × AreSpans w.device w.exits.items w.spans };
 }
 
 impl Wires {
@@ -112,12 +158,59 @@ impl Wires {
         }
     }
 
-    /// The outgoing links.
-    pub fn exits(&self) -> &[Exit]
-        ensures now { result.now ≡ self.now.exits }
-        ensures few { length result.now < 2 ^ 32 }
+    /// Whether a message that goes a way goes on an outgoing link.
+    #[inline(always)]
+    pub fn is_out(&self, way: Way, link: u32) -> bool
+        requires { link < length self.now.exits }
+        ensures { result ≡ is_out way self.now.exits link }
     {
-        self.exits.as_slice()
+        self.exits[link as usize].leads(way)
+    }
+
+    /// All outgoing links.
+    fn all(&self) -> Span
+        ensures { (way : Way) → IsSpanOf way self.now.exits result }
+    {
+        Span {
+            from: 0,
+            end: self.exits.len() as u32,
+        }
+    }
+
+    /// Where the crossbar links to the egress unit of a port lie.
+    fn span_toward(&self, device: u32, port: u32) -> Span
+        ensures { IsSpanOf (Way.Toward device port) self.now.exits result }
+    {
+        if device == self.device && port < 8 {
+            self.spans.ports[port as usize]
+        } else {
+            self.all()
+        }
+    }
+
+    /// Where the outgoing links of a way lie. None of them lies elsewhere.
+    pub fn span(&self, way: Way) -> Span
+        ensures { IsSpanOf way self.now.exits result }
+    {
+        match way {
+            Way::All(sort) => match sort {
+                Sort::Cable => self.spans.cable,
+                Sort::ToHost => self.spans.to_host,
+                Sort::Crossbar => self.spans.crossbar,
+                Sort::Notice => self.spans.notice,
+                Sort::Dump => self.spans.dump,
+                _ => self.all(),
+            },
+            Way::Toward { device, port } => self.span_toward(device, port),
+        }
+    }
+
+    /// Whether a way has no links, as far as its span tells.
+    pub fn has_none(&self, way: Way) -> bool
+        ensures { result ≡ true → outs way self.now.exits ≡ [] }
+    {
+        let span = self.span(way);
+        span.from >= span.end
     }
 
     /// The device's number.

@@ -12,9 +12,10 @@ use Rattle.sl_unit.proofs.puts.put_dumps.Given as goal
 
 abbrev pub invariant-loop-i : goal.invariant-loop-i
 invariant-loop-i l = record {
-  items : (dump : Dump) → All (λ d. d ≡ dump) l.fn.dumps.items → l.out.items ≡ l.fn.out.items ++ send_all (DumpMsg dump) (filter (is_out (AllOf sort.Dump) l.exits) (below l.i));
-  many : length l.out.items ≡ length l.fn.out.items + length (filter (is_out (AllOf sort.Dump) l.exits) (below l.i));
+  items : (dump : Dump) → All (λ d. d ≡ dump) l.fn.dumps.items
+      → l.out.items ≡ l.fn.out.items ++ send_all (DumpMsg dump) (filter (is_out (AllOf sort.Dump) l.wires.exits) (below l.i));
+  many : length l.out.items ≡ length l.fn.out.items + length (filter (is_out (AllOf sort.Dump) l.wires.exits) (below l.i));
   room : l.out.room ≡ l.fn.out.room;
-  left : length l.dumps.items + length (filter (is_out (AllOf sort.Dump) l.exits) (below l.i)) ≡ length l.fn.dumps.items;
+  left : length l.dumps.items + length (filter (is_out (AllOf sort.Dump) l.wires.exits) (below l.i)) ≡ length l.fn.dumps.items;
   same : (dump : Dump) → All (λ d. d ≡ dump) l.fn.dumps.items → All (λ d. d ≡ dump) l.dumps.items;
 }

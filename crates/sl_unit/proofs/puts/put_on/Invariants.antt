@@ -8,6 +8,6 @@ use Rattle.sl_unit.proofs.puts.put_on.Given as goal
 
 abbrev pub invariant-loop-i : goal.invariant-loop-i
 invariant-loop-i l = record {
-  items : l.out.items ≡ l.fn.out.items ++ send_all (message_of l.note) (filter (is_out l.way l.exits) (below l.i));
+  items : l.out.items ≡ l.fn.out.items ++ send_all (message_of l.note) (filter (is_out l.way l.wires.exits) (below l.i));
   room : l.out.room ≡ l.fn.out.room;
 }

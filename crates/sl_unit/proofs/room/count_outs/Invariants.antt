@@ -6,6 +6,6 @@ use Rattle.sl_unit.proofs.room.count_outs.Given as goal
 
 abbrev pub invariant-loop-i : goal.invariant-loop-i
 invariant-loop-i l = record {
-  many : l.count ≡ length (filter (is_out l.way l.exits) (below l.i));
+  many : l.count ≡ length (filter (is_out l.way l.wires.exits) (below l.i));
   few : l.count ≤ l.i;
 }

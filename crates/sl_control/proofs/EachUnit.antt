@@ -1,4 +1,4 @@
--- Units one after the other: each changed in turn, or the one whose dumps are taken by a choice.
+-- Units one after the other: each changed in turn, or the one whose notices or dumps are taken by a choice.
 use Rattle.std.proofs.Common.{◌≡◌, ℕ, zero, suc, ◌<◌, ◌≤◌, List, [], ◌∷◌, ◌++◌, length, map, take, drop, get_or, refl, sym, ap, subst, ◌∙◌, ◌⊎◌, inl, inr, arith, append_assoc, append-nil, eq-eqb}
 use Rattle.std.specs.Prelude.{Bool, true, false, ◌&&◌, ◌==◌, nat_eq, cond, flat_map, slice_set, Option}
 use Rattle.std.specs.List.{AllByRecursion}
@@ -42,6 +42,10 @@ not-equal x y n = by_tells (eqb_tells x y)
     by_tells : ((nat_eq x y ≡ true) × (x ≡ y)) ⊎ ((nat_eq x y ≡ false) × (x ≡ y → ⊥)) → (x == y) ≡ false
     by_tells (inl q) = absurd (n (sym q.1))
     by_tells (inr q) = q.0
+
+pub with-true : (b : Bool) → (b && true) ≡ b
+with-true true = refl
+with-true false = refl
 
 pub none-changed : {A : Type 0} (key : A → ℕ) (c : ℕ) (t : A → Bool) (f : A → A) (xs : List A) → AllByRecursion (λ y. y ≡ c → ⊥) (map key xs) → map (λ r. cond ((c == key r) && t r) (f r) r) xs ≡ xs
 none-changed key c t f [] h = refl

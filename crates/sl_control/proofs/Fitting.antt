@@ -31,6 +31,7 @@ kept outs inits done f k rs h = record {
   inits_apart = h.inits_apart;
   polls_apart = subst (AreOuts outs) (keys-kept (λ r. r.wires.poll) f (λ r. ap (λ w. w.poll) (k r)) rs) h.polls_apart;
   dones_apart = each-kept (λ p. AreOuts outs (done ∷ p ∷ [])) (λ r. r.wires.poll) f (λ r. ap (λ w. w.poll) (k r)) rs h.dones_apart;
+  notices_apart = subst AreApart (keys-kept (λ r. r.wires.notice) f (λ r. ap (λ w. w.notice) (k r)) rs) h.notices_apart;
   dumps_apart = subst AreApart (keys-kept (λ r. r.wires.dump) f (λ r. ap (λ w. w.dump) (k r)) rs) h.dumps_apart;
 }
 

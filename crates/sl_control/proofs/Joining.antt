@@ -4,7 +4,7 @@ use Rattle.std.specs.Prelude.{slice_index_or, slice_get, ◌==◌}
 use Rattle.std.specs.List.{AllByRecursion}
 use Rattle.std.proofs.lemmas.Bool.{cases_lt}
 use Rattle.sl_layout.specs.declared.actor.Sort.{Sort}
-use Rattle.sl_layout.specs.declared.actor.Sort.TheVariants.{Init, Poll, Dump, Done}
+use Rattle.sl_layout.specs.declared.actor.Sort.TheVariants.{Init, Poll, Notice, Dump, Done}
 use Rattle.sl_layout.specs.declared.actor.ActorId.TheVariants.{Control}
 use Rattle.sl_layout.specs.Net.{Net, actor_of, link_of, links_into, links_from, links_out, choice_of, same_sort, link_numbers}
 use Rattle.sl_layout.specs.Serving.{choice_from, serving, served}
@@ -63,25 +63,43 @@ is-served net a l w o =
     let r = w.reports (link_of net l).to u.0 u.1 in
     record { out = o; reports = r; control = sym r.poll_from ∙ ap (λ k. (link_of net k).from) (sym (r.polled l refl o.sort)) ∙ o.from }
 
-dump-choice : (net : Net) (a l : ℕ) (v : Served net a l) → choice_from net a (link_of net l).to Dump ≡ choice_of net v.reports.dump
-dump-choice net a l v = subst (λ b. choice_from net b (link_of net l).to Dump ≡ choice_of net v.reports.dump) v.control v.reports.dump_choice
+-- what the unit of a link of polls sends by one link of a sort, its control plane takes by one choice
+record Taken (net : Net) (a l : ℕ) (s : Sort) : Type 0 where
+  pub link : ℕ
+  pub from : (link_of net link).from ≡ (link_of net l).to
+  pub choice : choice_from net a (link_of net l).to s ≡ choice_of net link
+  pub taken : slice_get (links_into net a) (choice_of net link) ≡ Some link
 
-dump-taken : (net : Net) (a l : ℕ) (v : Served net a l) → slice_get (links_into net a) (choice_of net v.reports.dump) ≡ Some v.reports.dump
-dump-taken net a l v = subst (λ b. slice_get (links_into net b) (choice_of net v.reports.dump) ≡ Some v.reports.dump) v.control v.reports.dump_taken
+dump-taken : (net : Net) (a l : ℕ) → Served net a l → Taken net a l Dump
+dump-taken net a l v = let r = v.reports in subst (λ b. Taken net b l Dump) v.control
+    (record { link = r.dump; from = r.dump_out.from; choice = r.dump_choice; taken = r.dump_taken })
 
--- two units whose dumps are taken by one choice are one
-one-dump : (net : Net) (a l k : ℕ) → Served net a l → Served net a k → choice_from net a (link_of net l).to Dump ≡ choice_from net a (link_of net k).to Dump → l ≡ k
-one-dump net a l k v w q =
-    let c : choice_of net v.reports.dump ≡ choice_of net w.reports.dump = sym (dump-choice net a l v) ∙ q ∙ dump-choice net a k w in
-    let x : Some v.reports.dump ≡ Some w.reports.dump = sym (dump-taken net a l v) ∙ ap (slice_get (links_into net a)) c ∙ dump-taken net a k w in
-    let d : v.reports.dump ≡ w.reports.dump = cc in
-    let u : (link_of net k).to ≡ (link_of net l).to = sym w.reports.dump_out.from ∙ ap (λ d. (link_of net d).from) (sym d)
-    ∙ v.reports.dump_out.from in
-    v.reports.polled l refl v.out.sort ∙ sym (v.reports.polled k u w.out.sort)
+notice-taken : (net : Net) (a l : ℕ) → Served net a l → Taken net a l Notice
+notice-taken net a l v = let r = v.reports in subst (λ b. Taken net b l Notice) v.control
+    (record { link = r.notice; from = r.notice_out.from; choice = r.notice_choice; taken = r.notice_taken })
 
-dumps-apart : (net : Net) (a : ℕ) → IsWired net → AreApart (map (λ l. choice_from net a (link_of net l).to Dump) (links_out net a Poll))
-dumps-apart net a w = apart (map (λ l. choice_from net a (link_of net l).to Dump) (links_out net a Poll)) (distinct-map (λ l. choice_from net a (link_of net l).to Dump) (links_out net a Poll)
-    (λ l k m n q. one-dump net a l k (is-served net a l w (is-out net w.ways a Poll l m)) (is-served net a k w (is-out net w.ways a Poll k n)) q) (outs-distinct net a Poll))
+-- two units from which messages are taken by one choice are one
+one-unit : (net : Net) (a l k : ℕ) (s : Sort) → Taken net a l s → Taken net a k s
+    → choice_from net a (link_of net l).to s ≡ choice_from net a (link_of net k).to s → (link_of net k).to ≡ (link_of net l).to
+one-unit net a l k s t u q =
+    let c : choice_of net t.link ≡ choice_of net u.link = sym t.choice ∙ q ∙ u.choice in
+    let x : Some t.link ≡ Some u.link = sym t.taken ∙ ap (slice_get (links_into net a)) c ∙ u.taken in
+    let d : t.link ≡ u.link = cc in
+    sym u.from ∙ ap (λ d. (link_of net d).from) (sym d) ∙ t.from
+
+choices-apart : (net : Net) (a : ℕ) (s : Sort) → ((l : ℕ) → Served net a l → Taken net a l s) → IsWired net
+    → AreApart (map (λ l. choice_from net a (link_of net l).to s) (links_out net a Poll))
+choices-apart net a s taken w =
+    apart (map choice (links_out net a Poll)) (distinct-map choice (links_out net a Poll) one (outs-distinct net a Poll))
+  where
+    choice : ℕ → ℕ
+    choice l = choice_from net a (link_of net l).to s
+
+    one : (l k : ℕ) → Member l (links_out net a Poll) → Member k (links_out net a Poll) → choice l ≡ choice k → l ≡ k
+    one l k m n q =
+        let v = is-served net a l w (is-out net w.ways a Poll l m) in
+        let u = is-served net a k w (is-out net w.ways a Poll k n) in
+        v.reports.polled l refl v.out.sort ∙ sym (v.reports.polled k (one-unit net a l k s (taken l v) (taken k u) q) u.out.sort)
 
 two : (a b n : ℕ) → a < n → b < n → (b ≡ a → ⊥) → 2 ≤ n
 two a b n p q ne = by_cases (cases_lt 1 n)
@@ -116,5 +134,6 @@ joined net a w = record {
       (each-map (λ v. AreOuts (length (links_from net a)) (slice_index_or (outs_of net a Done) 0 0 ∷ out_of net v.poll ∷ [])) (serving net a) (links_out net a Poll)
       (each-imp (IsOut net a Poll) (λ l. AreOuts (length (links_from net a)) (slice_index_or (outs_of net a Done) 0 0 ∷ out_of net l ∷ [])) (links_out net a Poll)
       (λ l o. done-apart net w.ways a l (is-served net a l w o)) (w.ways.outs a Poll))));
-  dumps_apart = subst AreApart (known-of net a (λ r. r.wires.dump)) (dumps-apart net a w);
+  notices_apart = subst AreApart (known-of net a (λ r. r.wires.notice)) (choices-apart net a Notice (notice-taken net a) w);
+  dumps_apart = subst AreApart (known-of net a (λ r. r.wires.dump)) (choices-apart net a Dump (dump-taken net a) w);
 }

@@ -3,3 +3,4 @@ pub mod EachUnit
 pub mod Fitting
 pub mod Joining
 pub mod Lowering
+pub mod Telling

@@ -1,4 +1,4 @@
--- That the places among a control plane's outgoing links are apart, and so are the choices by which it takes dumps.
+-- That the places among a control plane's outgoing links are apart, and so are the choices by which it takes notices, and those by which it takes dumps.
 use Rattle.std.specs.Prelude.{◌≡◌, ℕ, ◌<◌, ◌≤◌, List, [], ◌∷◌, map, length, slice_get, Option, Some, IsSome}
 use Rattle.std.specs.List.{AllByRecursion}
 use Rattle.sl_saves.specs.declared.entry.Saved.{Saved}
@@ -16,11 +16,20 @@ polls_of rs = map (λ r. r.wires.poll) rs
 abbrev pub dumps_of : List Known → List ℕ
 dumps_of rs = map (λ r. r.wires.dump) rs
 
+abbrev pub notices_of : List Known → List ℕ
+notices_of rs = map (λ r. r.wires.notice) rs
+
 -- the unit at a place is one whose dumps are taken by this choice
 pub record HasDumpChoice (choice i : ℕ) (units : List Known) : Type 0 where
   pub known : Known
   pub at : slice_get units i ≡ Some known
   pub dump : known.wires.dump ≡ choice
+
+-- the unit at a place is one whose notices are taken by this choice
+pub record HasNoticeChoice (choice i : ℕ) (units : List Known) : Type 0 where
+  pub known : Known
+  pub at : slice_get units i ≡ Some known
+  pub notice : known.wires.notice ≡ choice
 
 -- numbers below a bound, of which none stands twice
 pub record AreOuts (bound : ℕ) (xs : List ℕ) : Type 0 where
@@ -33,6 +42,7 @@ pub record IsJoined (outs : ℕ) (inits : List ℕ) (done : ℕ) (units : List K
   pub inits_apart : AreOuts outs inits
   pub polls_apart : AreOuts outs (polls_of units)
   pub dones_apart : AllByRecursion (λ r. AreOuts outs (done ∷ r.wires.poll ∷ [])) units
+  pub notices_apart : AreApart (notices_of units)
   pub dumps_apart : AreApart (dumps_of units)
 
 -- there is no row yet, and room for those of a dump and a report to be filled in, where a turn was prepared

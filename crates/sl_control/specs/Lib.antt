@@ -3,3 +3,4 @@ pub mod Control
 pub mod Wires
 pub mod Joined
 pub mod Known
+pub mod Told

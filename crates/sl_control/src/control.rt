@@ -7,7 +7,7 @@ ghost use Rattle.sl_control.specs.Wires.{control_of, first_control, control_coun
 
 use crate::blanks::Blanks;
 use crate::known::Known;
-use crate::units::{answer_all, ask_all, initiation, is_swept, put_inits};
+use crate::units::{answer_all, ask_all, ask_one, initiation, is_swept, put_inits};
 use crate::wires::{control_of, done_of, inits_of, units_of};
 use sl_ids::Width;
 use sl_machine::{Machine, Memory, Outputs};
@@ -167,7 +167,7 @@ impl Machine for Control {
             }
             Msg::Notice => {
                 self.prepared = None;
-                ask_all(&mut self.units, Some(link), out);
+                ask_one(&mut self.units, link, out);
             }
             _ => self.prepared = None,
         }
@@ -178,7 +178,7 @@ impl Machine for Control {
         if action != self.links || is_swept(&self.units) {
             return false;
         }
-        ask_all(&mut self.units, None, out);
+        ask_all(&mut self.units, out);
         true
     }
 }

@@ -1,16 +1,19 @@
 // What a control plane knows of a unit.
 ghost use Rattle.std.specs.Prelude.{◌≡◌, ◌≤◌, ◌<◌, ◌++◌, ◌+◌, true, length, [], ◌∷◌, if◌then◌else◌};
 ghost use Rattle.std.specs.Bool.{OnTrue};
+ghost use Rattle.std.specs.List.{list_all};
 ghost use Rattle.std.specs.Vec.{vec_capacity};
-ghost use Rattle.sl_control.specs.Control.{asked, poll_by, is_asked, ask_by, ask_puts, has_wids, has_rooms, numbers_told, answered, reached_by, dump_floor, is_read, rows_of, done_of, answer_by};
+ghost use Rattle.sl_wire.specs.Reach.{reached};
+ghost use Rattle.sl_wire.specs.Wids.{is_wid, has_room, unwrapped_each};
+ghost use Rattle.sl_control.specs.Rows.{seen_on};
+ghost use Rattle.sl_control.specs.Control.{asked, poll_by, has_wids, has_rooms, numbers_told};
+ghost use Rattle.sl_control.specs.Told.{told_of, is_read_by, rows_by, floor_by, done_by, answered_by, puts_by};
 
-use crate::rows::{is_sized, read_rows, seen_on};
-use sl_ids::{Width, unwrap_from};
+use crate::rows::{is_sized, read_rows};
+use sl_ids::{Wid, Width, unwrap_from};
 use sl_machine::Outputs;
 use sl_saves::{Saved, View};
-use sl_wire::{
-    Boxed, Done, Dump, Msg, Rows, are_wids, has_room, have_room, is_wid, reached, unwrap_each,
-};
+use sl_wire::{Boxed, Done, Dump, Msg, Rows, are_wids, has_room, have_room, is_wid};
 
 /// How a unit is joined to its control plane.
 #[derive(Clone, Copy)]
@@ -59,11 +62,49 @@ pub struct Numbers {
     pub last: [u64; 8],
 }
 
+/// What a dump tells of a unit, as it is reported.
+#[derive(Clone, Copy)]
+pub(crate) struct Told {
+    /// Its id.
+    pub id: u64,
+    /// The last-seen id of its control plane, 0 of an egress unit.
+    pub cpu: u64,
+    /// The last-seen ids of its data channels in order, 0 past them.
+    pub last: [u64; 8],
+    /// The number that its id and these have reached.
+    pub reached: u64,
+}
+
 /// Whether each id of a dump is one of this width.
 pub(crate) fn has_wids(width: Width, dump: &Dump) -> bool
     ensures { result ≡ has_wids width.bits dump.now }
 {
     is_wid(width, dump.id) && is_wid(width, dump.cpu) && are_wids(width, &dump.last)
+}
+
+/// The last-seen ids that the wrapped ones of so many data channels stand for, 0 past them, and the
+/// least of an id and these.
+fn lasts_told(
+    width: Width,
+    count: u32,
+    id: u64,
+    known: &[u64; 8],
+    wids: &[Wid; 8],
+) -> ([u64; 8], u64)
+    requires wids { list_all (is_wid width.bits) wids.now ≡ true }
+    requires room { list_all (has_room width.bits) known.now ≡ true }
+    ensures last { result.0 ≡ seen_on count (unwrapped_each width.bits known.now wids.now) }
+    ensures reached { result.1 ≡ reached count id (unwrapped_each width.bits known.now wids.now) }
+    ensures most { result.1 ≤ id }
+{
+    let mut last = [0; 8];
+    let mut reached = id;
+    for channel in 0..(count as usize).min(8) {
+        let number = unwrap_from(width, known[channel], wids[channel]);
+        last[channel] = number;
+        reached = reached.min(number);
+    }
+    (last, reached)
 }
 
 impl Known {
@@ -74,21 +115,25 @@ impl Known {
         has_room(width, self.id) && has_room(width, self.cpu) && have_room(width, &self.last)
     }
 
-    /// The numbers that a dump tells, relative to those that are known.
-    pub(crate) fn numbers_told(&self, width: Width, dump: &Dump) -> Numbers
+    /// What a dump tells, relative to what is known.
+    pub(crate) fn told_by(&self, width: Width, dump: &Dump) -> Told
         requires wids { has_wids width.bits dump.now ≡ true }
         requires rooms { has_rooms width.bits self.now ≡ true }
-        ensures { result ≡ numbers_told width.bits dump.now self.now }
+        ensures told { result ≡ told_of (numbers_told width.bits dump.now self.now) self.now }
+        ensures most { result.reached ≤ result.id }
     {
-        Numbers {
-            id: unwrap_from(width, self.id, dump.id),
+        let id = unwrap_from(width, self.id, dump.id);
+        let (last, reached) = lasts_told(width, self.wires.channels, id, &self.last, &dump.last);
+        Told {
+            id,
             cpu: unwrap_from(width, self.cpu, dump.cpu),
-            last: unwrap_each(width, &self.last, &dump.last),
+            last,
+            reached,
         }
     }
 
     /// Polls the unit, or notes that it is to be polled again.
-    fn ask(&mut self, out: &mut Outputs<Msg>)
+    pub(crate) fn ask(&mut self, out: &mut Outputs<Msg>)
         requires { length out.old.items < out.old.room }
         ensures known { self.new ≡ asked self.old }
         ensures puts { out.new.items ≡ out.old.items ++ poll_by self.old }
@@ -101,44 +146,13 @@ impl Known {
         self.waits = true;
     }
 
-    /// Whether a notice by this choice, or without one a sweep, asks for it.
-    fn is_asked(&self, notice: Option<u32>) -> bool
-        ensures { result ≡ is_asked notice self.now }
+    fn floor_of(&self, told: &Told) -> u64
+        ensures { result ≡ floor_by told.now self.now }
     {
-        match notice {
-            Some(choice) => choice == self.wires.notice,
-            None => true,
-        }
-    }
-
-    /// What a notice by this choice, or without one a sweep, does to it.
-    pub(crate) fn ask_by(&mut self, notice: Option<u32>, out: &mut Outputs<Msg>)
-        requires { length out.old.items < out.old.room }
-        ensures known { self.new ≡ ask_by notice self.old }
-        ensures puts { out.new.items ≡ out.old.items ++ ask_puts notice self.old }
-        ensures room { out.new.room ≡ out.old.room }
-    {
-        if self.is_asked(notice) {
-            self.ask(out);
-        }
-    }
-
-    /// The number that the id and the last-seen ids of the data channels have reached.
-    fn reached_by(&self, numbers: &Numbers) -> u64
-        ensures reached { result ≡ reached_by numbers.now self.now }
-        ensures most { result ≤ numbers.now.id }
-    {
-        reached(self.wires.channels as usize, numbers.id, &numbers.last)
-    }
-
-    fn floor_of(&self, numbers: &Numbers) -> u64
-        ensures { result ≡ dump_floor numbers.now self.now }
-    {
-        let reached = self.reached_by(numbers);
         if self.wires.ingress {
-            reached.min(numbers.cpu)
+            told.reached.min(told.cpu)
         } else {
-            reached
+            told.reached
         }
     }
 
@@ -146,43 +160,43 @@ impl Known {
     pub(crate) fn read(
         &self,
         ring: u16,
-        numbers: &Numbers,
+        told: &Told,
         view: &View,
         rows: &mut Vec<(u64, Saved)>,
     ) -> bool
         requires empty { rows.old.items ≡ [] }
         requires room { ring ≤ vec_capacity rows.old }
-        ensures read { result ≡ is_read ring numbers.now view.now self.now }
-        ensures rows { OnTrue result (rows.new.items ≡ rows_of numbers.now view.now self.now) }
+        requires most { told.now.reached ≤ told.now.id }
+        ensures read { result ≡ is_read_by ring told.now view.now self.now }
+        ensures rows { OnTrue result (rows.new.items ≡ rows_by told.now view.now self.now) }
     {
         if !self.waits || !is_sized(ring, view) {
             return false;
         }
-        let reached = self.reached_by(numbers);
-        read_rows(rows, view, numbers.id, self.upto, reached)
+        read_rows(rows, view, told.id, self.upto, told.reached)
     }
 
-    fn done_of(&self, numbers: &Numbers, view: &View, rows: Vec<(u64, Saved)>) -> Done
-        requires { rows.items ≡ rows_of numbers.now view.now self.now }
-        ensures { result ≡ done_of numbers.now view.now self.now }
+    fn done_of(&self, told: &Told, view: &View, rows: Vec<(u64, Saved)>) -> Done
+        requires { rows.items ≡ rows_by told.now view.now self.now }
+        ensures { result ≡ done_by told.now view.now self.now }
     {
         Done {
             unit: self.wires.place,
-            id: numbers.id,
-            last: seen_on(self.wires.channels, &numbers.last),
-            floor: self.floor_of(numbers),
+            id: told.id,
+            last: told.last,
+            floor: self.floor_of(told),
             rows: Rows { items: rows },
         }
     }
 
     /// Notes what a dump tells.
-    fn learn(&mut self, numbers: &Numbers)
-        ensures { self.new ≡ answered numbers.now self.old }
+    fn learn(&mut self, told: &Told)
+        ensures { self.new ≡ answered_by told.now self.old }
     {
-        self.upto = self.upto.max(self.reached_by(numbers));
-        self.id = numbers.id;
-        self.last = seen_on(self.wires.channels, &numbers.last);
-        self.cpu = numbers.cpu;
+        self.upto = self.upto.max(told.reached);
+        self.id = told.id;
+        self.last = told.last;
+        self.cpu = told.cpu;
         self.waits = self.again;
         self.again = false;
     }
@@ -202,21 +216,21 @@ impl Known {
     pub(crate) fn answer(
         &mut self,
         done: u32,
-        numbers: &Numbers,
+        told: &Told,
         view: &View,
-        mut told: Boxed<Done>,
+        mut report: Boxed<Done>,
         rows: Vec<(u64, Saved)>,
         out: &mut Outputs<Msg>,
     )
-        requires rows { rows.items ≡ rows_of numbers.now view.now self.old }
+        requires rows { rows.items ≡ rows_by told.now view.now self.old }
         requires room { length out.old.items + 2 ≤ out.old.room }
-        ensures known { self.new ≡ answered numbers.now self.old }
-        ensures puts { out.new.items ≡ out.old.items ++ answer_by done numbers.now view.now self.old }
+        ensures known { self.new ≡ answered_by told.now self.old }
+        ensures puts { out.new.items ≡ out.old.items ++ puts_by done told.now view.now self.old }
         ensures room { out.new.room ≡ out.old.room }
     {
-        told.set(self.done_of(numbers, view, rows));
-        out.put(done, Msg::Done(told));
+        report.set(self.done_of(told, view, rows));
+        out.put(done, Msg::Done(report));
         self.poll_again(out);
-        self.learn(numbers);
+        self.learn(told);
     }
 }

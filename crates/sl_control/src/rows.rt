@@ -1,40 +1,12 @@
 // Reading a dump.
-ghost use Rattle.std.specs.Prelude.{◌≡◌, ◌≤◌, ◌<◌, ◌+◌, length, map, [], is_some, IfSome, nat_lt, if◌then◌else◌, slice_index_or};
+ghost use Rattle.std.specs.Prelude.{◌≡◌, ◌≤◌, ◌<◌, ◌+◌, length, map, [], is_some, IfSome};
 ghost use Rattle.std.specs.List.{list_all};
 ghost use Rattle.std.specs.Bool.{OnTrue};
 ghost use Rattle.std.specs.Vec.{vec_capacity};
 ghost use Rattle.sl_saves.specs.Views.{read};
-ghost use Rattle.sl_control.specs.Rows.{span, seen_on, is_sized, is_readable, row};
+ghost use Rattle.sl_control.specs.Rows.{span, is_sized, is_readable, row};
 
 use sl_saves::{Saved, View, try_read_saved};
-
-/// The last-seen id of a channel among so many, 0 past them.
-fn seen_at(count: u32, last: &[u64; 8], channel: u32) -> u64
-    requires { channel < 8 }
-    ensures { result ≡ (if nat_lt channel count then slice_index_or last.now channel 0 else 0) }
-{
-    if channel < count {
-        last[channel as usize]
-    } else {
-        0
-    }
-}
-
-/// The last-seen ids of so many data channels, 0 past them.
-pub fn seen_on(count: u32, last: &[u64; 8]) -> [u64; 8]
-    ensures { result ≡ seen_on count last.now }
-{
-    [
-        seen_at(count, last, 0),
-        seen_at(count, last, 1),
-        seen_at(count, last, 2),
-        seen_at(count, last, 3),
-        seen_at(count, last, 4),
-        seen_at(count, last, 5),
-        seen_at(count, last, 6),
-        seen_at(count, last, 7),
-    ]
-}
 
 /// Whether a view has the size of a ring, and its place lies in it.
 pub fn is_sized(ring: u16, view: &View) -> bool

@@ -1,29 +1,75 @@
 // What a control plane knows of its units, one after the other.
-ghost use Rattle.std.specs.Prelude.{◌≡◌, ◌≤◌, ◌<◌, ◌++◌, ◌+◌, [], Option, MatchOption, IsSome, length, map, flat_map, cond};
+ghost use Rattle.std.specs.Prelude.{◌≡◌, ◌≤◌, ◌<◌, ◌++◌, ◌+◌, [], None, Some, MatchOption, IsSome, IsTrue, length, map, flat_map, cond};
 ghost use Rattle.std.specs.Vec.{vec_capacity};
 ghost use Rattle.std.specs.List.{AllByRecursion};
 ghost use Rattle.sl_control.specs.declared.known.Known.{Known};
 ghost use Rattle.sl_machine.specs.Machine.{send_all};
-ghost use Rattle.sl_control.specs.Control.{ask_by, ask_puts, dump_by, dump_puts, initiation, numbers_told, answered, answer_by, is_read, is_taken, is_swept};
-ghost use Rattle.sl_control.specs.Joined.{AreApart, dumps_of, HasDumpChoice};
+ghost use Rattle.sl_control.specs.Control.{ask_by, ask_puts, dump_by, dump_puts, initiation, numbers_told, answered, answer_by, is_taken, is_swept};
+ghost use Rattle.sl_control.specs.Told.{is_read_by, answered_by, puts_by};
+ghost use Rattle.sl_control.specs.Joined.{AreApart, dumps_of, notices_of, HasDumpChoice, HasNoticeChoice};
 
 use crate::blanks::Blanks;
-use crate::known::{Known, Numbers, has_wids};
+use crate::known::{Known, Told, has_wids};
 use sl_ids::{Width, wrap};
 use sl_machine::Outputs;
 use sl_net::Packet;
 use sl_saves::View;
 use sl_wire::{Dump, Frame, Framed, Header, Kind, Msg, frame_of};
 
-/// What notices by this choice, or without one a sweep, do to the units.
-pub fn ask_all(units: &mut Vec<Known>, notice: Option<u32>, out: &mut Outputs<Msg>)
+/// The place of the unit to which a choice belongs, where the choices after the first are two for
+/// each unit in order, as a net's are.
+fn usual_place(choice: u32) -> usize {
+    (choice.saturating_sub(1) / 2) as usize
+}
+
+/// What a sweep does to the units.
+pub fn ask_all(units: &mut Vec<Known>, out: &mut Outputs<Msg>)
     requires { length out.old.items + length units.old.items ≤ out.old.room }
-    ensures units { units.new.items ≡ map (ask_by notice) units.old.items }
-    ensures puts { out.new.items ≡ out.old.items ++ flat_map (ask_puts notice) units.old.items }
+    ensures units { units.new.items ≡ map (ask_by None) units.old.items }
+    ensures puts { out.new.items ≡ out.old.items ++ flat_map (ask_puts None) units.old.items }
     ensures room { out.new.room ≡ out.old.room }
 {
     for i in 0..units.len() {
-        units[i].ask_by(notice, out);
+        units[i].ask(out);
+    }
+}
+
+/// Whether there is a unit at a place whose notices are taken by a choice.
+fn has_notice(units: &[Known], place: usize, choice: u32) -> bool
+    ensures { IsTrue result → HasNoticeChoice choice place units.now }
+{
+    match units.get(place) {
+        Some(known) => known.wires.notice == choice,
+        None => false,
+    }
+}
+
+/// The place of the unit whose notices are taken by a choice. It looks at the usual one first.
+fn find_notice(units: &[Known], choice: u32) -> Option<usize>
+    ensures { MatchOption result (AllByRecursion (λ r. r.wires.notice ≡ choice → ⊥) units.now) (λ i. HasNoticeChoice choice i units.now) }
+{
+    let place = usual_place(choice);
+    if has_notice(units, place, choice) {
+        return Some(place);
+    }
+    for place in 0..units.len() {
+        if units[place].wires.notice == choice {
+            return Some(place);
+        }
+    }
+    None
+}
+
+/// What a notice by this choice does to the units.
+pub fn ask_one(units: &mut Vec<Known>, choice: u32, out: &mut Outputs<Msg>)
+    requires apart { AreApart (notices_of units.old.items) }
+    requires room { length out.old.items + length units.old.items ≤ out.old.room }
+    ensures units { units.new.items ≡ map (ask_by (Some choice)) units.old.items }
+    ensures puts { out.new.items ≡ out.old.items ++ flat_map (ask_puts (Some choice)) units.old.items }
+    ensures room { out.new.room ≡ out.old.room }
+{
+    if let Some(i) = find_notice(units, choice) {
+        units[i].ask(out);
     }
 }
 
@@ -66,10 +112,24 @@ pub fn put_inits(outs: &[u32], passes: bool, frame: Frame, out: &mut Outputs<Msg
     }
 }
 
-/// The place of the unit whose dumps are taken by a choice.
+/// Whether there is a unit at a place whose dumps are taken by a choice.
+fn has_dump(units: &[Known], place: usize, choice: u32) -> bool
+    ensures { IsTrue result → HasDumpChoice choice place units.now }
+{
+    match units.get(place) {
+        Some(known) => known.wires.dump == choice,
+        None => false,
+    }
+}
+
+/// The place of the unit whose dumps are taken by a choice. It looks at the usual one first.
 fn find_dump(units: &[Known], choice: u32) -> Option<usize>
     ensures { MatchOption result (AllByRecursion (λ r. r.wires.dump ≡ choice → ⊥) units.now) (λ i. HasDumpChoice choice i units.now) }
 {
+    let place = usual_place(choice);
+    if has_dump(units, place, choice) {
+        return Some(place);
+    }
     for place in 0..units.len() {
         if units[place].wires.dump == choice {
             return Some(place);
@@ -78,12 +138,12 @@ fn find_dump(units: &[Known], choice: u32) -> Option<usize>
     None
 }
 
-/// What the numbers and the view of a dump do to the unit.
-fn answer_numbers(
+/// What a dump does to the unit of which it tells this.
+fn answer_told(
     known: &mut Known,
     ring: u16,
     done: u32,
-    numbers: &Numbers,
+    told: &Told,
     view: &View,
     blanks: &mut Blanks,
     out: &mut Outputs<Msg>,
@@ -91,16 +151,17 @@ fn answer_numbers(
     requires empty { blanks.old.rows.items ≡ [] }
     requires rows { ring ≤ vec_capacity blanks.old.rows }
     requires report { IsSome blanks.old.done }
+    requires most { told.now.reached ≤ told.now.id }
     requires room { length out.old.items + 2 ≤ out.old.room }
-    ensures known { known.new ≡ cond (is_read ring numbers.now view.now known.old) (answered numbers.now known.old) known.old }
-    ensures puts { out.new.items ≡ out.old.items ++ cond (is_read ring numbers.now view.now known.old) (answer_by done numbers.now view.now known.old) [] }
+    ensures known { known.new ≡ cond (is_read_by ring told.now view.now known.old) (answered_by told.now known.old) known.old }
+    ensures puts { out.new.items ≡ out.old.items ++ cond (is_read_by ring told.now view.now known.old) (puts_by done told.now view.now known.old) [] }
     ensures room { out.new.room ≡ out.old.room }
     ensures left { blanks.new.rows.items ≡ [] }
 {
-    if known.read(ring, numbers, view, &mut blanks.rows) {
-        if let Some(told) = blanks.done.take() {
+    if known.read(ring, told, view, &mut blanks.rows) {
+        if let Some(report) = blanks.done.take() {
             let rows = blanks.take_rows();
-            known.answer(done, numbers, view, told, rows, out);
+            known.answer(done, told, view, report, rows, out);
         }
     } else {
         blanks.rows.clear();
@@ -129,8 +190,8 @@ fn answer_one(
     ensures left { blanks.new.rows.items ≡ [] }
 {
     if has_wids(width, dump) && known.has_rooms(width) {
-        let numbers = known.numbers_told(width, dump);
-        answer_numbers(known, ring, done, &numbers, &dump.view, blanks, out);
+        let told = known.told_by(width, dump);
+        answer_told(known, ring, done, &told, &dump.view, blanks, out);
     }
 }
 

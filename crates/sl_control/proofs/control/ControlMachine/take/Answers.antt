@@ -21,12 +21,14 @@ returns-in-Begin-clause-fitting c =
 pub invariant_of-self-in-Notice : goal.invariant_of-self-in-Notice
 invariant_of-self-in-Notice c =
     let s = c.self-in-Notice.inside in (
-      subst (λ (rs : List Known). IsJoined s.outs s.inits.items s.done rs) (sym c.ask_all.ensures.units) (asked-joined s.outs s.inits.items s.done (Some c.args.link) s.units.items c.self-in-Notice.invariant.0),
+      subst (λ (rs : List Known). IsJoined s.outs s.inits.items s.done rs) (sym c.ask_one.ensures.units)
+          (asked-joined s.outs s.inits.items s.done (Some c.args.link) s.units.items c.self-in-Notice.invariant.0),
       record { empty = c.self-in-Notice.invariant.1.empty; room = λ n. search rules; report = λ n. search rules },
     )
 
 pub returns-in-Notice-clause-fitting : goal.returns-in-Notice-clause-fitting
 returns-in-Notice-clause-fitting c =
     let s = c.self-in-Notice.inside in
-    added-to-none c.args.self.now.counts.outs s.outs c.args.out.now.items c.ask_all.new.out.items (flat_map (ask_puts (Some c.args.link)) s.units.items)
-    (ap (λ (v : ControlView). v.counts.outs) c.self-in-Notice.view_is) c.requires.empty c.ask_all.ensures.puts (asks-fit s.outs (Some c.args.link) s.units.items c.self-in-Notice.invariant.0.polls_apart)
+    added-to-none c.args.self.now.counts.outs s.outs c.args.out.now.items c.ask_one.new.out.items (flat_map (ask_puts (Some c.args.link)) s.units.items)
+    (ap (λ (v : ControlView). v.counts.outs) c.self-in-Notice.view_is) c.requires.empty c.ask_one.ensures.puts
+    (asks-fit s.outs (Some c.args.link) s.units.items c.self-in-Notice.invariant.0.polls_apart)

@@ -1,8 +1,9 @@
 -- The list of the units, with one of them changed.
 use Rattle.std.proofs.Common.{◌≡◌, ℕ, ◌+◌, ◌<◌, ◌≤◌, List, [], ◌∷◌, ◌++◌, length, take, refl, sym, ap, ◌∙◌, map, set, get_or, replicate, arith}
-use Rattle.std.proofs.Common.{subst, get_or-set_same}
+use Rattle.std.proofs.Common.{subst, get_or-set_same, inl, inr, zero, suc}
+use Rattle.std.proofs.lemmas.Bool.{cases_eq}
 use Rattle.std.specs.Prelude.{filter, cond, Bool, true, false, Option, Some, None}
-use Rattle.std.proofs.lemmas.List.{map-set, set-get_or, get_or-map, length-map, map_push, map_more}
+use Rattle.std.proofs.lemmas.List.{map-set, set-get_or, get_or-set_other, length-replicate, get_or-map, length-map, map_push, map_more}
 use Rattle.std.proofs.lemmas.List.FromFn.{length-range_with_len}
 use Rattle.sl_parts.specs.Parts.{below}
 use Rattle.sl_layout.specs.declared.actor.ActorId.TheVariants.{Unit as OfUnit}
@@ -12,7 +13,7 @@ use Rattle.sl_layout.specs.Units.{AreUnits}
 use Rattle.sl_layout.specs.Wiring.{upstream_of, sender_by}
 use Rattle.sl_layout.specs.Devices.{device_of}
 use Rattle.sl_observe.specs.Observer.{UnitState, unit_at, floors_of, new_unit, first_unit}
-use Rattle.sl_observe.specs.Kept.{Collected, states, collected_at, HasSpan, HaveSpans, HasRoom, IsKept}
+use Rattle.sl_observe.specs.Kept.{Collected, states, collected_at, HasSpan, HaveSpans, HasRoom, HaveRoomBut, IsKept}
 use Rattle.sl_observe.specs.declared.spans.Span.{Span}
 
 abbrev state_in : Collected → UnitState
@@ -66,6 +67,14 @@ listed_more net ids k none channels us u same h m e made so_far =
 
 -- Room.
 
+-- a unit of the one list is one of the other, and has the same state there
+pub same_state : (us vs : List Collected) (k : ℕ) → states vs ≡ states us → k < length vs
+    → (k < length us) × ((collected_at us k).state ≡ (collected_at vs k).state)
+same_state us vs k same h =
+    let size : length us ≡ length vs = sym (length_states us) ∙ sym (ap length same) ∙ length_states vs in
+    let within : k < length us = omega arith in
+    (within, sym (state_at us k within) ∙ sym (ap (λ ws. unit_at ws k) same) ∙ state_at vs k h)
+
 pub room_in_span : (ring device : ℕ) (us vs : List Collected) (s : Span) → HasSpan (states us) device s → states vs ≡ states us → ((k : ℕ) → s.first ≤ k → k < s.end → ring ≤ (collected_at vs k).room)
     → HasRoom ring device vs
 room_in_span ring device us vs s span same room k h belongs =
@@ -73,18 +82,41 @@ room_in_span ring device us vs s span same room k h belongs =
     let here = span.covers k (omega arith) (ap (λ ws. (unit_at ws k).device) (sym same) ∙ ap (λ (u : UnitState). u.device) (state_at vs k h) ∙ belongs) in
     room k here.0 here.1
 
-pub kept_ready : (ins ring choice : ℕ) (us vs : List Collected) (floors : List ℕ) (spans : List Span) (p : Option ℕ) → IsKept ins ring us floors spans p → states vs ≡ states us
-    → (choice < ins → HasRoom ring choice vs) → IsKept ins ring vs floors spans (Some choice)
-kept_ready ins ring choice us vs floors spans p kept same room = record {
+-- room isn't lost where there is more of it
+pub more_room : (ring : ℕ) (shorts : List (Option ℕ)) (us vs : List Collected) → HaveRoomBut ring shorts us → states vs ≡ states us
+    → ((k : ℕ) → (collected_at us k).room ≤ (collected_at vs k).room) → HaveRoomBut ring shorts vs
+more_room ring shorts us vs but same more device place named k h off belongs =
+    let at = same_state us vs k same h in
+    let room = but device place named k at.0 off (ap (λ (u : UnitState). u.device) at.1 ∙ belongs) in
+    omega (arith, room, more k)
+
+-- where all units of a device have room, any one of them may be named
+pub room_but_any : (ring device place : ℕ) (shorts : List (Option ℕ)) (us : List Collected) → HasRoom ring device us
+    → HaveRoomBut ring shorts us → HaveRoomBut ring (set shorts device (Some place)) us
+room_but_any ring device place shorts us full but d p named k h off belongs =
+    elim (cases_eq d device) [
+      | inl e ↦ full k h (belongs ∙ e)
+      | inr other ↦ but d p (sym (get_or-set_other shorts device d (Some place) None other) ∙ named) k h off belongs
+    ]
+
+pub kept_ready : (ins ring choice : ℕ) (us vs : List Collected) (floors : List ℕ) (spans : List Span) (old new : List (Option ℕ)) (p : Option ℕ)
+    → IsKept ins ring us floors spans old p → states vs ≡ states us → length new ≡ ins → HaveRoomBut ring new vs
+    → (choice < ins → HasRoom ring choice vs) → IsKept ins ring vs floors spans new (Some choice)
+kept_ready ins ring choice us vs floors spans old new p kept same size but room = record {
   floors_are = kept.floors_are ∙ sym (ap floors_of same);
   spans_are = subst (λ ws. HaveSpans ws ins spans) (sym same) kept.spans_are;
+  shorts_size = size;
+  shorts_are = but;
   room = λ c e h. let chosen : choice ≡ c = cc in subst (λ d. HasRoom ring d vs) chosen (room (omega (arith, chosen)));
 }
 
-pub kept_spent : (ins ring : ℕ) (us vs : List Collected) (floors : List ℕ) (spans : List Span) (p : Option ℕ) → IsKept ins ring us floors spans p → states vs ≡ states us → IsKept ins ring vs floors spans None
-kept_spent ins ring us vs floors spans p kept same = record {
+pub kept_spent : (ins ring : ℕ) (us vs : List Collected) (floors : List ℕ) (spans : List Span) (old new : List (Option ℕ)) (p : Option ℕ)
+    → IsKept ins ring us floors spans old p → states vs ≡ states us → length new ≡ ins → HaveRoomBut ring new vs → IsKept ins ring vs floors spans new None
+kept_spent ins ring us vs floors spans old new p kept same size but = record {
   floors_are = kept.floors_are ∙ sym (ap floors_of same);
   spans_are = subst (λ ws. HaveSpans ws ins spans) (sym same) kept.spans_are;
+  shorts_size = size;
+  shorts_are = but;
   room = λ c e h. cc;
 }
 
@@ -97,8 +129,24 @@ first_floors : (net : Net) (xs : List ℕ) → replicate (length xs) 0 ≡ floor
 first_floors net [] = refl
 first_floors net (x ∷ xs) = ap (λ ns. 0 ∷ ns) (first_floors net xs)
 
-pub first_kept : (net : Net) (ins ring n : ℕ) (us : List Collected) (floors : List ℕ) (spans : List Span) → states us ≡ map (first_unit net) (units net) → n ≡ length us → floors ≡ replicate n 0
-    → HaveSpans (states us) ins spans → IsKept ins ring us floors spans None
-first_kept net ins ring n us floors spans made size zeros spanned =
+-- none is named
+pub none_short : (ring n : ℕ) (us : List Collected) → HaveRoomBut ring (replicate n None) us
+none_short ring n us device place named = absurd (none_named n device place named)
+  where
+    none_named : (n d p : ℕ) → get_or (replicate n None) d None ≡ Some p → ⊥
+    none_named zero d p e = cc
+    none_named (suc n) zero p e = cc
+    none_named (suc n) (suc d) p e = none_named n d p e
+
+pub first_kept : (net : Net) (ins ring n : ℕ) (us : List Collected) (floors : List ℕ) (spans : List Span) (shorts : List (Option ℕ))
+    → states us ≡ map (first_unit net) (units net) → n ≡ length us → floors ≡ replicate n 0 → HaveSpans (states us) ins spans
+    → shorts ≡ replicate ins None → IsKept ins ring us floors spans shorts None
+first_kept net ins ring n us floors spans shorts made size zeros spanned nothing =
     let e : n ≡ length (units net) = size ∙ sym (length_states us) ∙ ap length made ∙ length-map (units net) (first_unit net) in
-    record { floors_are = zeros ∙ ap (λ k. replicate k 0) e ∙ first_floors net (units net) ∙ sym (ap floors_of made); spans_are = spanned; room = λ c f h. cc }
+    record {
+      floors_are = zeros ∙ ap (λ k. replicate k 0) e ∙ first_floors net (units net) ∙ sym (ap floors_of made);
+      spans_are = spanned;
+      shorts_size = ap length nothing ∙ length-replicate ins None;
+      shorts_are = subst (λ ns. HaveRoomBut ring ns us) (sym nothing) (none_short ring ins us);
+      room = λ c f h. cc;
+    }

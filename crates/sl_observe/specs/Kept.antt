@@ -1,5 +1,5 @@
 -- How the observer keeps what it stands for.
-use Rattle.std.specs.Prelude.{◌≡◌, ℕ, ◌≤◌, ◌<◌, List, length, map, Option, Some, slice_index_or}
+use Rattle.std.specs.Prelude.{◌≡◌, ℕ, ◌≤◌, ◌<◌, List, length, map, Option, None, Some, slice_index_or}
 use Rattle.sl_net.specs.declared.input.Snapshot.{Snapshot}
 use Rattle.sl_observe.specs.declared.spans.Span.{Span}
 use Rattle.sl_observe.specs.Observer.{UnitState, ObserverState, new_unit, unit_at, floors_of}
@@ -40,7 +40,17 @@ pub record HaveSpans (us : List UnitState) (count : ℕ) (spans : List Span) : T
 abbrev pub HasRoom : ℕ → ℕ → List Collected → Type 0
 HasRoom ring device us = (k : ℕ) → k < length us → (collected_at us k).state.device ≡ device → ring ≤ (collected_at us k).room
 
-pub record IsKept (ins ring : ℕ) (us : List Collected) (floors : List ℕ) (spans : List Span) (prepared : Option ℕ) : Type 0 where
+-- each unit of a device has this room, but perhaps the one at a place
+abbrev pub HasRoomBut : ℕ → ℕ → ℕ → List Collected → Type 0
+HasRoomBut ring device place us = (k : ℕ) → k < length us → (k ≡ place → ⊥) → (collected_at us k).state.device ≡ device → ring ≤ (collected_at us k).room
+
+-- where a place stands for a device, only the unit there may lack room
+abbrev pub HaveRoomBut : ℕ → List (Option ℕ) → List Collected → Type 0
+HaveRoomBut ring shorts us = (d place : ℕ) → slice_index_or shorts d None ≡ Some place → HasRoomBut ring d place us
+
+pub record IsKept (ins ring : ℕ) (us : List Collected) (floors : List ℕ) (spans : List Span) (shorts : List (Option ℕ)) (prepared : Option ℕ) : Type 0 where
   pub floors_are : floors ≡ floors_of (states us)
   pub spans_are : HaveSpans (states us) ins spans
+  pub shorts_size : length shorts ≡ ins
+  pub shorts_are : HaveRoomBut ring shorts us
   pub room : (c : ℕ) → prepared ≡ Some c → c < ins → HasRoom ring c us

@@ -6,8 +6,8 @@ ghost use Rattle.sl_observe.specs.Floors.{IsTree};
 use std::alloc::{AllocError, Global};
 use std::marker::Model;
 
-/// A list of numbers in a tree of minima: a change costs a step for each of its levels, and the
-/// least is at hand.
+/// A list of numbers in a tree of minima: a change costs a step for each of its levels at most, and
+/// the least is at hand.
 #[derive(Drop)]
 pub struct Floors {
     count: usize,
@@ -35,7 +35,7 @@ fn zeros(alloc: Global, count: usize) -> Result<Vec<u64>, AllocError>
     vec![in alloc; 0; count + count]
 }
 
-/// Writes a number, and the nodes above it anew.
+/// Writes a number, and the nodes above it anew, up to the first that stays as it was.
 #[tactic(auto, using(crate::proofs::Trees::right_but_above, crate::proofs::Trees::right_a_step_on))]
 fn write(tree: &mut Vec<u64>, count: usize, place: usize, number: u64)
     requires tree { IsTree count tree.old.items }
@@ -47,7 +47,11 @@ fn write(tree: &mut Vec<u64>, count: usize, place: usize, number: u64)
     tree[node] = number;
     while node > 1 {
         node /= 2;
-        tree[node] = tree[2 * node].min(tree[2 * node + 1]);
+        let lesser = tree[2 * node].min(tree[2 * node + 1]);
+        if tree[node] == lesser {
+            return;
+        }
+        tree[node] = lesser;
     }
 }
 

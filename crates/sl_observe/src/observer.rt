@@ -8,7 +8,7 @@ ghost use Rattle.sl_observe.specs.Observer.{ObserverState, unit_at, seen_of, sav
 use crate::floors::Floors;
 use crate::spans::Span;
 use crate::unit::{Collected, Seen};
-use crate::units::{hear, list_units, prepare};
+use crate::units::{hear, list_units, no_shorts, prepare};
 use sl_machine::{Machine, Memory, Outputs};
 use sl_net::{Net, Snapshot};
 use sl_saves::Saved;
@@ -27,6 +27,7 @@ pub struct Observer {
     units: Vec<Collected>,
     floors: Floors,
     spans: Vec<Span>,
+    shorts: Vec<Option<usize>>,
     prepared: Option<u32>,
 }
 
@@ -37,7 +38,7 @@ impl Model for Observer {
 
     ghost view = { λ o. record { state = kept.state_of o.ins o.outs o.snapshot o.issued o.resent o.units.items; ready = o.prepared } };
 
-    ghost invariant = { λ o. kept.IsKept o.ins o.snapshot.ring o.units.items o.floors o.spans.items o.prepared };
+    ghost invariant = { λ o. kept.IsKept o.ins o.snapshot.ring o.units.items o.floors o.spans.items o.shorts.items o.prepared };
 }
 
 /// Puts the begin of a snapshot on each outgoing link.
@@ -68,6 +69,7 @@ impl Observer {
         let units = list_units(alloc, net)?;
         let floors = Floors::zeros(alloc, units.len())?;
         let spans = Span::list(alloc, units.as_slice(), ins)?;
+        let shorts = no_shorts(alloc, ins)?;
         Ok(Observer {
             ins,
             outs,
@@ -77,6 +79,7 @@ impl Observer {
             units,
             floors,
             spans,
+            shorts,
             prepared: None,
         })
     }
@@ -187,6 +190,7 @@ impl Machine for Observer {
         let ring = self.snapshot.ring;
         prepare(
             &mut self.units,
+            &mut self.shorts,
             self.spans.as_slice(),
             self.ins,
             choice,
@@ -202,6 +206,7 @@ impl Machine for Observer {
             hear(
                 &mut self.units,
                 &mut self.floors,
+                &mut self.shorts,
                 self.snapshot.ring,
                 link,
                 done.get(),

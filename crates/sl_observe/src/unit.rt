@@ -125,6 +125,7 @@ impl Collected {
     pub fn make_room(&mut self, ring: u16) -> Result<(), AllocError>
         ensures state { self.new.state ≡ self.old.state }
         ensures room { OnOk result (ring ≤ self.new.room) }
+        ensures more { self.old.room ≤ self.new.room }
     {
         self.rows.reserve(ring as usize)
     }
@@ -150,7 +151,8 @@ impl Collected {
     /// Takes a report that came from a device.
     pub fn hear(&mut self, ring: u16, link: u32, done: &Done)
         requires { self.old.state.device ≡ link → ring ≤ self.old.room }
-        ensures { self.new.state ≡ after_done ring link done.now self.old.state }
+        ensures state { self.new.state ≡ after_done ring link done.now self.old.state }
+        ensures same { (self.new.state.device ≡ link → ⊥) → self.new ≡ self.old }
     {
         if self.device == link && self.is_next(ring, done) {
             self.seen = Seen {

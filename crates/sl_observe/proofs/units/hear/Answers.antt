@@ -11,4 +11,4 @@ returns-then-place-len-clause-floors c =
     let size = length_states c.args.units.now.items in
     let within : place < length us = omega (arith, size, c.len.ensures) in
     c.set.ensures ∙ floors_kept us (states c.hear_at.new.units.items) c.args.floors.now place c.floor_at.result (after_done c.args.ring c.args.link c.args.done.now (unit_at us place)) within c.requires.floors
-    c.hear_at.ensures (c.floor_at.ensures ∙ ap (λ xs. (unit_at (states xs) place).floor) c.as_slice.ensures.value)
+    c.hear_at.ensures.set (c.floor_at.ensures ∙ ap (λ xs. (unit_at (states xs) place).floor) c.as_slice.ensures.value)

@@ -5,10 +5,11 @@ use Rattle.sl_observe.specs.Kept.{states}
 use Rattle.sl_observe.proofs.UnitLists.{states_set, state_at}
 use Rattle.sl_observe.proofs.units.hear_at.Goals as goal
 
-pub returns : goal.returns
-returns c =
+pub returns-clause-set : goal.returns-clause-set
+returns-clause-set c =
     let us = c.args.units.now.items in
     let place = c.args.place in
     let hears = after_done c.args.ring c.args.link c.args.done.now in
     let read = get_or_read us place c.index_mut-unit.result.now c.requires.place c.index_mut-unit.ensures.value (record { state = new_unit 0 0; room = 0 }) in
-    states_set us place c.hear.new.self ∙ ap (set (states us) place) (c.hear.ensures ∙ ap hears (ap (λ u. u.state) read ∙ sym (state_at us place c.requires.place)))
+    let heard = c.hear.ensures.state ∙ ap hears (ap (λ u. u.state) read ∙ sym (state_at us place c.requires.place)) in
+    states_set us place c.hear.new.self ∙ ap (set (states us) place) heard

@@ -6,5 +6,6 @@ abbrev pub invariant-loop-place : goal.invariant-loop-place
 invariant-loop-place l = record {
   states : states l.units.items ≡ states l.fn.units.items;
   size : length l.units.items ≡ length l.fn.units.items;
+  more : (k : ℕ) → (collected_at l.fn.units.items k).room ≤ (collected_at l.units.items k).room;
   room : (k : ℕ) → l.first ≤ k → k < l.place → l.ring ≤ (collected_at l.units.items k).room;
 }

@@ -7,5 +7,8 @@ pub invariant_of-result : goal.invariant_of-result
 invariant_of-result c =
     let us = c.in_ok-units.units.items in
     let size : c.len.result ≡ length us = omega (arith, c.len.ensures) in
-    first_kept c.args.net.now (length c.links_into.result.now) c.args.snapshot.now.ring c.len.result us c.in_ok-floors.floors c.in_ok-spans.spans.items c.in_ok-units.ensures size c.in_ok-floors.ensures
-    (subst (λ vs. HaveSpans (states vs) (length c.links_into.result.now) c.in_ok-spans.spans.items) c.as_slice.ensures.value c.in_ok-spans.ensures)
+    let spans = c.in_ok-spans.spans.items in
+    let ins = length c.links_into.result.now in
+    let spanned = subst (λ vs. HaveSpans (states vs) ins spans) c.as_slice.ensures.value c.in_ok-spans.ensures in
+    first_kept c.args.net.now ins c.args.snapshot.now.ring c.len.result us c.in_ok-floors.floors spans c.in_ok-shorts.shorts.items c.in_ok-units.ensures size
+    c.in_ok-floors.ensures spanned c.in_ok-shorts.ensures

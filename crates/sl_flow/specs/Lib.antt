@@ -1,3 +1,4 @@
 pub mod Flow
 pub mod Sample
 pub mod InputText
+pub mod Share

@@ -7,7 +7,8 @@ use sl_machine::Memory;
 use sl_net::{Flow, Packet};
 use std::alloc::{AllocError, Global};
 
-fn packet_in(flow: Flow, number: u32) -> Packet
+/// The packet with a number in a flow.
+pub(crate) fn packet_in(flow: Flow, number: u32) -> Packet
     requires { HasAddresses flow }
     ensures { result ≡ packet_in flow number }
 {

@@ -1,9 +1,10 @@
 // The frames that a host sends.
-ghost use Rattle.std.specs.Prelude.{◌≡◌, ◌++◌, ◌∷◌, [], ◌==◌, IfOk, OnOk, cond, option_map, slice_get};
+ghost use Rattle.std.specs.Prelude.{◌≡◌, ◌++◌, ◌∷◌, [], ◌==◌, IfOk, OnOk, cond, length, min, option_map, slice_get};
 ghost use Rattle.sl_wire.specs.Carried.{carrying};
 ghost use Rattle.sl_host.specs.Host.{messages, raws_of};
 
-use sl_net::{Bytes, Packet, RawPart};
+use sl_flow::Share;
+use sl_net::{Bytes, RawPart};
 use sl_wire::{Frame, Framed, Msg, plain_frame};
 use std::alloc::{AllocError, Global};
 
@@ -51,20 +52,21 @@ pub fn raws_of(alloc: Global, raws: &[RawPart], host: u32) -> Result<Vec<Bytes>,
 }
 
 /// The message with the frame at a place, where there is one: the packets come first, then the raw
-/// frames.
+/// frames. As many packets are sent as come before the place.
+#[tactic(auto, using(crate::proofs::Places::packet_is_next, crate::proofs::Places::past_packets, crate::proofs::Places::raw_is_next))]
 pub fn message_at(
     alloc: Global,
-    packets: &[Packet],
+    share: &Share,
     raws: &[Bytes],
     place: u64,
 ) -> Result<Option<Msg>, AllocError>
-    ensures { IfOk result (λ message. message ≡ option_map carrying (slice_get (messages packets.now raws.now) place)) }
+    requires { share.now.sent ≡ min place (length share.now.packets) }
+    ensures { IfOk result (λ message. message ≡ option_map carrying (slice_get (messages share.now.packets raws.now) place)) }
 {
-    let place = place as usize;
-    if place < packets.len() {
-        return Ok(Some(Msg::Frame(Framed::new(plain_frame(&packets[place])))));
+    if let Some(packet) = share.next() {
+        return Ok(Some(Msg::Frame(Framed::new(plain_frame(&packet)))));
     }
-    let place = place - packets.len();
+    let place = (place - share.count()) as usize;
     if place < raws.len() {
         return Ok(Some(copied(alloc, &raws[place])?));
     }

@@ -1,15 +1,16 @@
 // The machine of a host.
-ghost use Rattle.std.specs.Prelude.{◌≡◌, ◌+◌, ◌<◌, Option, None, IfOk};
+ghost use Rattle.std.specs.Prelude.{◌≡◌, ◌+◌, ◌<◌, Option, None, IfOk, length, nat_lt, option_map, slice_get};
 ghost use Rattle.std.specs.List.{All};
 ghost use Rattle.sl_flow.specs.Flow.{HasAddresses};
+ghost use Rattle.sl_wire.specs.Carried.{carrying};
 ghost use Rattle.sl_host.specs.Host.{HostState, messages_of, host_rules, host_counts};
 
 use crate::frames::{message_at, raws_of};
-use sl_flow::packets_of;
+use sl_flow::Share;
 use sl_machine::{Machine, Memory, Outputs};
-use sl_net::{Bytes, Input, Packet};
+use sl_net::{Bytes, Input};
 use sl_wire::Msg;
-use std::alloc::Global;
+use std::alloc::{AllocError, Global};
 use std::marker::Model;
 
 /// The choice by which a host sends its next frame. The choice 0 takes from its link.
@@ -19,11 +20,12 @@ const INJECT: u32 = 1;
 /// it takes.
 #[derive(Drop)]
 pub struct Host {
-    packets: Vec<Packet>,
+    /// Its packets, and how far it is in them.
+    share: Share,
     raws: Vec<Bytes>,
     sent: u64,
     delivered: u64,
-    /// The next frame's message, where the host is ready to send it.
+    /// The next frame's message, where it is made.
     next: Option<Msg>,
     prepared: Option<u32>,
 }
@@ -33,9 +35,9 @@ impl Model for Host {
 
     ghost Value = { kept.Host };
 
-    ghost view = { λ h. record { state = kept.state_of h.packets.items h.raws.items h.sent h.delivered; ready = h.prepared } };
+    ghost view = { λ h. record { state = kept.state_of h.share.packets h.raws.items h.sent h.delivered; ready = h.prepared } };
 
-    ghost invariant = { λ h. kept.IsKept h.packets.items h.raws.items h.sent h.next h.prepared };
+    ghost invariant = { λ h. kept.IsKept h.share h.raws.items h.sent h.next h.prepared };
 }
 
 impl Host {
@@ -46,16 +48,40 @@ impl Host {
         ensures state { IfOk result (λ h. h.state ≡ record { messages = messages_of input.now host; sent = 0; delivered = 0 }) }
         ensures ready { IfOk result (λ h. h.ready ≡ None) }
     {
-        let packets = packets_of(alloc, host, input.flows.as_slice())?;
+        let share = Share::of(alloc, host, input.flows.as_slice())?;
         let raws = raws_of(alloc, input.raws.as_slice(), host)?;
+        if share.count().checked_add(raws.len() as u64).is_none() {
+            return Err(Memory);
+        }
         Ok(Host {
-            packets,
+            share,
             raws,
             sent: 0,
             delivered: 0,
             next: None,
             prepared: None,
         })
+    }
+
+    /// Whether a frame is left to send.
+    fn has_more(&self) -> bool
+        ensures { result ≡ nat_lt self.now.state.sent (length self.now.state.messages) }
+    {
+        self.sent < self.share.count() + self.raws.len() as u64
+    }
+
+    /// The message of the next frame, where one is left to send. It stands by itself, since most
+    /// turns of a host that has sent all of its frames find none.
+    #[inline(never)]
+    fn next_message(&self) -> Result<Option<Msg>, AllocError>
+        ensures { IfOk result (λ message. message ≡ option_map carrying (slice_get self.now.state.messages self.now.state.sent)) }
+    {
+        message_at(
+            *self.raws.allocator(),
+            &self.share,
+            self.raws.as_slice(),
+            self.sent,
+        )
     }
 
     /// How many frames it has sent.
@@ -88,15 +114,8 @@ impl Machine for Host {
 
     fn ready(&mut self, choice: u32) -> Result<(), Memory> {
         self.prepared = None;
-        if choice == INJECT {
-            let alloc = *self.packets.allocator();
-            let next = message_at(
-                alloc,
-                self.packets.as_slice(),
-                self.raws.as_slice(),
-                self.sent,
-            );
-            self.next = next?;
+        if choice == INJECT && self.next.is_none() && self.has_more() {
+            self.next = self.next_message()?;
         }
         self.prepared = Some(choice);
         Ok(())
@@ -114,6 +133,7 @@ impl Machine for Host {
         match self.next.take() {
             Some(message) => {
                 self.sent += 1;
+                self.share.step();
                 out.put(0, message);
                 true
             }

@@ -68,6 +68,10 @@ position_is t counts a n laid low = ap (λ (s : ℕ). s + n) (laid.starts a low)
 pub position_within : (t : Places) (counts : List ℕ) (a n : ℕ) → IsLaidOut t counts → a < length counts → n < slice_index counts a → slice_index t.starts.items a + n < length t.places.items
 position_within t counts a n laid low here = omega (arith, position_is t counts a n laid low, start_of_within counts a n low here, laid.long)
 
+-- so where a search looks is in it
+pub position_read : (t : Places) (counts starts : List ℕ) (a n : ℕ) → starts ≡ t.starts.items → IsLaidOut t counts → a < length counts → n < slice_index counts a → get_or starts a 0 + n < length t.places.items
+position_read t counts starts a n is laid low here = omega (arith, ap (λ (xs : List ℕ). get_or xs a 0 + n) is, position_within t counts a n laid low here)
+
 -- one more pair is entered
 pub entered : (t new : Places) (counts : List ℕ) (pairs : List (ℕ × ℕ)) (l a n : ℕ) → IsLaidOut t counts → IsNumbering counts pairs → l < length pairs → (a, n) ≡ pair_at pairs l → new.starts.items ≡ t.starts.items → new.places.items ≡ set t.places.items (slice_index t.starts.items a + n) l → Finds t pairs l → record { laid_out : IsLaidOut new counts; finds : Finds new pairs (l + 1) }
 entered t new counts pairs l a n laid numbering low pair starts places finds =

@@ -46,6 +46,13 @@ impl<M: Drop> Lines<M> {
         !self.filled[link]
     }
 
+    /// Which links have a message.
+    pub fn filled(&self) -> &[bool]
+        ensures { IsMarked self.now result.now }
+    {
+        self.filled.as_slice()
+    }
+
     /// How many puts a link has lost.
     pub fn lost(&self, link: usize) -> u64
         requires { link < length self.now }

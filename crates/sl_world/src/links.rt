@@ -1,5 +1,5 @@
 // All links of a net: where each goes, and what is on it.
-ghost use Rattle.std.specs.Prelude.{◌≡◌, ◌≢◌, ◌+◌, ◌<◌, ◌≤◌, ◌↔◌, ◌∷◌, [], ℕ, true, false, length, drop, slice_index, slice_set, slice_index_or, IsTrue, IfOk, IfSome, IfNone, OnOk, Some, All};
+ghost use Rattle.std.specs.Prelude.{◌≡◌, ◌≢◌, ◌+◌, ◌<◌, ◌≤◌, ◌↔◌, ◌∷◌, [], ℕ, true, false, length, drop, slice_index, slice_set, slice_index_or, reverse, IsTrue, IfOk, IfSome, IfNone, OnOk, Some, All};
 ghost use Rattle.sl_machine.specs.Machine.{is_fitting};
 ghost use Rattle.sl_machine.specs.Plan.{IsSound, link_in};
 ghost use Rattle.sl_world.specs.Scene.{line_at, without_first, put_all, put_each};
@@ -9,7 +9,7 @@ ghost use Rattle.sl_world.specs.Places.{place_of};
 use crate::line::Line;
 use crate::lines::Lines;
 use crate::make::{copy_wiring, incoming_places, outgoing_places};
-use crate::places::Places;
+use crate::places::{Places, place_in};
 use sl_machine::{Memory, Outputs, Wiring};
 use std::alloc::Global;
 use std::marker::Model;
@@ -80,6 +80,32 @@ impl<M: Drop> Links<M> {
         ensures { IsTrue result ↔ ((line_at self.now.lines link).queue ≡ []) }
     {
         self.lines.is_empty(link)
+    }
+
+    /// The first place of a schedule, from this one on, whose choice is an action or finds a
+    /// message. The tables are borrowed before the search, so that it looks at nothing else.
+    pub fn next_at(&self, schedule: &[(u32, u32)], from: usize) -> usize
+        requires actors { All (λ e. e.0 < length self.now.plan.ins) schedule.now }
+        requires within { from ≤ length schedule.now }
+        ensures from { from ≤ result }
+        ensures within { result ≤ length schedule.now }
+        ensures nothing { (k : ℕ) → from ≤ k → k < result → let e = slice_index_or schedule.now k (0, 0) in let link = link_in self.now.plan.links e.0 e.1 in (link < length self.now.plan.links) × ((line_at self.now.lines link).queue ≡ []) }
+    {
+        let wiring = &self.wiring;
+        let counts = wiring.in_counts.as_slice();
+        let starts = self.ins.starts();
+        let places = self.ins.places();
+        let filled = self.lines.filled();
+        let mut at = from;
+        while at < schedule.len() {
+            let (actor, choice) = schedule[at];
+            let actor = actor as usize;
+            if choice >= counts[actor] || filled[place_in(starts, places, actor, choice)] {
+                return at;
+            }
+            at += 1;
+        }
+        at
     }
 
     /// How many puts a link has lost.
@@ -159,6 +185,16 @@ fn make_room_at<M: Drop>(
     Ok(())
 }
 
+/// Turns the order of the messages round. Most turns put one at most.
+fn turn_round<M: Drop>(out: &mut Outputs<M>)
+    ensures items { out.new.items ≡ reverse out.old.items }
+    ensures room { out.new.room ≡ out.old.room }
+{
+    if out.items().len() > 1 {
+        out.reverse();
+    }
+}
+
 /// Puts each message on the link that the table has for its number, and answers whether each of
 /// these links has room for one more.
 fn put_at_places<M: Drop>(
@@ -176,7 +212,7 @@ fn put_at_places<M: Drop>(
     ensures items { out.new.items ≡ [] }
     ensures room { out.new.room ≡ out.old.room }
 {
-    out.reverse();
+    turn_round(out);
     let mut roomy = true;
     while let Some((number, m)) = out.take_last() {
         let place = outs.place(actor, number);

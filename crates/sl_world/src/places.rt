@@ -34,7 +34,26 @@ impl Places {
         requires number { slice_index self.now.starts.items actor + number < length self.now.places.items }
         ensures { result ≡ place_of self.now actor number }
     {
-        self.places[self.starts[actor] + number as usize] as usize
+        place_in(
+            self.starts.as_slice(),
+            self.places.as_slice(),
+            actor,
+            number,
+        )
+    }
+
+    /// Where each actor's part begins.
+    pub fn starts(&self) -> &[usize]
+        ensures { result.now ≡ self.now.starts.items }
+    {
+        self.starts.as_slice()
+    }
+
+    /// The places, part after part.
+    pub fn places(&self) -> &[u32]
+        ensures { result.now ≡ self.now.places.items }
+    {
+        self.places.as_slice()
     }
 
     fn set(&mut self, actor: usize, number: u32, place: u32)
@@ -64,4 +83,14 @@ impl Places {
         let places = vec![in alloc; 0; end]?;
         Ok(Places { starts, places })
     }
+}
+
+/// The place of an actor's link, of where the parts begin and of the places.
+#[inline(always)]
+pub fn place_in(starts: &[usize], places: &[u32], actor: usize, number: u32) -> usize
+    requires actor { actor < length starts.now }
+    requires number { slice_index starts.now actor + number < length places.now }
+    ensures { result ≡ slice_index places.now (slice_index starts.now actor + number) }
+{
+    places[starts[actor] + number as usize] as usize
 }

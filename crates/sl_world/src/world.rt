@@ -191,26 +191,7 @@ impl<A: Machine> World<A> {
         ensures within { result ≤ length schedule.now }
         ensures nothing { (k : ℕ) → from ≤ k → k < result → let e = slice_index_or schedule.now k (0, 0) in FindsNothing (scene self.now) e.0 e.1 }
     {
-        let mut at = from;
-        while at < schedule.len() {
-            let (actor, choice) = schedule[at];
-            if !self.finds_nothing(actor, choice) {
-                return at;
-            }
-            at += 1;
-        }
-        at
-    }
-
-    /// Whether a choice is a link with nothing on it.
-    fn finds_nothing(&self, actor: u32, choice: u32) -> bool
-        requires { actor < length (scene self.now).plan.ins }
-        ensures { IsTrue result → FindsNothing (scene self.now) actor choice }
-    {
-        match self.links.incoming(actor, choice) {
-            Some(link) => self.links.is_empty(link),
-            None => false,
-        }
+        self.links.next_at(schedule, from)
     }
 
     fn take_turn(&mut self, actor: u32, choice: u32, link: usize) -> Result<Turn, Memory>
@@ -233,8 +214,7 @@ impl<A: Machine> World<A> {
         Ok(Turn::Did)
     }
 
-    /// Takes the first message of a link. It stands apart, so that an idle turn costs little.
-    #[inline(never)]
+    /// Takes the first message of a link.
     fn take_from(&mut self, actor: u32, choice: u32, link: usize) -> Result<(), Memory>
         requires actor { actor < length (scene self.old).plan.ins }
         requires choice { choice < slice_index (scene self.old).plan.ins actor }
@@ -254,7 +234,6 @@ impl<A: Machine> World<A> {
         Ok(())
     }
 
-    #[inline(never)]
     fn act_turn(&mut self, actor: u32, choice: u32) -> Result<Turn, Memory>
         requires choice { HasChoice (scene self.old).plan actor choice }
         requires action { slice_index (scene self.old).plan.ins actor ≤ choice }

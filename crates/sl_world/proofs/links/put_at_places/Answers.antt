@@ -13,8 +13,8 @@ turned xs ys x e = ap reverse e ∙ reverse-append ys (x ∷ [])
 
 pub loop-number-init : goal.loop-number-init
 loop-number-init g c =
-    let is : reverse c.reverse.new.self.items ≡ c.args.out.now.items = ap reverse c.reverse.ensures.items ∙ reverse-reverse c.args.out.now.items in
-    rw is (record { rest = refl; others = λ k h. (refl, h); within = c.requires.within; room = c.requires.room; some = λ e k h. h; space = c.reverse.ensures.room })
+    let is : reverse c.turn_round.new.out.items ≡ c.args.out.now.items = ap reverse c.turn_round.ensures.items ∙ reverse-reverse c.args.out.now.items in
+    rw is (record { rest = refl; others = λ k h. (refl, h); within = c.requires.within; room = c.requires.room; some = λ e k h. h; space = c.turn_round.ensures.room })
 
 pub place-place-requires-clause-number : goal.place-place-requires-clause-number
 place-place-requires-clause-number g c =

@@ -1,0 +1,15 @@
+use Rattle.std.proofs.Common.{◌-◌, ◌≤◌, ◌<◌, ◌≡◌, ℕ, [], length, get_or}
+use Rattle.sl_machine.specs.Plan.{link_in}
+use Rattle.sl_world.specs.Scene.{line_at}
+use Rattle.sl_world.proofs.links.Links.next_at.Given as goal
+
+abbrev pub invariant-loop-at : goal.invariant-loop-at
+invariant-loop-at g l =
+    record {
+      from : l.from ≤ l.at;
+      within : l.at ≤ length l.schedule;
+      nothing : (k : ℕ) → l.from ≤ k → k < l.at → let e = get_or l.schedule k (0, 0) in let link = link_in l.self.plan.links e.0 e.1 in (link < length l.self.plan.links) × ((line_at l.self.lines link).queue ≡ []);
+    }
+
+abbrev pub decreases-loop-at : goal.decreases-loop-at
+decreases-loop-at g l = length l.schedule - l.at

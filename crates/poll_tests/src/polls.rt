@@ -1,0 +1,145 @@
+// The trail of a schedule, and what reading the units one after the other shows of it.
+ghost use Rattle.std.specs.Prelude.{◌<◌, IfOk, IsTrue};
+ghost use Rattle.std.specs.List.{All};
+ghost use Rattle.sl_flow.specs.Flow.{HasAddresses};
+
+use sl_cut::{Ending, ending_of};
+use sl_net::{Input, Net};
+use sl_poll::{Counted, Listed, Pair, Polled, Read1, Trail, reading_of, trail_of};
+use sl_read::read_input;
+use std::alloc::{AllocError, Global};
+use std::test::Fail;
+
+/// A device with two hosts, one packet and one snapshot.
+const ONE_PACKET: &str = r#"device = [{name = "a", ports = 2}]
+host = [{name = "h0", at = "a.0"}, {name = "h1", at = "a.1"}]
+flow = [{from = "h0", to = "h1", count = 1, bytes = 100, hops = 8}]
+snapshot = {bits = 2, window = 3, ring = 3, count = 1, retries = 0}
+"#;
+
+/// The packet's way: its host sends it, the ingress unit takes it from there, the egress unit of the
+/// other port from the crossbar, and the other host takes it.
+static WAY: [(u32, u32); 4] = [(6, 1), (2, 0), (5, 0), (7, 0)];
+
+/// The second entry puts the packet on the crossbar, and the third one takes it. Before this link
+/// come one of the observer, nine of the control plane and three each of the first three units.
+static PAIRS: [Pair; 1] = [Pair {
+    link: 19,
+    put: 2,
+    take: 3,
+}];
+
+/// The first ingress unit and the second egress unit count it.
+static COUNTED: [Counted; 2] = [
+    Counted {
+        unit: 0,
+        entry: 2,
+        bytes: 100,
+    },
+    Counted {
+        unit: 3,
+        entry: 3,
+        bytes: 100,
+    },
+];
+
+fn way() -> &'static [(u32, u32)] {
+    &WAY
+}
+
+fn pairs() -> &'static [Pair] {
+    &PAIRS
+}
+
+fn counted() -> &'static [Counted] {
+    &COUNTED
+}
+
+fn input_of(alloc: Global, text: &str) -> Result<Input, Fail>
+    ensures { IfOk result (λ i. All HasAddresses i.flows) }
+{
+    match read_input(alloc, text.as_bytes()) {
+        Ok(input) => Ok(input),
+        Err(_) => Err("refused".into()),
+    }
+}
+
+/// The trail of a schedule that is legal and leaves its world unfinished.
+fn trail_along(alloc: Global, input: &Input, schedule: &[(u32, u32)]) -> Result<Trail, Fail>
+    requires { All HasAddresses input.now.flows }
+{
+    match ending_of(alloc, input, schedule)? {
+        Ending::Unfinished => Ok(trail_of(alloc, input, schedule)?),
+        _ => Err("another end".into()),
+    }
+}
+
+/// A packet crosses once, and two units count it.
+#[test]
+fn trails_are_told(rt: HostRuntime) -> Result<(), Fail> {
+    let input = input_of(rt.alloc(), ONE_PACKET)?;
+    let trail = trail_along(rt.alloc(), &input, way())?;
+    assert_eq!(rt; trail.pairs.as_slice(), pairs());
+    assert_eq!(rt; trail.counted.as_slice(), counted());
+    Ok(())
+}
+
+/// That trail, written out.
+fn written_out(alloc: Global) -> Result<Trail, AllocError> {
+    let pairs = Listed {
+        items: Vec::from_slice(alloc, pairs())?,
+    };
+    let counted = Listed {
+        items: Vec::from_slice(alloc, counted())?,
+    };
+    Ok(Trail { pairs, counted })
+}
+
+fn are_links(pairs: &[Pair], count: usize) -> bool
+    ensures { IsTrue result → All (λ p. p.link < count) pairs.now }
+{
+    pairs.iter().all(|pair| (pair.link as usize) < count)
+}
+
+/// What is read of the units along it, in a run of its four entries.
+fn reading_along(alloc: Global, net: &Net, start: u64, gap: u64) -> Result<Polled, Fail> {
+    let trail = written_out(alloc)?;
+    if !are_links(trail.pairs.as_slice(), net.links().len()) {
+        return Err("no such link".into());
+    }
+    Ok(reading_of(alloc, net, &trail, 4, start, gap)?)
+}
+
+/// What is read of a unit after how many entries, where it counted so many packets of 100 bytes.
+fn read(unit: u32, at: u64, packets: u64) -> Read1 {
+    Read1 {
+        unit,
+        at,
+        packets,
+        bytes: packets.saturating_mul(100),
+    }
+}
+
+/// Whether a reading is this one, broken by this packet.
+fn is_read(polled: &Polled, reads: &[Read1], broken: Option<Pair>) -> bool {
+    polled.reads.as_slice() == reads && polled.broken == broken
+}
+
+/// Where each unit is read one entry after the one before, the last one after the packet came and
+/// the first one before it was put, the packet breaks the reading. Where all are read after three
+/// entries, none does.
+fn are_told(alloc: Global, net: &Net) -> Result<bool, Fail> {
+    let broken = reading_along(alloc, net, 1, 1)?;
+    let whole = reading_along(alloc, net, 3, 0)?;
+    let one_by_one = [read(0, 1, 0), read(1, 2, 0), read(2, 3, 0), read(3, 4, 1)];
+    let at_once = [read(0, 3, 1), read(1, 3, 0), read(2, 3, 0), read(3, 3, 1)];
+    let first = pairs().first().copied();
+    Ok(is_read(&broken, one_by_one.as_slice(), first) && is_read(&whole, at_once.as_slice(), None))
+}
+
+#[test]
+fn trails_are_read(rt: HostRuntime) -> Result<(), Fail> {
+    let input = input_of(rt.alloc(), ONE_PACKET)?;
+    assert!(rt; are_told(rt.alloc(), &input.net)?);
+    Ok(())
+}

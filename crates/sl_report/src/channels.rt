@@ -1,10 +1,11 @@
 // The units of a net and their data channels, by number.
-ghost use Rattle.std.specs.Prelude.{◌≡◌, ◌++◌, ◌<◌, IfOk, OnOk, length, filter};
+ghost use Rattle.std.specs.Prelude.{◌≡◌, ◌++◌, ◌<◌, IfOk, OnOk, length, filter, map};
 ghost use Rattle.std.specs.List.{All};
-ghost use Rattle.sl_layout.specs.Net.{link_of, same_sort};
+ghost use Rattle.sl_layout.specs.Net.{link_of, same_sort, units};
 ghost use Rattle.sl_model.specs.Findings.{channel_links};
 
 use sl_net::{Net, Sort, push_if};
+use sl_parts::Numbers;
 use std::alloc::{AllocError, Global};
 
 /// Adds those of some links that are of a sort.
@@ -29,4 +30,16 @@ pub fn channel_links(alloc: Global, net: &Net, unit: u32) -> Result<Vec<u32>, Al
     add_of_sort(&mut links, net, from, Sort::Cable)?;
     add_of_sort(&mut links, net, from, Sort::Crossbar)?;
     Ok(links)
+}
+
+/// The data channels of each unit, units in order.
+pub fn list_channels(alloc: Global, net: &Net) -> Result<Vec<Numbers>, AllocError>
+    ensures { IfOk result (λ lists. lists.items ≡ map (channel_links net.now) (units net.now)) }
+{
+    let mut lists = Vec::new(alloc);
+    for unit in net.unit_actors() {
+        let items = channel_links(alloc, net, *unit)?;
+        lists.push(Numbers { items })?;
+    }
+    Ok(lists)
 }

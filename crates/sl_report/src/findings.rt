@@ -1,14 +1,16 @@
 // The findings of each snapshot as text.
-ghost use Rattle.std.specs.Prelude.{◌≡◌, ◌++◌, OnOk, string_bytes, flat_map, codes, decimal, length, ◌<◌};
-ghost use Rattle.std.specs.List.{All};
+ghost use Rattle.std.specs.Prelude.{◌≡◌, ◌++◌, OnOk, string_bytes, flat_map, codes, decimal, length, map, ◌<◌};
+ghost use Rattle.sl_layout.specs.Net.{units};
 ghost use Rattle.sl_model.specs.Findings.{channel_links};
 ghost use Rattle.sl_report.specs.Report.{unit_text, unit_at, channel_text, channel_at, cause_text, lag_text};
 ghost use Rattle.sl_report.specs.Report.{verdict_text, verdict_line, totals_text, row_line, rows_text, finding_text};
 
-use crate::channels::channel_links;
+use crate::channels::{channel_links, list_channels};
+use crate::numbers::push_spaced;
 use crate::units::{push_channel, push_unit};
 use sl_model::{Cause, Finding, Lag, Row, Verdict};
 use sl_net::Net;
+use sl_parts::Numbers;
 use sl_saves::Total;
 use std::alloc::{AllocError, Global};
 
@@ -145,11 +147,10 @@ fn push_total(out: &mut String, net: &Net, link: u32, total: Total) -> Result<()
     ensures { OnOk result (string_bytes out.new ≡ string_bytes out.old
         ++ (codes " " ++ (channel_text net.now link ++ (codes " " ++ (decimal total.packets ++ (codes " " ++ decimal total.bytes)))))) }
 {
-    write!(out, " ")?;
+    out.push(' ')?;
     push_channel(out, net, link)?;
-    let packets = total.packets;
-    let bytes = total.bytes;
-    write!(out, " {packets} {bytes}")
+    push_spaced(out, total.packets)?;
+    push_spaced(out, total.bytes)
 }
 
 /// Writes the totals of a unit's data channels.
@@ -170,37 +171,37 @@ fn push_totals(
 
 #[tactic(auto, unfolding(crate::specs::Report::row_line))]
 fn push_row(
-    alloc: Global,
     out: &mut String,
     net: &Net,
     unit: u32,
+    links: &[u32],
     row: &Row,
 ) -> Result<(), AllocError>
-    requires { unit < length net.now.actors }
+    requires { links.now ≡ channel_links net.now unit }
     ensures { OnOk result (string_bytes out.new ≡ string_bytes out.old ++ row_line net.now unit row.now) }
 {
-    let links = channel_links(alloc, net, unit)?;
-    let packets = row.packets;
-    let bytes = row.bytes;
     push_unit(out, net, unit)?;
-    write!(out, " {packets} {bytes}")?;
-    push_totals(out, net, links.as_slice(), &row.inflight)?;
-    write!(out, "\n")
+    push_spaced(out, row.packets)?;
+    push_spaced(out, row.bytes)?;
+    push_totals(out, net, links, &row.inflight)?;
+    out.push('\n')
 }
 
+/// Writes the rows of units, of which these are the data channels.
 #[tactic(auto, using(crate::proofs::TextLemmas::rows_more))]
 fn push_rows(
-    alloc: Global,
     out: &mut String,
     net: &Net,
     actors: &[u32],
+    channels: &[Numbers],
     rows: &[Row],
 ) -> Result<(), AllocError>
-    requires { All (λ a. a < length net.now.actors) actors.now }
+    requires { channels.now ≡ map (channel_links net.now) actors.now }
     ensures { OnOk result (string_bytes out.new ≡ string_bytes out.old ++ rows_text net.now actors.now rows.now) }
 {
     for i in 0..actors.len().min(rows.len()) {
-        push_row(alloc, out, net, actors[i], &rows[i])?;
+        let links = &channels[i];
+        push_row(out, net, actors[i], links.items.as_slice(), &rows[i])?;
     }
     Ok(())
 }
@@ -209,16 +210,18 @@ fn push_finding(
     alloc: Global,
     out: &mut String,
     net: &Net,
+    channels: &[Numbers],
     finding: &Finding,
 ) -> Result<(), AllocError>
+    requires { channels.now ≡ map (channel_links net.now) (units net.now) }
     ensures { OnOk result (string_bytes out.new ≡ string_bytes out.old ++ finding_text net.now finding.now) }
 {
     push_verdict_line(alloc, out, net, finding.k, finding.verdict)?;
     push_rows(
-        alloc,
         out,
         net,
         net.unit_actors(),
+        channels,
         finding.rows.items.as_slice(),
     )
 }
@@ -233,8 +236,9 @@ pub fn push_findings(
 ) -> Result<(), AllocError>
     ensures { OnOk result (string_bytes out.new ≡ string_bytes out.old ++ flat_map (finding_text net.now) findings.now) }
 {
+    let channels = list_channels(alloc, net)?;
     for finding in findings {
-        push_finding(alloc, out, net, finding)?;
+        push_finding(alloc, out, net, channels.as_slice(), finding)?;
     }
     Ok(())
 }

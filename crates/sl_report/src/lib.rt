@@ -7,6 +7,7 @@ mod findings;
 mod laws;
 mod lines;
 mod names;
+mod numbers;
 mod report;
 mod routes;
 mod summary;

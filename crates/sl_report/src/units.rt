@@ -4,6 +4,7 @@ ghost use Rattle.sl_layout.specs.Net.{actor_of, link_of};
 ghost use Rattle.sl_net.specs.Spelling.{side_text, port_of};
 ghost use Rattle.sl_report.specs.Report.{port_text, unit_text, channel_text};
 
+use crate::numbers::push_number;
 use sl_net::{ActorId, LinkPart, Net, Parts, Side, Sort, UnitId};
 use std::alloc::AllocError;
 
@@ -24,8 +25,11 @@ fn push_port(out: &mut String, parts: &Parts, unit: UnitId) -> Result<(), AllocE
     let port = unit.port;
     match parts.devices.get(unit.device as usize) {
         Some(part) => {
-            let name = &part.name;
-            write!(out, "{side} {name}.{port}")
+            out.push_str(side)?;
+            out.push(' ')?;
+            out.push_str(part.name.as_str())?;
+            out.push('.')?;
+            push_number(out, u64::from(port))
         }
         None => write!(out, "{side} .{port}"),
     }
@@ -73,6 +77,9 @@ pub fn push_channel(out: &mut String, net: &Net, link: u32) -> Result<(), AllocE
     let port = port_of(net, link.from);
     match link.sort {
         Sort::Cable => write!(out, "cable"),
-        _ => write!(out, "x{port}"),
+        _ => {
+            out.push('x')?;
+            push_number(out, u64::from(port))
+        }
     }
 }

@@ -27,7 +27,7 @@ use std::alloc::Global;
 
 /// The scene where nothing has happened to the nodes of an input stands for the world of the empty
 /// book.
-fn first_scenes_stand(input: &Input)
+fn first_nodes_stand(input: &Input)
     requires { CanRun input.now }
     ensures { (v : Scene NodeState Msg) → IsFirstScene input.now v → StandsFor input.now.net (case_of input.now (losses input.now)) v }
 {
@@ -46,24 +46,25 @@ pub fn first_world(alloc: Global, input: &Input) -> Result<World<Node>, Memory>
     ensures book { IfOk result (λ w. (scene w).book ≡ []) }
 {
     nodes_stand_at_first();
-    first_scenes_stand(input);
+    first_nodes_stand(input);
     let losses = make_losses(alloc, input)?;
     build_world(alloc, input, losses)
 }
 
 /// Takes the turns of an input's script on its nodes, where nothing has happened yet, and finishes.
-/// The answer is how many turns were taken before finishing.
+/// The answer is how many turns were taken before finishing. The nodes stand for the world of their
+/// book, also after want of memory.
 pub fn run_script<T: Taker>(alloc: Global, input: &Input, taker: &mut T) -> Result<u64, Memory>
     requires can { CanRun input.now }
     requires first { IsFirstScene input.now (T.scene taker.old) }
     ensures book { IfOk result (λ front. IsRunBook input.now (losses input.now) (T.scene taker.new).book front) }
-    ensures stands { IfOk result (λ front. StandsFor input.now.net (case_of input.now (losses input.now)) (T.scene taker.new)) }
+    ensures stands { StandsFor input.now.net (case_of input.now (losses input.now)) (T.scene taker.new) }
     ensures observer { IfOk result (λ front. HasObserver (T.scene taker.new)) }
     ensures few { IfOk result (λ front. length (T.scene taker.new).book < 2 ^ 40) }
     ensures fixed { T.fixed taker.new ≡ T.fixed taker.old }
 {
     nodes_stand_at_first();
-    first_scenes_stand(input);
+    first_nodes_stand(input);
     inputs_are_bounded();
     cuts_are_consistent();
     worlds_take_turns();

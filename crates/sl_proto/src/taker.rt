@@ -119,6 +119,7 @@ pub fn drive_within<T: Taker>(
 ) -> Result<(), Memory>
     requires plan { (T.scene taker.old).plan ≡ plan_of net.now }
     requires choices { All (λ e. HasChoice (plan_of net.now) e.0 e.1) schedule.now }
+    ensures ok { OnOk result (T.scene taker.new ≡ after_all node_rules (T.scene taker.old) schedule.now) }
     ensures front { IsFront node_rules (T.scene taker.old) schedule.now (T.scene taker.new) }
     ensures plan { (T.scene taker.new).plan ≡ plan_of net.now }
     ensures observer { HasObserver (T.scene taker.old) → HasObserver (T.scene taker.new) }

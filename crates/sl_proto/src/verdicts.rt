@@ -169,8 +169,9 @@ fn rows(alloc: Global, net: &Net, observer: &Observer, k: u64) -> Result<Rows1, 
     requires values { (unit : ℕ) → unit < length (units net.now) → IsValue (saved_of (unit_at observer.now.state.units unit) k) }
     ensures { IfOk result (λ rows. rows ≡ map (λ a. value_row (row_of k a)) (accounts_of observer.now.state)) }
 {
-    let mut items = Vec::new(alloc);
-    for unit in 0..net.unit_count() {
+    let count = net.unit_count();
+    let mut items = Vec::with_capacity(alloc, count as usize)?;
+    for unit in 0..count {
         items.push(row_at(observer, unit, k))?;
     }
     Ok(Rows1 { items })

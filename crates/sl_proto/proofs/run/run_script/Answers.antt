@@ -10,18 +10,33 @@ use Rattle.sl_world.specs.Scene.{Scene}
 use Rattle.sl_proto.specs.Nodes.{NodeState}
 use Rattle.sl_proto.specs.Runs.{Follows}
 use Rattle.sl_proto.specs.Standing.{case_of, run_at, StandsFor}
+use Rattle.sl_proto.specs.Calls.{KeepsStanding}
 use Rattle.sl_proto.specs.RunBook.{IsRunBook}
 use Rattle.sl_proto.proofs.Books.{is-run}
 use Rattle.sl_proto.proofs.run.run_script.Goals as goal
 
+-- the nodes stand for an input's books where they do so for the net that it holds
+goes : (i : Input) (n : Net) (v u : Scene NodeState Msg) → n ≡ i.net → KeepsStanding n v u → StandsFor i.net (case_of i (losses i)) v → StandsFor i.net (case_of i (losses i)) u
+goes i n v u e k s = subst (λ (n : Net). StandsFor n (case_of i (losses i)) u) e (k (case_of i (losses i)) (subst (λ (n : Net). StandsFor n (case_of i (losses i)) v) (sym e) s))
+
+pub returns-in_err-drive_script-clause-stands : goal.returns-in_err-drive_script-clause-stands
+returns-in_err-drive_script-clause-stands g c =
+    goes c.args.input.now c.input.inside.net _ _ (ap (λ (i : Input). i.net) c.input.view_is) c.drive_script.ensures.stands (c.first_nodes_stand.ensures _ c.requires.first)
+
+pub returns-in_err-finish-clause-stands : goal.returns-in_err-finish-clause-stands
+returns-in_err-finish-clause-stands g c =
+    let net = ap (λ (i : Input). i.net) c.input.view_is in
+    goes c.args.input.now c.input.inside.net _ _ net c.finish.ensures.stands (goes c.args.input.now c.input.inside.net _ _ net c.drive_script.ensures.stands (c.first_nodes_stand.ensures _ c.requires.first))
+
+pub returns-then-entries-clause-stands : goal.returns-then-entries-clause-stands
+returns-then-entries-clause-stands g c =
+    let net = ap (λ (i : Input). i.net) c.input.view_is in
+    goes c.args.input.now c.input.inside.net _ _ net c.finish.ensures.stands (goes c.args.input.now c.input.inside.net _ _ net c.drive_script.ensures.stands (c.first_nodes_stand.ensures _ c.requires.first))
+
 pub returns-clause-stands : goal.returns-clause-stands
 returns-clause-stands g c =
-    let i = c.args.input.now in
-    let x = case_of i (losses i) in
-    let v = g.T.Taker.scene c.args.taker.now in
-    let net : c.input.inside.net ≡ i.net = ap (λ (i : Input). i.net) c.input.view_is in
-    subst (λ (n : Net). StandsFor n x (g.T.Taker.scene c.finish.new.taker)) net
-    (c.finish.ensures.stands x (c.drive_script.ensures.stands x (subst (λ (n : Net). StandsFor n x v) (sym net) (c.first_scenes_stand.ensures v c.requires.first))))
+    let net = ap (λ (i : Input). i.net) c.input.view_is in
+    goes c.args.input.now c.input.inside.net _ _ net c.finish.ensures.stands (goes c.args.input.now c.input.inside.net _ _ net c.drive_script.ensures.stands (c.first_nodes_stand.ensures _ c.requires.first))
 
 pub returns-clause-book : goal.returns-clause-book
 returns-clause-book g c =
@@ -31,7 +46,7 @@ returns-clause-book g c =
     let u = g.T.Taker.scene c.drive_script.new.taker in
     let t = g.T.Taker.scene c.finish.new.taker in
     let net : c.input.inside.net ≡ i.net = ap (λ (i : Input). i.net) c.input.view_is in
-    let first : StandsFor c.input.inside.net x v = subst (λ (n : Net). StandsFor n x v) (sym net) (c.first_scenes_stand.ensures v c.requires.first) in
+    let first : StandsFor c.input.inside.net x v = subst (λ (n : Net). StandsFor n x v) (sym net) (c.first_nodes_stand.ensures v c.requires.first) in
     let script : c.as_slice.result.now ≡ i.script = c.as_slice.ensures.value ∙ ap (λ (i : Input). i.script) c.input.view_is in
     let follows : Follows (setup_of i) (losses i) (run_at x v) (expand i.net i.script) (run_at x u) =
     subst (λ (s : List Script1). Follows (setup_of i) (losses i) (run_at x v) (expand i.net s) (run_at x u)) script

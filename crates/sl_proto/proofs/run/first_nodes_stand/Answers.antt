@@ -5,7 +5,7 @@ use Rattle.sl_layout.specs.Wiring.{plan_of}
 use Rattle.sl_model.specs.Losses.{losses}
 use Rattle.sl_proto.specs.Standing.{case_of, StandsFor}
 use Rattle.sl_proto.proofs.Books.{runnable}
-use Rattle.sl_proto.proofs.run.first_scenes_stand.Goals as goal
+use Rattle.sl_proto.proofs.run.first_nodes_stand.Goals as goal
 
 pub returns : goal.returns
 returns c v first =

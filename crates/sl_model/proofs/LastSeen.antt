@@ -23,7 +23,7 @@ use Rattle.sl_model.specs.Knowledge.{observer, issued}
 use Rattle.sl_model.specs.Made.{Took, Acted, IsMade, Ran}
 use Rattle.sl_model.specs.Fit.{fits}
 use Rattle.sl_model.specs.Verdict.{first_cause, cause, lag, judged, issued_verdict, verdict}
-use Rattle.sl_model.specs.LastSeen.{cpu_last, or_else, last_seen, IsWhole}
+use Rattle.sl_model.specs.LastSeen.{cpu_last, or_else, last_seen, IsClean}
 use Rattle.sl_model.proofs.Begins.{TakesFit, fit-taken, fit-before, fit-last}
 use Rattle.sl_model.proofs.Brought.{last-id}
 use Rattle.sl_model.proofs.Floors.{choice-falls, each-unit}
@@ -145,19 +145,19 @@ lag-seen s lost w u k i n r q = (
 
 -- an issued snapshot is consistent exactly where each unit is whole in it
 module _ (s : Setup) (lost : Losses) (w : World) (k : ℕ) (n : IsWired s.net) (r : Ran s lost w) where
-  only-whole : issued_verdict s.credits s.net w k ≡ Consistent → Each (λ u. IsWhole s.credits s.net u k (history w u)) (units s.net)
+  only-whole : issued_verdict s.credits s.net w k ≡ Consistent → Each (λ u. IsClean s.credits s.net u k (history w u)) (units s.net)
   only-whole e = let z = clear (first_told (λ u. lag s.net k u (history w u)) (units s.net)) (first_told (λ u. cause s.credits k (history w u)) (units s.net)) e in
-      each-both-of (λ u. (i : UnitId) × (actor_of s.net u ≡ OfUnit i)) (λ u. (lag s.net k u (history w u) ≡ None) × (cause s.credits k (history w u) ≡ None)) (λ u. IsWhole s.credits s.net u k (history w u)) (units s.net)
+      each-both-of (λ u. (i : UnitId) × (actor_of s.net u ≡ OfUnit i)) (λ u. (lag s.net k u (history w u) ≡ None) × (cause s.credits k (history w u) ≡ None)) (λ u. IsClean s.credits s.net u k (history w u)) (units s.net)
       (λ u i p. let b = no-cause s.credits k (history w u) p.1 in record { seen = (lag-seen s lost w u k i.0 n r i.1).0 p.0; not_skipped = b.0; not_miscredited = b.1 }) (each-unit s.net)
       (each-both-of (λ u. lag s.net k u (history w u) ≡ None) (λ u. cause s.credits k (history w u) ≡ None) (λ u. (lag s.net k u (history w u) ≡ None) × (cause s.credits k (history w u) ≡ None)) (units s.net) (λ u p q. (p, q))
       (first-none 0 (λ u. lag s.net k u (history w u)) (units s.net) z.0) (first-none 0 (λ u. cause s.credits k (history w u)) (units s.net) z.1))
 
-  all-whole : Each (λ u. IsWhole s.credits s.net u k (history w u)) (units s.net) → issued_verdict s.credits s.net w k ≡ Consistent
+  all-whole : Each (λ u. IsClean s.credits s.net u k (history w u)) (units s.net) → issued_verdict s.credits s.net w k ≡ Consistent
   all-whole e = ap (λ o. judged o (first_told (λ u. cause s.credits k (history w u)) (units s.net)))
-      (none-first 0 (λ u. lag s.net k u (history w u)) (units s.net) (each-both-of (λ u. (i : UnitId) × (actor_of s.net u ≡ OfUnit i)) (λ u. IsWhole s.credits s.net u k (history w u)) (λ u. lag s.net k u (history w u) ≡ None) (units s.net)
+      (none-first 0 (λ u. lag s.net k u (history w u)) (units s.net) (each-both-of (λ u. (i : UnitId) × (actor_of s.net u ≡ OfUnit i)) (λ u. IsClean s.credits s.net u k (history w u)) (λ u. lag s.net k u (history w u) ≡ None) (units s.net)
       (λ u i p. (lag-seen s lost w u k i.0 n r i.1).1 p.seen) (each-unit s.net) e))
-      ∙ ap (judged None) (none-first 0 (λ u. cause s.credits k (history w u)) (units s.net) (each-imp (λ u. IsWhole s.credits s.net u k (history w u)) (λ u. cause s.credits k (history w u) ≡ None) (units s.net)
+      ∙ ap (judged None) (none-first 0 (λ u. cause s.credits k (history w u)) (units s.net) (each-imp (λ u. IsClean s.credits s.net u k (history w u)) (λ u. cause s.credits k (history w u) ≡ None) (units s.net)
       (λ u p. let a = p.not_skipped in let b = p.not_miscredited in λ i. first_cause (a i) (least (b i))) e))
 
-  pub whole-verdict : k ≤ issued s.net (observer w) → verdict s.credits s.net w k ≡ Consistent ↔ Each (λ u. IsWhole s.credits s.net u k (history w u)) (units s.net)
+  pub whole-verdict : k ≤ issued s.net (observer w) → verdict s.credits s.net w k ≡ Consistent ↔ Each (λ u. IsClean s.credits s.net u k (history w u)) (units s.net)
   whole-verdict p = ((λ e. only-whole (sym (verdict-by s.credits s.net w k p) ∙ e)), (λ e. verdict-by s.credits s.net w k p ∙ all-whole e))

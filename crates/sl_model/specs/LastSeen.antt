@@ -1,7 +1,7 @@
 -- What the last-seen numbers of a unit tell (Yaseen, Sonchack and Liu 2018).
 --     lasts, cpu_last       those of its data channels, and that of its initiations
 --     last_seen net u h     those that tell whether the unit lags
---     IsWhole n net u k h   none of these lags behind k, and the unit neither skipped nor miscredited k
+--     IsClean n net u k h   none of these lags behind k, and the unit neither skipped nor miscredited k
 use Rattle.std.specs.Prelude.{◌≡◌, ℕ, ◌≤◌, List, [], ◌∷◌, map, slice_get, option_map, unwrap_or, None}
 use Rattle.sl_layout.specs.declared.actor.Sort.TheVariants.{Init}
 use Rattle.sl_layout.specs.Net.{Net, data_channels, choices_of}
@@ -27,7 +27,7 @@ abbrev pub last_seen : Net → ℕ → History → List ℕ
 last_seen net u h = or_else (lasts net u h) (cpu_last net u h)
 
 -- none of them is below k, no step went past k, and no data packet was credited past k
-pub record IsWhole (n : ℕ) (net : Net) (u k : ℕ) (h : History) : Type 0 where
+pub record IsClean (n : ℕ) (net : Net) (u k : ℕ) (h : History) : Type 0 where
   pub seen : Each (λ m. k ≤ m) (last_seen net u h)
   pub not_skipped : skipped_to k h ≡ None
   pub not_miscredited : miscredits n k h ≡ []

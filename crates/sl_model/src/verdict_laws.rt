@@ -12,7 +12,7 @@ ghost use Rattle.sl_model.specs.Setup.{Setup};
 ghost use Rattle.sl_model.specs.Knowledge.{observer, issued};
 ghost use Rattle.sl_model.specs.World.{Entry, world};
 ghost use Rattle.sl_model.specs.Verdict.{lag, verdict};
-ghost use Rattle.sl_model.specs.LastSeen.{cpu_last, last_seen, IsWhole};
+ghost use Rattle.sl_model.specs.LastSeen.{cpu_last, last_seen, IsClean};
 
 use sl_net::nets_are_wired;
 
@@ -37,7 +37,7 @@ pub fn last_seen_numbers_tell_lags()
 /// last-seen number lags behind it.
 pub fn consistent_snapshots_are_whole()
     ensures { (s : Setup) (lost : Losses) (es : List Entry) (k : ℕ) → IsNet s.net → k ≤ issued s.net (observer (world s lost es))
-        → verdict s.credits s.net (world s lost es) k ≡ Consistent ↔ Each (λ u. IsWhole s.credits s.net u k (history (world s lost es) u)) (units s.net) }
+        → verdict s.credits s.net (world s lost es) k ≡ Consistent ↔ Each (λ u. IsClean s.credits s.net u k (history (world s lost es) u)) (units s.net) }
 {
     nets_are_wired()
 }

@@ -51,7 +51,7 @@ fn written_out(alloc: Global) -> Result<Vec<(u32, u32)>, AllocError> {
 }
 
 fn expanded(alloc: Global, text: &str) -> Result<Vec<(u32, u32)>, Fail> {
-    let input = read_input(alloc, text.as_bytes()).map_err(|_| "refused")?;
+    let input = runnable(alloc, text)?;
     let issue = Script1::Choice {
         actor: 0,
         choice: 1,
@@ -105,7 +105,7 @@ fn a_world_settles(rt: HostRuntime) -> Result<(), Fail> {
 }
 
 fn traced(alloc: Global, text: &str, line: &str) -> Result<Vec<u8>, Fail> {
-    let input = read_input(alloc, text.as_bytes()).map_err(|_| "refused")?;
+    let input = runnable(alloc, text)?;
     match find_choice(&input.net, line) {
         Some((actor, choice)) => {
             let entry = Entry {

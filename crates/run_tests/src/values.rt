@@ -3,7 +3,7 @@ ghost use Rattle.sl_proto.specs.RunBook.{CanRun};
 
 use crate::calls::runnable;
 use sl_net::Input;
-use sl_value::{ValueControl, ValueVerdict, Whole, run_values};
+use sl_value::{ValueControl, ValueFinding, ValueRun, ValueVerdict, Whole, run_values};
 use std::alloc::Global;
 use std::test::Fail;
 
@@ -23,7 +23,63 @@ fn answer(controls: &[ValueControl], device: usize, unit: u32, k: u64) -> Option
     }
 }
 
-/// What a new control plane answers for its first unit.
+/// Whether the control plane of a unit's device answers this for a number, and no other answers any.
+fn is_answered(controls: &[ValueControl], unit: u32, k: u64, value: Option<Whole>) -> bool {
+    let (own, other) = if unit < 4 { (0, 1) } else { (1, 0) };
+    answer(controls, own, unit, k) == value && answer(controls, other, unit, k).is_none()
+}
+
+/// Whether a snapshot is whole, with a value for each of the eight units that is answered.
+fn is_told(controls: &[ValueControl], finding: &ValueFinding) -> bool {
+    let values = finding.values.items.as_slice();
+    if finding.verdict != ValueVerdict::Whole || values.len() != 8 {
+        return false;
+    }
+    for unit in 0..8 {
+        let value = values.get(unit as usize).copied();
+        if !is_answered(controls, unit, finding.k, value) {
+            return false;
+        }
+    }
+    true
+}
+
+/// Whether no control plane has a value for a number.
+fn has_none(controls: &[ValueControl], k: u64) -> bool {
+    for unit in 0..8 {
+        if !is_answered(controls, unit, k, None) {
+            return false;
+        }
+    }
+    true
+}
+
+/// How many control planes there are, how many snapshots, and how many of these are whole and
+/// answered.
+fn told_of(run: &ValueRun) -> (usize, usize, usize) {
+    let controls = run.controls.as_slice();
+    let mut told: usize = 0;
+    for finding in &run.list.items {
+        if is_told(controls, finding) {
+            told = told.saturating_add(1);
+        }
+    }
+    (controls.len(), run.list.items.len(), told)
+}
+
+/// Each value is what the control plane of its unit's device answers, and no other does; none has
+/// a value for 0, or for a number above those collected.
+#[test]
+fn controls_answer_values(rt: HostRuntime) -> Result<(), Fail> {
+    let input = runnable(rt.alloc(), TWO_SWITCHES)?;
+    let run = run_values(rt.alloc(), &input)?;
+    let controls = run.controls.as_slice();
+    assert_eq!(rt; told_of(&run), (2, 2, 2));
+    assert!(rt; has_none(controls, 0) && has_none(controls, 3));
+    Ok(())
+}
+
+/// What a new control plane answers for a unit.
 fn first_answer(alloc: Global, input: &Input, device: u32, unit: u32) -> Result<Option<Whole>, Fail>
     requires { CanRun input.now }
 {
@@ -34,33 +90,10 @@ fn first_answer(alloc: Global, input: &Input, device: u32, unit: u32) -> Result<
     Ok(control.value(unit, 1))
 }
 
-/// Each value is what the control plane of its unit's device answers, and no other does; none has
-/// a value for 0, or for a number above those collected.
+/// A new control plane has no value of its first unit.
 #[test]
-fn controls_answer_values(rt: HostRuntime) -> Result<(), Fail> {
-    let alloc = rt.alloc();
-    let input = runnable(alloc, TWO_SWITCHES)?;
-    let run = run_values(alloc, &input)?;
-    let controls = run.controls.as_slice();
-    assert_eq!(rt; (controls.len(), run.list.items.len()), (2, 2));
-    for finding in &run.list.items {
-        let values = finding.values.items.as_slice();
-        assert!(rt; finding.verdict == ValueVerdict::Whole && values.len() == 8);
-        for unit in 0..8 {
-            let (own, other) = if unit < 4 { (0, 1) } else { (1, 0) };
-            let value = values.get(unit as usize).copied();
-            assert!(rt; answer(controls, own, unit, finding.k) == value, "{unit}");
-            assert!(rt;
-                answer(controls, other, unit, finding.k).is_none(),
-                "{unit}"
-            );
-        }
-    }
-    for unit in 0..4 {
-        assert!(rt;
-            answer(controls, 0, unit, 0).is_none() && answer(controls, 0, unit, 3).is_none()
-        );
-    }
-    assert!(rt; first_answer(alloc, &input, 1, 4)?.is_none());
+fn a_new_control_has_no_value(rt: HostRuntime) -> Result<(), Fail> {
+    let input = runnable(rt.alloc(), TWO_SWITCHES)?;
+    assert_eq!(rt; first_answer(rt.alloc(), &input, 1, 4)?, None);
     Ok(())
 }

@@ -1,5 +1,5 @@
 // One link: the messages on it and its losses.
-ghost use Rattle.std.specs.Prelude.{◌≡◌, ◌<◌, ◌≤◌, ◌↔◌, ◌≢◌, ◌∷◌, [], IsTrue, IfOk, OnOk, option_map, box_value};
+ghost use Rattle.std.specs.Prelude.{◌≡◌, ◌<◌, ◌≤◌, ◌↔◌, ◌≢◌, ◌∷◌, [], IsTrue, OnOk};
 ghost use Rattle.sl_world.specs.Scene.{line_put, without_first, new_line};
 
 use sl_loss::Loss;
@@ -12,57 +12,41 @@ use std::marker::Model;
 #[derive(Drop)]
 pub struct Line<M> {
     queue: VecDeque<M>,
-    // behind a pointer, so that links without one are small
-    loss: Option<Box<Loss>>,
+    loss: Option<Loss>,
     lost: u64,
 }
 
 impl<M> Model for Line<M> {
-    ghost use Rattle.std.specs.Prelude.{◌-◌, option_map, box_value};
+    ghost use Rattle.std.specs.Prelude.{◌-◌};
     ghost use Rattle.std.specs.VecDeque.{deque_capacity, deque_len};
     ghost use Rattle.sl_world.specs.LineView.{LineView};
 
     ghost Value = { LineView M };
 
-    ghost view = { λ a. record { line = record { queue = a.queue.items; loss = option_map box_value a.loss; lost = a.lost }; room = deque_capacity a.queue - deque_len a.queue } };
-}
-
-/// A loss behind a pointer, where there is one.
-fn boxed(alloc: Global, loss: Option<Loss>) -> Result<Option<Box<Loss>>, Memory>
-    ensures { IfOk result (λ boxed. option_map box_value boxed ≡ loss) }
-{
-    match loss {
-        Some(loss) => Ok(Some(Box::new(alloc, loss)?)),
-        None => Ok(None),
-    }
+    ghost view = { λ a. record { line = record { queue = a.queue.items; loss = a.loss; lost = a.lost }; room = deque_capacity a.queue - deque_len a.queue } };
 }
 
 impl<M: Drop> Line<M> {
     /// A link on which nothing was put.
-    pub fn new(alloc: Global, loss: Option<Loss>) -> Result<Line<M>, Memory>
-        ensures { IfOk result (λ l. l.line ≡ new_line loss) }
+    pub fn new(alloc: Global, loss: Option<Loss>) -> Line<M>
+        ensures { result.line ≡ new_line loss }
     {
-        Ok(Line {
+        Line {
             queue: VecDeque::new(alloc),
-            loss: boxed(alloc, loss)?,
+            loss,
             lost: 0,
-        })
+        }
     }
 
     /// A link with messages on it that has lost this many puts.
-    pub fn with(
-        alloc: Global,
-        loss: Option<Loss>,
-        lost: u64,
-        messages: Vec<M>,
-    ) -> Result<Line<M>, Memory>
-        ensures { IfOk result (λ l. l.line ≡ record { queue = messages.items; loss = loss; lost = lost }) }
+    pub fn with(loss: Option<Loss>, lost: u64, messages: Vec<M>) -> Line<M>
+        ensures { result.line ≡ record { queue = messages.items; loss = loss; lost = lost } }
     {
-        Ok(Line {
+        Line {
             queue: VecDeque::from(messages),
-            loss: boxed(alloc, loss)?,
+            loss,
             lost,
-        })
+        }
     }
 
     /// How many puts the link has lost.
@@ -79,13 +63,18 @@ impl<M: Drop> Line<M> {
         self.queue.is_empty()
     }
 
-    /// Makes room for one more message.
+    /// Makes room for one more message. A full queue grows by a quarter, since it is not known
+    /// whether more comes.
     pub fn make_room(&mut self) -> Result<(), Memory>
         ensures line { self.new.line ≡ self.old.line }
         ensures room { OnOk result (0 < self.new.room) }
         ensures keeps { self.old.room ≤ self.new.room }
     {
-        Ok(self.queue.reserve(1)?)
+        let len = self.queue.len();
+        if len < self.queue.capacity() {
+            return Ok(());
+        }
+        Ok(self.queue.reserve_exact(1 + len / 4)?)
     }
 
     /// Puts a message at the end, unless the loss takes it. Then it makes room for one more where
@@ -104,7 +93,7 @@ impl<M: Drop> Line<M> {
         } else {
             self.queue.push_back_reserved(m);
         }
-        self.queue.len() < self.queue.capacity() || self.queue.reserve(1).is_ok()
+        self.make_room().is_ok()
     }
 
     /// Takes the first message.

@@ -18,7 +18,7 @@ pub fn make_lines<M: Drop>(alloc: Global, losses: Vec<Option<Loss>>) -> Result<V
 {
     let mut lines = Vec::new(alloc);
     for loss in losses {
-        lines.push(Line::new(alloc, loss)?)?;
+        lines.push(Line::new(alloc, loss))?;
     }
     Ok(lines)
 }
@@ -37,7 +37,7 @@ pub fn lines_with<M: Drop>(
     let mut lines = Vec::new(alloc);
     for link in 0..lost.len() {
         let rest = mem::replace(&mut rests[link], Vec::new(alloc));
-        let line = Line::with(alloc, losses[link].take(), lost[link], rest)?;
+        let line = Line::with(losses[link].take(), lost[link], rest);
         lines.push(line)?;
     }
     Ok(lines)

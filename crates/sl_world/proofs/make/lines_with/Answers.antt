@@ -12,8 +12,8 @@ loop-link-preserved g c =
     let low_rests : i < length rests = omega (arith, c.loop-link.invariant.rests_each, c.requires.rests, c.requires.lost, c.loop-link-test.true) in
     let now : i ≤ i = omega arith in
     record {
-      made = line_pushed c.loop-link.lines.items c.push.new.self.items c.in_ok-line.line c.args.losses.items c.args.lost.now (map (λ v. v.items) c.args.rests.items) i c.take.result _ c.replace-rest.result.items
-          c.in_ok-push.ensures.items c.in_ok-line.ensures c.loop-link.invariant.made (omega (arith, c.loop-link.invariant.losses_each)) c.requires.lost (length-map c.args.rests.items (λ v. v.items) ∙ c.requires.rests)
+      made = line_pushed c.loop-link.lines.items c.push.new.self.items c.with-line.result c.args.losses.items c.args.lost.now (map (λ v. v.items) c.args.rests.items) i c.take.result _ c.replace-rest.result.items
+          c.in_ok-push.ensures.items c.with-line.ensures c.loop-link.invariant.made (omega (arith, c.loop-link.invariant.losses_each)) c.requires.lost (length-map c.args.rests.items (λ v. v.items) ∙ c.requires.rests)
           (ap (λ v. v.items) (c.replace-rest.ensures.value ∙ c.index_mut.ensures.value) ∙ (sym (get_or-map (λ v. v.items) rests i c.index_mut.result.now [] low_rests) ∙ c.loop-link.invariant.rests_left i now))
           (c.take.ensures.value ∙ (get_or_read losses i c.index_mut-in-loop-link.result.now low c.index_mut-in-loop-link.ensures.value None ∙ c.loop-link.invariant.losses_left i now))
           refl;

@@ -187,7 +187,7 @@ fn taken_again(alloc: Global, input: &Input, book: &Book) -> Result<(Vec<(u64, u
 {
     let schedule = schedule_of(alloc, &input.net, book)?;
     let mut world = first_world(alloc, input)?;
-    drive_within(&input.net, &mut world, schedule.as_slice())?;
+    drive_within(&input.net, &mut world, schedule.as_slice(), None)?;
     let (nodes, book) = world.into_book();
     Ok((told_by(alloc, nodes.as_slice())?, book.entries.len()))
 }

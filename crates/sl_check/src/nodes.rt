@@ -25,7 +25,7 @@ fn take_turn(net: &Net, world: &mut World<Node>, entry: (u32, u32)) -> Result<bo
     ensures turn { IfOk result (λ did. Turns net.now (scene world.old) entry did (scene world.new)) }
 {
     let before = world.entries();
-    drive_within(net, world, &[entry])?;
+    drive_within(net, world, &[entry], None)?;
     Ok(world.entries() != before)
 }
 
@@ -68,6 +68,6 @@ pub fn take_pass(alloc: Global, net: &Net, world: &mut World<Node>) -> Result<bo
     settled_worlds_are_idle();
     let pass = pass_of(alloc, net, true)?;
     let before = world.entries();
-    drive_within(net, world, pass.as_slice())?;
+    drive_within(net, world, pass.as_slice(), None)?;
     Ok(world.entries() == before)
 }

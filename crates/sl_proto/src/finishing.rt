@@ -3,6 +3,7 @@ ghost use Rattle.std.specs.Prelude.{◌≡◌, [], ◌∷◌, All, OnOk, IfOk};
 ghost use Rattle.sl_machine.specs.Plan.{HasChoice};
 ghost use Rattle.sl_layout.specs.Net.{Net};
 ghost use Rattle.sl_layout.specs.Wiring.{plan_of};
+ghost use Rattle.sl_world.specs.Scene.{links_of};
 ghost use Rattle.sl_model.specs.History.{World};
 ghost use Rattle.sl_model.specs.Schedule.{settling_pass, sweeps, resend_entry};
 ghost use Rattle.sl_model.specs.End.{rose};
@@ -89,10 +90,12 @@ fn settle_within<T: Taker>(
     net: &Net,
     taker: &mut T,
     pass: &[(u32, u32)],
+    links: &[u32],
     fuel: u64,
 ) -> Result<bool, Memory>
     requires plan { (T.scene taker.old).plan ≡ plan_of net.now }
     requires pass { pass.now ≡ settling_pass net.now }
+    requires links { links.now ≡ links_of (plan_of net.now) pass.now }
     ensures plan { (T.scene taker.new).plan ≡ plan_of net.now }
     ensures observer { HasObserver (T.scene taker.old) → HasObserver (T.scene taker.new) }
     ensures stands { KeepsStanding net.now (T.scene taker.old) (T.scene taker.new) }
@@ -106,7 +109,7 @@ fn settle_within<T: Taker>(
     let mut left = fuel;
     while left > 0 {
         let before = taker.entries();
-        drive_within(net, taker, pass)?;
+        drive_within(net, taker, pass, Some(links))?;
         if taker.entries() == before {
             return Ok(true);
         }
@@ -127,8 +130,10 @@ fn settle_with<T: Taker>(alloc: Global, net: &Net, taker: &mut T, fuel: u64) -> 
     ensures front { SettlesFront net.now (T.scene taker.old) (T.scene taker.new) }
 {
     finishing_ends();
+    takes_choices(net);
     let pass = pass_of(alloc, net, true)?;
-    if settle_within(net, taker, pass.as_slice(), fuel)? {
+    let links = taker.look_up(alloc, &pass)?;
+    if settle_within(net, taker, &pass, &links, fuel)? {
         Ok(())
     } else {
         Err(Memory)
@@ -148,7 +153,7 @@ fn resend<T: Taker>(net: &Net, taker: &mut T) -> Result<Round, Memory>
 {
     takes_choices(net);
     let before = taker.entries();
-    drive_within(net, taker, &[resend_entry(net)])?;
+    drive_within(net, taker, &[resend_entry(net)], None)?;
     Ok(if taker.entries() != before {
         Round::Again
     } else {
@@ -161,12 +166,14 @@ fn take_round<T: Taker>(
     net: &Net,
     taker: &mut T,
     pass: &[(u32, u32)],
+    links: &[u32],
     sweep: &[(u32, u32)],
     fuel: u64,
 ) -> Result<Round, Memory>
     requires plan { (T.scene taker.old).plan ≡ plan_of net.now }
     requires observer { HasObserver (T.scene taker.old) }
     requires pass { pass.now ≡ settling_pass net.now }
+    requires links { links.now ≡ links_of (plan_of net.now) pass.now }
     requires sweep { sweep.now ≡ sweeps net.now }
     ensures plan { (T.scene taker.new).plan ≡ plan_of net.now }
     ensures observer { HasObserver (T.scene taker.new) }
@@ -181,8 +188,8 @@ fn take_round<T: Taker>(
     if before.is_collected() {
         return Ok(Round::Ended);
     }
-    drive_within(net, taker, sweep)?;
-    if !settle_within(net, taker, pass, fuel)? {
+    drive_within(net, taker, sweep, None)?;
+    if !settle_within(net, taker, pass, links, fuel)? {
         return Ok(Round::Short);
     }
     if tell(taker).rose_since(before) {
@@ -196,12 +203,14 @@ fn finish_within<T: Taker>(
     net: &Net,
     taker: &mut T,
     pass: &[(u32, u32)],
+    links: &[u32],
     sweep: &[(u32, u32)],
     fuel: u64,
 ) -> Result<bool, Memory>
     requires plan { (T.scene taker.old).plan ≡ plan_of net.now }
     requires observer { HasObserver (T.scene taker.old) }
     requires pass { pass.now ≡ settling_pass net.now }
+    requires links { links.now ≡ links_of (plan_of net.now) pass.now }
     requires sweep { sweep.now ≡ sweeps net.now }
     ensures plan { (T.scene taker.new).plan ≡ plan_of net.now }
     ensures observer { HasObserver (T.scene taker.new) }
@@ -212,10 +221,10 @@ fn finish_within<T: Taker>(
 {
     let mut left = fuel;
     while left > 0 {
-        if !settle_within(net, taker, pass, left)? {
+        if !settle_within(net, taker, pass, links, left)? {
             return Ok(false);
         }
-        match take_round(net, taker, pass, sweep, left)? {
+        match take_round(net, taker, pass, links, sweep, left)? {
             Round::Ended => return Ok(true),
             Round::Short => return Ok(false),
             Round::Again => left -= 1,
@@ -238,9 +247,11 @@ fn finish_with<T: Taker>(alloc: Global, net: &Net, taker: &mut T, fuel: u64) -> 
 {
     finishing_finishes();
     finishing_ends();
+    takes_choices(net);
     let settling = pass_of(alloc, net, true)?;
+    let links = taker.look_up(alloc, &settling)?;
     let sweeps = all_sweeps(alloc, net)?;
-    if finish_within(net, taker, settling.as_slice(), sweeps.as_slice(), fuel)? {
+    if finish_within(net, taker, &settling, &links, &sweeps, fuel)? {
         Ok(())
     } else {
         Err(Memory)

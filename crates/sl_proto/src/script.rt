@@ -30,7 +30,7 @@ fn drive_passes<T: Taker>(
     ensures front { DrivesFront net.now (T.scene taker.old) (passes_of once.now count) (T.scene taker.new) }
 {
     for _done in 0..count {
-        drive_within(net, taker, once)?;
+        drive_within(net, taker, once, None)?;
     }
     Ok(())
 }
@@ -55,7 +55,7 @@ fn drive_entry<T: Taker>(
 {
     match entry {
         Script1::Pass(count) => drive_passes(net, taker, once, count),
-        Script1::Choice { actor, choice } => drive_within(net, taker, &[(actor, choice)]),
+        Script1::Choice { actor, choice } => drive_within(net, taker, &[(actor, choice)], None),
     }
 }
 

@@ -1,9 +1,9 @@
 // Whoever takes turns: a world of nodes, as data, and schedules of its turns.
-ghost use Rattle.std.specs.Prelude.{◌≡◌, ◌+◌, ◌<◌, ◌≤◌, ◌^◌, length, All, Ok, Some, None, OnOk, OnErr, slice_get};
+ghost use Rattle.std.specs.Prelude.{◌≡◌, ◌+◌, ◌<◌, ◌≤◌, ◌^◌, length, All, Ok, Some, None, OnOk, OnErr, IfOk, IfSome, slice_get};
 ghost use Rattle.sl_machine.specs.Plan.{HasChoice};
 ghost use Rattle.sl_layout.specs.Wiring.{plan_of};
 ghost use Rattle.sl_wire.specs.declared.message.Msg.{Msg};
-ghost use Rattle.sl_world.specs.Scene.{Scene, turn_of, after_turn, after_all, IsFront};
+ghost use Rattle.sl_world.specs.Scene.{Scene, turn_of, after_turn, after_all, links_of, IsFront};
 ghost use Rattle.sl_proto.specs.Nodes.{NodeState, ObserverNode, node_rules};
 ghost use Rattle.sl_proto.specs.Standing.{HasObserver};
 ghost use Rattle.sl_proto.specs.Calls.{KeepsStanding, Drives, DrivesFront};
@@ -14,6 +14,7 @@ use sl_machine::Memory;
 use sl_net::Net;
 use sl_observe::Observer;
 use sl_world::{Turn, World};
+use std::alloc::Global;
 
 /// Takes turns of a world of nodes.
 pub trait Taker {
@@ -37,9 +38,17 @@ pub trait Taker {
         ensures book { length (scene self.new).book ≤ length (scene self.old).book + 1 }
         ensures fixed { fixed self.new ≡ fixed self.old };
 
-    /// The turns of a whole schedule; after want of memory, those of a front of it.
-    fn run(&mut self, schedule: &[(u32, u32)]) -> Result<(), Memory>
+    /// For each entry of a schedule the link that its choice takes from, and the number of links
+    /// where it is an action.
+    fn look_up(&self, alloc: Global, schedule: &[(u32, u32)]) -> Result<Vec<u32>, Memory>
+        requires { All (λ e. HasChoice (scene self.now).plan e.0 e.1) schedule.now }
+        ensures { IfOk result (λ links. links.items ≡ links_of (scene self.now).plan schedule.now) };
+
+    /// The turns of a whole schedule; after want of memory, those of a front of it. Where the links
+    /// of its entries are given, they are not looked up once more.
+    fn run(&mut self, schedule: &[(u32, u32)], links: Option<&[u32]>) -> Result<(), Memory>
         requires choices { All (λ e. HasChoice (scene self.old).plan e.0 e.1) schedule.now }
+        requires links { IfSome links (λ l. l.now ≡ links_of (scene self.old).plan schedule.now) }
         requires book { length (scene self.old).book + length schedule.now < 2 ^ 40 }
         ensures ok { OnOk result (scene self.new ≡ after_all node_rules (scene self.old) schedule.now) }
         ensures front { IsFront node_rules (scene self.old) schedule.now (scene self.new) }
@@ -71,8 +80,12 @@ impl Taker for World<Node> {
         World::turn(self, actor, choice)
     }
 
-    fn run(&mut self, schedule: &[(u32, u32)]) -> Result<(), Memory> {
-        World::run(self, schedule)
+    fn look_up(&self, alloc: Global, schedule: &[(u32, u32)]) -> Result<Vec<u32>, Memory> {
+        World::look_up(self, alloc, schedule)
+    }
+
+    fn run(&mut self, schedule: &[(u32, u32)], links: Option<&[u32]>) -> Result<(), Memory> {
+        World::run(self, schedule, links)
     }
 
     fn observer(&self) -> &Observer {
@@ -89,9 +102,16 @@ impl Taker for World<Node> {
 
 /// Takes the turns of a whole schedule; after want of memory, those of a front of it. Where the
 /// nodes stand for the world of their book, they go on to stand for that of their book, which has
-/// the turns of the schedule that aren't idle besides.
-pub fn drive<T: Taker>(net: &Net, taker: &mut T, schedule: &[(u32, u32)]) -> Result<(), Memory>
+/// the turns of the schedule that aren't idle besides. Where the links of the schedule's entries are
+/// given, they are not looked up once more.
+pub fn drive<T: Taker>(
+    net: &Net,
+    taker: &mut T,
+    schedule: &[(u32, u32)],
+    links: Option<&[u32]>,
+) -> Result<(), Memory>
     requires plan { (T.scene taker.old).plan ≡ plan_of net.now }
+    requires links { IfSome links (λ l. l.now ≡ links_of (plan_of net.now) schedule.now) }
     requires choices { All (λ e. HasChoice (plan_of net.now) e.0 e.1) schedule.now }
     requires book { length (T.scene taker.old).book + length schedule.now < 2 ^ 40 }
     ensures ok { OnOk result (T.scene taker.new ≡ after_all node_rules (T.scene taker.old) schedule.now) }
@@ -105,7 +125,7 @@ pub fn drive<T: Taker>(net: &Net, taker: &mut T, schedule: &[(u32, u32)]) -> Res
     ensures follows_front { DrivesFront net.now (T.scene taker.old) schedule.now (T.scene taker.new) }
 {
     nodes_follow_their_books();
-    taker.run(schedule)
+    taker.run(schedule, links)
 }
 
 /// Takes the turns of a whole schedule where the book stays below 2^40 entries with them. A longer
@@ -116,8 +136,10 @@ pub fn drive_within<T: Taker>(
     net: &Net,
     taker: &mut T,
     schedule: &[(u32, u32)],
+    links: Option<&[u32]>,
 ) -> Result<(), Memory>
     requires plan { (T.scene taker.old).plan ≡ plan_of net.now }
+    requires links { IfSome links (λ l. l.now ≡ links_of (plan_of net.now) schedule.now) }
     requires choices { All (λ e. HasChoice (plan_of net.now) e.0 e.1) schedule.now }
     ensures ok { OnOk result (T.scene taker.new ≡ after_all node_rules (T.scene taker.old) schedule.now) }
     ensures front { IsFront node_rules (T.scene taker.old) schedule.now (T.scene taker.new) }
@@ -134,5 +156,5 @@ pub fn drive_within<T: Taker>(
     if entries >= limit || more >= limit - entries {
         return Err(Memory);
     }
-    drive(net, taker, schedule)
+    drive(net, taker, schedule, links)
 }

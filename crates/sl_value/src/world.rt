@@ -157,9 +157,13 @@ impl<'a> Taker for ValueWorld<'a> {
         self.world.turn(actor, choice)
     }
 
-    fn run(&mut self, schedule: &[(u32, u32)]) -> Result<(), Memory> {
+    fn look_up(&self, alloc: Global, schedule: &[(u32, u32)]) -> Result<Vec<u32>, Memory> {
+        self.world.look_up(alloc, schedule)
+    }
+
+    fn run(&mut self, schedule: &[(u32, u32)], links: Option<&[u32]>) -> Result<(), Memory> {
         every_schedule::<ValueNode>();
-        self.world.run(schedule)
+        self.world.run(schedule, links)
     }
 
     fn observer(&self) -> &Observer {

@@ -3,6 +3,7 @@ pub mod BookLaws
 pub mod ShapeLaws
 pub mod MachineLemmas
 pub mod LinkLemmas
+pub mod LookupLemmas
 pub mod PlaceLemmas
 pub mod MarkLemmas
 pub mod RoomLemmas

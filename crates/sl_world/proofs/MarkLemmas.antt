@@ -1,5 +1,5 @@
 -- Marks of the links that have a message.
-use Rattle.std.proofs.Common.{◌≡◌, ℕ, ◌<◌, ◌↔◌, List, [], length, get_or, set, refl, ap, sym, ◌∙◌, arith, Bool, true, false, inl, inr}
+use Rattle.std.proofs.Common.{◌≡◌, ℕ, ◌+◌, ◌<◌, ◌↔◌, List, [], length, get_or, set, refl, ap, sym, ◌∙◌, arith, Bool, true, false, inl, inr}
 use Rattle.std.specs.Prelude.{IsTrue, not}
 use Rattle.std.proofs.lemmas.Bool.{cases_eq}
 use Rattle.std.proofs.lemmas.List.{map-set, length-set, get_or-set_same, get_or-set_other}
@@ -26,7 +26,7 @@ marked-set views filled k new e empty marked low read holds =
     let written : e ≡ new = read ∙ get_or-set_same views k new e low in
     let b : Bool = not empty in
     record {
-      each = length-set filled k b ∙ (marked.each ∙ sym (length-set views k new));
+      each = length-set filled k b ∙ (marked.each ∙ ap (λ n. n + 1) (sym (length-set views k new)));
       is = λ j h.
           let long : length (set views k new) ≡ length views = length-set views k new in
           let within : j < length views = omega arith in
@@ -40,10 +40,11 @@ marked-set views filled k new e empty marked low read holds =
                 let there : get_or (set filled k b) j false ≡ get_or filled j false = get_or-set_other filled k j b false other in
                 rw (here, there) (marked.is j within)
           ];
+      end = rw (length-set views k new) (get_or-set_other filled k (length views) b false (λ e. absurd (omega (arith, e))) ∙ marked.end);
     }
 
 -- a change that leaves what is on the links
 pub marked-same : {M : Type 0} (old new : List (LineView M)) (filled : List Bool) → lines_of new ≡ lines_of old → IsMarked old filled → IsMarked new filled
 marked-same old new filled same marked =
     let long : length new ≡ length old = length_same old new same in
-    record { each = marked.each ∙ sym long; is = λ j h. rw same (marked.is j (omega arith)) }
+    record { each = marked.each ∙ ap (λ n. n + 1) (sym long); is = λ j h. rw same (marked.is j (omega arith)); end = rw long marked.end }

@@ -10,7 +10,7 @@ use std::alloc::Global;
 use std::marker::Model;
 
 /// The links. Those with a message are marked in a list of their own, which is small, so that many
-/// links are looked at fast.
+/// links are looked at fast. The last mark stands for actions and is always set.
 #[derive(Drop)]
 pub struct Lines<M> {
     lines: Vec<Line<M>>,
@@ -46,7 +46,7 @@ impl<M: Drop> Lines<M> {
         !self.filled[link]
     }
 
-    /// Which links have a message.
+    /// Which links have a message, with a mark at the end that is set.
     pub fn filled(&self) -> &[bool]
         ensures { IsMarked self.now result.now }
     {
@@ -98,7 +98,7 @@ impl<M: Drop> Lines<M> {
     }
 }
 
-/// For each link, whether it has a message.
+/// For each link, whether it has a message, and a mark at the end that is set.
 fn marks<M: Drop>(alloc: Global, lines: &[Line<M>]) -> Result<Vec<bool>, Memory>
     ensures { IfOk result (λ filled. IsMarked lines.now filled.items) }
 {
@@ -106,5 +106,6 @@ fn marks<M: Drop>(alloc: Global, lines: &[Line<M>]) -> Result<Vec<bool>, Memory>
     for line in lines {
         filled.push(!line.is_empty())?;
     }
+    filled.push(true)?;
     Ok(filled)
 }

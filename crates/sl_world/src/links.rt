@@ -2,7 +2,7 @@
 ghost use Rattle.std.specs.Prelude.{◌≡◌, ◌≢◌, ◌+◌, ◌<◌, ◌≤◌, ◌↔◌, ◌∷◌, [], ℕ, true, false, length, drop, slice_index, slice_set, slice_index_or, reverse, IsTrue, IfOk, IfSome, IfNone, OnOk, Some, All};
 ghost use Rattle.sl_machine.specs.Machine.{is_fitting};
 ghost use Rattle.sl_machine.specs.Plan.{IsSound, link_in};
-ghost use Rattle.sl_world.specs.Scene.{line_at, without_first, put_all, put_each};
+ghost use Rattle.sl_world.specs.Scene.{line_at, without_first, put_all, put_each, links_of};
 ghost use Rattle.sl_world.specs.Mesh.{lines_of, room_at, KeepsRoom, KeepsSomeRoom, HasRoomFor, IsElsewhere};
 ghost use Rattle.sl_world.specs.Places.{place_of};
 
@@ -108,6 +108,75 @@ impl<M: Drop> Links<M> {
         at
     }
 
+    /// The link that a choice takes from, where it was looked up; None where the choice is an
+    /// action.
+    pub fn incoming_by(&self, actor: u32, choice: u32, link: u32) -> Option<usize>
+        requires actor { actor < length self.now.plan.ins }
+        requires link { link ≡ link_in self.now.plan.links actor choice }
+        ensures link { IfSome result (λ l. l ≡ link_in self.now.plan.links actor choice) }
+        ensures found { IfSome result (λ l. l < length self.now.plan.links) }
+        ensures choice { IfSome result (λ _. choice < slice_index self.now.plan.ins actor) }
+        ensures none { IfNone result (length self.now.plan.links ≤ link_in self.now.plan.links actor choice) }
+        ensures action { IfNone result (slice_index self.now.plan.ins actor ≤ choice) }
+    {
+        let wiring = &self.wiring;
+        if choice < wiring.in_counts[actor as usize] {
+            Some(link as usize)
+        } else {
+            None
+        }
+    }
+
+    /// The link that a choice takes from, or the number of links where it is an action. No memory
+    /// holds so many links that their number doesn't fit 32 bits.
+    #[tactic(auto, using(crate::proofs::LookupLemmas::link_in_most))]
+    fn look_up_one(&self, actor: u32, choice: u32) -> Result<u32, Memory>
+        requires { actor < length self.now.plan.ins }
+        ensures { IfOk result (λ l. l ≡ link_in self.now.plan.links actor choice) }
+    {
+        let link = match self.incoming(actor, choice) {
+            Some(link) => link,
+            None => self.wiring.links.len(),
+        };
+        match u32::try_from(link) {
+            Ok(number) => Ok(number),
+            Err(_) => Err(Memory),
+        }
+    }
+
+    /// For each entry of a schedule the link that its choice takes from, and the number of links
+    /// where it is an action.
+    pub fn look_up(&self, alloc: Global, schedule: &[(u32, u32)]) -> Result<Vec<u32>, Memory>
+        requires { All (λ e. e.0 < length self.now.plan.ins) schedule.now }
+        ensures { IfOk result (λ links. links.items ≡ links_of self.now.plan schedule.now) }
+    {
+        let mut links = Vec::with_capacity(alloc, schedule.len())?;
+        for (actor, choice) in schedule {
+            links.push(self.look_up_one(*actor, *choice)?)?;
+        }
+        Ok(links)
+    }
+
+    /// The first place, from this one on, of a list of links, where the link has a message, or
+    /// where there is none of that number.
+    pub fn next_by(&self, links: &[u32], from: usize) -> usize
+        requires links { All (λ l. l ≤ length self.now.plan.links) links.now }
+        requires within { from ≤ length links.now }
+        ensures from { from ≤ result }
+        ensures within { result ≤ length links.now }
+        ensures nothing { (k : ℕ) → from ≤ k → k < result → let link = slice_index_or links.now k 0 in (link < length self.now.plan.links) × ((line_at self.now.lines link).queue ≡ []) }
+    {
+        let filled = self.lines.filled();
+        let mut at = from;
+        while at < links.len() {
+            if filled[links[at] as usize] {
+                return at;
+            }
+            at += 1;
+        }
+        at
+    }
+
     /// How many puts a link has lost.
     pub fn lost(&self, link: usize) -> u64
         requires { link < length self.now.plan.links }
@@ -146,8 +215,25 @@ impl<M: Drop> Links<M> {
         self.lines.take(link)
     }
 
-    /// Puts an actor's messages on its links.
+    /// Puts an actor's messages on its links. Many turns put none.
+    #[inline(always)]
     pub fn deliver(&mut self, actor: u32, out: &mut Outputs<M>)
+        requires actor { actor < length self.old.plan.ins }
+        requires roomy { slice_index_or self.old.roomy actor false ≡ true }
+        requires fitting { is_fitting (slice_index self.old.plan.outs actor) out.old.items ≡ true }
+        ensures lines { self.new.lines ≡ put_all self.old.plan.links actor out.old.items self.old.lines }
+        ensures plan { self.new.plan ≡ self.old.plan }
+        ensures items { out.new.items ≡ [] }
+        ensures room { out.new.room ≡ out.old.room }
+    {
+        if !out.items().is_empty() {
+            self.deliver_all(actor, out);
+        }
+    }
+
+    /// `deliver` where a message was put.
+    #[inline(never)]
+    fn deliver_all(&mut self, actor: u32, out: &mut Outputs<M>)
         requires actor { actor < length self.old.plan.ins }
         requires roomy { slice_index_or self.old.roomy actor false ≡ true }
         requires fitting { is_fitting (slice_index self.old.plan.outs actor) out.old.items ≡ true }

@@ -1,10 +1,10 @@
 // The world: machines, the links between them, and the book of the turns that did something.
-ghost use Rattle.std.specs.Prelude.{◌≡◌, ◌≢◌, ◌+◌, ◌<◌, ◌≤◌, ◌^◌, ℕ, [], Some, None, Ok, length, map, slice_get, slice_index, slice_index_or, IsTrue, IfOk, OnOk, OnErr, All, true, false};
+ghost use Rattle.std.specs.Prelude.{◌≡◌, ◌≢◌, ◌+◌, ◌<◌, ◌≤◌, ◌^◌, ℕ, [], Some, None, Ok, length, map, slice_get, slice_index, slice_index_or, IsTrue, IfOk, IfSome, OnOk, OnErr, All, true, false};
 ghost use Rattle.sl_machine.specs.Plan.{HasChoice, IsSound, link_in};
 ghost use Rattle.sl_machine.specs.Fit.{ins_of, actions_of, counts_at, HasCounts, Fits};
 ghost use Rattle.sl_loss.specs.Loss.{IsFresh};
 ghost use Rattle.sl_world.specs.Counts.{SameCounts};
-ghost use Rattle.sl_world.specs.Scene.{last_number, line_at, lines_with};
+ghost use Rattle.sl_world.specs.Scene.{last_number, line_at, lines_with, links_of};
 ghost use Rattle.sl_world.specs.Mesh.{lines_of};
 
 use crate::book::{make_room, note};
@@ -164,8 +164,79 @@ impl<A: Machine> World<A> {
         }
     }
 
-    /// The turns of a whole schedule; after want of memory, those of a front of it.
-    pub fn run(&mut self, schedule: &[(u32, u32)]) -> Result<(), Memory>
+    /// For each entry of a schedule the link that its choice takes from, and the number of links
+    /// where it is an action.
+    pub fn look_up(&self, alloc: Global, schedule: &[(u32, u32)]) -> Result<Vec<u32>, Memory>
+        requires { All (λ e. HasChoice (scene self.now).plan e.0 e.1) schedule.now }
+        ensures { IfOk result (λ links. links.items ≡ links_of (scene self.now).plan schedule.now) }
+    {
+        self.links.look_up(alloc, schedule)
+    }
+
+    /// The turns of a whole schedule; after want of memory, those of a front of it. Where the links
+    /// of its entries are given, they are not looked up once more.
+    pub fn run(&mut self, schedule: &[(u32, u32)], links: Option<&[u32]>) -> Result<(), Memory>
+        requires choices { All (λ e. HasChoice (scene self.old).plan e.0 e.1) schedule.now }
+        requires links { IfSome links (λ l. l.now ≡ links_of (scene self.old).plan schedule.now) }
+        requires book { length (scene self.old).book + length schedule.now < 2 ^ 40 }
+        ensures ok { OnOk result (scene self.new ≡ after_all A.rules (scene self.old) schedule.now) }
+        ensures front { IsFront A.rules (scene self.old) schedule.now (scene self.new) }
+        ensures plan { (scene self.new).plan ≡ (scene self.old).plan }
+        ensures book { length (scene self.new).book ≤ length (scene self.old).book + length schedule.now }
+    {
+        match links {
+            Some(links) => self.run_by(schedule, links),
+            None => self.run_searching(schedule),
+        }
+    }
+
+    /// `run` where the links are given.
+    fn run_by(&mut self, schedule: &[(u32, u32)], links: &[u32]) -> Result<(), Memory>
+        requires choices { All (λ e. HasChoice (scene self.old).plan e.0 e.1) schedule.now }
+        requires links { links.now ≡ links_of (scene self.old).plan schedule.now }
+        requires book { length (scene self.old).book + length schedule.now < 2 ^ 40 }
+        ensures ok { OnOk result (scene self.new ≡ after_all A.rules (scene self.old) schedule.now) }
+        ensures front { IsFront A.rules (scene self.old) schedule.now (scene self.new) }
+        ensures plan { (scene self.new).plan ≡ (scene self.old).plan }
+        ensures book { length (scene self.new).book ≤ length (scene self.old).book + length schedule.now }
+    {
+        let mut at = self.next_by(schedule, links, 0);
+        while at < schedule.len() {
+            let (actor, choice) = schedule[at];
+            self.turn_by(actor, choice, links[at])?;
+            at = self.next_by(schedule, links, at + 1);
+        }
+        Ok(())
+    }
+
+    /// `next_at` where the links are given.
+    fn next_by(&self, schedule: &[(u32, u32)], links: &[u32], from: usize) -> usize
+        requires links { links.now ≡ links_of (scene self.now).plan schedule.now }
+        requires within { from ≤ length schedule.now }
+        ensures from { from ≤ result }
+        ensures within { result ≤ length schedule.now }
+        ensures nothing { (k : ℕ) → from ≤ k → k < result → let e = slice_index_or schedule.now k (0, 0) in FindsNothing (scene self.now) e.0 e.1 }
+    {
+        let _ = schedule;
+        self.links.next_by(links, from)
+    }
+
+    /// `turn` where the link is given.
+    fn turn_by(&mut self, actor: u32, choice: u32, link: u32) -> Result<Turn, Memory>
+        requires choice { HasChoice (scene self.old).plan actor choice }
+        requires link { link ≡ link_in (scene self.old).plan.links actor choice }
+        requires book { length (scene self.old).book < 2 ^ 40 }
+        ensures after { OnOk result (scene self.new ≡ after_turn A.rules (scene self.old) (actor, choice)) }
+        ensures err { OnErr result (scene self.new ≡ scene self.old) }
+    {
+        if let Some(link) = self.links.incoming_by(actor, choice, link) {
+            return self.take_turn(actor, choice, link);
+        }
+        self.act_turn(actor, choice)
+    }
+
+    /// `run` where the links are looked up.
+    fn run_searching(&mut self, schedule: &[(u32, u32)]) -> Result<(), Memory>
         requires choices { All (λ e. HasChoice (scene self.old).plan e.0 e.1) schedule.now }
         requires book { length (scene self.old).book + length schedule.now < 2 ^ 40 }
         ensures ok { OnOk result (scene self.new ≡ after_all A.rules (scene self.old) schedule.now) }
@@ -194,6 +265,7 @@ impl<A: Machine> World<A> {
         self.links.next_at(schedule, from)
     }
 
+    #[inline(always)]
     fn take_turn(&mut self, actor: u32, choice: u32, link: usize) -> Result<Turn, Memory>
         requires actor { actor < length (scene self.old).plan.ins }
         requires choice { choice < slice_index (scene self.old).plan.ins actor }
@@ -215,6 +287,7 @@ impl<A: Machine> World<A> {
     }
 
     /// Takes the first message of a link.
+    #[inline(always)]
     fn take_from(&mut self, actor: u32, choice: u32, link: usize) -> Result<(), Memory>
         requires actor { actor < length (scene self.old).plan.ins }
         requires choice { choice < slice_index (scene self.old).plan.ins actor }
@@ -234,6 +307,7 @@ impl<A: Machine> World<A> {
         Ok(())
     }
 
+    #[inline(always)]
     fn act_turn(&mut self, actor: u32, choice: u32) -> Result<Turn, Memory>
         requires choice { HasChoice (scene self.old).plan actor choice }
         requires action { slice_index (scene self.old).plan.ins actor ≤ choice }

@@ -90,7 +90,7 @@ fn run_three(world: &mut World<Relay>) -> Result<(), Fail>
     if world.book().entries.len() > 100 {
         return Err("too many turns".into());
     }
-    Ok(world.run(&[(1, 0), (0, 1), (1, 0)])?)
+    Ok(world.run(&[(1, 0), (0, 1), (1, 0)], None)?)
 }
 
 fn lost(world: &World<Relay>) -> (u64, u64)

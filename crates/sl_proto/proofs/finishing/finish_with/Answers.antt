@@ -18,6 +18,9 @@ returns-then-branch-clause-finishes g c x pos h =
 pub returns-in_err-settling-clause-front : goal.returns-in_err-settling-clause-front
 returns-in_err-settling-clause-front g c x pos h = finished-nothing c.finishing_ends.ensures c.args.net.now x (g.T.Taker.scene c.args.taker.now) h
 
+pub returns-in_err-links-clause-front : goal.returns-in_err-links-clause-front
+returns-in_err-links-clause-front g c x pos h = finished-nothing c.finishing_ends.ensures c.args.net.now x (g.T.Taker.scene c.args.taker.now) h
+
 pub returns-in_err-sweeps-clause-front : goal.returns-in_err-sweeps-clause-front
 returns-in_err-sweeps-clause-front g c x pos h = finished-nothing c.finishing_ends.ensures c.args.net.now x (g.T.Taker.scene c.args.taker.now) h
 

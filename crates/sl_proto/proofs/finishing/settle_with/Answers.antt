@@ -18,6 +18,9 @@ returns-then-branch-clause-settles g c x h =
 pub returns-in_err-pass-clause-front : goal.returns-in_err-pass-clause-front
 returns-in_err-pass-clause-front g c x h = settled-nothing c.finishing_ends.ensures c.args.net.now x (g.T.Taker.scene c.args.taker.now) h
 
+pub returns-in_err-links-clause-front : goal.returns-in_err-links-clause-front
+returns-in_err-links-clause-front g c x h = settled-nothing c.finishing_ends.ensures c.args.net.now x (g.T.Taker.scene c.args.taker.now) h
+
 pub returns-in_err-settle_within-clause-front : goal.returns-in_err-settle_within-clause-front
 returns-in_err-settle_within-clause-front g c x h = settled-towards c.finishing_ends.ensures c.args.net.now x (g.T.Taker.scene c.args.taker.now) (g.T.Taker.scene c.settle_within.new.taker) h (c.settle_within.ensures.front x h)
 

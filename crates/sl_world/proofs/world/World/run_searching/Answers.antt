@@ -2,7 +2,7 @@ use Rattle.std.proofs.Common.{◌≡◌, ◌∙◌, ◌+◌, arith, subst, sym, 
 use Rattle.sl_world.specs.Scene.{after_all}
 use Rattle.sl_world.specs.World.{scene}
 use Rattle.sl_world.proofs.RunLemmas.{Keeps, turn_keeps, run_more, quiet_until}
-use Rattle.sl_world.proofs.world.World.run.Goals as goal
+use Rattle.sl_world.proofs.world.World.run_searching.Goals as goal
 
 pub loop-at-init : goal.loop-at-init
 loop-at-init g c =

@@ -1,7 +1,7 @@
 use Rattle.std.proofs.Common.{◌≡◌, ◌+◌, ◌-◌, ◌≤◌, length, take}
 use Rattle.sl_world.specs.Scene.{after_all}
 use Rattle.sl_world.specs.World.{scene}
-use Rattle.sl_world.proofs.world.World.run.Given as goal
+use Rattle.sl_world.proofs.world.World.run_by.Given as goal
 
 abbrev pub invariant-loop-at : goal.invariant-loop-at
 invariant-loop-at g l =

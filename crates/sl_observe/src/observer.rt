@@ -187,14 +187,14 @@ impl Machine for Observer {
     #[tactic(auto, using(crate::proofs::UnitLists::kept_ready, crate::proofs::UnitLists::kept_spent))]
     fn ready(&mut self, choice: u32) -> Result<(), Memory> {
         self.prepared = None;
-        let ring = self.snapshot.ring;
         prepare(
             &mut self.units,
             &mut self.shorts,
             self.spans.as_slice(),
             self.ins,
             choice,
-            ring,
+            self.snapshot.ring,
+            self.snapshot.count,
         )?;
         self.prepared = Some(choice);
         Ok(())

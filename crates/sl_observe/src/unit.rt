@@ -121,13 +121,21 @@ impl Collected {
         }
     }
 
-    /// Takes room for so many rows more.
-    pub fn make_room(&mut self, ring: u16) -> Result<(), AllocError>
+    /// Takes room for so many rows more. Room doubles, and grows by two rings at least, but not
+    /// beyond that for the rows of so many snapshots and a ring.
+    pub fn make_room(&mut self, ring: u16, count: u64) -> Result<(), AllocError>
         ensures state { self.new.state ≡ self.old.state }
         ensures room { OnOk result (ring ≤ self.new.room) }
         ensures more { self.old.room ≤ self.new.room }
     {
-        self.rows.reserve(ring as usize)
+        let ring = ring as usize;
+        let len = self.rows.len();
+        if ring <= self.rows.capacity() - len {
+            return Ok(());
+        }
+        let most = (count as usize).saturating_add(ring);
+        let wanted = len.max(2 * ring).min(most.saturating_sub(len));
+        self.rows.reserve_exact(ring.max(wanted))
     }
 
     /// The number that a report says that the unit and its data channels have reached.

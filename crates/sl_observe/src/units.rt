@@ -34,12 +34,14 @@ pub fn no_shorts(alloc: Global, devices: u32) -> Result<Vec<Option<usize>>, Allo
     vec![in alloc; None; devices as usize]
 }
 
-/// Takes room for so many rows more of the units from `first` on, before `end`.
+/// Takes room for so many rows more, where there are so many snapshots, of the units from `first`
+/// on, before `end`.
 fn make_rooms(
     units: &mut Vec<Collected>,
     first: usize,
     end: usize,
     ring: u16,
+    count: u64,
 ) -> Result<(), AllocError>
     requires { end ≤ length units.old.items }
     ensures states { states units.new.items ≡ states units.old.items }
@@ -47,13 +49,18 @@ fn make_rooms(
     ensures room { OnOk result ((k : ℕ) → first ≤ k → k < end → ring ≤ (collected_at units.new.items k).room) }
 {
     for place in first..end {
-        make_room_at(units, place, ring)?;
+        make_room_at(units, place, ring, count)?;
     }
     Ok(())
 }
 
 #[tactic(auto, using(crate::proofs::UnitLists::states_set_same))]
-fn make_room_at(units: &mut Vec<Collected>, place: usize, ring: u16) -> Result<(), AllocError>
+fn make_room_at(
+    units: &mut Vec<Collected>,
+    place: usize,
+    ring: u16,
+    count: u64,
+) -> Result<(), AllocError>
     requires { place < length units.old.items }
     ensures states { states units.new.items ≡ states units.old.items }
     ensures size { length units.new.items ≡ length units.old.items }
@@ -62,29 +69,37 @@ fn make_room_at(units: &mut Vec<Collected>, place: usize, ring: u16) -> Result<(
     ensures more { (k : ℕ) → (collected_at units.old.items k).room ≤ (collected_at units.new.items k).room }
 {
     let unit = &mut units[place];
-    unit.make_room(ring)
+    unit.make_room(ring, count)
 }
 
 /// Takes room for a ring of rows of each unit that a device has, where at most this one of them may
 /// lack it.
-fn prepare_at(units: &mut Vec<Collected>, place: usize, ring: u16) -> Result<(), AllocError>
+#[inline(never)]
+fn prepare_at(
+    units: &mut Vec<Collected>,
+    place: usize,
+    ring: u16,
+    count: u64,
+) -> Result<(), AllocError>
     ensures states { states units.new.items ≡ states units.old.items }
     ensures room { OnOk result ((device : ℕ) → HasRoomBut ring device place units.old.items → HasRoom ring device units.new.items) }
     ensures more { (k : ℕ) → (collected_at units.old.items k).room ≤ (collected_at units.new.items k).room }
 {
     if place < units.len() {
-        make_room_at(units, place, ring)?;
+        make_room_at(units, place, ring, count)?;
     }
     Ok(())
 }
 
 /// Takes room for a ring of rows of each unit that a device has.
+#[inline(never)]
 fn prepare_all(
     units: &mut Vec<Collected>,
     shorts: &mut Vec<Option<usize>>,
     span: Span,
     device: u32,
     ring: u16,
+    count: u64,
 ) -> Result<(), AllocError>
     requires span { HasSpan (states units.old.items) device span }
     requires device { device < length shorts.old.items }
@@ -94,7 +109,7 @@ fn prepare_all(
     ensures shorts { HaveRoomBut ring shorts.new.items units.new.items }
     ensures size { length shorts.new.items ≡ length shorts.old.items }
 {
-    make_rooms(units, span.first, span.end, ring)?;
+    make_rooms(units, span.first, span.end, ring, count)?;
     shorts[device as usize] = Some(span.first);
     Ok(())
 }
@@ -107,6 +122,7 @@ pub fn prepare(
     ins: u32,
     link: u32,
     ring: u16,
+    count: u64,
 ) -> Result<(), AllocError>
     requires spans { HaveSpans (states units.old.items) ins spans.now }
     requires size { length shorts.old.items ≡ ins }
@@ -120,8 +136,11 @@ pub fn prepare(
         return Ok(());
     }
     match shorts[link as usize] {
-        Some(place) => prepare_at(units, place, ring),
-        None => prepare_all(units, shorts, spans[link as usize], link, ring),
+        Some(place) => prepare_at(units, place, ring, count),
+        None => {
+            let span = spans[link as usize];
+            prepare_all(units, shorts, span, link, ring, count)
+        }
     }
 }
 

@@ -23,6 +23,7 @@ fn count_outs(wires: &Wires, way: Way) -> usize
 }
 
 /// Makes dumps of the registers, as many as there are links of dumps.
+#[inline(never)]
 pub fn make_dumps(
     wires: &Wires,
     registers: &Registers,

@@ -76,6 +76,7 @@ pub fn plain_frame(packet: &Packet) -> Frame
 }
 
 /// The version, header and packet of which the bytes are the frame, or the first fault of E1 to E5.
+#[inline(always)]
 #[tactic(auto, unfolding(crate::specs::Frames::decoded))]
 pub fn decode(width: Width, bytes: &[u8]) -> Result<(u8, Header, Packet), WireFault>
     ensures value { result ≡ decoded width.bits bytes.now }
@@ -92,6 +93,7 @@ pub fn decode(width: Width, bytes: &[u8]) -> Result<(u8, Header, Packet), WireFa
 }
 
 /// What 24 bytes say where byte 0 is that of a plain frame.
+#[inline(always)]
 #[tactic(auto, unfolding(crate::specs::Frames::decoded))]
 fn decode_plain(bytes: &[u8]) -> Result<(u8, Header, Packet), WireFault>
     requires { length bytes.now ≡ 24 }
@@ -115,6 +117,7 @@ fn decode_plain(bytes: &[u8]) -> Result<(u8, Header, Packet), WireFault>
 }
 
 /// What 24 bytes say where byte 0 is that of a kind with an id.
+#[inline(always)]
 #[tactic(auto, unfolding(crate::specs::Frames::decoded))]
 fn decode_stamped(width: Width, kind: Kind, bytes: &[u8]) -> Result<(u8, Header, Packet), WireFault>
     requires bytes { length bytes.now ≡ 24 }

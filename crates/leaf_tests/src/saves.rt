@@ -172,6 +172,7 @@ fn check_turns(
     let mut slots = RingSaves::new(alloc, window, ring, credits)?;
     let mut list_view = list.view()?;
     let mut ring_view = slots.view()?;
+    let mut shown = slots.view()?;
     let mut random = 1u64;
     let mut id = 0u64;
     let mut values = 0u64;
@@ -186,6 +187,8 @@ fn check_turns(
         list_view = list.view()?;
         ring_view = slots.view()?;
         values = values.saturating_add(check_alike(rt, ring, &list_view, &ring_view, id));
+        slots.show(&mut shown)?;
+        values = values.saturating_add(check_alike(rt, ring, &list_view, &shown, id));
     }
     assert!(rt; values > 1000 && id > 400);
     Ok(())

@@ -7,7 +7,7 @@ use crate::bench::Bench;
 use crate::nets::{net, sent};
 use sl_host::Host;
 use sl_net::{Bytes, Flow, Input, LossSpec, Packet, RawPart, Snapshot};
-use sl_wire::{Framed, Msg, plain_frame};
+use sl_wire::{Framed, Msg, Spare};
 use std::alloc::{AllocError, Global};
 use std::test::Fail;
 
@@ -97,9 +97,10 @@ fn next_message(alloc: Global, host: &mut Bench<Host>) -> Result<Option<Msg>, Fa
 
 /// Whether a message carries these bytes.
 fn carries(message: &Msg, bytes: &[u8]) -> bool {
-    match message.bytes() {
-        Some(carried) => carried == bytes,
-        None => false,
+    match message {
+        Msg::Frame(frame) => &frame.frame().bytes[..] == bytes,
+        Msg::Wire(carried) => carried.items.as_slice() == bytes,
+        _ => false,
     }
 }
 
@@ -151,13 +152,9 @@ fn frames_are_counted(rt: HostRuntime) -> Result<(), Fail> {
         hops: 1,
     };
     let bytes = raw(rt.alloc(), 0, 5)?.bytes;
-    let first = taken(
-        rt.alloc(),
-        &mut host,
-        Msg::Frame(Framed::new(plain_frame(&packet))),
-    )?;
+    let first = taken(rt.alloc(), &mut host, Msg::Frame(Framed::plain(&packet)))?;
     let second = taken(rt.alloc(), &mut host, Msg::carrying(bytes))?;
-    let third = taken(rt.alloc(), &mut host, Msg::Poll)?;
+    let third = taken(rt.alloc(), &mut host, Msg::Poll(Spare::new(None)))?;
     assert_eq!(rt; (first, second, third), (1, 2, 2));
     Ok(())
 }

@@ -3,7 +3,7 @@ use sl_ids::{Wid, Width};
 use sl_machine::{Memory, Outputs};
 use sl_net::Packet;
 use sl_saves::{RingSaves, Saved, Saves, View};
-use sl_wire::{Boxed, Done, Dump, Frame, Framed, Header, Kind, Msg, Rows, frame_of, plain_frame};
+use sl_wire::{Boxed, Done, Dump, Frame, Framed, Header, Kind, Msg, Rows, Spare, plain_frame};
 use std::alloc::{AllocError, Global};
 use std::test::Fail;
 
@@ -54,7 +54,7 @@ fn stamped(kind: Kind, stamp: u64, packet: &Packet) -> Msg {
         id: wid(stamp),
         channel: 0,
     };
-    Msg::Frame(Framed::new(frame_of(1, &header, packet)))
+    Msg::Frame(Framed::of(1, &header, packet))
 }
 
 /// What a probe has in place of a packet.
@@ -125,11 +125,12 @@ pub fn message(alloc: Global, event: Event) -> Result<Option<Msg>, Fail> {
         Event::Act => None,
         Event::Begin(number) => Some(Msg::Begin(number)),
         Event::Notice => Some(Msg::Notice),
-        Event::Poll => Some(Msg::Poll),
+        Event::Poll => Some(Msg::Poll(Spare::new(None))),
         Event::Probe(stamp) => Some(stamped(Kind::Probe, stamp, &no_packet())),
         Event::Data(stamp) => Some(stamped(Kind::Carried, stamp, &packet(1, 8))),
         Event::Frame(dst, hops, place, more) => {
-            Some(Msg::Frame(Framed::new(frame(&packet(dst, hops), place, more))))
+            let frame = frame(&packet(dst, hops), place, more);
+            Some(Msg::Frame(Framed::new(&frame.bytes)))
         }
         Event::Dump(id, cpu, seen) => Some(Msg::Dump(dump(alloc, id, cpu, seen)?)),
         Event::Done(unit, first, reached) => {
@@ -169,7 +170,7 @@ fn coded(m: &Msg) -> u64 {
             Some((header, _)) => coded_header(&header),
             None => 5,
         },
-        Msg::Poll => 1,
+        Msg::Poll(_) => 1,
         Msg::Notice => 2,
         Msg::Dump(_) => 4,
         Msg::Begin(number) => number.wrapping_add(200),

@@ -12,7 +12,7 @@ use sl_net::{Net, Side, Snapshot};
 use sl_route::Routes;
 use sl_saves::{Saved, Total, View, read_saved, try_read_saved};
 use sl_unit::{Unit, UnitCounts, unit_side};
-use sl_wire::{Boxed, Dump, Msg};
+use sl_wire::{Boxed, Dump, Msg, Spare};
 use std::alloc::Global;
 use std::test::Fail;
 
@@ -78,9 +78,13 @@ fn unit(alloc: Global, place: u32, credits: u8) -> Result<Bench<Unit>, Fail>
     joined(alloc, &net, place, credits)
 }
 
-/// The dump with which a unit answers a poll by its last choice.
-fn polled(alloc: Global, unit: &mut Bench<Unit>) -> Result<Boxed<Dump>, Fail> {
-    let mut out = unit.take(alloc, 2, Msg::Poll)?;
+/// The dump with which a unit answers a poll by its last choice. The poll takes another one back.
+fn polled(
+    alloc: Global,
+    unit: &mut Bench<Unit>,
+    back: Option<Boxed<Dump>>,
+) -> Result<Boxed<Dump>, Fail> {
+    let mut out = unit.take(alloc, 2, Msg::Poll(Spare::new(back)))?;
     match out.take_first() {
         Some((_, Msg::Dump(dump))) => Ok(dump),
         _ => Err("no dump".into()),
@@ -111,19 +115,24 @@ fn late() -> &'static [Turn] {
     &LATE
 }
 
+/// Whether a dump says that a packet of the number 0 came late.
+fn is_late(dump: &Dump) -> bool {
+    let first = saved(&dump.view, 2, 1);
+    let late = Saved::Miscredited { by: 2, reach: 2 };
+    (dump.id.raw, dump.last[0].raw, dump.last[1].raw) == (2, 0, 2) && first == Some(late)
+}
+
 #[test]
 fn late_packet(rt: HostRuntime) -> Result<(), Fail> {
     let alloc = rt.alloc();
     let mut unit = unit(alloc, 3, 1)?;
+    let early = polled(alloc, &mut unit, None)?;
     assert_eq!(rt; first_wrong(alloc, &mut unit, late())?, None);
-    let dump = polled(alloc, &mut unit)?;
-    let dump = dump.get();
-    let first = saved(&dump.view, 2, 1);
-    let late = Saved::Miscredited { by: 2, reach: 2 };
-    assert_eq!(rt;
-        (dump.id.raw, dump.last[0].raw, dump.last[1].raw, first),
-        (2, 0, 2, Some(late))
-    );
+    let made = polled(alloc, &mut unit, Some(early))?;
+    assert!(rt; is_late(made.get()));
+    // The memory of the early one, filled anew.
+    let filled = polled(alloc, &mut unit, None)?;
+    assert!(rt; is_late(filled.get()));
     Ok(())
 }
 
@@ -132,7 +141,7 @@ fn two_credits(rt: HostRuntime) -> Result<(), Fail> {
     let alloc = rt.alloc();
     let mut unit = unit(alloc, 3, 2)?;
     assert_eq!(rt; first_wrong(alloc, &mut unit, late())?, None);
-    let dump = polled(alloc, &mut unit)?;
+    let dump = polled(alloc, &mut unit, None)?;
     let dump = dump.get();
     let none = Total {
         packets: 0,

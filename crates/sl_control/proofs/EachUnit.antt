@@ -3,7 +3,7 @@ use Rattle.std.proofs.Common.{◌≡◌, ℕ, zero, suc, ◌<◌, ◌≤◌, Lis
 use Rattle.std.specs.Prelude.{Bool, true, false, ◌&&◌, ◌==◌, nat_eq, cond, flat_map, slice_set, Option}
 use Rattle.std.specs.List.{AllByRecursion}
 use Rattle.std.proofs.lemmas.Bool.Decides.{eqb_tells}
-use Rattle.sl_wire.specs.declared.message.Msg.TheVariants.{Poll}
+use Rattle.sl_wire.specs.Carried.{poll}
 use Rattle.sl_wire.specs.declared.message.Msg.{Msg}
 use Rattle.sl_control.specs.declared.known.Known.{Known}
 use Rattle.sl_control.specs.Control.{poll_by, is_asked, ask_puts}
@@ -28,8 +28,8 @@ next-joined g (z ∷ zs) zero x h e = append-nil (g z) ∙ ap g (sym e)
 next-joined g (z ∷ zs) (suc i) x h e = ap (λ r. g z ++ r) (next-joined g zs i x (omega arith) e) ∙ sym (append_assoc (g z) (flat_map g (take i zs)) (g x))
 
 poll-few : (r : Known) (b : Bool) → r.waits ≡ b → length (poll_by r) ≤ 1
-poll-few r true q = subst (λ b. length {A = (ℕ × Msg)} (cond b [] ((r.wires.poll, Poll) ∷ [])) ≤ 1) (sym q) (omega arith)
-poll-few r false q = subst (λ b. length {A = (ℕ × Msg)} (cond b [] ((r.wires.poll, Poll) ∷ [])) ≤ 1) (sym q) (omega arith)
+poll-few r true q = subst (λ b. length {A = (ℕ × Msg)} (cond b [] ((r.wires.poll, poll) ∷ [])) ≤ 1) (sym q) (omega arith)
+poll-few r false q = subst (λ b. length {A = (ℕ × Msg)} (cond b [] ((r.wires.poll, poll) ∷ [])) ≤ 1) (sym q) (omega arith)
 
 pub asks-few : (o : Option ℕ) (r : Known) → length (ask_puts o r) ≤ 1
 asks-few o r = elim (is_asked o r) as (λ b. length (cond b (poll_by r) []) ≤ 1) [ true ↦ poll-few r r.waits refl | false ↦ omega arith ]

@@ -6,7 +6,8 @@ use Rattle.std.proofs.lemmas.Bool.{lt-ltb}
 use Rattle.std.proofs.lemmas.Bool.Decides.{eqb_tells}
 use Rattle.sl_machine.specs.Machine.{puts_on, is_fitting, send_all}
 use Rattle.sl_wire.specs.declared.message.Msg.{Msg}
-use Rattle.sl_wire.specs.declared.message.Msg.TheVariants.{Poll as PollMsg, Done as DoneMsg}
+use Rattle.sl_wire.specs.declared.message.Msg.TheVariants.{Done as DoneMsg}
+use Rattle.sl_wire.specs.Carried.{poll}
 use Rattle.sl_saves.specs.declared.entry.View.{View}
 use Rattle.sl_wire.specs.declared.message.Dump.{Dump}
 use Rattle.sl_wire.specs.Sizes.{Lengths}
@@ -66,7 +67,7 @@ polls-hold : (P : ℕ → Type 0) (o : Option ℕ) (rs : List Known) → AllByRe
 polls-hold P o [] h = tt
 polls-hold P o (r ∷ rs) h = by_bools (is_asked o r) r.waits (polls-hold P o rs h.1)
   where
-    by_bools : (a w : Bool) → AllByRecursion P (map (λ p. p.0) (flat_map (ask_puts o) rs)) → AllByRecursion P (map (λ p. p.0) (cond a (cond w [] ((r.wires.poll, PollMsg) ∷ [])) [] ++ flat_map (ask_puts o) rs))
+    by_bools : (a w : Bool) → AllByRecursion P (map (λ p. p.0) (flat_map (ask_puts o) rs)) → AllByRecursion P (map (λ p. p.0) (cond a (cond w [] ((r.wires.poll, poll) ∷ [])) [] ++ flat_map (ask_puts o) rs))
     by_bools true true ih = ih
     by_bools true false ih = (h.0, ih)
     by_bools false w ih = ih
@@ -75,7 +76,7 @@ polls-apart : (o : Option ℕ) (rs : List Known) → AreApart (polls_of rs) → 
 polls-apart o [] h = tt
 polls-apart o (r ∷ rs) h = by_bools (is_asked o r) r.waits (polls-apart o rs h.1)
   where
-    by_bools : (a w : Bool) → AreApart (map (λ p. p.0) (flat_map (ask_puts o) rs)) → AreApart (map (λ p. p.0) (cond a (cond w [] ((r.wires.poll, PollMsg) ∷ [])) [] ++ flat_map (ask_puts o) rs))
+    by_bools : (a w : Bool) → AreApart (map (λ p. p.0) (flat_map (ask_puts o) rs)) → AreApart (map (λ p. p.0) (cond a (cond w [] ((r.wires.poll, poll) ∷ [])) [] ++ flat_map (ask_puts o) rs))
     by_bools true true ih = ih
     by_bools true false ih = (polls-hold (λ y. y ≡ r.wires.poll → ⊥) o rs h.0, ih)
     by_bools false w ih = ih
@@ -86,9 +87,9 @@ asks-fit outs o rs h = fitting outs (flat_map (ask_puts o) rs) (polls-hold (λ x
 -- Answers.
 
 answer-fits : (outs done : ℕ) (n : Numbers) (view : View) (r : Known) (b : Bool) → r.again ≡ b → AreOuts outs (done ∷ r.wires.poll ∷ []) → is_fitting outs (answer_by done n view r) ≡ true
-answer-fits outs done n view r true q h = subst (λ b. is_fitting outs ((done, DoneMsg (done_of n view r)) ∷ cond b ((r.wires.poll, PollMsg) ∷ []) []) ≡ true) (sym q)
-    (fitting outs ((done, DoneMsg (done_of n view r)) ∷ (r.wires.poll, PollMsg) ∷ []) h.below h.apart)
-answer-fits outs done n view r false q h = subst (λ b. is_fitting outs ((done, DoneMsg (done_of n view r)) ∷ cond b ((r.wires.poll, PollMsg) ∷ []) []) ≡ true) (sym q)
+answer-fits outs done n view r true q h = subst (λ b. is_fitting outs ((done, DoneMsg (done_of n view r)) ∷ cond b ((r.wires.poll, poll) ∷ []) []) ≡ true) (sym q)
+    (fitting outs ((done, DoneMsg (done_of n view r)) ∷ (r.wires.poll, poll) ∷ []) h.below h.apart)
+answer-fits outs done n view r false q h = subst (λ b. is_fitting outs ((done, DoneMsg (done_of n view r)) ∷ cond b ((r.wires.poll, poll) ∷ []) []) ≡ true) (sym q)
     (fitting outs ((done, DoneMsg (done_of n view r)) ∷ []) (h.below.0, tt) (tt, tt))
 
 pub answers-fit : (outs : ℕ) (sizes : Lengths) (done c : ℕ) (d : Dump) (rs : List Known) → AllByRecursion (λ r. AreOuts outs (done ∷ r.wires.poll ∷ [])) rs → AreApart (dumps_of rs) → is_fitting outs (flat_map (dump_puts sizes done c d) rs) ≡ true

@@ -12,7 +12,8 @@ use Rattle.sl_ids.specs.Wids.{wid}
 use Rattle.sl_wire.specs.declared.message.Dump.{Dump}
 use Rattle.sl_wire.specs.declared.message.Done.{Done}
 use Rattle.sl_wire.specs.declared.message.Msg.{Msg}
-use Rattle.sl_wire.specs.declared.message.Msg.TheVariants.{Poll as PollMsg, Notice as NoticeMsg, Dump as DumpMsg, Begin as BeginMsg, Done as DoneMsg}
+use Rattle.sl_wire.specs.declared.message.Msg.TheVariants.{Notice as NoticeMsg, Dump as DumpMsg, Begin as BeginMsg, Done as DoneMsg}
+use Rattle.sl_wire.specs.Carried.{poll}
 use Rattle.sl_wire.specs.Carried.{framed}
 use Rattle.sl_wire.specs.Frames.{init_header, no_packet}
 use Rattle.sl_wire.specs.Reach.{reached}
@@ -50,7 +51,7 @@ abbrev pub asked : Known → Known
 asked r = record r { waits = true; again = r.waits }
 
 abbrev pub poll_by : Known → List (ℕ × Msg)
-poll_by r = if r.waits then [] else (r.wires.poll, PollMsg) ∷ []
+poll_by r = if r.waits then [] else (r.wires.poll, poll) ∷ []
 
 -- Dumps. Their ids are wrapped, and stand for numbers relative to those that were known.
 
@@ -101,7 +102,7 @@ answered n r = record {
 
 -- a Done, then a poll where one was asked for again
 abbrev pub answer_by : ℕ → Numbers → View → Known → List (ℕ × Msg)
-answer_by done n view r = (done, DoneMsg (done_of n view r)) ∷ (if r.again then (r.wires.poll, PollMsg) ∷ [] else [])
+answer_by done n view r = (done, DoneMsg (done_of n view r)) ∷ (if r.again then (r.wires.poll, poll) ∷ [] else [])
 
 -- a dump is taken where its ids can be unwrapped, and what they tell can be read
 abbrev pub is_taken : Lengths → Dump → Known → Bool

@@ -8,7 +8,8 @@ use Rattle.sl_saves.specs.declared.entry.Saved.{Saved}
 use Rattle.sl_saves.specs.declared.entry.View.{View}
 use Rattle.sl_wire.specs.declared.message.Done.{Done}
 use Rattle.sl_wire.specs.declared.message.Msg.{Msg}
-use Rattle.sl_wire.specs.declared.message.Msg.TheVariants.{Poll as PollMsg, Done as DoneMsg}
+use Rattle.sl_wire.specs.declared.message.Msg.TheVariants.{Done as DoneMsg}
+use Rattle.sl_wire.specs.Carried.{poll}
 use Rattle.sl_control.specs.declared.known.Known.{Known}
 use Rattle.sl_control.specs.declared.known.Numbers.{Numbers}
 use Rattle.sl_control.specs.declared.known.Told.{Told}
@@ -42,4 +43,4 @@ answered_by t r = record {
 }
 
 abbrev pub puts_by : ℕ → Told → View → Known → List (ℕ × Msg)
-puts_by done t view r = (done, DoneMsg (done_by t view r)) ∷ (if r.again then (r.wires.poll, PollMsg) ∷ [] else [])
+puts_by done t view r = (done, DoneMsg (done_by t view r)) ∷ (if r.again then (r.wires.poll, poll) ∷ [] else [])

@@ -4,7 +4,7 @@ ghost use Rattle.std.specs.Vec.{vec_capacity};
 
 use sl_machine::Memory;
 use sl_saves::Saved;
-use sl_wire::{Boxed, Done, Rows};
+use sl_wire::{Boxed, Done, Dump, Rows};
 use std::alloc::{AllocError, Global};
 use std::mem;
 
@@ -32,13 +32,14 @@ impl OneRow {
     }
 }
 
-/// Room for the rows of a report, and the report to be filled in. A report of one row takes along
-/// no more room than that.
+/// Room for the rows of a report, the report to be filled in, and dumps that were read, which go back
+/// with polls. A report of one row takes along no more room than that.
 #[derive(Drop)]
 pub struct Blanks {
     pub rows: Vec<(u64, Saved)>,
     one: Option<OneRow>,
     pub done: Option<Boxed<Done>>,
+    pub spares: Vec<Boxed<Dump>>,
 }
 
 /// A report of nothing.
@@ -57,14 +58,25 @@ fn blank_done(alloc: Global) -> Result<Boxed<Done>, Memory> {
 }
 
 impl Blanks {
-    /// Nothing is ready.
-    pub fn new(alloc: Global) -> Blanks
-        ensures { result.rows.items ≡ [] }
+    /// Nothing is ready. So many dumps that were read are kept at most.
+    pub fn new(alloc: Global, spares: usize) -> Result<Blanks, AllocError>
+        ensures { IfOk result (λ blanks. blanks.rows.items ≡ []) }
     {
-        Blanks {
+        Ok(Blanks {
             rows: Vec::new(alloc),
             one: None,
             done: None,
+            spares: Vec::with_capacity(alloc, spares)?,
+        })
+    }
+
+    /// Keeps a dump that was read, where there is room for it.
+    pub fn keep(&mut self, dump: Boxed<Dump>)
+        ensures rows { self.new.rows ≡ self.old.rows }
+        ensures done { self.new.done ≡ self.old.done }
+    {
+        if self.spares.len() < self.spares.capacity() {
+            self.spares.push_reserved(dump);
         }
     }
 

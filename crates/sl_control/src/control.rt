@@ -12,7 +12,7 @@ use crate::wires::{control_of, done_of, inits_of, units_of};
 use sl_ids::Width;
 use sl_machine::{Machine, Memory, Outputs};
 use sl_net::{Net, Snapshot, nets_are_wired};
-use sl_wire::{Dump, Msg};
+use sl_wire::{Boxed, Dump, Msg};
 use std::alloc::Global;
 use std::marker::Model;
 
@@ -87,6 +87,8 @@ impl Control {
         let width = Width {
             bits: snapshot.width,
         };
+        let units = units_of(alloc, net, actor)?;
+        let blanks = Blanks::new(alloc, units.len())?;
         Ok(Control {
             links: net.links_into(actor).len() as u32,
             outs: net.links_from(actor).len() as u32,
@@ -95,8 +97,8 @@ impl Control {
             width,
             version: snapshot.version,
             ring: snapshot.ring,
-            units: units_of(alloc, net, actor)?,
-            blanks: Blanks::new(alloc),
+            units,
+            blanks,
             prepared: None,
         })
     }
@@ -106,6 +108,13 @@ impl Control {
         ensures { result ≡ self.now.state.wires.sizes.ring }
     {
         self.ring
+    }
+
+    /// Keeps a dump that was read, so that a unit uses its memory again.
+    pub fn keep(&mut self, dump: Boxed<Dump>)
+        ensures { self.new ≡ self.old }
+    {
+        self.blanks.keep(dump);
     }
 
     /// Takes a dump as its machine takes a message that is one, and leaves it with the caller.
@@ -159,15 +168,18 @@ impl Machine for Control {
 
     fn take(&mut self, link: u32, m: Msg, out: &mut Outputs<Msg>) {
         match m {
-            Msg::Dump(dump) => self.take_dump(link, dump.get(), out),
+            Msg::Dump(dump) => {
+                self.take_dump(link, dump.get(), out);
+                self.keep(dump);
+            }
             Msg::Begin(number) => {
                 self.prepared = None;
                 let frame = initiation(self.width, self.version, number);
-                put_inits(&self.inits, link == BEGIN, frame, out);
+                put_inits(&self.inits, link == BEGIN, &frame, out);
             }
             Msg::Notice => {
                 self.prepared = None;
-                ask_one(&mut self.units, link, out);
+                ask_one(&mut self.units, link, &mut self.blanks.spares, out);
             }
             _ => self.prepared = None,
         }
@@ -178,7 +190,7 @@ impl Machine for Control {
         if action != self.links || is_swept(&self.units) {
             return false;
         }
-        ask_all(&mut self.units, out);
+        ask_all(&mut self.units, &mut self.blanks.spares, out);
         true
     }
 }

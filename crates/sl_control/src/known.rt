@@ -3,6 +3,7 @@ ghost use Rattle.std.specs.Prelude.{◌≡◌, ◌≤◌, ◌<◌, ◌++◌, ◌
 ghost use Rattle.std.specs.Bool.{OnTrue};
 ghost use Rattle.std.specs.List.{list_all};
 ghost use Rattle.std.specs.Vec.{vec_capacity};
+ghost use Rattle.sl_wire.specs.Carried.{poll};
 ghost use Rattle.sl_wire.specs.Reach.{reached};
 ghost use Rattle.sl_wire.specs.Wids.{is_wid, has_room, unwrapped_each};
 ghost use Rattle.sl_control.specs.Rows.{seen_on};
@@ -13,7 +14,7 @@ use crate::rows::{is_sized, read_rows};
 use sl_ids::{Wid, Width, unwrap_from};
 use sl_machine::Outputs;
 use sl_saves::{Saved, View};
-use sl_wire::{Boxed, Done, Dump, Msg, Rows, are_wids, has_room, have_room, is_wid};
+use sl_wire::{Boxed, Done, Dump, Msg, Rows, Spare, are_wids, has_room, have_room, is_wid};
 
 /// How a unit is joined to its control plane.
 #[derive(Clone, Copy)]
@@ -75,6 +76,13 @@ pub(crate) struct Told {
     pub reached: u64,
 }
 
+/// A poll, which takes back one of the dumps that were read.
+fn poll(spares: &mut Vec<Boxed<Dump>>) -> Msg
+    ensures { result ≡ poll }
+{
+    Msg::Poll(Spare::new(spares.pop()))
+}
+
 /// Whether each id of a dump is one of this width.
 pub(crate) fn has_wids(width: Width, dump: &Dump) -> bool
     ensures { result ≡ has_wids width.bits dump.now }
@@ -133,14 +141,14 @@ impl Known {
     }
 
     /// Polls the unit, or notes that it is to be polled again.
-    pub(crate) fn ask(&mut self, out: &mut Outputs<Msg>)
+    pub(crate) fn ask(&mut self, spares: &mut Vec<Boxed<Dump>>, out: &mut Outputs<Msg>)
         requires { length out.old.items < out.old.room }
         ensures known { self.new ≡ asked self.old }
         ensures puts { out.new.items ≡ out.old.items ++ poll_by self.old }
         ensures room { out.new.room ≡ out.old.room }
     {
         if !self.waits {
-            out.put(self.wires.poll, Msg::Poll);
+            out.put(self.wires.poll, poll(spares));
         }
         self.again = self.waits;
         self.waits = true;
@@ -202,13 +210,13 @@ impl Known {
     }
 
     /// Polls the unit where it was asked for again.
-    fn poll_again(&self, out: &mut Outputs<Msg>)
+    fn poll_again(&self, spares: &mut Vec<Boxed<Dump>>, out: &mut Outputs<Msg>)
         requires { length out.old.items < out.old.room }
-        ensures puts { out.new.items ≡ out.old.items ++ (if self.now.again then (self.now.wires.poll, Msg.Poll) ∷ [] else []) }
+        ensures puts { out.new.items ≡ out.old.items ++ (if self.now.again then (self.now.wires.poll, poll) ∷ [] else []) }
         ensures room { out.new.room ≡ out.old.room }
     {
         if self.again {
-            out.put(self.wires.poll, Msg::Poll);
+            out.put(self.wires.poll, poll(spares));
         }
     }
 
@@ -220,6 +228,7 @@ impl Known {
         view: &View,
         mut report: Boxed<Done>,
         rows: Vec<(u64, Saved)>,
+        spares: &mut Vec<Boxed<Dump>>,
         out: &mut Outputs<Msg>,
     )
         requires rows { rows.items ≡ rows_by told.now view.now self.old }
@@ -230,7 +239,7 @@ impl Known {
     {
         report.set(self.done_of(told, view, rows));
         out.put(done, Msg::Done(report));
-        self.poll_again(out);
+        self.poll_again(spares, out);
         self.learn(told);
     }
 }

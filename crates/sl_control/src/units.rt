@@ -14,7 +14,7 @@ use sl_ids::{Width, wrap};
 use sl_machine::Outputs;
 use sl_net::Packet;
 use sl_saves::View;
-use sl_wire::{Dump, Frame, Framed, Header, Kind, Msg, frame_of};
+use sl_wire::{Boxed, Dump, Framed, Header, Kind, Msg};
 
 /// The place of the unit to which a choice belongs, where the choices after the first are two for
 /// each unit in order, as a net's are.
@@ -23,14 +23,14 @@ fn usual_place(choice: u32) -> usize {
 }
 
 /// What a sweep does to the units.
-pub fn ask_all(units: &mut Vec<Known>, out: &mut Outputs<Msg>)
+pub fn ask_all(units: &mut Vec<Known>, spares: &mut Vec<Boxed<Dump>>, out: &mut Outputs<Msg>)
     requires { length out.old.items + length units.old.items ≤ out.old.room }
     ensures units { units.new.items ≡ map (ask_by None) units.old.items }
     ensures puts { out.new.items ≡ out.old.items ++ flat_map (ask_puts None) units.old.items }
     ensures room { out.new.room ≡ out.old.room }
 {
     for i in 0..units.len() {
-        units[i].ask(out);
+        units[i].ask(spares, out);
     }
 }
 
@@ -61,7 +61,12 @@ fn find_notice(units: &[Known], choice: u32) -> Option<usize>
 }
 
 /// What a notice by this choice does to the units.
-pub fn ask_one(units: &mut Vec<Known>, choice: u32, out: &mut Outputs<Msg>)
+pub fn ask_one(
+    units: &mut Vec<Known>,
+    choice: u32,
+    spares: &mut Vec<Boxed<Dump>>,
+    out: &mut Outputs<Msg>,
+)
     requires apart { AreApart (notices_of units.old.items) }
     requires room { length out.old.items + length units.old.items ≤ out.old.room }
     ensures units { units.new.items ≡ map (ask_by (Some choice)) units.old.items }
@@ -69,7 +74,7 @@ pub fn ask_one(units: &mut Vec<Known>, choice: u32, out: &mut Outputs<Msg>)
     ensures room { out.new.room ≡ out.old.room }
 {
     if let Some(i) = find_notice(units, choice) {
-        units[i].ask(out);
+        units[i].ask(spares, out);
     }
 }
 
@@ -81,7 +86,7 @@ pub fn is_swept(units: &[Known]) -> bool
 }
 
 /// The frame of the initiation of a number.
-pub fn initiation(width: Width, version: u8, number: u64) -> Frame
+pub fn initiation(width: Width, version: u8, number: u64) -> Framed
     ensures { Msg.Frame result ≡ initiation width.bits version number }
 {
     let header = Header {
@@ -96,18 +101,18 @@ pub fn initiation(width: Width, version: u8, number: u64) -> Frame
         len: 0,
         hops: 0,
     };
-    frame_of(version, &header, &packet)
+    Framed::of(version, &header, &packet)
 }
 
 /// Puts a frame on each of these links where it passes.
-pub fn put_inits(outs: &[u32], passes: bool, frame: Frame, out: &mut Outputs<Msg>)
+pub fn put_inits(outs: &[u32], passes: bool, frame: &Framed, out: &mut Outputs<Msg>)
     requires { length out.old.items + length outs.now ≤ out.old.room }
-    ensures puts { out.new.items ≡ out.old.items ++ cond passes (send_all (Msg.Frame frame) outs.now) [] }
+    ensures puts { out.new.items ≡ out.old.items ++ cond passes (send_all (Msg.Frame frame.now) outs.now) [] }
     ensures room { out.new.room ≡ out.old.room }
 {
     if passes {
         for link in outs {
-            out.put(*link, Msg::Frame(Framed::new(frame)));
+            out.put(*link, Msg::Frame(frame.again()));
         }
     }
 }
@@ -161,7 +166,7 @@ fn answer_told(
     if known.read(ring, told, view, &mut blanks.rows) {
         if let Some(report) = blanks.done.take() {
             let rows = blanks.take_rows();
-            known.answer(done, told, view, report, rows, out);
+            known.answer(done, told, view, report, rows, &mut blanks.spares, out);
         }
     } else {
         blanks.rows.clear();

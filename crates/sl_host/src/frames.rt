@@ -5,7 +5,7 @@ ghost use Rattle.sl_host.specs.Host.{messages, raws_of};
 
 use sl_flow::Share;
 use sl_net::{Bytes, RawPart};
-use sl_wire::{Frame, Framed, Msg, plain_frame};
+use sl_wire::{Framed, Msg};
 use std::alloc::{AllocError, Global};
 
 /// A copy of a frame.
@@ -23,9 +23,7 @@ fn copied(alloc: Global, bytes: &Bytes) -> Result<Msg, AllocError>
     if bytes.items.len() != 24 {
         return Ok(Msg::Wire(copy_of(alloc, bytes)?));
     }
-    let mut frame = Frame { bytes: [0; 24] };
-    frame.bytes.copy_from_slice(bytes.items.as_slice());
-    Ok(Msg::Frame(Framed::new(frame)))
+    Ok(Msg::Frame(Framed::new(bytes.items.as_slice())))
 }
 
 /// Adds a copy of a raw frame where it is this host's.
@@ -64,7 +62,7 @@ pub fn message_at(
     ensures { IfOk result (λ message. message ≡ option_map carrying (slice_get (messages share.now.packets raws.now) place)) }
 {
     if let Some(packet) = share.next() {
-        return Ok(Some(Msg::Frame(Framed::new(plain_frame(&packet)))));
+        return Ok(Some(Msg::Frame(Framed::plain(&packet))));
     }
     let place = (place - share.count()) as usize;
     if place < raws.len() {

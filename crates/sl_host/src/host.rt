@@ -1,9 +1,9 @@
 // The machine of a host.
-ghost use Rattle.std.specs.Prelude.{◌≡◌, ◌+◌, ◌<◌, Option, None, IfOk, length, nat_lt, option_map, slice_get};
+ghost use Rattle.std.specs.Prelude.{◌≡◌, ◌+◌, ◌<◌, Option, None, IfOk, length, nat_lt, option_map, slice_get, min, OnOk, OnErr};
 ghost use Rattle.std.specs.List.{All};
 ghost use Rattle.sl_flow.specs.Flow.{HasAddresses};
 ghost use Rattle.sl_wire.specs.Carried.{carrying};
-ghost use Rattle.sl_host.specs.Host.{HostState, messages_of, host_rules, host_counts};
+ghost use Rattle.sl_host.specs.Host.{HostState, messages, messages_of, host_rules, host_counts};
 
 use crate::frames::{message_at, raws_of};
 use sl_flow::Share;
@@ -40,6 +40,23 @@ impl Model for Host {
     ghost invariant = { λ h. kept.IsKept h.share h.raws.items h.sent h.next h.prepared };
 }
 
+/// Makes the message of the next frame, where one is left to send. It stands by itself, since most
+/// turns of a host that has sent all of its frames need none.
+#[inline(never)]
+fn make_next(
+    next: &mut Option<Msg>,
+    share: &Share,
+    raws: &Vec<Bytes>,
+    sent: u64,
+) -> Result<(), AllocError>
+    requires { share.now.sent ≡ min sent (length share.now.packets) }
+    ensures made { OnOk result (next.new ≡ option_map carrying (slice_get (messages share.now.packets raws.now.items) sent)) }
+    ensures same { OnErr result (next.new ≡ next.old) }
+{
+    *next = message_at(*raws.allocator(), share, raws.as_slice(), sent)?;
+    Ok(())
+}
+
 impl Host {
     /// The host of an input, at a place among its hosts, before it has sent or taken a frame. The
     /// hosts that flows name are below 65,536, as those of an accepted input are.
@@ -68,20 +85,6 @@ impl Host {
         ensures { result ≡ nat_lt self.now.state.sent (length self.now.state.messages) }
     {
         self.sent < self.share.count() + self.raws.len() as u64
-    }
-
-    /// The message of the next frame, where one is left to send. It stands by itself, since most
-    /// turns of a host that has sent all of its frames find none.
-    #[inline(never)]
-    fn next_message(&self) -> Result<Option<Msg>, AllocError>
-        ensures { IfOk result (λ message. message ≡ option_map carrying (slice_get self.now.state.messages self.now.state.sent)) }
-    {
-        message_at(
-            *self.raws.allocator(),
-            &self.share,
-            self.raws.as_slice(),
-            self.sent,
-        )
     }
 
     /// How many frames it has sent.
@@ -115,7 +118,7 @@ impl Machine for Host {
     fn ready(&mut self, choice: u32) -> Result<(), Memory> {
         self.prepared = None;
         if choice == INJECT && self.next.is_none() && self.has_more() {
-            self.next = self.next_message()?;
+            make_next(&mut self.next, &self.share, &self.raws, self.sent)?;
         }
         self.prepared = Some(choice);
         Ok(())

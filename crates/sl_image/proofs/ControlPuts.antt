@@ -7,6 +7,7 @@ use Rattle.sl_layout.specs.Serving.{Served, choice_from}
 use Rattle.sl_layout.specs.Wires.{out_of}
 use Rattle.sl_saves.specs.declared.entry.View.{View}
 use Rattle.sl_wire.specs.declared.message.Msg.TheVariants as wire
+use Rattle.sl_wire.specs.Carried.{poll}
 use Rattle.sl_machine.specs.Machine.{send_all as send_each}
 use Rattle.sl_wire.specs.declared.message.Msg.{Msg}
 use Rattle.sl_wire.specs.Sizes.{Sizes}
@@ -50,11 +51,11 @@ sent-inits net sizes us a told k (l ∷ ls) = ((refl, refl), sent-inits net size
 
 -- Polls.
 
-sent-poll : (net : Net) (sizes : Sizes) (us : ℕ → History) (a : ℕ) (told : ℕ → ℕ) (v : Served) (b : Bool) → AreSent net sizes us a told (if b then [] else send PollMsg v.poll ∷ []) (if b then [] else (out_of net v.poll, wire.Poll) ∷ [])
+sent-poll : (net : Net) (sizes : Sizes) (us : ℕ → History) (a : ℕ) (told : ℕ → ℕ) (v : Served) (b : Bool) → AreSent net sizes us a told (if b then [] else send PollMsg v.poll ∷ []) (if b then [] else (out_of net v.poll, poll) ∷ [])
 sent-poll net sizes us a told v true = tt
 sent-poll net sizes us a told v false = ((refl, refl), tt)
 
-sent-again : (net : Net) (sizes : Sizes) (us : ℕ → History) (a : ℕ) (told : ℕ → ℕ) (v : Served) (b : Bool) → AreSent net sizes us a told (if b then send PollMsg v.poll ∷ [] else []) (if b then (out_of net v.poll, wire.Poll) ∷ [] else [])
+sent-again : (net : Net) (sizes : Sizes) (us : ℕ → History) (a : ℕ) (told : ℕ → ℕ) (v : Served) (b : Bool) → AreSent net sizes us a told (if b then send PollMsg v.poll ∷ [] else []) (if b then (out_of net v.poll, poll) ∷ [] else [])
 sent-again net sizes us a told v true = ((refl, refl), tt)
 sent-again net sizes us a told v false = tt
 
@@ -74,7 +75,7 @@ sent-answer net sizes us ws a k n v x view e at c w o =
     again = if is_again (action_choice net a) v (us a) then send PollMsg v.poll ∷ [] else []
 
     more : List (ℕ × Msg)
-    more = if is_again (action_choice net a) v (us a) then (out_of net v.poll, wire.Poll) ∷ [] else []
+    more = if is_again (action_choice net a) v (us a) then (out_of net v.poll, poll) ∷ [] else []
 
     here : SaysDone sizes.credits net v.unit (first (dumped (choice_from net a v.unit Dump) (us a)) (ws v.unit)) (first n (ws v.unit)) (wire.Done (done_of x view (known_of net us a v)))
     here = subst (λ c. SaysDone sizes.credits net v.unit (first (dumped c (us a)) (ws v.unit)) (first n (ws v.unit)) (wire.Done (done_of x view (known_of net us a v)))) c

@@ -18,7 +18,7 @@ use Rattle.sl_saves.specs.declared.entry.Saved.{Saved}
 use Rattle.sl_saves.specs.Views.{IsShown, held_saved}
 use Rattle.sl_net.specs.declared.input.Snapshot.{Snapshot}
 use Rattle.sl_wire.specs.Frames.{carries, carried_header, probe_header, init_header, no_packet}
-use Rattle.sl_wire.specs.Carried.{framed, carrying}
+use Rattle.sl_wire.specs.Carried.{framed, carrying, poll}
 use Rattle.sl_wire.specs.declared.message.Dump.{Dump}
 use Rattle.sl_wire.specs.declared.message.Done.{Done}
 use Rattle.sl_wire.specs.declared.message.Msg.{Msg}
@@ -92,7 +92,7 @@ IsMessage net sizes us a told (Host bytes) x = x ≡ carrying bytes
 IsMessage net sizes us a told (Data s p) x = x ≡ framed (version_from net sizes a) (carried_header (wid sizes.bits s) (port_of (actor_of net a))) p
 IsMessage net sizes us a told (Probe s) x = x ≡ framed (version_from net sizes a) (probe_header (wid sizes.bits s) (port_of (actor_of net a))) no_packet
 IsMessage net sizes us a told (Init s) x = x ≡ framed sizes.version (init_header (wid sizes.bits s)) no_packet
-IsMessage net sizes us a told Poll x = x ≡ wire.Poll
+IsMessage net sizes us a told Poll x = x ≡ poll
 IsMessage net sizes us a told Notice x = x ≡ wire.Notice
 IsMessage net sizes us a told (DumpMsg n) x = SaysDump net sizes a (first n (us a)) x
 IsMessage net sizes us a told (Begin k) x = x ≡ wire.Begin k

@@ -79,7 +79,7 @@ units_from ring link d us u k r e =
 turn_from : (s : ObserverState) (t : Turn Msg) (u k : ℕ) (r : Saved) → saved_of (unit_at (after_turn observer_rules s t).state.units u) k ≡ Some r → (saved_of (unit_at s.units u) k ≡ Some r) ⊎ Reports t u k r
 turn_from s (Took link (Wire b)) u k r e = inl e
 turn_from s (Took link (Frame f)) u k r e = inl e
-turn_from s (Took link Poll) u k r e = inl e
+turn_from s (Took link (Poll _)) u k r e = inl e
 turn_from s (Took link Notice) u k r e = inl e
 turn_from s (Took link (Dump d)) u k r e = inl e
 turn_from s (Took link (Begin n)) u k r e = inl e

@@ -78,7 +78,7 @@ units_stay s action (Some next) e = elim (did s action next e) [ Issued g f ↦ 
 turn_keeps : (s : ObserverState) (t : Turn Msg) (u k : ℕ) (r : Saved) → saved_of (unit_at s.units u) k ≡ Some r → saved_of (unit_at (after_turn observer_rules s t).state.units u) k ≡ Some r
 turn_keeps s (Took link (Wire b)) u k r e = e
 turn_keeps s (Took link (Frame f)) u k r e = e
-turn_keeps s (Took link Poll) u k r e = e
+turn_keeps s (Took link (Poll _)) u k r e = e
 turn_keeps s (Took link Notice) u k r e = e
 turn_keeps s (Took link (Dump d)) u k r e = e
 turn_keeps s (Took link (Begin n)) u k r e = e
@@ -125,7 +125,7 @@ act_counts s action (Some next) e =
 turn_counts : (s : ObserverState) (t : Turn Msg) → Counts s (after_turn observer_rules s t).state
 turn_counts s (Took link (Wire b)) = record { same = refl; few = λ h. h }
 turn_counts s (Took link (Frame f)) = record { same = refl; few = λ h. h }
-turn_counts s (Took link Poll) = record { same = refl; few = λ h. h }
+turn_counts s (Took link (Poll _)) = record { same = refl; few = λ h. h }
 turn_counts s (Took link Notice) = record { same = refl; few = λ h. h }
 turn_counts s (Took link (Dump d)) = record { same = refl; few = λ h. h }
 turn_counts s (Took link (Begin n)) = record { same = refl; few = λ h. h }

@@ -8,6 +8,10 @@ use sl_wire::{Done, reached};
 use std::alloc::{AllocError, Global};
 use std::marker::Model;
 
+/// Room for so many rows is taken at first. Room that isn't written costs no memory, and rows that
+/// find room aren't copied.
+const MANY: usize = 1024;
+
 /// What the last report on a unit said; zeros before the first.
 #[derive(Clone, Copy, Debug, PartialEq, Eq)]
 pub struct Seen {
@@ -121,8 +125,8 @@ impl Collected {
         }
     }
 
-    /// Takes room for so many rows more. Room doubles, and grows by two rings at least, but not
-    /// beyond that for the rows of so many snapshots and a ring.
+    /// Takes room for so many rows more. Room doubles, and is that of many rows at first and two rings
+    /// at least, but not beyond that for the rows of so many snapshots and a ring.
     pub fn make_room(&mut self, ring: u16, count: u64) -> Result<(), AllocError>
         ensures state { self.new.state ≡ self.old.state }
         ensures room { OnOk result (ring ≤ self.new.room) }
@@ -134,7 +138,7 @@ impl Collected {
             return Ok(());
         }
         let most = (count as usize).saturating_add(ring);
-        let wanted = len.max(2 * ring).min(most.saturating_sub(len));
+        let wanted = len.max(2 * ring).max(MANY).min(most.saturating_sub(len));
         self.rows.reserve_exact(ring.max(wanted))
     }
 

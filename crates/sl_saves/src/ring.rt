@@ -1,5 +1,5 @@
 // Saved entries in a ring of slots.
-ghost use Rattle.std.specs.Prelude.{◌≡◌, ◌<◌, ◌≤◌, ◌^◌, length, replicate, [], IfOk};
+ghost use Rattle.std.specs.Prelude.{◌≡◌, ◌<◌, ◌≤◌, ◌^◌, length, replicate, [], IfOk, OnOk};
 
 use crate::entry::View;
 use crate::keep::Saves;
@@ -44,6 +44,16 @@ impl RingSaves {
             credits,
             view: View { at: 0, slots },
         })
+    }
+
+    /// Makes a view what `view` gives. Unlike `fill` it may take memory, but where the view was one of
+    /// as large a ring it takes hardly any, and shares the slots of a large ring.
+    pub fn show(&self, view: &mut View) -> Result<(), Memory>
+        ensures { OnOk result (view.new ≡ ring_view self.now) }
+    {
+        view.slots.show(&self.view.slots)?;
+        view.at = self.view.at;
+        Ok(())
     }
 }
 

@@ -1,5 +1,5 @@
 // Shared slots, and recent writes over them.
-ghost use Rattle.std.specs.Prelude.{◌≡◌, ◌<◌, ◌≤◌, length, replicate, slice_index_or, slice_set, vec_capacity, IfOk, IfSome, if◌then◌else◌};
+ghost use Rattle.std.specs.Prelude.{◌≡◌, ◌<◌, ◌≤◌, length, replicate, slice_index_or, slice_set, vec_capacity, IfOk, OnOk, IfSome, if◌then◌else◌};
 ghost use Rattle.std.specs.Option.{IfNone};
 ghost use Rattle.sl_saves.specs.Views.{free_slot, no_slot};
 ghost use Rattle.sl_saves.specs.Shares.{IsLastAt, IsNoneAt};
@@ -123,6 +123,18 @@ impl Shared {
         let base = Arc::try_clone(&self.base)?;
         let recent = Vec::from_slice(*self.recent.allocator(), &self.recent)?;
         Ok(Shared { base, recent })
+    }
+
+    /// Makes it a view of others as they are. The room for recent writes is used again.
+    pub fn show(&mut self, other: &Shared) -> Result<(), Memory>
+        requires { length self.old ≡ length other.now }
+        ensures shown { OnOk result (self.new ≡ other.now) }
+        ensures length { length self.new ≡ length self.old }
+    {
+        self.base = Arc::try_clone(&other.base)?;
+        self.recent.clear();
+        self.recent.extend_from_slice(&other.recent)?;
+        Ok(())
     }
 
     /// Writes the slots into a list that has room for them. It takes no memory.

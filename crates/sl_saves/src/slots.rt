@@ -1,5 +1,5 @@
 // A list of slots: few are copied, and many are shared.
-ghost use Rattle.std.specs.Prelude.{◌≡◌, ◌<◌, ◌≤◌, ℕ, length, replicate, slice_index_or, slice_set, vec_capacity, unwrap_or, IfOk, IfSome, None};
+ghost use Rattle.std.specs.Prelude.{◌≡◌, ◌<◌, ◌≤◌, ℕ, length, replicate, slice_index_or, slice_set, vec_capacity, unwrap_or, IfOk, OnOk, IfSome, None};
 ghost use Rattle.sl_saves.specs.Views.{free_slot, no_slot};
 ghost use Rattle.sl_saves.specs.Keeping.{slot_credited, slots_credited, is_last};
 
@@ -120,6 +120,24 @@ impl Slots {
                 shared: Some(shared.view()?),
             }),
             None => Ok(Slots::new(Vec::from_slice(alloc, &self.items)?)),
+        }
+    }
+
+    /// Makes them a view of others as they are, as `view` gives it. Memory that they have is used
+    /// again.
+    pub(crate) fn show(&mut self, other: &Slots) -> Result<(), Memory>
+        ensures { OnOk result (self.new ≡ other.now) }
+    {
+        match (&mut self.shared, &other.shared) {
+            (Some(own), Some(shared)) if own.len() == shared.len() => own.show(shared),
+            (None, None) if self.items.len() == other.items.len() => {
+                self.items.as_mut_slice().copy_from_slice(&other.items);
+                Ok(())
+            }
+            _ => {
+                *self = other.view()?;
+                Ok(())
+            }
         }
     }
 

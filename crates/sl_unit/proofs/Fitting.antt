@@ -175,6 +175,6 @@ take_fits Host s m = host_fits s (bytes_on m)
 take_fits (Cable i) s m = frame_fits s (by_cable i s) (frame_on s.wires.bits m) (cable_fits i s)
 take_fits (Crossbar i own) s m = frame_fits s (by_crossbar i own s) (frame_on s.wires.bits m) (crossbar_fits i own s)
 take_fits Init s m = frame_fits s (by_init s) (frame_on s.wires.bits m) (init_fits s)
-take_fits Poll s PollMsg = one_fits s.wires (All sort.Dump) (Dump (dump_of s.registers))
+take_fits Poll s (PollMsg _) = one_fits s.wires (All sort.Dump) (Dump (dump_of s.registers))
 take_fits Poll s _ = refl
 take_fits Other s m = refl

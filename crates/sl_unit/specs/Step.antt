@@ -155,7 +155,7 @@ take_at Host s m = of_host s (bytes_on m)
 take_at (Cable i) s m = of_frame s (by_cable i s) (frame_on s.wires.bits m)
 take_at (Crossbar i own) s m = of_frame s (by_crossbar i own s) (frame_on s.wires.bits m)
 take_at Init s m = of_frame s (by_init s) (frame_on s.wires.bits m)
-take_at Poll s PollMsg = dumped s
+take_at Poll s (PollMsg _) = dumped s
 take_at _ s m = ignored s
 
 abbrev pub unit_take : UnitState → ℕ → Msg → After UnitState Msg

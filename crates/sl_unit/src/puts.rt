@@ -10,32 +10,32 @@ ghost use Rattle.sl_wire.specs.declared.message.Dump.{Dump};
 use crate::wires::{Way, Wires};
 use sl_machine::Outputs;
 use sl_net::Sort;
-use sl_wire::{Boxed, Dump, Frame, Framed, Msg};
+use sl_wire::{Boxed, Dump, Framed, Msg};
 
 /// A message that can go on several links.
-#[derive(Clone, Copy)]
+#[derive(Drop)]
 pub enum Note {
     /// A frame.
-    Frame(Frame),
+    Frame(Framed),
     /// A notice.
     Notice,
 }
 
 impl Note {
-    fn message(self) -> Msg
-        ensures { result ≡ message_of self }
+    fn message(&self) -> Msg
+        ensures { result ≡ message_of self.now }
     {
         match self {
-            Note::Frame(frame) => Msg::Frame(Framed::new(frame)),
+            Note::Frame(frame) => Msg::Frame(frame.again()),
             Note::Notice => Msg::Notice,
         }
     }
 }
 
 /// Puts the message on an outgoing link where it goes there.
-fn put_if(out: &mut Outputs<Msg>, goes: bool, link: u32, note: Note)
+fn put_if(out: &mut Outputs<Msg>, goes: bool, link: u32, note: &Note)
     requires room { goes ≡ true → length out.old.items < out.old.room }
-    ensures items { out.new.items ≡ out.old.items ++ cond goes ((link, message_of note) ∷ []) [] }
+    ensures items { out.new.items ≡ out.old.items ++ cond goes ((link, message_of note.now) ∷ []) [] }
     ensures room { out.new.room ≡ out.old.room }
 {
     if goes {
@@ -45,9 +45,9 @@ fn put_if(out: &mut Outputs<Msg>, goes: bool, link: u32, note: Note)
 
 /// Puts the message on each outgoing link of a way. Most callers know the way.
 #[inline(always)]
-pub fn put_on(wires: &Wires, way: Way, note: Note, out: &mut Outputs<Msg>)
+pub fn put_on(wires: &Wires, way: Way, note: &Note, out: &mut Outputs<Msg>)
     requires room { length out.old.items + length (outs way wires.now.exits) ≤ out.old.room }
-    ensures items { out.new.items ≡ out.old.items ++ send_all (message_of note) (outs way wires.now.exits) }
+    ensures items { out.new.items ≡ out.old.items ++ send_all (message_of note.now) (outs way wires.now.exits) }
     ensures room { out.new.room ≡ out.old.room }
 {
     let span = wires.span(way);

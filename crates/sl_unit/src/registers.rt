@@ -1,5 +1,5 @@
 // The registers of a unit.
-ghost use Rattle.std.specs.Prelude.{◌≡◌, ◌<◌, ◌≤◌, ◌-◌, ◌^◌, length, IfOk};
+ghost use Rattle.std.specs.Prelude.{◌≡◌, ◌<◌, ◌≤◌, ◌-◌, ◌^◌, length, IfOk, OnOk};
 ghost use Rattle.sl_ids.specs.Ids.{distance};
 ghost use Rattle.sl_saves.specs.Rings.{ring_window};
 ghost use Rattle.sl_unit.specs.Registers.{IsChannel, first_registers, last_on, read_on, rise, age, is_near, adopted, credited, seen, counted, after_stamp, after_data, more, dump_of};
@@ -8,7 +8,7 @@ use sl_ids::{Wid, Width, wrap};
 use sl_machine::Memory;
 use sl_net::Packet;
 use sl_saves::{RingSaves, Saves};
-use sl_wire::Dump;
+use sl_wire::{Boxed, Dump};
 use std::alloc::Global;
 
 /// The channel by which a stamped message comes.
@@ -253,6 +253,13 @@ impl Registers {
         ensures credits { credits_of self.new ≡ credits_of self.old }
     {
         self.noroute = self.noroute.saturating_add(1);
+    }
+
+    /// Makes a dump that of the registers. Memory that it has is used again.
+    pub fn refill(&self, dump: &mut Boxed<Dump>) -> Result<(), Memory>
+        ensures { OnOk result (dump.new ≡ dump_of (registers_of self.now)) }
+    {
+        dump.refill(self.id, self.cpu, self.last, &self.saves)
     }
 
     /// The registers as a dump.

@@ -1,6 +1,7 @@
 // The room that a unit takes before a turn.
-ghost use Rattle.std.specs.Prelude.{◌≡◌, ◌<◌, OnOk, length};
+ghost use Rattle.std.specs.Prelude.{◌≡◌, ◌<◌, IfOk, OnOk, length};
 ghost use Rattle.sl_unit.specs.Wires.{outs};
+ghost use Rattle.sl_unit.specs.Registers.{dump_of};
 ghost use Rattle.sl_unit.specs.Room.{registers_of, HasDumps};
 
 use crate::registers::Registers;
@@ -8,6 +9,7 @@ use crate::wires::{Way, Wires};
 use sl_machine::Memory;
 use sl_net::Sort;
 use sl_wire::{Boxed, Dump};
+use std::alloc::Global;
 
 /// How many outgoing links a way has.
 #[tactic(auto, using(crate::proofs::Outs::many_more))]
@@ -22,12 +24,30 @@ fn count_outs(wires: &Wires, way: Way) -> usize
     count
 }
 
+/// A dump of the registers: one that is there filled anew, or a new one.
+fn make_dump(
+    alloc: Global,
+    registers: &Registers,
+    spare: &mut Option<Boxed<Dump>>,
+) -> Result<Boxed<Dump>, Memory>
+    ensures { IfOk result (λ dump. dump ≡ dump_of (registers_of registers.now)) }
+{
+    match spare.take() {
+        Some(mut dump) => {
+            registers.refill(&mut dump)?;
+            Ok(dump)
+        }
+        None => Ok(Boxed::new(alloc, registers.dump()?)?),
+    }
+}
+
 /// Makes dumps of the registers, as many as there are links of dumps.
 #[inline(never)]
 pub fn make_dumps(
     wires: &Wires,
     registers: &Registers,
     dumps: &mut Vec<Boxed<Dump>>,
+    spare: &mut Option<Boxed<Dump>>,
 ) -> Result<(), Memory>
     ensures { OnOk result (HasDumps wires.now (registers_of registers.now) dumps.new.items) }
 {
@@ -35,7 +55,7 @@ pub fn make_dumps(
     dumps.clear();
     let alloc = *dumps.allocator();
     for _i in 0..count {
-        let dump = Boxed::new(alloc, registers.dump()?)?;
+        let dump = make_dump(alloc, registers, spare)?;
         dumps.push(dump)?;
     }
     Ok(())

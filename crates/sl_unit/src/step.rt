@@ -1,10 +1,10 @@
 // What a unit makes of the messages that it takes.
 ghost use Rattle.std.specs.Prelude.{◌≡◌, ◌+◌, ◌≤◌, ◌<◌, ◌++◌, ◌==◌, [], if◌then◌else◌, length};
-ghost use Rattle.sl_wire.specs.declared.message.Msg.TheVariants.{Poll, Notice};
-ghost use Rattle.sl_wire.specs.Carried.{bytes_on, frame_on, framed};
+ghost use Rattle.sl_wire.specs.declared.message.Msg.TheVariants.{Notice};
+ghost use Rattle.sl_wire.specs.Carried.{bytes_on, frame_on, framed, poll};
 ghost use Rattle.sl_wire.specs.Frames.{plain_header};
 ghost use Rattle.sl_unit.specs.Wires.{outs};
-ghost use Rattle.sl_unit.specs.Step.{data_frame, probe_frame, routed, passed, probed, initiated, plain_packet, send, take_at, from_host, cable_data, cable_probe, by_cable, crossbar_data, crossbar_probe, by_crossbar, initiation, by_init};
+ghost use Rattle.sl_unit.specs.Step.{data_frame, probe_frame, routed, passed, probed, initiated, plain_of, send, take_at, from_host, cable_data, cable_probe, by_cable, crossbar_data, crossbar_probe, by_crossbar, initiation, by_init};
 ghost use Rattle.sl_unit.specs.Room.{registers_of, credits_of, state_of, HasDumps};
 ghost use Rattle.sl_unit.specs.Notes.{message_of};
 
@@ -14,7 +14,7 @@ use crate::wires::{Entrance, Way, Wires};
 use sl_ids::{Wid, Width};
 use sl_machine::Outputs;
 use sl_net::{Packet, Sort};
-use sl_wire::{Boxed, Dump, Header, Kind, Msg, decode, frame_of, plain_frame};
+use sl_wire::{Boxed, Dump, Framed, Header, Kind, Msg, WireFault};
 
 /// The header of a frame that a unit sends to another, with its id and port.
 fn header_of(wires: &Wires, registers: &Registers, kind: Kind) -> Header
@@ -32,7 +32,7 @@ fn data_note(wires: &Wires, registers: &Registers, packet: &Packet) -> Note
     ensures { message_of result ≡ data_frame wires.now (registers_of registers.now) packet.now }
 {
     let header = header_of(wires, registers, Kind::Carried);
-    Note::Frame(frame_of(wires.version(), &header, packet))
+    Note::Frame(Framed::of(wires.version(), &header, packet))
 }
 
 /// A probe to another unit.
@@ -47,7 +47,7 @@ fn probe_note(wires: &Wires, registers: &Registers) -> Note
         len: 0,
         hops: 0,
     };
-    Note::Frame(frame_of(wires.version(), &header, &packet))
+    Note::Frame(Framed::of(wires.version(), &header, &packet))
 }
 
 /// Puts a notice where the last-seen id of a channel changes.
@@ -57,7 +57,7 @@ fn put_notice(wires: &Wires, ahead: u16, out: &mut Outputs<Msg>)
     ensures room { out.new.room ≡ out.old.room }
 {
     if ahead != 0 {
-        put_on(wires, Way::All(Sort::Notice), Note::Notice, out);
+        put_on(wires, Way::All(Sort::Notice), &Note::Notice, out);
     }
 }
 
@@ -87,7 +87,7 @@ fn route(wires: &Wires, registers: &mut Registers, packet: Packet, out: &mut Out
                 hops: packet.hops - 1,
                 ..packet
             };
-            put_on(wires, way, data_note(wires, registers, &onward), out);
+            put_on(wires, way, &data_note(wires, registers, &onward), out);
         }
     }
 }
@@ -100,7 +100,7 @@ fn pass_to_cable(wires: &Wires, registers: &Registers, packet: &Packet, out: &mu
 {
     let way = Way::All(Sort::Cable);
     if !wires.has_none(way) {
-        put_on(wires, way, data_note(wires, registers, packet), out);
+        put_on(wires, way, &data_note(wires, registers, packet), out);
     }
 }
 
@@ -112,7 +112,7 @@ fn pass_to_host(wires: &Wires, packet: &Packet, out: &mut Outputs<Msg>)
 {
     let way = Way::All(Sort::ToHost);
     if !wires.has_none(way) {
-        put_on(wires, way, Note::Frame(plain_frame(packet)), out);
+        put_on(wires, way, &Note::Frame(Framed::plain(packet)), out);
     }
 }
 
@@ -128,11 +128,11 @@ fn pass(wires: &Wires, registers: &Registers, packet: &Packet, out: &mut Outputs
     pass_to_host(wires, packet, out);
 }
 
-/// The packet of which the bytes are the plain frame.
-fn plain_packet(width: Width, bytes: &[u8]) -> Option<Packet>
-    ensures { result ≡ plain_packet width.bits bytes.now }
+/// The packet, where it is a plain frame that was read.
+fn plain_of(read: Result<(u8, Header, Packet), WireFault>) -> Option<Packet>
+    ensures { result ≡ plain_of read }
 {
-    match decode(width, bytes) {
+    match read {
         Ok((_version, header, packet)) => match header.kind {
             Kind::Plain => Some(packet),
             _ => None,
@@ -141,16 +141,21 @@ fn plain_packet(width: Width, bytes: &[u8]) -> Option<Packet>
     }
 }
 
-/// Takes bytes from the host.
+/// Takes a packet from the host, or bytes that are no plain frame.
 #[tactic(auto, using(crate::proofs::Ways::routed_few))]
-fn take_bytes(wires: &Wires, registers: &mut Registers, bytes: &[u8], out: &mut Outputs<Msg>)
+fn take_packet(
+    wires: &Wires,
+    registers: &mut Registers,
+    packet: Option<Packet>,
+    out: &mut Outputs<Msg>,
+)
     requires empty { out.old.items ≡ [] }
     requires room { length wires.now.exits ≤ out.old.room }
-    ensures state { state_of wires.now registers.new ≡ (from_host (state_of wires.now registers.old) (plain_packet wires.now.bits bytes.now)).state }
-    ensures puts { out.new.items ≡ (from_host (state_of wires.now registers.old) (plain_packet wires.now.bits bytes.now)).puts }
+    ensures state { state_of wires.now registers.new ≡ (from_host (state_of wires.now registers.old) packet).state }
+    ensures puts { out.new.items ≡ (from_host (state_of wires.now registers.old) packet).puts }
     ensures room { out.new.room ≡ out.old.room }
 {
-    match plain_packet(wires.width(), bytes) {
+    match packet {
         None => registers.count_bad(),
         Some(packet) => {
             registers.count(packet.len);
@@ -167,8 +172,8 @@ pub fn take_host(wires: &Wires, registers: &mut Registers, m: &Msg, out: &mut Ou
     ensures puts { out.new.items ≡ (take_at Entrance.Host (state_of wires.now registers.old) m.now).puts }
     ensures room { out.new.room ≡ out.old.room }
 {
-    if let Some(bytes) = m.bytes() {
-        take_bytes(wires, registers, bytes, out);
+    if let Some(read) = m.read(wires.width()) {
+        take_packet(wires, registers, plain_of(read), out);
     }
 }
 
@@ -296,7 +301,7 @@ fn probe(wires: &Wires, registers: &Registers, own: bool, out: &mut Outputs<Msg>
 {
     if own {
         let onward = probe_note(wires, registers);
-        put_on(wires, Way::All(Sort::Cable), onward, out);
+        put_on(wires, Way::All(Sort::Cable), &onward, out);
     }
 }
 
@@ -379,7 +384,7 @@ fn initiate(wires: &Wires, registers: &Registers, out: &mut Outputs<Msg>)
     ensures room { out.new.room ≡ out.old.room }
 {
     let onward = probe_note(wires, registers);
-    put_on(wires, Way::All(Sort::Crossbar), onward, out);
+    put_on(wires, Way::All(Sort::Crossbar), &onward, out);
 }
 
 /// Takes an initiation, as it is read.
@@ -430,7 +435,7 @@ pub fn take_poll(
     requires empty { out.old.items ≡ [] }
     requires room { length wires.now.exits ≤ out.old.room }
     requires dumps { HasDumps wires.now (registers_of registers.now) dumps.old.items }
-    ensures puts { out.new.items ≡ (take_at Entrance.Poll (state_of wires.now registers.now) Poll).puts }
+    ensures puts { out.new.items ≡ (take_at Entrance.Poll (state_of wires.now registers.now) poll).puts }
     ensures room { out.new.room ≡ out.old.room }
 {
     put_dumps(wires, dumps, out);

@@ -20,6 +20,8 @@ use std::alloc::Global;
 pub struct Unit {
     prepared: Option<u32>,
     dumps: Vec<Boxed<Dump>>,
+    // one that was read, for the next that is made
+    spare: Option<Boxed<Dump>>,
     wires: Wires,
     registers: Registers,
     ghost ready: { (c : ℕ) → prepared ≡ Some c → HasRoom wires registers dumps.items c },
@@ -57,6 +59,7 @@ impl Unit {
         Ok(Unit {
             prepared: None,
             dumps: Vec::new(alloc),
+            spare: None,
             wires,
             registers,
         })
@@ -139,7 +142,12 @@ impl Machine for Unit {
         self.prepared = None;
         self.registers.ready()?;
         if let Entrance::Poll = self.wires.entrance(choice) {
-            make_dumps(&self.wires, &self.registers, &mut self.dumps)?;
+            make_dumps(
+                &self.wires,
+                &self.registers,
+                &mut self.dumps,
+                &mut self.spare,
+            )?;
         }
         self.prepared = Some(choice);
         Ok(())
@@ -149,14 +157,17 @@ impl Machine for Unit {
         self.prepared = None;
         let wires = &self.wires;
         let registers = &mut self.registers;
-        match (wires.entrance(link), &m) {
-            (Entrance::Host, _) => take_host(wires, registers, &m, out),
-            (Entrance::Cable(place), _) => take_cable(wires, registers, place, &m, out),
-            (Entrance::Crossbar { channel, own }, _) => {
+        match (wires.entrance(link), m) {
+            (Entrance::Host, m) => take_host(wires, registers, &m, out),
+            (Entrance::Cable(place), m) => take_cable(wires, registers, place, &m, out),
+            (Entrance::Crossbar { channel, own }, m) => {
                 take_crossbar(wires, registers, channel, own, &m, out);
             }
-            (Entrance::Init, _) => take_init(wires, registers, &m, out),
-            (Entrance::Poll, Msg::Poll) => take_poll(wires, registers, &mut self.dumps, out),
+            (Entrance::Init, m) => take_init(wires, registers, &m, out),
+            (Entrance::Poll, Msg::Poll(spare)) => {
+                take_poll(wires, registers, &mut self.dumps, out);
+                self.spare = spare.into_dump();
+            }
             _ => {}
         }
     }

@@ -175,7 +175,10 @@ impl Machine for ValueControl {
 
     fn take(&mut self, link: u32, m: Msg, out: &mut Outputs<Msg>) {
         match m {
-            Msg::Dump(dump) => self.take_dump(link, dump.get(), out),
+            Msg::Dump(dump) => {
+                self.take_dump(link, dump.get(), out);
+                self.control.keep(dump);
+            }
             other => {
                 self.prepared = None;
                 self.control.take(link, other, out);

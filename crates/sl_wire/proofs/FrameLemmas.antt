@@ -1,5 +1,5 @@
 -- A frame is read as the version, header and packet that it was made of.
-use Rattle.std.proofs.Common.{◌≡◌, ℕ, Result, Err, zero, suc, Some, subst, ◌<◌, length, get_or, drop, ◌+◌, ◌-◌, ◌*◌, ◌/◌, ◌%◌, ◌==◌, ◌||◌, Bool, true, false, List, [], ◌∷◌, Ok, refl, arith, sym, ◌∙◌, ap, inl, inr}
+use Rattle.std.proofs.Common.{◌≡◌, ℕ, Result, Err, zero, suc, Some, None, subst, ◌<◌, length, get_or, drop, ◌+◌, ◌-◌, ◌*◌, ◌/◌, ◌%◌, ◌==◌, ◌||◌, Bool, true, false, List, [], ◌∷◌, Ok, refl, arith, sym, ◌∙◌, ap, inl, inr}
 use Rattle.std.proofs.lemmas.Bool.{and_parts, or_cases, or_left, eqb-true, eq-eqb}
 use Rattle.std.specs.Prelude.{slice_range, slice_index, IfOk}
 use Rattle.sl_wire.specs.declared.frame.Kind.{Kind}
@@ -7,9 +7,10 @@ use Rattle.sl_wire.specs.declared.frame.Kind.TheVariants.{Plain, Carried, Probe,
 use Rattle.sl_wire.specs.declared.frame.Header.{Header}
 use Rattle.sl_net.specs.declared.input.Packet.{Packet}
 use Rattle.sl_wire.specs.declared.frame.WireFault.{WireFault}
+use Rattle.sl_wire.specs.declared.frame.WireFault.TheVariants.{E2}
 use Rattle.sl_wire.specs.Frames.{frame, decoded, columns_decoded, check_of, check_in, id_in, kind_decoded, kind_byte, kind_of, header_of, number, packet_fits, all_zero, packet_of, reserved_in, version_fits, id_fits, channel_fits, PacketFits, IsZeroPacket, IsBytes, IsFrame}
 
-split : (n : ℕ) → n / 256 * 256 + n % 256 ≡ n
+pub split : (n : ℕ) → n / 256 * 256 + n % 256 ≡ n
 split n = omega arith
 
 split_wide : (n : ℕ) → n / 65536 * 65536 + n % 65536 ≡ n
@@ -43,10 +44,10 @@ pub frame-read : (bits : ℕ) (bytes : List ℕ) (v : ℕ) (h : Header) (p : Pac
 frame-read bits bytes v h p f = let c = f.canonical in ap (decoded bits) f.spelled ∙ again bits v h.kind h.id.raw h.channel p c.version c.channel c.packet c.id
 
 -- ---- what is decoded is a frame
-high : (a c : ℕ) → c < 256 → (a * 256 + c) / 256 ≡ a
+pub high : (a c : ℕ) → c < 256 → (a * 256 + c) / 256 ≡ a
 high a c h = omega arith
 
-low : (a c : ℕ) → c < 256 → (a * 256 + c) % 256 ≡ c
+pub low : (a c : ℕ) → c < 256 → (a * 256 + c) % 256 ≡ c
 low a c h = omega arith
 
 wide_high : (a c : ℕ) → c < 65536 → (a * 65536 + c) / 65536 ≡ a
@@ -254,6 +255,10 @@ pub decoded_by : (bits : ℕ) (bytes : List ℕ) (kind : Kind) → length bytes 
     → decoded bits bytes ≡ kind_decoded bits bytes (Some kind)
 unfolding decoded
 decoded_by bits bytes kind l e = rw (l, e) refl
+
+pub decoded_none : (bits : ℕ) (bytes : List ℕ) → length bytes ≡ 24 → kind_of (slice_index bytes 0) ≡ None → decoded bits bytes ≡ Err E2
+unfolding decoded
+decoded_none bits bytes l e = rw (l, e) refl
 
 -- what one frame is of is one
 pub frame-unique : (bits : ℕ) (bytes : List ℕ) (v w : ℕ) (h g : Header) (p q : Packet) → IsFrame bits bytes v h p → IsFrame bits bytes w g q → (v ≡ w) × (h ≡ g) × (p ≡ q)

@@ -1,11 +1,46 @@
--- Eight bytes at once are 0 where each of them is.
-use Rattle.std.proofs.Common.{◌≡◌, ℕ, ◌+◌, ◌*◌, ◌%◌, ◌<◌, ◌==◌, Bool, true, false, sym, ◌∙◌, zero, suc, List, length, refl, ap, arith}
+-- Eight bytes in a number of 64 bits: the number of eight bytes has these bytes, and some of them are 0 where the number that they make is.
+use Rattle.std.proofs.Common.{◌≡◌, ℕ, ◌+◌, ◌*◌, ◌/◌, ◌%◌, ◌<◌, ◌==◌, Bool, false, sym, ◌∙◌, zero, suc, List, [], ◌∷◌, ◌++◌, length, refl, ap, arith}
 use Rattle.std.specs.Prelude.{◌&&◌, slice_range}
 use Rattle.std.proofs.Math.Bool.{and_assoc, and-true}
 use Rattle.std.proofs.lemmas.Bool.{ne_eqb}
-use Rattle.sl_wire.specs.Frames.{word, all_zero, IsBytes}
-use Rattle.sl_wire.proofs.FrameLemmas.{cells_by, by_cells}
+use Rattle.sl_wire.specs.Frames.{word, all_zero, packet_of, IsBytes}
+use Rattle.sl_wire.specs.Framed.{first, second, third, fourth, bytes_in, frame_in}
+use Rattle.sl_wire.proofs.FrameLemmas.{by_cells, split, high, low}
 
+-- ---- the bytes of the number of eight bytes
+module _ (a b c d e f g h : ℕ) (af : a < 256) (bf : b < 256) (cf : c < 256) (df : d < 256) (ef : e < 256) (ff : f < 256) (gf : g < 256) (hf : h < 256) where
+  abbrev all : ℕ
+  all = ((((((a * 256 + b) * 256 + c) * 256 + d) * 256 + e) * 256 + f) * 256 + g) * 256 + h
+
+  first_is : first all ≡ a * 256 + b
+  first_is = omega (arith, cf, df, ef, ff, gf, hf)
+
+  second_is : second all ≡ c * 256 + d
+  second_is = omega (arith, cf, df, ef, ff, gf, hf)
+
+  third_is : third all ≡ e * 256 + f
+  third_is = omega (arith, ef, ff, gf, hf)
+
+  fourth_is : fourth all ≡ g * 256 + h
+  fourth_is = omega (arith, gf, hf)
+
+  same_bytes : bytes_in all ≡ a ∷ b ∷ c ∷ d ∷ e ∷ f ∷ g ∷ h ∷ []
+  same_bytes = rw (first_is, second_is, third_is, fourth_is, high a b bf, low a b bf, high c d df, low c d df, high e f ff, low e f ff, high g h hf, low g h hf) refl
+
+abbrev pub Same : List ℕ → Type 0
+Same bs = bytes_in (word bs 0) ++ (bytes_in (word bs 8) ++ bytes_in (word bs 16)) ≡ bs
+
+three : {xs ys zs us vs ws : List ℕ} → xs ≡ us → ys ≡ vs → zs ≡ ws → xs ++ (ys ++ zs) ≡ us ++ (vs ++ ws)
+three e f g = rw (e, f, g) refl
+
+-- three numbers of eight bytes each have 24 bytes
+pub same_words : (bs : List ℕ) → length bs ≡ 24 → IsBytes bs → Same bs
+same_words = by_cells Same (λ b fits. three
+    (same_bytes (b 0) (b 1) (b 2) (b 3) (b 4) (b 5) (b 6) (b 7) (fits 0) (fits 1) (fits 2) (fits 3) (fits 4) (fits 5) (fits 6) (fits 7))
+    (same_bytes (b 8) (b 9) (b 10) (b 11) (b 12) (b 13) (b 14) (b 15) (fits 8) (fits 9) (fits 10) (fits 11) (fits 12) (fits 13) (fits 14) (fits 15))
+    (same_bytes (b 16) (b 17) (b 18) (b 19) (b 20) (b 21) (b 22) (b 23) (fits 16) (fits 17) (fits 18) (fits 19) (fits 20) (fits 21) (fits 22) (fits 23)))
+
+-- ---- bytes that are 0
 not_zero : (n : ℕ) → 0 < n → (n == 0) ≡ false
 not_zero n l = ne_eqb n 0 (λ e. omega arith)
 
@@ -13,29 +48,21 @@ joined : (a b : ℕ) → (a * 256 + b == 0) ≡ (a == 0 && b == 0)
 joined zero b = ap (λ n. n == 0) (omega arith)
 joined (suc a) b = rw (not_zero (suc a) (omega arith), not_zero (suc a * 256 + b) (omega arith)) refl
 
-twice : (x y z : Bool) → ((x && y) && (y && z)) ≡ (x && (y && z))
-twice false y z = refl
-twice true false z = refl
-twice true true z = refl
+last_four : (w : ℕ) → w % 4294967296 ≡ ((third w / 256 * 256 + third w % 256) * 256 + fourth w / 256) * 256 + fourth w % 256
+last_four w = omega arith
 
--- the last six of eight bytes
-six_of : (b : ℕ → ℕ) → ((i : ℕ) → b i < 256) → word (cells_by b) 16 % 281474976710656
-    ≡ ((((b 18 * 256 + b 19) * 256 + b 20) * 256 + b 21) * 256 + b 22) * 256 + b 23
-six_of b fits = omega (arith, fits 18, fits 19, fits 20, fits 21, fits 22, fits 23)
+first_seven : (w : ℕ) → w / 256 ≡ (((((first w / 256 * 256 + first w % 256) * 256 + second w / 256) * 256 + second w % 256) * 256 + third w / 256) * 256 + third w % 256) * 256 + fourth w / 256
+first_seven w = omega arith
 
-pub last_eight : (bs : List ℕ) → length bs ≡ 24 → IsBytes bs → (word bs 16 == 0) ≡ all_zero (slice_range bs 16 24)
-last_eight = by_cells (λ bs. (word bs 16 == 0) ≡ all_zero (slice_range bs 16 24)) (λ b fits. simp (joined, and_assoc, and-true))
+-- the eleven bytes of a packet, in the number in front and the one in the middle, by whether the first are 0
+pub no_packet : (front middle back : ℕ) (b : Bool) → (front % 4294967296 == 0) ≡ b → (b && middle / 256 == 0) ≡ all_zero (slice_range (frame_in front middle back).bytes 4 15)
+no_packet front middle back b is = ap (λ c. c && middle / 256 == 0) (sym is) ∙ rw (last_four front, first_seven middle) (simp (joined, and_assoc, and-true))
 
-pub last_six : (bs : List ℕ) → length bs ≡ 24 → IsBytes bs → (word bs 16 % 281474976710656 == 0) ≡ all_zero (slice_range bs 18 24)
-last_six = by_cells (λ bs. (word bs 16 % 281474976710656 == 0) ≡ all_zero (slice_range bs 18 24))
-    (λ b fits. rw (six_of b fits) (simp (joined, and_assoc, and-true)))
+-- ---- the packet that is read off
+first_four : (w : ℕ) → first w * 65536 + second w ≡ w / 4294967296
+first_four w = omega arith
 
-eleven_in_two : (b : ℕ → ℕ) → (word (cells_by b) 4 == 0 && word (cells_by b) 7 == 0) ≡ all_zero (slice_range (cells_by b) 4 15)
-eleven_in_two b =
-    let once = twice (b 4 == 0 && b 5 == 0 && b 6 == 0) (b 7 == 0 && b 8 == 0 && b 9 == 0 && b 10 == 0 && b 11 == 0) (b 12 == 0 && b 13 == 0 && b 14 == 0) in
-    simp (joined, and_assoc, and-true) (simp and_assoc at once)
-
--- the eleven bytes of a packet, by whether the first eight are 0
-pub no_packet : (bs : List ℕ) → length bs ≡ 24 → IsBytes bs → (b : Bool) → (word bs 4 == 0) ≡ b → (b && word bs 7 == 0) ≡ all_zero (slice_range bs 4 15)
-no_packet bs l fits b is = ap (λ c. c && word bs 7 == 0) (sym is)
-    ∙ by_cells (λ bs. (word bs 4 == 0 && word bs 7 == 0) ≡ all_zero (slice_range bs 4 15)) (λ b fits. eleven_in_two b) bs l fits
+pub packet_in : (front middle back : ℕ)
+    → record { src = third front; dst = fourth front; seq = middle / 4294967296; len = third middle; hops = fourth middle / 256 } ≡ packet_of (frame_in front middle back).bytes
+unfolding packet_of
+packet_in front middle back = simp (split, first_four)

@@ -7,7 +7,7 @@ use std::marker::Model;
 /// A value behind a pointer, so that what holds it is small. Contracts see the value.
 #[derive(Debug, Drop)]
 pub struct Boxed<T> {
-    inner: Box<T>,
+    pub(crate) inner: Box<T>,
 }
 
 impl<T> Model for Boxed<T> {

@@ -2,11 +2,13 @@
 #![tactic(auto)]
 
 mod boxed;
+mod columns;
 mod frame;
 mod framed;
 mod laws;
 mod message;
 mod reach;
+mod spare;
 mod wids;
 
 pub use boxed::Boxed;
@@ -15,4 +17,5 @@ pub use framed::Framed;
 pub use laws::one_frame;
 pub use message::{Done, Dump, Msg, Rows};
 pub use reach::reached;
+pub use spare::Spare;
 pub use wids::{are_wids, has_room, have_room, is_wid};

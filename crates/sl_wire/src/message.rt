@@ -1,10 +1,12 @@
 // Messages between actors.
 ghost use Rattle.std.specs.Prelude.{◌≡◌, option_map};
 ghost use Rattle.sl_wire.specs.Carried.{bytes_on, carrying, frame_on};
+ghost use Rattle.sl_wire.specs.Frames.{decoded};
 
 use crate::boxed::Boxed;
-use crate::frame::{Frame, Header, decode};
+use crate::frame::{Header, WireFault, decode};
 use crate::framed::Framed;
+use crate::spare::Spare;
 use sl_ids::{Wid, Width};
 use sl_net::{Bytes, Packet};
 use sl_saves::{Saved, View};
@@ -66,8 +68,8 @@ pub enum Msg {
     Frame(Framed),
     /// Bytes of a host that are not 24.
     Wire(Bytes),
-    /// A poll, from a control plane to a unit.
-    Poll,
+    /// A poll, from a control plane to a unit. It may take a dump back that was read.
+    Poll(Spare),
     /// A notice that a last-seen number of a unit has changed, to its control plane.
     Notice,
     /// A unit's registers, to its control plane.
@@ -88,30 +90,30 @@ impl Msg {
         if bytes.items.len() != 24 {
             return Msg::Wire(bytes);
         }
-        let mut frame = Frame { bytes: [0; 24] };
-        frame.bytes.copy_from_slice(bytes.items.as_slice());
-        Msg::Frame(Framed::new(frame))
+        Msg::Frame(Framed::new(bytes.items.as_slice()))
     }
 
-    /// The bytes that it carries.
-    pub fn bytes(&self) -> Option<&[u8]>
-        ensures { option_map (λ bytes. bytes.now) result ≡ bytes_on self.now }
+    /// What the bytes that it carries are read as, where it carries some.
+    #[inline(always)]
+    pub fn read(&self, width: Width) -> Option<Result<(u8, Header, Packet), WireFault>>
+        ensures { result ≡ option_map (decoded width.bits) (bytes_on self.now) }
     {
         match self {
-            Msg::Frame(frame) => Some(&frame.get().bytes),
-            Msg::Wire(bytes) => Some(bytes.items.as_slice()),
+            Msg::Frame(frame) => Some(frame.decode(width)),
+            Msg::Wire(bytes) => Some(decode(width, bytes.items.as_slice())),
             _ => None,
         }
     }
 
     /// The header and the packet of which it carries the frame in either version, with ids of this
     /// width.
+    #[inline(always)]
     pub fn frame(&self, width: Width) -> Option<(Header, Packet)>
         ensures { result ≡ frame_on width.bits self.now }
     {
-        match decode(width, self.bytes()?) {
-            Ok((_version, header, packet)) => Some((header, packet)),
-            Err(_) => None,
+        match self.read(width) {
+            Some(Ok((_version, header, packet))) => Some((header, packet)),
+            _ => None,
         }
     }
 }

@@ -10,7 +10,7 @@ use Rattle.sl_unit.proofs.puts.put_on.Goals as goal
 
 pub loop-i-init : goal.loop-i-init
 loop-i-init c = let before = c.args.out.now.items in record {
-  items = sym (ap (λ ls. before ++ send_all (message_of c.args.note) ls) c.span-span.ensures.before ∙ append-nil before);
+  items = sym (ap (λ ls. before ++ send_all (message_of c.args.note.now) ls) c.span-span.ensures.before ∙ append-nil before);
   room = refl;
 }
 
@@ -20,15 +20,15 @@ put_if-requires c = record {
       let exits = c.args.wires.now.exits in
       let before = c.args.out.now.items in
       let so_far = filter (is_out c.args.way exits) (below c.loop-i.i) in
-      let sent = send_all (message_of c.args.note) so_far in
+      let sent = send_all (message_of c.args.note.now) so_far in
       let more = is_one_more c.args.way exits c.span-span.result c.loop-i.i c.span-span.ensures c.loop-i-test.true (sym c.is_out.ensures ∙ t) in
       let many : length c.loop-i.out.items ≡ length before + length sent = ap length c.loop-i.invariant.items ∙ length-append before sent in
-      omega (arith, more, many, length_sent (message_of c.args.note) so_far, c.requires.room, c.loop-i.invariant.room);
+      omega (arith, more, many, length_sent (message_of c.args.note.now) so_far, c.requires.room, c.loop-i.invariant.room);
 }
 
 pub loop-i-preserved : goal.loop-i-preserved
 loop-i-preserved c =
-    let m = message_of c.args.note in
+    let m = message_of c.args.note.now in
     let p = is_out c.args.way c.args.wires.now.exits in
     let i = c.loop-i.i in
     let before = c.args.out.now.items in record {
@@ -41,4 +41,4 @@ pub returns-clause-items : goal.returns-clause-items
 returns-clause-items c =
     let exits = c.args.wires.now.exits in
     let all = at_end (is_out c.args.way exits) (length exits) c.loop-i.i c.span-span.result c.span-span.ensures c.loop-i-test.false c.loop-i.auto.i-end in
-    c.loop-i.invariant.items ∙ ap (λ ls. c.args.out.now.items ++ send_all (message_of c.args.note) ls) all
+    c.loop-i.invariant.items ∙ ap (λ ls. c.args.out.now.items ++ send_all (message_of c.args.note.now) ls) all

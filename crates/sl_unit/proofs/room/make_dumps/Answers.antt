@@ -11,5 +11,5 @@ pub loop-i-preserved : goal.loop-i-preserved
 loop-i-preserved c =
     rw c.in_ok-push.ensures.items (record {
       many = length-append c.loop-i.dumps.items _ ∙ ap (λ n. n + 1) c.loop-i.invariant.many;
-      same = All-push (λ dump. dump ≡ dump_of (registers_of c.args.registers.now)) c.loop-i.dumps.items c.in_ok-dump-2.dump c.loop-i.invariant.same (c.in_ok-dump-2.ensures ∙ c.in_ok-dump.ensures);
+      same = All-push (λ dump. dump ≡ dump_of (registers_of c.args.registers.now)) c.loop-i.dumps.items c.in_ok-dump.dump c.loop-i.invariant.same c.in_ok-dump.ensures;
     })

@@ -1,7 +1,7 @@
 use Rattle.std.proofs.Common.{◌≡◌, length, subst, sym, ap, ◌∙◌}
 use Rattle.std.specs.Prelude.{true}
 use Rattle.sl_machine.specs.Machine.{is_fitting}
-use Rattle.sl_wire.specs.declared.message.Msg.TheVariants.{Poll as PollMsg}
+use Rattle.sl_wire.specs.Carried.{poll}
 use Rattle.sl_unit.specs.declared.wires.Entrance.TheVariants.{Host, Cable, Crossbar, Init, Poll}
 use Rattle.sl_unit.specs.Wires.{is_poll}
 use Rattle.sl_unit.specs.Units.{unit_state}
@@ -26,7 +26,7 @@ returns-in-Init-default-clause-fitting c = let s = unit_state c.args.self.now in
 
 pub returns-in-Poll-Poll-clause-fitting : goal.returns-in-Poll-Poll-clause-fitting
 returns-in-Poll-Poll-clause-fitting c = let s = unit_state c.args.self.now in
-    subst (λ ps. is_fitting (length s.wires.exits) ps ≡ true) (sym c.take_poll.ensures.puts) (take_fits Poll s PollMsg)
+    subst (λ ps. is_fitting (length s.wires.exits) ps ≡ true) (sym c.take_poll.ensures.puts) (take_fits Poll s poll)
 
 pub take_poll-requires-clause-dumps : goal.take_poll-requires-clause-dumps
 take_poll-requires-clause-dumps c = let r = c.args.self.now.ready c.args.link c.requires.ready in

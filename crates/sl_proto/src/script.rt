@@ -3,6 +3,7 @@ ghost use Rattle.std.specs.Prelude.{◌≡◌, All, OnOk};
 ghost use Rattle.sl_machine.specs.Plan.{HasChoice};
 ghost use Rattle.sl_layout.specs.Wiring.{plan_of};
 ghost use Rattle.sl_model.specs.Schedule.{pass, passes_of, expand_one, expand};
+ghost use Rattle.sl_world.specs.Scene.{links_of};
 ghost use Rattle.sl_proto.specs.Standing.{HasObserver};
 ghost use Rattle.sl_proto.specs.Calls.{KeepsStanding, Drives, DrivesFront};
 ghost use Rattle.sl_proto.specs.Script.{IsScriptEntry};
@@ -18,10 +19,12 @@ fn drive_passes<T: Taker>(
     net: &Net,
     taker: &mut T,
     once: &[(u32, u32)],
+    links: &[u32],
     count: u32,
 ) -> Result<(), Memory>
     requires plan { (T.scene taker.old).plan ≡ plan_of net.now }
     requires choices { All (λ e. HasChoice (plan_of net.now) e.0 e.1) once.now }
+    requires links { links.now ≡ links_of (plan_of net.now) once.now }
     ensures plan { (T.scene taker.new).plan ≡ plan_of net.now }
     ensures observer { HasObserver (T.scene taker.old) → HasObserver (T.scene taker.new) }
     ensures stands { KeepsStanding net.now (T.scene taker.old) (T.scene taker.new) }
@@ -30,7 +33,7 @@ fn drive_passes<T: Taker>(
     ensures front { DrivesFront net.now (T.scene taker.old) (passes_of once.now count) (T.scene taker.new) }
 {
     for _done in 0..count {
-        drive_within(net, taker, once, None)?;
+        drive_within(net, taker, once, Some(links))?;
     }
     Ok(())
 }
@@ -40,11 +43,13 @@ fn drive_entry<T: Taker>(
     net: &Net,
     taker: &mut T,
     once: &[(u32, u32)],
+    links: &[u32],
     entry: Script1,
 ) -> Result<(), Memory>
     requires plan { (T.scene taker.old).plan ≡ plan_of net.now }
     requires pass { once.now ≡ pass net.now }
     requires choices { All (λ e. HasChoice (plan_of net.now) e.0 e.1) once.now }
+    requires links { links.now ≡ links_of (plan_of net.now) once.now }
     requires entry { IsScriptEntry net.now entry }
     ensures plan { (T.scene taker.new).plan ≡ plan_of net.now }
     ensures observer { HasObserver (T.scene taker.old) → HasObserver (T.scene taker.new) }
@@ -54,7 +59,7 @@ fn drive_entry<T: Taker>(
     ensures front { DrivesFront net.now (T.scene taker.old) (expand_one net.now entry) (T.scene taker.new) }
 {
     match entry {
-        Script1::Pass(count) => drive_passes(net, taker, once, count),
+        Script1::Pass(count) => drive_passes(net, taker, once, links, count),
         Script1::Choice { actor, choice } => drive_within(net, taker, &[(actor, choice)], None),
     }
 }
@@ -64,11 +69,13 @@ fn drive_entries<T: Taker>(
     net: &Net,
     taker: &mut T,
     once: &[(u32, u32)],
+    links: &[u32],
     script: &[Script1],
 ) -> Result<(), Memory>
     requires plan { (T.scene taker.old).plan ≡ plan_of net.now }
     requires pass { once.now ≡ pass net.now }
     requires choices { All (λ e. HasChoice (plan_of net.now) e.0 e.1) once.now }
+    requires links { links.now ≡ links_of (plan_of net.now) once.now }
     requires entries { All (IsScriptEntry net.now) script.now }
     ensures plan { (T.scene taker.new).plan ≡ plan_of net.now }
     ensures observer { HasObserver (T.scene taker.old) → HasObserver (T.scene taker.new) }
@@ -78,7 +85,7 @@ fn drive_entries<T: Taker>(
     ensures front { DrivesFront net.now (T.scene taker.old) (expand net.now script.now) (T.scene taker.new) }
 {
     for entry in script {
-        drive_entry(net, taker, once, *entry)?;
+        drive_entry(net, taker, once, links, *entry)?;
     }
     Ok(())
 }
@@ -106,5 +113,6 @@ pub fn drive_script<T: Taker>(
     let _parts = net.parts();
     passes_are_choices();
     let once = pass_of(alloc, net, false)?;
-    drive_entries(net, taker, once.as_slice(), script)
+    let links = taker.look_up(alloc, &once)?;
+    drive_entries(net, taker, once.as_slice(), links.as_slice(), script)
 }

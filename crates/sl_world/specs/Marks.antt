@@ -4,11 +4,6 @@ use Rattle.sl_world.specs.Scene.{line_at}
 use Rattle.sl_world.specs.LineView.{LineView}
 use Rattle.sl_world.specs.Mesh.{lines_of}
 
--- of the first links, those with a message are marked
-pub record MarksFirst {M : Type 0} (views : List (LineView M)) (n : ℕ) (filled : List Bool) : Type 0 where
-  pub each : length filled ≡ n
-  pub is : (k : ℕ) → k < n → (slice_index_or filled k false ≡ false) ↔ ((line_at (lines_of views) k).queue ≡ [])
-
 -- the links with a message are marked, and so is the place past the end, which stands for all actions
 pub record IsMarked {M : Type 0} (views : List (LineView M)) (filled : List Bool) : Type 0 where
   pub each : length filled ≡ length views + 1

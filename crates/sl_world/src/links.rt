@@ -82,32 +82,6 @@ impl<M: Drop> Links<M> {
         self.lines.is_empty(link)
     }
 
-    /// The first place of a schedule, from this one on, whose choice is an action or finds a
-    /// message. The tables are borrowed before the search, so that it looks at nothing else.
-    pub fn next_at(&self, schedule: &[(u32, u32)], from: usize) -> usize
-        requires actors { All (λ e. e.0 < length self.now.plan.ins) schedule.now }
-        requires within { from ≤ length schedule.now }
-        ensures from { from ≤ result }
-        ensures within { result ≤ length schedule.now }
-        ensures nothing { (k : ℕ) → from ≤ k → k < result → let e = slice_index_or schedule.now k (0, 0) in let link = link_in self.now.plan.links e.0 e.1 in (link < length self.now.plan.links) × ((line_at self.now.lines link).queue ≡ []) }
-    {
-        let wiring = &self.wiring;
-        let counts = wiring.in_counts.as_slice();
-        let starts = self.ins.starts();
-        let places = self.ins.places();
-        let filled = self.lines.filled();
-        let mut at = from;
-        while at < schedule.len() {
-            let (actor, choice) = schedule[at];
-            let actor = actor as usize;
-            if choice >= counts[actor] || filled[place_in(starts, places, actor, choice)] {
-                return at;
-            }
-            at += 1;
-        }
-        at
-    }
-
     /// The link that a choice takes from, where it was looked up; None where the choice is an
     /// action.
     pub fn incoming_by(&self, actor: u32, choice: u32, link: u32) -> Option<usize>
@@ -158,7 +132,8 @@ impl<M: Drop> Links<M> {
     }
 
     /// The first place, from this one on, of a list of links, where the link has a message, or
-    /// where there is none of that number.
+    /// where there is none of that number. The marks are borrowed before the search, so that it looks
+    /// at nothing else.
     pub fn next_by(&self, links: &[u32], from: usize) -> usize
         requires links { All (λ l. l ≤ length self.now.plan.links) links.now }
         requires within { from ≤ length links.now }

@@ -174,7 +174,7 @@ impl<A: Machine> World<A> {
     }
 
     /// The turns of a whole schedule; after want of memory, those of a front of it. Where the links
-    /// of its entries are given, they are not looked up once more.
+    /// of its entries are given, the next that finds a message is searched for by them alone.
     pub fn run(&mut self, schedule: &[(u32, u32)], links: Option<&[u32]>) -> Result<(), Memory>
         requires choices { All (λ e. HasChoice (scene self.old).plan e.0 e.1) schedule.now }
         requires links { IfSome links (λ l. l.now ≡ links_of (scene self.old).plan schedule.now) }
@@ -186,7 +186,7 @@ impl<A: Machine> World<A> {
     {
         match links {
             Some(links) => self.run_by(schedule, links),
-            None => self.run_searching(schedule),
+            None => self.run_each(schedule),
         }
     }
 
@@ -200,25 +200,13 @@ impl<A: Machine> World<A> {
         ensures plan { (scene self.new).plan ≡ (scene self.old).plan }
         ensures book { length (scene self.new).book ≤ length (scene self.old).book + length schedule.now }
     {
-        let mut at = self.next_by(schedule, links, 0);
+        let mut at = self.links.next_by(links, 0);
         while at < schedule.len() {
             let (actor, choice) = schedule[at];
             self.turn_by(actor, choice, links[at])?;
-            at = self.next_by(schedule, links, at + 1);
+            at = self.links.next_by(links, at + 1);
         }
         Ok(())
-    }
-
-    /// `next_at` where the links are given.
-    fn next_by(&self, schedule: &[(u32, u32)], links: &[u32], from: usize) -> usize
-        requires links { links.now ≡ links_of (scene self.now).plan schedule.now }
-        requires within { from ≤ length schedule.now }
-        ensures from { from ≤ result }
-        ensures within { result ≤ length schedule.now }
-        ensures nothing { (k : ℕ) → from ≤ k → k < result → let e = slice_index_or schedule.now k (0, 0) in FindsNothing (scene self.now) e.0 e.1 }
-    {
-        let _ = schedule;
-        self.links.next_by(links, from)
     }
 
     /// `turn` where the link is given.
@@ -235,8 +223,8 @@ impl<A: Machine> World<A> {
         self.act_turn(actor, choice)
     }
 
-    /// `run` where the links are looked up.
-    fn run_searching(&mut self, schedule: &[(u32, u32)]) -> Result<(), Memory>
+    /// `run` where the links aren't given: each turn looks up its own.
+    fn run_each(&mut self, schedule: &[(u32, u32)]) -> Result<(), Memory>
         requires choices { All (λ e. HasChoice (scene self.old).plan e.0 e.1) schedule.now }
         requires book { length (scene self.old).book + length schedule.now < 2 ^ 40 }
         ensures ok { OnOk result (scene self.new ≡ after_all A.rules (scene self.old) schedule.now) }
@@ -244,25 +232,11 @@ impl<A: Machine> World<A> {
         ensures plan { (scene self.new).plan ≡ (scene self.old).plan }
         ensures book { length (scene self.new).book ≤ length (scene self.old).book + length schedule.now }
     {
-        let mut at = self.next_at(schedule, 0);
-        while at < schedule.len() {
+        for at in 0..schedule.len() {
             let (actor, choice) = schedule[at];
             self.turn(actor, choice)?;
-            at = self.next_at(schedule, at + 1);
         }
         Ok(())
-    }
-
-    /// The first place of a schedule, from this one on, whose choice is an action or finds a
-    /// message. Nothing happens before it.
-    fn next_at(&self, schedule: &[(u32, u32)], from: usize) -> usize
-        requires choices { All (λ e. HasChoice (scene self.now).plan e.0 e.1) schedule.now }
-        requires within { from ≤ length schedule.now }
-        ensures from { from ≤ result }
-        ensures within { result ≤ length schedule.now }
-        ensures nothing { (k : ℕ) → from ≤ k → k < result → let e = slice_index_or schedule.now k (0, 0) in FindsNothing (scene self.now) e.0 e.1 }
-    {
-        self.links.next_at(schedule, from)
     }
 
     #[inline(always)]

@@ -82,15 +82,23 @@ fn first_wrong(world: &mut World<Relay>, turns: &[(u32, u32, Turn)]) -> Result<O
     Ok(None)
 }
 
-/// The second token goes to actor 1, which sends none by itself, and so does the first.
-fn run_three(world: &mut World<Relay>) -> Result<(), Fail>
+/// The second token goes to actor 1, which sends none by itself, and so does the first. The links of
+/// the schedule are looked up before, or not.
+fn run_three(alloc: Global, world: &mut World<Relay>, by_links: bool) -> Result<(), Fail>
     requires { (scene world.old).plan ≡ ring }
     ensures { (scene world.new).plan ≡ ring }
 {
     if world.book().entries.len() > 100 {
         return Err("too many turns".into());
     }
-    Ok(world.run(&[(1, 0), (0, 1), (1, 0)], None)?)
+    let schedule = [(1, 0), (0, 1), (1, 0)];
+    if by_links {
+        let links = world.look_up(alloc, &schedule)?;
+        world.run(&schedule, Some(links.as_slice()))?;
+    } else {
+        world.run(&schedule, None)?;
+    }
+    Ok(())
 }
 
 fn lost(world: &World<Relay>) -> (u64, u64)
@@ -100,12 +108,16 @@ fn lost(world: &World<Relay>) -> (u64, u64)
 }
 
 /// The places of the first turns that went wrong, before the run of a schedule and after it.
-fn play(world: &mut World<Relay>) -> Result<(Option<usize>, Option<usize>), Fail>
+fn play(
+    alloc: Global,
+    world: &mut World<Relay>,
+    by_links: bool,
+) -> Result<(Option<usize>, Option<usize>), Fail>
     requires { (scene world.old).plan ≡ ring }
     ensures { (scene world.new).plan ≡ ring }
 {
     let before = first_wrong(world, turns_before())?;
-    run_three(world)?;
+    run_three(alloc, world, by_links)?;
     let after = first_wrong(world, turns_after())?;
     Ok((before, after))
 }
@@ -129,13 +141,15 @@ fn ends_right(world: World<Relay>) -> bool {
 
 #[test]
 fn tokens_go_round(rt: HostRuntime) -> Result<(), Fail> {
-    let mut world = ring_world(rt.alloc())?;
-    let wrong = play(&mut world)?;
-    let lost = lost(&world);
-    let noted = world.book().entries.len();
-    let right = ends_right(world);
-    assert_eq!(rt; wrong, (None, None));
-    assert_eq!(rt; (lost, noted, right), ((1, 0), 5, true));
+    for by_links in [false, true] {
+        let mut world = ring_world(rt.alloc())?;
+        let wrong = play(rt.alloc(), &mut world, by_links)?;
+        let lost = lost(&world);
+        let noted = world.book().entries.len();
+        let right = ends_right(world);
+        assert_eq!(rt; wrong, (None, None));
+        assert_eq!(rt; (lost, noted, right), ((1, 0), 5, true));
+    }
     Ok(())
 }
 

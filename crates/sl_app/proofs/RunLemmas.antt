@@ -1,6 +1,6 @@
 -- An accepted input can be run within the bound, and so can a sample's; what is served for a run.
 use Rattle.std.proofs.Common.{◌≡◌, ℕ, ◌+◌, ◌*◌, ◌<◌, ◌≤◌, ◌^◌, Bool, List, [], ◌∷◌, length, map, Option, Some, None, inl, inr, arith, sym, subst}
-use Rattle.std.specs.Prelude.{sum, Result, Ok, Err, IfOk}
+use Rattle.std.specs.Prelude.{sum}
 use Rattle.std.specs.List.{All}
 use Rattle.sl_net.specs.declared.input.Flow.{Flow}
 use Rattle.sl_machine.specs.Book.{Book}
@@ -29,8 +29,7 @@ use Rattle.sl_emul.specs.Threaded.{IsThreadedBook}
 use Rattle.sl_balance.specs.Balance.{AreFew}
 use Rattle.sl_words.specs.declared.command.Command.TheVariants.{Step, Run, Balance, Poll, Values}
 use Rattle.sl_words.specs.Words.{words_of}
-use Rattle.sl_app.specs.declared.run.Served.{Served}
-use Rattle.sl_app.specs.Served.{run_text, IsReport, IsTable, IsReading, AreValues, states_of}
+use Rattle.sl_app.specs.Served.{run_text, IsPrinted, IsReport, IsTable, IsReading, AreValues}
 use Rattle.sl_app.specs.Ends.{Reading, WasRead, IsServed}
 
 each-map : {A B : Type 0} (P : B → Type 0) (f : A → B) (xs : List A) → ((x : A) → P (f x)) → Each P (map f xs)
@@ -62,16 +61,11 @@ small law i can a = law i can.net a.snapshot.count a.few_values a.snapshot.retri
 pub small_threads : Small → (i : Input) → CanRun i → IsAccepted i → bound_of (setup_of i) 0 < 2 ^ 27
 small_threads law i can a = law (record i { script = [] }) can.net a.snapshot.count a.few_values a.snapshot.retries a.few_packets (omega arith)
 
--- what is served for a run with this book
-pub report-of : (IsBook : Input → Losses → List Entry → ℕ → Type 0) (i : Input) (lost : Losses) (trace : Bool) (book : Book) (front : ℕ) (nodes : List NodeState)
-    → IsBook i lost book.entries front → AreNodesOf i (world (setup_of i) lost (schedule_of book.entries)) nodes
-    → {E : Type 0} (r : Result Served E) → IfOk r (λ s. s.book ≡ Some book) → IfOk r (λ s. s.front ≡ front) → IfOk r (λ s. states_of s.nodes ≡ Some nodes)
-    → IfOk r (λ s. s.text.items ≡ run_text i lost book.entries trace) → IfOk r (λ s. IsReport IsBook i lost s.book s.front (states_of s.nodes) trace s.text.items)
-report-of IsBook i lost trace book front nodes run stand (Ok s) b f n t =
-    subst (λ (x : Option Book). IsReport IsBook i lost x s.front (states_of s.nodes) trace s.text.items) (sym b)
-    (subst (λ (x : Option (List NodeState)). IsReport IsBook i lost (Some book) s.front x trace s.text.items) (sym n)
-    (record { run = subst (IsBook i lost book.entries) (sym f) run; stand = stand; text_is = t }))
-report-of IsBook i lost trace book front nodes run stand (Err e) b f n t = tt
+-- what is printed of a run with this book, which left such states
+pub report-of : (IsBook : Input → Losses → List Entry → ℕ → Type 0) (i : Input) (lost : Losses) (trace : Bool) (kept : List Entry) (front : ℕ) (states : List NodeState) (book : List Entry) (nodes : List NodeState) (text : List ℕ)
+    → IsBook i lost kept front → AreNodesOf i (world (setup_of i) lost (schedule_of kept)) states → book ≡ kept → nodes ≡ states → text ≡ run_text i lost kept trace → IsPrinted IsBook i lost book front nodes trace text
+report-of IsBook i lost trace kept front states book nodes text run stand same left told =
+    subst (λ b. IsPrinted IsBook i lost b front nodes trace text) (sym same) (record { run = run; stand = subst (AreNodesOf i (world (setup_of i) lost (schedule_of kept))) (sym left) stand; text_is = told })
 
 -- a report that was made of an input that was read, of a run of the script and of one in threads
 pub stepped : (r : Reading) (i : Input) (trace : Bool) → words_of r.words ≡ Some (Step trace) → WasRead r i → input_bound i < 2 ^ 27

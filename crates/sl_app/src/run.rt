@@ -1,23 +1,25 @@
 // What is served for an input: the report of a run with its trace, stepped or in threads, and routes.
-ghost use Rattle.std.specs.Prelude.{◌≡◌, Some, None, IfOk, OnOk, map, if◌then◌else◌, [], ◌++◌};
+ghost use Rattle.std.specs.Prelude.{◌≡◌, ◌<◌, ◌^◌, None, IfOk, OnOk, length, if◌then◌else◌, [], ◌++◌};
 ghost use Rattle.std.specs.List.{All};
 ghost use Rattle.sl_model.specs.Setup.{setup_of};
-ghost use Rattle.sl_model.specs.World.{IsLegal};
 ghost use Rattle.sl_model.specs.Losses.{losses};
-ghost use Rattle.sl_model.specs.Books.{schedule_of};
-ghost use Rattle.sl_model.specs.Findings.{findings};
+ghost use Rattle.sl_model.specs.End.{IsFinished};
 ghost use Rattle.sl_report.specs.RoutesText.{routes_text};
 ghost use Rattle.sl_report.specs.TraceText.{IsEntryOf, trace_text};
-ghost use Rattle.sl_proto.specs.Nodes.{node_state};
+ghost use Rattle.sl_world.specs.World.{scene};
+ghost use Rattle.sl_proto.specs.Standing.{case_of, world_of, StandsFor};
 ghost use Rattle.sl_proto.specs.RunBook.{CanRun, IsRunBook};
+ghost use Rattle.sl_emul.specs.Run.{HasEnded};
+ghost use Rattle.sl_emul.specs.Threaded.{IsThreadedBook};
 ghost use Rattle.sl_app.specs.Served.{run_text, IsReport, ServesThreads, states_of};
 
 use sl_actor::Gate;
-use sl_emul::{EmulFault, Run, run_stepped, run_threaded};
+use sl_emul::{EmulFault, Ran, finish_stepped, finish_threaded};
 use sl_machine::{Book, Memory};
 use sl_net::{Input, Net};
 use sl_proto::Node;
-use sl_report::{add_trace, legal_books_are_choices, report_bytes, routes_bytes};
+use sl_report::{add_trace, legal_books_are_choices, routes_bytes};
+use sl_reporting::report_of;
 use sl_route::Routes;
 use std::alloc::Global;
 use std::sync::Wait;
@@ -70,23 +72,25 @@ fn add_trace_if(
     }
 }
 
-/// What is served for a run: its report, with its trace where that is asked for.
-fn report_run(alloc: Global, input: &Input, run: Run, trace: bool) -> Result<Served, Memory>
-    requires legal { IsLegal (setup_of input.now) (losses input.now) (schedule_of run.book.entries) }
-    requires tells { run.findings ≡ findings (setup_of input.now) (losses input.now) (schedule_of run.book.entries) }
-    ensures book { IfOk result (λ s. s.book ≡ Some run.book) }
-    ensures front { IfOk result (λ s. s.front ≡ run.front) }
-    ensures nodes { IfOk result (λ s. states_of s.nodes ≡ Some (map node_state run.nodes.items)) }
+/// What is served for a run that ended: its report, with its trace where that is asked for.
+fn report_run(alloc: Global, input: &Input, ran: Ran, trace: bool) -> Result<Served, Memory>
+    requires stands { StandsFor input.now.net (case_of input.now (losses input.now)) (scene ran.world) }
+    requires few { length (scene ran.world).book < 2 ^ 40 }
+    requires finished { IsFinished (setup_of input.now) (losses input.now) (world_of (case_of input.now (losses input.now)) (scene ran.world)) }
+    ensures stepped { HasEnded IsRunBook input.now (losses input.now) (scene ran.world) ran.front
+        → IfOk result (λ s. IsReport IsRunBook input.now (losses input.now) s.book s.front (states_of s.nodes) trace s.text.items) }
+    ensures threaded { HasEnded IsThreadedBook input.now (losses input.now) (scene ran.world) ran.front
+        → IfOk result (λ s. IsReport IsThreadedBook input.now (losses input.now) s.book s.front (states_of s.nodes) trace s.text.items) }
     ensures status { IfOk result (λ s. s.status ≡ 0) }
-    ensures text { IfOk result (λ s. s.text.items ≡ run_text input.now (losses input.now) run.book.entries trace) }
 {
     legal_books_are_choices();
-    let mut text = report_bytes(alloc, input, &run.findings)?;
-    add_trace_if(alloc, &mut text, &input.net, &run.book, trace)?;
+    let mut text = report_of(alloc, input, &ran.world)?;
+    let (nodes, book) = ran.world.into_book();
+    add_trace_if(alloc, &mut text, &input.net, &book, trace)?;
     Ok(Served {
-        book: Some(run.book),
-        front: run.front,
-        nodes: Some(run.nodes),
+        book: Some(book),
+        front: ran.front,
+        nodes: Some(nodes),
         status: 0,
         text,
     })
@@ -98,8 +102,8 @@ pub fn serve_run(alloc: Global, input: &Input, trace: bool) -> Result<Served, Me
     ensures report { IfOk result (λ s. IsReport IsRunBook input.now (losses input.now) s.book s.front (states_of s.nodes) trace s.text.items) }
     ensures status { IfOk result (λ s. s.status ≡ 0) }
 {
-    let run = run_stepped(alloc, input)?;
-    report_run(alloc, input, run, trace)
+    let ran = finish_stepped(alloc, input)?;
+    report_run(alloc, input, ran, trace)
 }
 
 /// Runs an input with a thread for each actor, and reports it.
@@ -113,8 +117,8 @@ pub fn serve_threads<R: Threads + Wait + Sync, G: Gate + Sync>(
     requires { CanRun input.now }
     ensures { ServesThreads input.now trace result }
 {
-    let run = run_threaded(rt, alloc, input, gate)?;
-    Ok(report_run(alloc, input, run, trace)?)
+    let ran = finish_threaded(rt, alloc, input, gate)?;
+    Ok(report_run(alloc, input, ran, trace)?)
 }
 
 /// The routes of an input's net.

@@ -1,22 +1,20 @@
--- The nodes that a run leaves, and what the law of cuts says.
-use Rattle.std.proofs.Common.{◌≡◌, ℕ, List, sym, subst}
+-- What is told of a run, and what the law of cuts says.
+use Rattle.std.proofs.Common.{ℕ, List, sym, subst}
 use Rattle.sl_machine.specs.declared.wiring.Entry.{Entry as BookEntry}
 use Rattle.sl_net.specs.Input.{Input}
 use Rattle.sl_net.specs.Wired.{IsNet}
 use Rattle.sl_wire.specs.declared.message.Msg.{Msg}
 use Rattle.sl_model.specs.History.{Losses}
-use Rattle.sl_model.specs.Setup.{Setup, setup_of}
-use Rattle.sl_model.specs.Books.{schedule_of}
+use Rattle.sl_model.specs.Setup.{Setup}
 use Rattle.sl_model.specs.declared.findings.Findings.{Findings}
-use Rattle.sl_model.specs.Findings.{findings}
 use Rattle.sl_model.specs.World.{Entry, world}
 use Rattle.sl_model.specs.Cut.{cuts}
 use Rattle.sl_model.specs.Matching.{IsConsistentCut}
 use Rattle.sl_world.specs.Scene.{Scene}
 use Rattle.sl_proto.specs.Nodes.{NodeState}
 use Rattle.sl_proto.specs.Standing.{case_of, world_of, StandsFor}
-use Rattle.sl_proto.specs.RunBook.{IsRunBook}
-use Rattle.sl_emul.specs.Run.{AreNodesOf, IsOutcome}
+use Rattle.sl_emul.specs.Run.{HasEnded, AreNodesOf, IsOutcomeOf}
+use Rattle.sl_emul.specs.Finishing.{IsToldOf}
 
 abbrev pub Consistent : Type 0
 Consistent = (s : Setup) (lost : Losses) (es : List Entry) (k : ℕ) → IsNet s.net → IsConsistentCut s.net lost (world s lost es) (cuts (world s lost es) k)
@@ -25,8 +23,12 @@ Consistent = (s : Setup) (lost : Losses) (es : List Entry) (k : ℕ) → IsNet s
 pub nodes-of : (i : Input) (lost : Losses) (v : Scene NodeState Msg) → StandsFor i.net (case_of i lost) v → AreNodesOf i (world_of (case_of i lost) v) v.states
 nodes-of i lost v stands = record { each = stands.image.states_each; stand = stands.image.states }
 
--- what is kept of a scene to which the script and finishing lead
-pub outcome-of : (i : Input) (lost : Losses) (v : Scene NodeState Msg) (book : List BookEntry) (front : ℕ) (found : Findings) (nodes : List NodeState) → StandsFor i.net (case_of i lost) v
-    → IsRunBook i lost v.book front → found ≡ findings (setup_of i) lost (schedule_of v.book) → book ≡ v.book → nodes ≡ v.states → IsOutcome i lost book front found nodes
-outcome-of i lost v book front found nodes stands run tells same left =
-    subst (λ b. IsOutcome i lost b front found nodes) (sym same) (subst (IsOutcome i lost v.book front found) (sym left) (record { run = run; tells = tells; stand = nodes-of i lost v stands }))
+-- what is told of the scene to which a run came
+pub outcome-of : (IsBook : Input → Losses → List BookEntry → ℕ → Type 0) (i : Input) (lost : Losses) (v : Scene NodeState Msg) (last : ℕ) (book : List BookEntry) (front : ℕ) (found : Findings) (nodes : List NodeState)
+    → HasEnded IsBook i lost v last → IsToldOf i lost v last book front found nodes → IsOutcomeOf IsBook i lost book front found nodes
+outcome-of IsBook i lost v last book front found nodes ended told =
+    subst (λ b. IsOutcomeOf IsBook i lost b front found nodes) (sym told.book_is) (subst (λ n. IsOutcomeOf IsBook i lost v.book n found nodes) (sym told.front_is) (record {
+      run = ended.run;
+      tells = told.tells;
+      stand = subst (AreNodesOf i (world_of (case_of i lost) v)) (sym told.nodes_are) (nodes-of i lost v ended.stands);
+    }))

@@ -6,7 +6,6 @@ use Rattle.sl_machine.specs.declared.wiring.Entry.{Entry as BookEntry}
 use Rattle.sl_net.specs.Input.{Input}
 use Rattle.sl_net.specs.Wired.{IsNet}
 use Rattle.sl_wire.specs.declared.message.Msg.{Msg}
-use Rattle.sl_model.specs.declared.findings.Findings.{Findings}
 use Rattle.sl_model.specs.History.{World, Losses}
 use Rattle.sl_model.specs.Setup.{Setup, setup_of}
 use Rattle.sl_model.specs.World.{Entry, start, turn, world, kept, kept_from, IsLegalFrom}
@@ -20,10 +19,10 @@ use Rattle.sl_world.proofs.BookLaws.{schedule_of-numbered_from}
 use Rattle.sl_proto.specs.Nodes.{NodeState}
 use Rattle.sl_proto.specs.Runs.{grown}
 use Rattle.sl_proto.specs.Standing.{case_of, world_of, StandsFor, FinishesTo}
-use Rattle.sl_emul.specs.Run.{AreNodesOf}
+use Rattle.sl_emul.specs.Run.{HasEnded}
 use Rattle.sl_emul.specs.Finishing.{IsFinishedFrom}
-use Rattle.sl_emul.specs.Threaded.{HasRested, IsThreadedFront, IsThreadedBook, IsThreadedOutcome}
-use Rattle.sl_emul.proofs.Books.{Consistent, nodes-of}
+use Rattle.sl_emul.specs.Threaded.{HasRested, IsThreadedFront, IsThreadedBook}
+use Rattle.sl_emul.proofs.Books.{Consistent}
 
 -- what the law of bounded runs says
 abbrev pub RunsBounded : Type 0
@@ -87,13 +86,11 @@ module _ (i : Input) (lost : Losses) (u t : Scene NodeState Msg) (ends : Finishe
       ended = record { finished = ends.finished; cuts_consistent = λ k. consistent (setup_of i) lost (schedule_of t.book) k net };
     }
 
--- what is kept of a run that came to u in threads
-pub is-outcome : (i : Input) (lost : Losses) (u : Scene NodeState Msg) (book : List BookEntry) (front : ℕ) (found : Findings) (nodes : List NodeState)
-    → IsFinishedFrom i lost u book front found nodes → RunsBounded → Consistent → IsNet i.net → StandsFor i.net (case_of i lost) u → IsThreadedFront i lost u.book
-    → (length u.book < 2 ^ 27 → HasRested (setup_of i) (world_of (case_of i lost) u)) → IsThreadedOutcome i lost book front found nodes
-is-outcome i lost u book front found nodes done bound consistent net first threads rest =
-    subst (λ b. IsThreadedOutcome i lost b front found nodes) (sym done.book_is) (subst (λ n. IsThreadedOutcome i lost done.last.book n found nodes) (sym done.front_is) (record {
-      run = is-book i lost u done.last done.finishing bound consistent net first done.stands threads rest;
-      tells = done.tells;
-      stand = subst (AreNodesOf i (world_of (case_of i lost) done.last)) (sym done.nodes_are) (nodes-of i lost done.last done.stands);
-    }))
+-- the scene v to which finishing leads from the scene u to which the threads came
+pub has-ended : (i : Input) (lost : Losses) (u v : Scene NodeState Msg) (front : ℕ) → IsFinishedFrom i lost u v front → RunsBounded → Consistent → IsNet i.net → StandsFor i.net (case_of i lost) u
+    → IsThreadedFront i lost u.book → (length u.book < 2 ^ 27 → HasRested (setup_of i) (world_of (case_of i lost) u)) → HasEnded IsThreadedBook i lost v front
+has-ended i lost u v front done bound consistent net first threads rest = record {
+  run = subst (IsThreadedBook i lost v.book) (sym done.front_is) (is-book i lost u v done.finishing bound consistent net first done.stands threads rest);
+  stands = done.stands;
+  few = done.few;
+}

@@ -1,5 +1,5 @@
--- What finishing leads to, and what is kept of it.
-use Rattle.std.specs.Prelude.{◌≡◌, ℕ, List, length}
+-- What finishing leads to, and what is told of it.
+use Rattle.std.specs.Prelude.{◌≡◌, ℕ, ◌<◌, ◌^◌, List, length}
 use Rattle.sl_machine.specs.declared.wiring.Entry.{Entry}
 use Rattle.sl_net.specs.Input.{Input}
 use Rattle.sl_wire.specs.declared.message.Msg.{Msg}
@@ -12,12 +12,16 @@ use Rattle.sl_world.specs.Scene.{Scene}
 use Rattle.sl_proto.specs.Nodes.{NodeState}
 use Rattle.sl_proto.specs.Standing.{case_of, StandsFor, FinishesTo}
 
--- from the scene u finishing leads to a last one; kept are its book, how many entries u had, the findings of its book's schedule, and its nodes
-pub record IsFinishedFrom (i : Input) (lost : Losses) (u : Scene NodeState Msg) (book : List Entry) (front : ℕ) (found : Findings) (nodes : List NodeState) : Type 0 where
-  pub last : Scene NodeState Msg
-  pub finishing : FinishesTo (case_of i lost) u last
-  pub stands : StandsFor i.net (case_of i lost) last
+-- from the scene u finishing leads to the scene v, of fewer than 2^40 entries; the front is how many entries u has
+pub record IsFinishedFrom (i : Input) (lost : Losses) (u v : Scene NodeState Msg) (front : ℕ) : Type 0 where
+  pub finishing : FinishesTo (case_of i lost) u v
+  pub stands : StandsFor i.net (case_of i lost) v
+  pub few : length v.book < 2 ^ 40
   pub front_is : front ≡ length u.book
-  pub book_is : book ≡ last.book
-  pub nodes_are : nodes ≡ last.states
-  pub tells : found ≡ findings (setup_of i) lost (schedule_of last.book)
+
+-- of the scene v to which a run with this front came are told its book, its front, the findings of its book's schedule, and its nodes
+pub record IsToldOf (i : Input) (lost : Losses) (v : Scene NodeState Msg) (front : ℕ) (book : List Entry) (told_front : ℕ) (found : Findings) (nodes : List NodeState) : Type 0 where
+  pub book_is : book ≡ v.book
+  pub front_is : told_front ≡ front
+  pub tells : found ≡ findings (setup_of i) lost (schedule_of v.book)
+  pub nodes_are : nodes ≡ v.states

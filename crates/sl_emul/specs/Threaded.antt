@@ -23,12 +23,11 @@ use Rattle.sl_model.specs.Sweeps.{sweeps_in}
 use Rattle.sl_model.specs.End.{AllSent, IsFin}
 use Rattle.sl_model.specs.Books.{schedule_of, numbers_of}
 use Rattle.sl_model.specs.Bound.{bound_of}
-use Rattle.sl_model.specs.Findings.{findings}
 use Rattle.sl_merge.specs.Merging.{IsAscending}
 use Rattle.sl_proto.specs.Nodes.{NodeState}
 use Rattle.sl_proto.specs.Runs.{grown}
 use Rattle.sl_proto.specs.RunBook.{IsEndedBook}
-use Rattle.sl_emul.specs.Run.{AreNodesOf}
+use Rattle.sl_emul.specs.Run.{IsOutcomeOf}
 
 -- of its own actions an actor tries the first: the observer to issue, and a host to inject
 abbrev pub tried_actions : Net → ℕ → ActorId → List ℕ
@@ -68,8 +67,6 @@ pub record IsThreadedBook (i : Input) (lost : Losses) (book : List BookEntry) (f
   pub within : length book ≤ bound_of (setup_of i) 0
   pub ended : IsEndedBook i lost book
 
--- the findings are those of the book's schedule, and the nodes those of the world that it leads to
-pub record IsThreadedOutcome (i : Input) (lost : Losses) (book : List BookEntry) (front : ℕ) (found : Findings) (nodes : List NodeState) : Type 0 where
-  pub run : IsThreadedBook i lost book front
-  pub tells : found ≡ findings (setup_of i) lost (schedule_of book)
-  pub stand : AreNodesOf i (world (setup_of i) lost (schedule_of book)) nodes
+-- of a run in threads
+abbrev pub IsThreadedOutcome : Input → Losses → List BookEntry → ℕ → Findings → List NodeState → Type 0
+IsThreadedOutcome i lost book front found nodes = IsOutcomeOf IsThreadedBook i lost book front found nodes

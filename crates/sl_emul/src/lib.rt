@@ -7,6 +7,6 @@ mod stepped;
 mod threaded;
 
 pub use fault::EmulFault;
-pub use run::Run;
-pub use stepped::run_stepped;
-pub use threaded::{plans_of, run_threaded, threaded_world};
+pub use run::{Ran, Run};
+pub use stepped::{finish_stepped, run_stepped};
+pub use threaded::{finish_threaded, plans_of, run_threaded, threaded_world};

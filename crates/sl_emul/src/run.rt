@@ -1,11 +1,13 @@
 // What a run leaves, and the end of any run.
-ghost use Rattle.std.specs.Prelude.{◌≡◌, ◌<◌, IfOk, map};
+ghost use Rattle.std.specs.Prelude.{◌≡◌, ◌<◌, ◌^◌, IfOk, length, map};
 ghost use Rattle.sl_layout.specs.Wiring.{plan_of};
 ghost use Rattle.sl_model.specs.Losses.{losses};
+ghost use Rattle.sl_model.specs.Setup.{setup_of};
+ghost use Rattle.sl_model.specs.End.{IsFinished};
 ghost use Rattle.sl_world.specs.World.{scene};
 ghost use Rattle.sl_proto.specs.Nodes.{node_state};
-ghost use Rattle.sl_proto.specs.Standing.{case_of, StandsFor, HasObserver};
-ghost use Rattle.sl_emul.specs.Finishing.{IsFinishedFrom};
+ghost use Rattle.sl_proto.specs.Standing.{case_of, world_of, StandsFor, HasObserver};
+ghost use Rattle.sl_emul.specs.Finishing.{IsFinishedFrom, IsToldOf};
 
 use sl_machine::{Book, Memory};
 use sl_model::Findings;
@@ -24,13 +26,21 @@ pub struct Run {
     pub nodes: Vec<Node>,
 }
 
-/// Finishes, and tells what it came to. What the book has before is the front.
-pub fn finish_run(alloc: Global, input: &Input, mut world: World<Node>) -> Result<Run, Memory>
+/// A run that ended, before anything is told of it: the world that it came to, and how many entries
+/// of its book come before finishing.
+#[derive(Drop)]
+pub struct Ran {
+    pub world: World<Node>,
+    pub front: u64,
+}
+
+/// Finishes. What the book has before is the front.
+pub fn finish_run(alloc: Global, input: &Input, mut world: World<Node>) -> Result<Ran, Memory>
     requires window { 0 < input.now.snapshot.window }
     requires stands { StandsFor input.now.net (case_of input.now (losses input.now)) (scene world) }
     requires observer { HasObserver (scene world) }
     requires plan { (scene world).plan ≡ plan_of input.now.net }
-    ensures { IfOk result (λ r. IsFinishedFrom input.now (losses input.now) (scene world) r.book.entries r.front r.findings (map node_state r.nodes.items)) }
+    ensures { IfOk result (λ r. IsFinishedFrom input.now (losses input.now) (scene world) (scene r.world) r.front) }
 {
     let front = world.entries();
     finish(alloc, &input.net, &mut world)?;
@@ -38,11 +48,21 @@ pub fn finish_run(alloc: Global, input: &Input, mut world: World<Node>) -> Resul
     if world.entries() >= 1 << 40 {
         return Err(Memory);
     }
-    let findings = findings(alloc, input, &world)?;
-    let (nodes, book) = world.into_book();
+    Ok(Ran { world, front })
+}
+
+/// Tells what a run came to.
+pub fn tell_run(alloc: Global, input: &Input, ran: Ran) -> Result<Run, Memory>
+    requires stands { StandsFor input.now.net (case_of input.now (losses input.now)) (scene ran.world) }
+    requires few { length (scene ran.world).book < 2 ^ 40 }
+    requires finished { IsFinished (setup_of input.now) (losses input.now) (world_of (case_of input.now (losses input.now)) (scene ran.world)) }
+    ensures { IfOk result (λ r. IsToldOf input.now (losses input.now) (scene ran.world) ran.front r.book.entries r.front r.findings (map node_state r.nodes.items)) }
+{
+    let findings = findings(alloc, input, &ran.world)?;
+    let (nodes, book) = ran.world.into_book();
     Ok(Run {
         book,
-        front,
+        front: ran.front,
         findings,
         nodes,
     })

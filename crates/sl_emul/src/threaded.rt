@@ -8,10 +8,11 @@ ghost use Rattle.sl_world.specs.World.{scene};
 ghost use Rattle.sl_proto.specs.Nodes.{node_state};
 ghost use Rattle.sl_proto.specs.Standing.{case_of, world_of, StandsFor, HasObserver};
 ghost use Rattle.sl_proto.specs.RunBook.{CanRun};
-ghost use Rattle.sl_emul.specs.Threaded.{tried_actions, tried_by, plans_of, HasRested, IsThreadedFront, IsThreadedOutcome};
+ghost use Rattle.sl_emul.specs.Threaded.{tried_actions, tried_by, plans_of, HasRested, IsThreadedFront, IsThreadedBook, IsThreadedOutcome};
+ghost use Rattle.sl_emul.specs.Run.{HasEnded};
 
 use crate::fault::EmulFault;
-use crate::run::{Run, finish_run};
+use crate::run::{Ran, Run, finish_run, tell_run};
 use sl_actor::Gate;
 use sl_machine::Memory;
 use sl_model::{
@@ -123,10 +124,10 @@ fn run_few<R: Threads + Wait + Sync, G: Gate + Sync>(
     alloc: Global,
     input: &Input,
     gate: &G,
-) -> Result<Run, Memory>
+) -> Result<Ran, Memory>
     requires can { CanRun input.now }
     requires few { length input.now.net.actors ≤ 256 }
-    ensures { IfOk result (λ r. IsThreadedOutcome input.now (losses input.now) r.book.entries r.front r.findings (map node_state r.nodes.items)) }
+    ensures { IfOk result (λ r. HasEnded IsThreadedBook input.now (losses input.now) (scene r.world) r.front) }
 {
     runs_are_bounded();
     cuts_are_consistent();
@@ -134,9 +135,28 @@ fn run_few<R: Threads + Wait + Sync, G: Gate + Sync>(
     finish_run(alloc, input, world)
 }
 
-/// Runs an input on the nodes of its net, each in a thread of its own until none moves any more,
-/// and finishes in one thread. The gate is passed by each actor before each of its rounds. The
+/// Runs an input on the nodes of its net to its end: each in a thread of its own until none moves
+/// any more, and then finishes in one thread. The gate is passed by each actor before each of its rounds. The
 /// script isn't used.
+pub fn finish_threaded<R: Threads + Wait + Sync, G: Gate + Sync>(
+    rt: &R,
+    alloc: Global,
+    input: &Input,
+    gate: &G,
+) -> Result<Ran, EmulFault>
+    requires { CanRun input.now }
+    ensures run { IfOk result (λ r. HasEnded IsThreadedBook input.now (losses input.now) (scene r.world) r.front) }
+    ensures many { 256 < length input.now.net.actors → IsErrOf result (EmulFault.TooMany (length input.now.net.actors)) }
+    ensures few { length input.now.net.actors ≤ 256 → IsOkUnless result EmulFault.Memory }
+{
+    let actors = input.net.actors().len() as u32;
+    if actors > MOST_ACTORS {
+        return Err(EmulFault::TooMany(actors));
+    }
+    Ok(run_few(rt, alloc, input, gate)?)
+}
+
+/// Runs an input as `finish_threaded` does, and tells what the run came to.
 pub fn run_threaded<R: Threads + Wait + Sync, G: Gate + Sync>(
     rt: &R,
     alloc: Global,
@@ -148,9 +168,6 @@ pub fn run_threaded<R: Threads + Wait + Sync, G: Gate + Sync>(
     ensures many { 256 < length input.now.net.actors → IsErrOf result (EmulFault.TooMany (length input.now.net.actors)) }
     ensures few { length input.now.net.actors ≤ 256 → IsOkUnless result EmulFault.Memory }
 {
-    let actors = input.net.actors().len() as u32;
-    if actors > MOST_ACTORS {
-        return Err(EmulFault::TooMany(actors));
-    }
-    Ok(run_few(rt, alloc, input, gate)?)
+    let ran = finish_threaded(rt, alloc, input, gate)?;
+    Ok(tell_run(alloc, input, ran)?)
 }

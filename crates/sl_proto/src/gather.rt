@@ -21,7 +21,7 @@ use crate::taker::Taker;
 use crate::verdicts::finding_list;
 use sl_image::{observers_give_findings, observers_tell};
 use sl_machine::Memory;
-use sl_model::{Counts, Drops, Findings, Lost, worlds_take_turns};
+use sl_model::{Counts, Drops, FindingList, Findings, Lost, worlds_take_turns};
 use sl_net::{Input, Net, Sort, nets_are_wired};
 use sl_observe::Observer;
 use sl_world::World;
@@ -152,23 +152,24 @@ fn lost_of(net: &Net, world: &World<Node>, sort: Sort) -> u64
     total
 }
 
-/// What a world of nodes tells.
+/// What a world of nodes tells of no snapshot.
 fn tell(
     alloc: Global,
     net: &Net,
-    count: u64,
     world: &World<Node>,
     observer: &Observer,
 ) -> Result<Findings, Memory>
     requires { CanTell net.now (scene world.now) observer.now.state }
-    ensures { IfOk result (λ f. f ≡ told net.now count (scene world.now) observer.now.state) }
+    ensures { IfOk result (λ f. f ≡ told net.now 0 (scene world.now) observer.now.state) }
 {
     let actors = net.actors().len() as u32;
     Ok(Findings {
         issued: observer.issued(),
         floor: observer.floor(),
         resent: observer.resent(),
-        list: finding_list(alloc, net, observer, count)?,
+        list: FindingList {
+            items: Vec::new(alloc),
+        },
         sent: sent(alloc, world, actors)?,
         delivered: delivered(alloc, world, actors)?,
         drops: drops(world, actors),
@@ -181,6 +182,38 @@ fn tell(
     })
 }
 
+/// The observer of a world of nodes of an input. It has every row that was collected.
+pub fn observer_of<'a>(input: &Input, world: &'a World<Node>) -> &'a Observer
+    requires { (lost : Losses) × StandsFor input.now.net (case_of input.now lost) (scene world.now) }
+    ensures observer { slice_get (scene world.now).states 0 ≡ Some (ObserverNode result.now.state) }
+    ensures rows { HasAllRows input.now.net result.now.state }
+{
+    worlds_take_turns();
+    nodes_tell_findings();
+    world.observer()
+}
+
+/// What a finished world of nodes of an input tells, as in `findings`, but for the list of findings,
+/// which is empty.
+pub fn findings_but_list(
+    alloc: Global,
+    input: &Input,
+    world: &World<Node>,
+) -> Result<Findings, Memory>
+    requires stands { (lost : Losses) × StandsFor input.now.net (case_of input.now lost) (scene world.now) }
+    requires book { length (scene world.now).book < 2 ^ 40 }
+    ensures { (lost : Losses) → StandsFor input.now.net (case_of input.now lost) (scene world.now)
+        → IsFinished (setup_of input.now) lost (world_of (case_of input.now lost) (scene world.now))
+        → IfOk result (λ f. f ≡ record (findings (setup_of input.now) lost (schedule_of (scene world.now).book)) { list = [] }) }
+{
+    nets_are_wired();
+    worlds_take_turns();
+    nodes_tell_findings();
+    let _links = input.net.links();
+    let observer = observer_of(input, world);
+    tell(alloc, &input.net, world, observer)
+}
+
 /// What a finished world of nodes of an input tells: the findings of the world of histories that it
 /// stands for, by what the observer collected, the units counted and the links lost.
 pub fn findings(alloc: Global, input: &Input, world: &World<Node>) -> Result<Findings, Memory>
@@ -190,13 +223,12 @@ pub fn findings(alloc: Global, input: &Input, world: &World<Node>) -> Result<Fin
         → IsFinished (setup_of input.now) lost (world_of (case_of input.now lost) (scene world.now))
         → IfOk result (λ f. f ≡ findings (setup_of input.now) lost (schedule_of (scene world.now).book)) }
 {
-    nets_are_wired();
-    worlds_take_turns();
-    observers_tell();
-    observers_give_findings();
-    let _links = input.net.links();
-    let observer = world.observer();
-    tell(alloc, &input.net, input.snapshot.count, world, observer)
+    nodes_tell_findings();
+    let observer = observer_of(input, world);
+    let list = finding_list(alloc, &input.net, observer, input.snapshot.count)?;
+    let mut findings = findings_but_list(alloc, input, world)?;
+    findings.list = list;
+    Ok(findings)
 }
 
 /// In a scene of an input's nodes that stands for the world of its book, the observer has every row

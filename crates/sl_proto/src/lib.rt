@@ -20,7 +20,7 @@ mod verdicts;
 
 pub use build::{build_nodes, build_world};
 pub use finishing::{finish, settle};
-pub use gather::{findings, nodes_tell_findings};
+pub use gather::{findings, findings_but_list, nodes_tell_findings, observer_of};
 pub use laws::{
     books_grow_by_turns, dones_told_what_is_known, sent_messages_are_put, steps_spread_their_puts,
 };
@@ -38,4 +38,4 @@ pub use scenes::{
 pub use schedule::{all_sweeps, expand, pass_of, passes_are_choices};
 pub use script::drive_script;
 pub use taker::{Taker, drive, drive_within};
-pub use verdicts::verdict;
+pub use verdicts::{finding, verdict};

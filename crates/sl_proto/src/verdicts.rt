@@ -199,7 +199,7 @@ fn rows_for(
 }
 
 /// The finding of a number by what the observer collected of the units.
-fn finding_at(alloc: Global, net: &Net, observer: &Observer, k: u64) -> Result<Finding, Memory>
+pub fn finding(alloc: Global, net: &Net, observer: &Observer, k: u64) -> Result<Finding, Memory>
     requires collected { HasAllRows net.now observer.now.state }
     requires first { 1 ≤ k }
     ensures { IfOk result (λ one. one ≡ finding_by observer.now.state.issued (accounts_of observer.now.state) k) }
@@ -221,7 +221,7 @@ pub fn finding_list(
 {
     let mut items = Vec::new(alloc);
     for done in 0..count {
-        let finding = finding_at(alloc, net, observer, done + 1)?;
+        let finding = finding(alloc, net, observer, done + 1)?;
         items.push(finding)?;
     }
     Ok(FindingList { items })

@@ -113,6 +113,13 @@ unfoldable pub lost_line : Lost → List ℕ
 lost_line l = codes "lost cable " ++ (decimal l.cable ++ (codes " crossbar " ++ (decimal l.crossbar ++ (codes " init " ++ (decimal l.init
     ++ (codes " notice " ++ (decimal l.notice ++ codes "\n")))))))
 
+-- a report up to its snapshots, and what comes after them
+abbrev pub report_front : Net → ℕ → Findings → List ℕ
+report_front net count f = codes "speedlight 1\n" ++ (network_line net ++ observer_line count f)
+
+abbrev pub report_back : Net → Findings → List ℕ
+report_back net f = hosts_text (map (λ host. host.name) net.parts.hosts) f.sent f.delivered ++ (drops_line f.drops ++ (lost_line f.lost ++ codes "end\n"))
+
 -- the report on a net, of so many snapshots that were to be taken
 abbrev pub report_text : Net → ℕ → Findings → List ℕ
 report_text net count f = codes "speedlight 1\n" ++ (network_line net ++ (observer_line count f ++ (flat_map (finding_text net) f.list

@@ -206,7 +206,8 @@ fn push_rows(
     Ok(())
 }
 
-fn push_finding(
+/// Writes what was found of a snapshot, by the data channels of each unit.
+pub fn push_finding(
     alloc: Global,
     out: &mut String,
     net: &Net,

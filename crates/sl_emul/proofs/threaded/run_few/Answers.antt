@@ -1,7 +1,7 @@
 use Rattle.std.proofs.lemmas.Result.{IfOk-weaker}
 use Rattle.sl_model.specs.Losses.{losses}
 use Rattle.sl_world.specs.World.{scene}
-use Rattle.sl_emul.proofs.ThreadedBook.{is-outcome}
+use Rattle.sl_emul.proofs.ThreadedBook.{has-ended}
 use Rattle.sl_emul.proofs.threaded.run_few.Goals as goal
 
 pub returns : goal.returns
@@ -9,5 +9,5 @@ returns g c =
     let i = c.args.input.now in
     let came = c.in_ok-world.ensures in
     IfOk-weaker c.finish_run.result _ _
-    (λ r done. is-outcome i (losses i) (scene c.in_ok-world.world) _ _ _ _ done c.runs_are_bounded.ensures c.cuts_are_consistent.ensures c.requires.can.net came.stands came.front came.rest)
+    (λ r done. has-ended i (losses i) (scene c.in_ok-world.world) _ _ done c.runs_are_bounded.ensures c.cuts_are_consistent.ensures c.requires.can.net came.stands came.front came.rest)
     c.finish_run.ensures

@@ -1,17 +1,17 @@
 -- What the methods of the links keep.
-use Rattle.std.proofs.Common.{◌≡◌, ℕ, ◌+◌, ◌<◌, ◌≤◌, List, ◌∷◌, length, get_or, set, drop, ap, sym, ◌∙◌, subst, arith, Bool, true, false}
+use Rattle.std.proofs.Common.{◌≡◌, ℕ, ◌+◌, ◌<◌, ◌≤◌, List, ◌∷◌, length, get_or, set, drop, ap, sym, ◌∙◌, subst, arith, Bool, true, false, None}
 use Rattle.std.specs.Prelude.{slice_index}
 use Rattle.std.proofs.lemmas.List.{map-set, length-set, get_or_read}
 use Rattle.sl_machine.specs.Machine.{is_fitting}
-use Rattle.sl_machine.specs.Plan.{Plan, IsSound, link_in, link_out, link_at}
+use Rattle.sl_machine.specs.Plan.{Plan, IsSound, link_out, link_at}
 use Rattle.sl_world.specs.Scene.{Line, line_at, put_each, put_all, without_first}
 use Rattle.sl_world.specs.LineView.{LineView}
-use Rattle.sl_world.specs.Mesh.{lines_of, room_at, KeepsRoom, KeepsSomeRoom, HasRoomFor, IsElsewhere, IsMesh}
+use Rattle.sl_world.specs.Mesh.{lines_of, room_at, KeepsSomeRoom, HasRoomFor, IsElsewhere, IsIncoming, IsMesh}
 use Rattle.sl_world.specs.Places.{place_of}
 use Rattle.sl_world.specs.declared.places.Places.{Places}
 use Rattle.sl_world.proofs.LinkLemmas.{link_out_is, no_link_in}
 use Rattle.sl_world.proofs.PlaceLemmas.{position_within}
-use Rattle.sl_world.proofs.RoomLemmas.{line_is, HasRoom-kept, length_same, length_put, room_from, room_for, all_elsewhere, put_each_same, roomy_more, roomy_after}
+use Rattle.sl_world.proofs.RoomLemmas.{line_is, length_put, room_from, room_for, all_elsewhere, put_each_same, roomy_more, roomy_after}
 
 -- a number that was read is the actor's
 pub count_is : (counts wanted : List ℕ) (a n : ℕ) → counts ≡ wanted → a < length wanted → n ≡ get_or counts a n → n ≡ slice_index wanted a
@@ -20,11 +20,11 @@ count_is counts wanted a n same low read =
     get_or_read counts a n long read 0 ∙ ap (λ (xs : List ℕ). slice_index xs a) same
 
 -- a choice past the incoming links has no link
-pub none_in : (plan now : Plan) (counts : List ℕ) (n a c : ℕ) → plan ≡ now → counts ≡ plan.ins → IsSound plan → n ≡ get_or counts a n → a < length now.ins → n ≤ c → length now.links ≤ link_in now.links a c
+pub none_in : (plan now : Plan) (counts : List ℕ) (n a c : ℕ) → plan ≡ now → counts ≡ plan.ins → IsSound plan → n ≡ get_or counts a n → a < length now.ins → n ≤ c → IsIncoming now a c None
 none_in plan now counts n a c same is sound read low high =
     let ins : counts ≡ now.ins = is ∙ ap (λ (p : Plan). p.ins) same in
     let count : n ≡ slice_index now.ins a = count_is counts now.ins a n ins low read in
-    no_link_in now a c (subst IsSound same sound) (omega arith)
+    record { link = tt; found = tt; below = tt; none = no_link_in now a c (subst IsSound same sound) (omega arith); action = omega arith }
 
 -- the links once the first message of one is taken
 pub taken_from : {M : Type 0} (views : List (LineView M)) (now : List (Line M)) (k : ℕ) (e new : LineView M) (m : M) → lines_of views ≡ now → k < length views → e ≡ get_or views k e → e.line.queue ≡ m ∷ new.line.queue → new.line ≡ without_first e.line new.line.queue → lines_of (set views k new) ≡ set now k (without_first (line_at now k) (drop 1 (line_at now k).queue))
@@ -34,16 +34,16 @@ taken_from views now k e new m same low read queue line =
     map-set (λ v. v.line) views k new
     ∙ (ap (λ ls. set ls k new.line) same ∙ ap (set now k) (line ∙ (ap (without_first e.line) rest ∙ ap (λ l. without_first l (drop 1 l.queue)) is)))
 
--- no link has less room, and nothing else has changed
-pub mesh_roomier : {M : Type 0} (plan : Plan) (ins outs : Places) (old new : List (LineView M)) (roomy : List Bool) → IsMesh plan ins outs old roomy → lines_of new ≡ lines_of old → KeepsRoom old new → IsMesh plan ins outs new roomy
-mesh_roomier plan ins outs old new roomy mesh same kept =
+-- as many links, and each that had room has room
+pub mesh_kept : {M : Type 0} (plan : Plan) (ins outs : Places) (old new : List (LineView M)) (roomy : List Bool) → IsMesh plan ins outs old roomy → length new ≡ length old → KeepsSomeRoom old new → IsMesh plan ins outs new roomy
+mesh_kept plan ins outs old new roomy mesh same kept =
     record {
       sound = mesh.sound;
       in_places = mesh.in_places;
       out_places = mesh.out_places;
-      lines_each = length_same old new same ∙ mesh.lines_each;
+      lines_each = same ∙ mesh.lines_each;
       roomy_each = mesh.roomy_each;
-      room = λ a h. HasRoom-kept plan.links old new a kept (mesh.room a h);
+      room = λ a h k low from. kept k (mesh.room a h k low from);
     }
 
 -- an actor more is known to have room

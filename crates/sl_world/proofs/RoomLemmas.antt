@@ -1,9 +1,9 @@
 -- Room on links.
-use Rattle.std.proofs.Common.{◌≡◌, ◌≢◌, ℕ, zero, suc, ◌+◌, ◌<◌, List, [], ◌∷◌, length, get_or, set, refl, ap, sym, ◌∙◌, subst, arith, Bool, true, false, inl, inr}
+use Rattle.std.proofs.Common.{◌≡◌, ◌≢◌, ℕ, zero, suc, ◌+◌, ◌<◌, List, [], ◌∷◌, ◌++◌, length, get_or, set, refl, ap, sym, ◌∙◌, subst, arith, Bool, true, false, inl, inr}
 use Rattle.std.specs.Prelude.{slice_index, All}
 use Rattle.std.proofs.lemmas.Bool.Decides.{nat_tests}
 use Rattle.std.proofs.lemmas.Bool.{cases_eq}
-use Rattle.std.proofs.lemmas.List.{map-set, length-map, length-set, get_or-map, get_or-set_same, get_or-set_other}
+use Rattle.std.proofs.lemmas.List.{map-set, length-map, length-set, get_or-map, get_or-set_same, get_or-set_other, get_or_read}
 use Rattle.std.proofs.Math.Seq.{map-set_same}
 use Rattle.sl_machine.specs.declared.wiring.Link.{Link}
 use Rattle.sl_machine.specs.Machine.{puts_on, is_fitting}
@@ -11,7 +11,7 @@ use Rattle.sl_machine.specs.Plan.{Plan, IsSound, link_out, link_at}
 use Rattle.sl_world.specs.Scene.{Line, empty_line, line_at, line_put, put_at, put_each}
 use Rattle.sl_world.proofs.ShapeLaws.{length-put_each}
 use Rattle.sl_world.specs.LineView.{LineView}
-use Rattle.sl_world.specs.Mesh.{lines_of, room_at, HasRoom, KeepsRoom, KeepsSomeRoom, HasRoomFor, IsElsewhere}
+use Rattle.sl_world.specs.Mesh.{lines_of, no_view, room_at, HasRoom, KeepsSomeRoom, HasRoomFor, IsElsewhere}
 use Rattle.sl_world.specs.Places.{place_of, Leads}
 use Rattle.sl_world.specs.declared.places.Places.{Places}
 
@@ -28,31 +28,35 @@ lines_of-put {M} views k e new m low put =
 pub line_is : {M : Type 0} (views : List (LineView M)) (k : ℕ) (e : LineView M) → k < length views → e ≡ get_or views k e → line_at (lines_of views) k ≡ e.line
 line_is views k e low read = get_or-map (λ v. v.line) views k e empty_line low ∙ sym (ap (λ v. v.line) read)
 
--- a change of one link that leaves it some room
-pub some_room_kept : {M : Type 0} (old new : List (LineView M)) (k : ℕ) → 0 < room_at new k → ((j : ℕ) → j ≢ k → room_at new j ≡ room_at old j) → KeepsSomeRoom old new
+-- a change of one link that leaves it some room where it had some
+pub some_room_kept : {M : Type 0} (old new : List (LineView M)) (k : ℕ) → (0 < room_at old k → 0 < room_at new k) → ((j : ℕ) → j ≢ k → room_at new j ≡ room_at old j) → KeepsSomeRoom old new
 some_room_kept old new k some others j room =
     elim (cases_eq j k) [
-      | inl same ↦ subst (λ (i : ℕ). 0 < room_at new i) (sym same) some
+      | inl same ↦ subst (λ (i : ℕ). 0 < room_at old i → 0 < room_at new i) (sym same) some room
       | inr other ↦ omega (arith, others j other)
     ]
 
+-- the same where the link is written
+pub some_room_set : {M : Type 0} (views : List (LineView M)) (k : ℕ) (e new : LineView M) → k < length views → e ≡ get_or views k e → (0 < e.room → 0 < new.room) → KeepsSomeRoom views (set views k new)
+some_room_set views k e new low read some =
+    let here : room_at (set views k new) k ≡ new.room = ap (λ v. v.room) (get_or-set_same views k new no_view low) in
+    let was : room_at views k ≡ e.room = ap (λ v. v.room) (sym (get_or_read views k e low read no_view)) in
+    some_room_kept views (set views k new) k (λ h. subst (λ (n : ℕ). 0 < n) (sym here) (some (subst (λ (n : ℕ). 0 < n) was h))) (λ j other. ap (λ v. v.room) (get_or-set_other views k j new no_view other))
+
 -- room on one link more
-pub room_more : {M : Type 0} (place : ℕ → ℕ) (old new : List (LineView M)) (n k : ℕ) → k ≡ place n → KeepsRoom old new → 0 < room_at new k → ((o : ℕ) → o < n → 0 < room_at old (place o)) → (o : ℕ) → o < n + 1 → 0 < room_at new (place o)
+pub room_more : {M : Type 0} (place : ℕ → ℕ) (old new : List (LineView M)) (n k : ℕ) → k ≡ place n → KeepsSomeRoom old new → 0 < room_at new k → ((o : ℕ) → o < n → 0 < room_at old (place o)) → (o : ℕ) → o < n + 1 → 0 < room_at new (place o)
 room_more place old new n k at kept some below o h =
     elim (cases_eq o n) [
       | inl same ↦ subst (λ (i : ℕ). 0 < room_at new i) (at ∙ ap place (sym same)) some
-      | inr other ↦ let before : o < n = omega arith in omega (arith, kept (place o), below o before)
+      | inr other ↦ kept (place o) (below o (omega arith))
     ]
-
-pub KeepsRoom-trans : {M : Type 0} (xs ys zs : List (LineView M)) → KeepsRoom xs ys → KeepsRoom ys zs → KeepsRoom xs zs
-KeepsRoom-trans xs ys zs f g k = omega (arith, f k, g k)
-
-pub HasRoom-kept : {M : Type 0} (links : List Link) (old new : List (LineView M)) (actor : ℕ) → KeepsRoom old new → HasRoom links old actor → HasRoom links new actor
-HasRoom-kept links old new actor kept room k low from = omega (arith, kept k, room k low from)
 
 -- as many links as before
 pub length_same : {M : Type 0} (old new : List (LineView M)) → lines_of new ≡ lines_of old → length new ≡ length old
 length_same old new e = sym (length-map new (λ v. v.line)) ∙ (ap length e ∙ length-map old (λ v. v.line))
+
+pub length_changed : {M : Type 0} (old new : List (LineView M)) (k : ℕ) (line : Line M) → lines_of new ≡ set (lines_of old) k line → length new ≡ length old
+length_changed old new k line e = sym (length-map new (λ v. v.line)) ∙ (ap length e ∙ (length-set (lines_of old) k line ∙ length-map old (λ v. v.line)))
 
 pub length_put : {M : Type 0} (place : ℕ → ℕ) (ps : List (ℕ × M)) (old new : List (LineView M)) → lines_of new ≡ put_each place ps (lines_of old) → length new ≡ length old
 length_put place ps old new e = sym (length-map new (λ v. v.line)) ∙ (ap length e ∙ (length-put_each place ps (lines_of old) ∙ length-map old (λ v. v.line)))
@@ -107,20 +111,51 @@ HasRoomFor-kept place k old new [] long others apart room = tt
 HasRoomFor-kept place k old new (p ∷ ps) long others apart room =
     (omega (arith, room.0), omega (arith, room.1, others (place p.0) apart.0), room.2, HasRoomFor-kept place k old new ps long others apart.1 room.3)
 
--- as many links after a put
-length_put_at : {M : Type 0} (old new : List (LineView M)) (k : ℕ) (m : M) → lines_of new ≡ put_at (lines_of old) k m → length new ≡ length old
-length_put_at old new k m e = sym (length-map new (λ v. v.line)) ∙ (ap length e ∙ (length-set (lines_of old) k (line_put (line_at (lines_of old) k) m) ∙ length-map old (λ v. v.line)))
+-- puts on two links, in either order
+put_at-apart : {M : Type 0} (lines : List (Line M)) (j k : ℕ) (m n : M) → j ≢ k → put_at (put_at lines j m) k n ≡ put_at (put_at lines k n) j m
+put_at-apart [] j k m n apart = refl
+put_at-apart (l ∷ ls) zero zero m n apart = absurd (apart refl)
+put_at-apart (l ∷ ls) zero (suc k) m n apart = refl
+put_at-apart (l ∷ ls) (suc j) zero m n apart = refl
+put_at-apart (l ∷ ls) (suc j) (suc k) m n apart = ap (λ rest. l ∷ rest) (put_at-apart ls j k m n (λ e. apart (ap suc e)))
 
--- the first put is done, and the others are left
-pub deliver_step : {M : Type 0} (place : ℕ → ℕ) (old new : List (LineView M)) (n k : ℕ) (m : M) (items ps : List (ℕ × M)) → items ≡ (n, m) ∷ ps → k ≡ place n → lines_of new ≡ put_at (lines_of old) k m → ((j : ℕ) → j ≢ k → room_at new j ≡ room_at old j) → HasRoomFor place old items → record { rest : put_each place ps (lines_of new) ≡ put_each place items (lines_of old); room : HasRoomFor place new ps; others : (j : ℕ) → IsElsewhere place items j → (room_at new j ≡ room_at old j) × IsElsewhere place ps j }
-deliver_step place old new n k m items ps first at put same room =
-    let here = subst (HasRoomFor place old) first room in
+-- so the last put, which has a link of its own, may come first
+put_last : {M : Type 0} (place : ℕ → ℕ) (ps : List (ℕ × M)) (p : ℕ × M) (lines : List (Line M)) → IsElsewhere place ps (place p.0) → put_each place (ps ++ p ∷ []) lines ≡ put_each place ps (put_at lines (place p.0) p.1)
+put_last place [] p lines apart = refl
+put_last place (q ∷ ps) p lines apart =
+    put_last place ps p (put_at lines (place q.0) q.1) apart.1 ∙ ap (put_each place ps) (put_at-apart lines (place q.0) (place p.0) q.1 p.1 apart.0)
+
+-- where one put more goes elsewhere
+elsewhere_last : {M : Type 0} (place : ℕ → ℕ) (k : ℕ) (ps : List (ℕ × M)) (p : ℕ × M) → IsElsewhere place (ps ++ p ∷ []) k → IsElsewhere place ps k × (place p.0 ≢ k)
+elsewhere_last place k [] p apart = (tt, apart.0)
+elsewhere_last place k (q ∷ ps) p apart =
+    let rest = elsewhere_last place k ps p apart.1 in
+    ((apart.0, rest.0), rest.1)
+
+-- the last put and those before it have room
+room_for_last : {M : Type 0} (place : ℕ → ℕ) (views : List (LineView M)) (ps : List (ℕ × M)) (p : ℕ × M) → HasRoomFor place views (ps ++ p ∷ []) → record { low : place p.0 < length views; room : 0 < room_at views (place p.0); apart : IsElsewhere place ps (place p.0); before : HasRoomFor place views ps }
+room_for_last place views [] p h = record { low = h.0; room = h.1; apart = tt; before = tt }
+room_for_last place views (q ∷ ps) p h =
+    let rest = room_for_last place views ps p h.3 in
+    let apart = elsewhere_last place (place q.0) ps p h.2 in
+    record { low = rest.low; room = rest.room; apart = (λ e. apart.1 (sym e), rest.apart); before = (h.0, h.1, apart.0, rest.before) }
+
+-- the same, of a put that was taken from the end
+pub last_room : {M : Type 0} (place : ℕ → ℕ) (views : List (LineView M)) (n k : ℕ) (m : M) (items ps : List (ℕ × M)) → items ≡ ps ++ (n, m) ∷ [] → k ≡ place n → HasRoomFor place views items → record { low : k < length views; room : 0 < room_at views k; apart : IsElsewhere place ps k; before : HasRoomFor place views ps }
+last_room place views n k m items ps last at room =
+    let here = room_for_last place views ps (n, m) (subst (HasRoomFor place views) last room) in
+    rw at here
+
+-- the last put is done, and those before it are left
+pub deliver_step : {M : Type 0} (place : ℕ → ℕ) (old new : List (LineView M)) (n k : ℕ) (m : M) (items ps : List (ℕ × M)) → items ≡ ps ++ (n, m) ∷ [] → k ≡ place n → lines_of new ≡ put_at (lines_of old) k m → ((j : ℕ) → j ≢ k → room_at new j ≡ room_at old j) → HasRoomFor place old items → record { rest : put_each place ps (lines_of new) ≡ put_each place items (lines_of old); room : HasRoomFor place new ps; others : (j : ℕ) → IsElsewhere place items j → (room_at new j ≡ room_at old j) × IsElsewhere place ps j }
+deliver_step place old new n k m items ps last at put same room =
+    let here = last_room place old n k m items ps last at room in
     record {
-      rest = ap (put_each place ps) (put ∙ ap (λ (i : ℕ). put_at (lines_of old) i m) at) ∙ ap (λ qs. put_each place qs (lines_of old)) (sym first);
-      room = HasRoomFor-kept place k old new ps (length_put_at old new k m put) same (subst (IsElsewhere place ps) (sym at) here.2) here.3;
+      rest = ap (put_each place ps) (put ∙ ap (λ (i : ℕ). put_at (lines_of old) i m) at) ∙ (sym (put_last place ps (n, m) (lines_of old) (subst (IsElsewhere place ps) at here.apart)) ∙ ap (λ qs. put_each place qs (lines_of old)) (sym last));
+      room = HasRoomFor-kept place k old new ps (length_changed old new k _ put) same here.apart here.before;
       others = λ j h.
-          let apart = subst (λ qs. IsElsewhere place qs j) first h in
-          (same j (λ f. apart.0 (sym at ∙ sym f)), apart.1);
+          let apart = elsewhere_last place j ps (n, m) (subst (λ qs. IsElsewhere place qs j) last h) in
+          (same j (λ f. apart.1 (sym at ∙ sym f)), apart.0);
     }
 
 -- an actor more is known to have room

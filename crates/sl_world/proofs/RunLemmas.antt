@@ -43,6 +43,22 @@ pub run_more : {S M : Type 0} (rules : Rules S M) (w v u : Scene S M) (es : List
 run_more rules w v u es i d e low is so_far step =
     step ∙ (ap (λ x. after_turn rules x e) so_far ∙ (ap (after_turn rules (after_all rules w (take i es))) is ∙ (sym (after_all-push rules w (take i es) (get_or es i d)) ∙ ap (after_all rules w) (sym (take_more es i d low)))))
 
+-- these first entries of a schedule were run
+pub record IsSoFar {S M : Type 0} (rules : Rules S M) (old now : Scene S M) (es : List (ℕ × ℕ)) (at : ℕ) : Type 0 where
+  pub so_far : now ≡ after_all rules old (take at es)
+  pub plan : now.plan ≡ old.plan
+  pub book : length now.book ≤ length old.book + at
+
+pub so_far_more : {S M : Type 0} (rules : Rules S M) (old w v : Scene S M) (es : List (ℕ × ℕ)) (at : ℕ) → at < length es → IsSoFar rules old w es at → v ≡ after_turn rules w (get_or es at (0, 0)) → IsSoFar rules old v es (at + 1)
+so_far_more rules old w v es at low before after =
+    let e = get_or es at (0, 0) in
+    let keeps = subst (Keeps w) (sym after) (turn_keeps rules w e) in
+    record {
+      so_far = run_more rules old w v es at (0, 0) e low refl before.so_far after;
+      plan = keeps.plan ∙ before.plan;
+      book = omega (arith, keeps.book, before.book);
+    }
+
 module _ {S M : Type 0} (rules : Rules S M) (w : Scene S M) where
   first_none : (actor choice link : ℕ) (s : S) (line : Line M) → line.queue ≡ [] → take_first rules w actor choice link s line line.queue ≡ None
   first_none actor choice link s line empty = rw empty refl
@@ -69,8 +85,11 @@ module _ {S M : Type 0} (rules : Rules S M) (w : Scene S M) where
       (quiet_steps old es n (i + 1) (omega arith) step (λ k from below. nothing k (omega arith) (omega arith)))
 
   -- the same up to a place
-  pub quiet_until : (old : Scene S M) (es : List (ℕ × ℕ)) (i j : ℕ) → i ≤ j → j ≤ length es → w ≡ after_all rules old (take i es) → ((k : ℕ) → i ≤ k → k < j → let e = get_or es k (0, 0) in FindsNothing w e.0 e.1) → w ≡ after_all rules old (take j es)
-  quiet_until old es i j from within so_far nothing =
+  pub quiet_until : (old : Scene S M) (es : List (ℕ × ℕ)) (i j : ℕ) → i ≤ j → j ≤ length es → IsSoFar rules old w es i → ((k : ℕ) → i ≤ k → k < j → let e = get_or es k (0, 0) in FindsNothing w e.0 e.1) → IsSoFar rules old w es j
+  quiet_until old es i j from within before nothing =
       let same : i + (j - i) ≡ j = omega arith in
-      subst (λ (k : ℕ). w ≡ after_all rules old (take k es)) same
-      (quiet_steps old es (j - i) i (omega arith) so_far (λ k low below. nothing k low (omega arith)))
+      record {
+        so_far = subst (λ (k : ℕ). w ≡ after_all rules old (take k es)) same (quiet_steps old es (j - i) i (omega arith) before.so_far (λ k low below. nothing k low (omega arith)));
+        plan = before.plan;
+        book = omega (arith, before.book);
+      }

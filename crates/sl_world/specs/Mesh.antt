@@ -1,5 +1,5 @@
 -- The links of a net, and the room on them.
-use Rattle.std.specs.Prelude.{◌≡◌, ◌≢◌, ◌<◌, ◌≤◌, ℕ, List, [], ◌∷◌, length, map, Bool, true, false, ⊤, slice_index_or}
+use Rattle.std.specs.Prelude.{◌≡◌, ◌≢◌, ◌<◌, ◌≤◌, ℕ, List, [], ◌∷◌, length, map, Bool, true, false, ⊤, Option, IfSome, IfNone, slice_index, slice_index_or}
 use Rattle.sl_machine.specs.Plan.{Plan, IsSound, link_in, link_out, link_at}
 use Rattle.sl_machine.specs.declared.wiring.Link.{Link}
 use Rattle.sl_world.specs.Scene.{Line, empty_line}
@@ -27,13 +27,17 @@ room_at views k = (slice_index_or views k no_view).room
 abbrev pub HasRoom : {M : Type 0} → List Link → List (LineView M) → ℕ → Type 0
 HasRoom links views actor = (k : ℕ) → k < length links → (link_at links k).from ≡ actor → 0 < room_at views k
 
--- no link has less room than before
-abbrev pub KeepsRoom : {M : Type 0} → List (LineView M) → List (LineView M) → Type 0
-KeepsRoom old new = (k : ℕ) → room_at old k ≤ room_at new k
-
 -- each link that had room has room
 abbrev pub KeepsSomeRoom : {M : Type 0} → List (LineView M) → List (LineView M) → Type 0
 KeepsSomeRoom old new = (k : ℕ) → 0 < room_at old k → 0 < room_at new k
+
+-- what a look-up of the link that a choice takes from answers: None where the choice is an action
+pub record IsIncoming (plan : Plan) (actor choice : ℕ) (answer : Option ℕ) : Type 0 where
+  pub link : IfSome answer (λ l. l ≡ link_in plan.links actor choice)
+  pub found : IfSome answer (λ l. l < length plan.links)
+  pub below : IfSome answer (λ _. choice < slice_index plan.ins actor)
+  pub none : IfNone answer (length plan.links ≤ link_in plan.links actor choice)
+  pub action : IfNone answer (slice_index plan.ins actor ≤ choice)
 
 -- none of the puts goes to this place
 abbrev pub IsElsewhere : {M : Type 0} → (ℕ → ℕ) → List (ℕ × M) → ℕ → Type 0

@@ -1,5 +1,6 @@
 // One link: the messages on it and its losses.
 ghost use Rattle.std.specs.Prelude.{◌≡◌, ◌<◌, ◌≤◌, ◌↔◌, ◌≢◌, ◌∷◌, [], IsTrue, OnOk};
+ghost use Rattle.std.specs.VecDeque.{deque_len, deque_capacity};
 ghost use Rattle.sl_world.specs.Scene.{line_put, without_first, new_line};
 
 use sl_loss::Loss;
@@ -7,6 +8,10 @@ use sl_machine::Memory;
 use std::alloc::Global;
 use std::collections::VecDeque;
 use std::marker::Model;
+
+/// From so many messages on a queue is large: it grows by less, and gives back memory that it no
+/// longer needs.
+const LARGE: usize = 128;
 
 /// A link: the messages on it, its loss where it has one, and how many puts it lost.
 #[derive(Drop)]
@@ -63,8 +68,8 @@ impl<M: Drop> Line<M> {
         self.queue.is_empty()
     }
 
-    /// Makes room for one more message. A full queue grows by a quarter, since it is not known
-    /// whether more comes.
+    /// Makes room for one more message. A full queue grows by a quarter, a large one by an eighth,
+    /// since it is not known whether more comes.
     pub fn make_room(&mut self) -> Result<(), Memory>
         ensures line { self.new.line ≡ self.old.line }
         ensures room { OnOk result (0 < self.new.room) }
@@ -74,7 +79,8 @@ impl<M: Drop> Line<M> {
         if len < self.queue.capacity() {
             return Ok(());
         }
-        Ok(self.queue.reserve_exact(1 + len / 4)?)
+        let part = if len < LARGE { 4 } else { 8 };
+        Ok(self.queue.reserve_exact(1 + len / part)?)
     }
 
     /// Puts a message at the end, unless the loss takes it. Then it makes room for one more where
@@ -97,11 +103,12 @@ impl<M: Drop> Line<M> {
     }
 
     /// Takes the first message.
+    #[inline(always)]
     pub fn take(&mut self) -> M
         requires { self.old.line.queue ≢ [] }
         ensures queue { self.old.line.queue ≡ result ∷ self.new.line.queue }
         ensures line { self.new.line ≡ without_first self.old.line self.new.line.queue }
-        ensures room { self.old.room ≤ self.new.room }
+        ensures room { 0 < self.old.room → 0 < self.new.room }
     {
         // The only message leaves at the back, so that the next one gets its place.
         let taken = if self.queue.len() == 1 {
@@ -109,9 +116,35 @@ impl<M: Drop> Line<M> {
         } else {
             self.queue.pop_front()
         };
+        self.give_back();
         match taken {
             Some(m) => m,
             None => unreachable!(),
         }
     }
+
+    /// Gives back half of the memory of a large queue of which only a quarter is used.
+    #[inline(always)]
+    fn give_back(&mut self)
+        ensures line { self.new.line ≡ self.old.line }
+        ensures room { 0 < self.old.room → 0 < self.new.room }
+    {
+        let capacity = self.queue.capacity();
+        if capacity >= LARGE && self.queue.len() < capacity / 4 {
+            shrink(&mut self.queue, capacity / 2);
+        }
+    }
+}
+
+/// Gives back the memory of a queue but for so many messages. It is rarely called, and stands apart so
+/// that taking stays short.
+#[cold]
+#[inline(never)]
+fn shrink<M: Drop>(queue: &mut VecDeque<M>, most: usize)
+    requires less { deque_len queue.old < most }
+    requires most { most ≤ deque_capacity queue.old }
+    ensures items { queue.new.items ≡ queue.old.items }
+    ensures room { deque_len queue.new < deque_capacity queue.new }
+{
+    queue.shrink_to(most);
 }

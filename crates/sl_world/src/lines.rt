@@ -1,7 +1,7 @@
 // All links by their numbers, and which of them have a message.
 ghost use Rattle.std.specs.Prelude.{◌≡◌, ◌≢◌, ◌<◌, ◌↔◌, ◌∷◌, ℕ, [], IsTrue, IfOk, OnOk, length, drop, slice_set};
 ghost use Rattle.sl_world.specs.Scene.{line_at, put_at, without_first};
-ghost use Rattle.sl_world.specs.Mesh.{lines_of, room_at, KeepsRoom};
+ghost use Rattle.sl_world.specs.Mesh.{lines_of, room_at, KeepsSomeRoom};
 ghost use Rattle.sl_world.specs.Marks.{IsMarked};
 
 use crate::line::Line;
@@ -65,7 +65,7 @@ impl<M: Drop> Lines<M> {
     pub fn make_room(&mut self, link: usize) -> Result<(), Memory>
         requires { link < length self.old }
         ensures lines { lines_of self.new ≡ lines_of self.old }
-        ensures keeps { KeepsRoom self.old self.new }
+        ensures keeps { KeepsSomeRoom self.old self.new }
         ensures room { OnOk result (0 < room_at self.new link) }
     {
         self.lines[link].make_room()
@@ -85,12 +85,13 @@ impl<M: Drop> Lines<M> {
     }
 
     /// Takes the first message of a link.
+    #[inline(always)]
     pub fn take(&mut self, link: usize) -> M
         requires link { link < length self.old }
         requires some { (line_at (lines_of self.old) link).queue ≢ [] }
         ensures first { (line_at (lines_of self.old) link).queue ≡ result ∷ drop 1 (line_at (lines_of self.old) link).queue }
         ensures rest { let line = line_at (lines_of self.old) link in lines_of self.new ≡ slice_set (lines_of self.old) link (without_first line (drop 1 line.queue)) }
-        ensures keeps { KeepsRoom self.old self.new }
+        ensures keeps { KeepsSomeRoom self.old self.new }
     {
         let m = self.lines[link].take();
         self.filled[link] = !self.lines[link].is_empty();

@@ -1,9 +1,9 @@
 // All links of a net: where each goes, and what is on it.
-ghost use Rattle.std.specs.Prelude.{◌≡◌, ◌≢◌, ◌+◌, ◌<◌, ◌≤◌, ◌↔◌, ◌∷◌, [], ℕ, true, false, length, drop, slice_index, slice_set, slice_index_or, reverse, IsTrue, IfOk, IfSome, IfNone, OnOk, Some, All};
+ghost use Rattle.std.specs.Prelude.{◌≡◌, ◌≢◌, ◌+◌, ◌<◌, ◌≤◌, ◌↔◌, ◌∷◌, [], ℕ, true, false, length, drop, slice_index, slice_set, slice_index_or, IsTrue, IfOk, OnOk, Some, All};
 ghost use Rattle.sl_machine.specs.Machine.{is_fitting};
 ghost use Rattle.sl_machine.specs.Plan.{IsSound, link_in};
 ghost use Rattle.sl_world.specs.Scene.{line_at, without_first, put_all, put_each, links_of};
-ghost use Rattle.sl_world.specs.Mesh.{lines_of, room_at, KeepsRoom, KeepsSomeRoom, HasRoomFor, IsElsewhere};
+ghost use Rattle.sl_world.specs.Mesh.{lines_of, room_at, KeepsSomeRoom, HasRoomFor, IsElsewhere, IsIncoming};
 ghost use Rattle.sl_world.specs.Places.{place_of};
 
 use crate::line::Line;
@@ -60,11 +60,7 @@ impl<M: Drop> Links<M> {
     /// The link that a choice takes from; None where the choice is an action.
     pub fn incoming(&self, actor: u32, choice: u32) -> Option<usize>
         requires { actor < length self.now.plan.ins }
-        ensures link { IfSome result (λ l. l ≡ link_in self.now.plan.links actor choice) }
-        ensures found { IfSome result (λ l. l < length self.now.plan.links) }
-        ensures choice { IfSome result (λ _. choice < slice_index self.now.plan.ins actor) }
-        ensures none { IfNone result (length self.now.plan.links ≤ link_in self.now.plan.links actor choice) }
-        ensures action { IfNone result (slice_index self.now.plan.ins actor ≤ choice) }
+        ensures { IsIncoming self.now.plan actor choice result }
     {
         let wiring = &self.wiring;
         if choice < wiring.in_counts[actor as usize] {
@@ -87,11 +83,7 @@ impl<M: Drop> Links<M> {
     pub fn incoming_by(&self, actor: u32, choice: u32, link: u32) -> Option<usize>
         requires actor { actor < length self.now.plan.ins }
         requires link { link ≡ link_in self.now.plan.links actor choice }
-        ensures link { IfSome result (λ l. l ≡ link_in self.now.plan.links actor choice) }
-        ensures found { IfSome result (λ l. l < length self.now.plan.links) }
-        ensures choice { IfSome result (λ _. choice < slice_index self.now.plan.ins actor) }
-        ensures none { IfNone result (length self.now.plan.links ≤ link_in self.now.plan.links actor choice) }
-        ensures action { IfNone result (slice_index self.now.plan.ins actor ≤ choice) }
+        ensures { IsIncoming self.now.plan actor choice result }
     {
         let wiring = &self.wiring;
         if choice < wiring.in_counts[actor as usize] {
@@ -179,6 +171,7 @@ impl<M: Drop> Links<M> {
     }
 
     /// Takes the first message of a link.
+    #[inline(always)]
     pub fn take(&mut self, link: usize) -> M
         requires link { link < length self.old.plan.links }
         requires some { (line_at self.old.lines link).queue ≢ [] }
@@ -201,22 +194,9 @@ impl<M: Drop> Links<M> {
         ensures items { out.new.items ≡ [] }
         ensures room { out.new.room ≡ out.old.room }
     {
-        if !out.items().is_empty() {
-            self.deliver_all(actor, out);
+        if out.items().is_empty() {
+            return;
         }
-    }
-
-    /// `deliver` where a message was put.
-    #[inline(never)]
-    fn deliver_all(&mut self, actor: u32, out: &mut Outputs<M>)
-        requires actor { actor < length self.old.plan.ins }
-        requires roomy { slice_index_or self.old.roomy actor false ≡ true }
-        requires fitting { is_fitting (slice_index self.old.plan.outs actor) out.old.items ≡ true }
-        ensures lines { self.new.lines ≡ put_all self.old.plan.links actor out.old.items self.old.lines }
-        ensures plan { self.new.plan ≡ self.old.plan }
-        ensures items { out.new.items ≡ [] }
-        ensures room { out.new.room ≡ out.old.room }
-    {
         let actor = actor as usize;
         let roomy = put_at_places(&mut self.lines, &self.outs, actor, out);
         self.roomy[actor] = roomy;
@@ -236,7 +216,7 @@ fn make_room_at<M: Drop>(
     requires within { (o : ℕ) → o < count → slice_index outs.now.starts.items actor + o < length outs.now.places.items }
     requires places { (o : ℕ) → o < count → place_of outs.now actor o < length lines.old }
     ensures lines { lines_of lines.new ≡ lines_of lines.old }
-    ensures keeps { KeepsRoom lines.old lines.new }
+    ensures keeps { KeepsSomeRoom lines.old lines.new }
     ensures room { OnOk result ((o : ℕ) → o < count → 0 < room_at lines.new (place_of outs.now actor o)) }
 {
     for number in 0..count {
@@ -246,18 +226,9 @@ fn make_room_at<M: Drop>(
     Ok(())
 }
 
-/// Turns the order of the messages round. Most turns put one at most.
-fn turn_round<M: Drop>(out: &mut Outputs<M>)
-    ensures items { out.new.items ≡ reverse out.old.items }
-    ensures room { out.new.room ≡ out.old.room }
-{
-    if out.items().len() > 1 {
-        out.reverse();
-    }
-}
-
 /// Puts each message on the link that the table has for its number, and answers whether each of
-/// these links has room for one more.
+/// these links has room for one more. No two go to one link, so their order doesn't matter.
+#[inline(never)]
 fn put_at_places<M: Drop>(
     lines: &mut Lines<M>,
     outs: &Places,
@@ -273,7 +244,6 @@ fn put_at_places<M: Drop>(
     ensures items { out.new.items ≡ [] }
     ensures room { out.new.room ≡ out.old.room }
 {
-    turn_round(out);
     let mut roomy = true;
     while let Some((number, m)) = out.take_last() {
         let place = outs.place(actor, number);

@@ -1,7 +1,8 @@
-use Rattle.std.proofs.Common.{◌<◌, ap, arith, length}
-use Rattle.sl_world.specs.Mesh.{lines_of}
+use Rattle.std.proofs.Common.{◌<◌, ap, arith, length, set, subst}
+use Rattle.sl_world.specs.Mesh.{lines_of, KeepsSomeRoom}
 use Rattle.sl_world.proofs.MeshLemmas.{taken_from}
 use Rattle.sl_world.proofs.MarkLemmas.{marked-set}
+use Rattle.sl_world.proofs.RoomLemmas.{some_room_set}
 use Rattle.sl_world.proofs.lines.Lines.take.Goals as goal
 
 pub invariant_of-self : goal.invariant_of-self
@@ -13,3 +14,8 @@ pub returns-clause-rest : goal.returns-clause-rest
 returns-clause-rest g c =
     let low : c.args.link < length c.self.inside.lines.items = omega (arith, ap length c.self.view_is, c.requires.link) in
     taken_from c.self.inside.lines.items (lines_of c.args.self.now) c.args.link c.index_mut.result.now c.take-m.new.self c.take-m.result (ap lines_of c.self.view_is) low c.index_mut.ensures.value c.take-m.ensures.queue c.take-m.ensures.line
+
+pub returns-clause-keeps : goal.returns-clause-keeps
+returns-clause-keeps g c =
+    let low : c.args.link < length c.self.inside.lines.items = omega (arith, ap length c.self.view_is, c.requires.link) in
+    subst (λ views. KeepsSomeRoom views (set c.self.inside.lines.items c.args.link c.take-m.new.self)) c.self.view_is (some_room_set c.self.inside.lines.items c.args.link c.index_mut.result.now c.take-m.new.self low c.index_mut.ensures.value c.take-m.ensures.room)

@@ -11,6 +11,6 @@ place-requires-clause-number g c =
     let count : c.index.result.now ≡ slice_index fields.wiring.ins c.args.actor = count_is c.wiring.inside.in_counts.items fields.wiring.ins c.args.actor c.index.result.now (ap (λ p. p.ins) c.wiring.view_is) low c.index.ensures in
     position_within fields.ins fields.wiring.ins c.args.actor c.args.choice c.self.invariant.in_places.laid_out low (omega arith)
 
-pub returns-else-choice-index-clause-none : goal.returns-else-choice-index-clause-none
-returns-else-choice-index-clause-none g c =
+pub returns-else-choice-index : goal.returns-else-choice-index
+returns-else-choice-index g c =
     none_in c.self.inside.wiring c.args.self.now.plan c.wiring.inside.in_counts.items c.index.result.now c.args.actor c.args.choice (ap (λ m. m.plan) c.self.view_is) (ap (λ p. p.ins) c.wiring.view_is) c.self.invariant.sound c.index.ensures c.requires c.if-choice-index.false

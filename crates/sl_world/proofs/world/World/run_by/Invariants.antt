@@ -1,15 +1,13 @@
-use Rattle.std.proofs.Common.{◌≡◌, ◌+◌, ◌-◌, ◌≤◌, length, take}
-use Rattle.sl_world.specs.Scene.{after_all}
+use Rattle.std.proofs.Common.{◌-◌, ◌≤◌, length}
 use Rattle.sl_world.specs.World.{scene}
+use Rattle.sl_world.proofs.RunLemmas.{IsSoFar}
 use Rattle.sl_world.proofs.world.World.run_by.Given as goal
 
 abbrev pub invariant-loop-at : goal.invariant-loop-at
 invariant-loop-at g l =
     record {
       within : l.at ≤ length l.schedule;
-      so_far : scene l.self ≡ after_all g.A.Machine.rules (scene l.fn.self) (take l.at l.schedule);
-      plan : (scene l.self).plan ≡ (scene l.fn.self).plan;
-      book : length (scene l.self).book ≤ length (scene l.fn.self).book + l.at;
+      front : IsSoFar g.A.Machine.rules (scene l.fn.self) (scene l.self) l.schedule l.at;
     }
 
 abbrev pub decreases-loop-at : goal.decreases-loop-at

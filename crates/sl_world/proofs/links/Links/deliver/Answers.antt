@@ -5,7 +5,7 @@ use Rattle.sl_machine.specs.Plan.{Plan}
 use Rattle.sl_world.specs.Scene.{put_all}
 use Rattle.sl_world.proofs.RoomLemmas.{all_fitting}
 use Rattle.sl_world.proofs.MeshLemmas.{out_within, room_for_puts, lines_delivered, mesh_delivered}
-use Rattle.sl_world.proofs.links.Links.deliver_all.Goals as goal
+use Rattle.sl_world.proofs.links.Links.deliver.Goals as goal
 
 pub put_at_places-roomy-requires-clause-within : goal.put_at_places-roomy-requires-clause-within
 put_at_places-roomy-requires-clause-within g c =

@@ -14,8 +14,9 @@ use Rattle.sl_wire.specs.Sizes.{Lengths}
 use Rattle.sl_control.specs.declared.known.Numbers.{Numbers}
 use Rattle.sl_control.specs.declared.known.Known.{Known}
 use Rattle.sl_control.specs.Control.{asked, is_asked, ask_by, ask_puts, numbers_told, answered, done_of, answer_by, is_taken, takes_dump, dump_by, dump_puts}
-use Rattle.sl_control.specs.Joined.{AreApart, AreOuts, IsJoined, polls_of, dumps_of}
-use Rattle.sl_control.proofs.EachUnit.{not-equal, none-put}
+use Rattle.sl_control.specs.Joined.{AreApart, AreOuts, IsJoined, polls_of, choices_of}
+use Rattle.sl_control.specs.declared.units.Sent.TheVariants.{Dump as DumpSent}
+use Rattle.sl_control.proofs.EachUnit.{not-equal, dump-turn, no-turn}
 
 -- How the units are joined.
 
@@ -92,7 +93,7 @@ answer-fits outs done n view r true q h = subst (λ b. is_fitting outs ((done, D
 answer-fits outs done n view r false q h = subst (λ b. is_fitting outs ((done, DoneMsg (done_of n view r)) ∷ cond b ((r.wires.poll, poll) ∷ []) []) ≡ true) (sym q)
     (fitting outs ((done, DoneMsg (done_of n view r)) ∷ []) (h.below.0, tt) (tt, tt))
 
-pub answers-fit : (outs : ℕ) (sizes : Lengths) (done c : ℕ) (d : Dump) (rs : List Known) → AllByRecursion (λ r. AreOuts outs (done ∷ r.wires.poll ∷ [])) rs → AreApart (dumps_of rs) → is_fitting outs (flat_map (dump_puts sizes done c d) rs) ≡ true
+pub answers-fit : (outs : ℕ) (sizes : Lengths) (done c : ℕ) (d : Dump) (rs : List Known) → AllByRecursion (λ r. AreOuts outs (done ∷ r.wires.poll ∷ [])) rs → AreApart (choices_of DumpSent rs) → is_fitting outs (flat_map (dump_puts sizes done c d) rs) ≡ true
 answers-fit outs sizes done c d [] h a = refl
 answers-fit outs sizes done c d (r ∷ rs) h a = by_tells (answers-fit outs sizes done c d rs h.1 a.1) (eqb_tells c r.wires.dump) (is_taken sizes d r)
   where
@@ -104,7 +105,7 @@ answers-fit outs sizes done c d (r ∷ rs) h a = by_tells (answers-fit outs size
     by_tells ih (inr n) b = ap (λ t. is_fitting outs (cond (t && b) (put r) [] ++ flat_map (dump_puts sizes done c d) rs)) n.0 ∙ ih
     by_tells ih (inl e) false = ap (λ t. is_fitting outs (cond (t && false) (put r) [] ++ flat_map (dump_puts sizes done c d) rs)) e.0 ∙ ih
     by_tells ih (inl e) true = ap (λ t. is_fitting outs (cond (t && true) (put r) [] ++ flat_map (dump_puts sizes done c d) rs)) e.0
-        ∙ ap (λ ps. is_fitting outs (put r ++ ps)) (none-put (λ r. r.wires.dump) c (is_taken sizes d) put rs (subst (λ n. AllByRecursion (λ y. y ≡ n → ⊥) (dumps_of rs)) (sym e.1) a.0))
+        ∙ ap (λ ps. is_fitting outs (put r ++ ps)) (no-turn DumpSent c (dump-turn sizes.bits sizes.ring done d) rs (subst (λ n. AllByRecursion (λ y. y ≡ n → ⊥) (choices_of DumpSent rs)) (sym e.1) a.0)).1
         ∙ ap (is_fitting outs) (append-nil (put r)) ∙ answer-fits outs done (numbers_told sizes.bits d r) d.view r r.again refl h.0
 
 pub room-for-two : (outs done : ℕ) (rs : List Known) → AllByRecursion (λ r. AreOuts outs (done ∷ r.wires.poll ∷ [])) rs → 0 < length rs → 2 ≤ outs

@@ -4,6 +4,8 @@ use Rattle.std.specs.List.{AllByRecursion}
 use Rattle.sl_saves.specs.declared.entry.Saved.{Saved}
 use Rattle.sl_wire.specs.declared.message.Done.{Done}
 use Rattle.sl_control.specs.declared.known.Known.{Known}
+use Rattle.sl_control.specs.declared.units.Sent.{Sent}
+use Rattle.sl_control.specs.declared.units.Sent.TheVariants.{Notice, Dump}
 
 -- no number stands twice
 abbrev pub AreApart : List ℕ → Type 0
@@ -13,23 +15,19 @@ AreApart (x ∷ xs) = AllByRecursion (λ y. y ≡ x → ⊥) xs × AreApart xs
 abbrev pub polls_of : List Known → List ℕ
 polls_of rs = map (λ r. r.wires.poll) rs
 
-abbrev pub dumps_of : List Known → List ℕ
-dumps_of rs = map (λ r. r.wires.dump) rs
+-- the choice by which a unit's notices, or its dumps, are taken
+abbrev pub choice_of : Sent → Known → ℕ
+choice_of Notice r = r.wires.notice
+choice_of Dump r = r.wires.dump
 
-abbrev pub notices_of : List Known → List ℕ
-notices_of rs = map (λ r. r.wires.notice) rs
+abbrev pub choices_of : Sent → List Known → List ℕ
+choices_of s rs = map (choice_of s) rs
 
--- the unit at a place is one whose dumps are taken by this choice
-pub record HasDumpChoice (choice i : ℕ) (units : List Known) : Type 0 where
+-- the unit at a place is one whose notices, or dumps, are taken by this choice
+pub record HasChoice (s : Sent) (choice i : ℕ) (units : List Known) : Type 0 where
   pub known : Known
   pub at : slice_get units i ≡ Some known
-  pub dump : known.wires.dump ≡ choice
-
--- the unit at a place is one whose notices are taken by this choice
-pub record HasNoticeChoice (choice i : ℕ) (units : List Known) : Type 0 where
-  pub known : Known
-  pub at : slice_get units i ≡ Some known
-  pub notice : known.wires.notice ≡ choice
+  pub is : choice_of s known ≡ choice
 
 -- numbers below a bound, of which none stands twice
 pub record AreOuts (bound : ℕ) (xs : List ℕ) : Type 0 where
@@ -42,8 +40,8 @@ pub record IsJoined (outs : ℕ) (inits : List ℕ) (done : ℕ) (units : List K
   pub inits_apart : AreOuts outs inits
   pub polls_apart : AreOuts outs (polls_of units)
   pub dones_apart : AllByRecursion (λ r. AreOuts outs (done ∷ r.wires.poll ∷ [])) units
-  pub notices_apart : AreApart (notices_of units)
-  pub dumps_apart : AreApart (dumps_of units)
+  pub notices_apart : AreApart (choices_of Notice units)
+  pub dumps_apart : AreApart (choices_of Dump units)
 
 -- there is no row yet, and room for those of a dump and a report to be filled in, where a turn was prepared
 pub record HasRoom (ring : ℕ) (prepared : Option ℕ) (rows : List (ℕ × Saved)) (capacity : ℕ) (done : Option Done) : Type 0 where

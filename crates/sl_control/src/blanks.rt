@@ -8,6 +8,9 @@ use sl_wire::{Boxed, Done, Dump, Rows};
 use std::alloc::{AllocError, Global};
 use std::mem;
 
+/// So many dumps of each unit are given up before the first is kept.
+const EARLY: usize = 32;
+
 /// Room for one row.
 #[derive(Drop)]
 struct OneRow {
@@ -40,6 +43,8 @@ pub struct Blanks {
     one: Option<OneRow>,
     pub done: Option<Boxed<Done>>,
     pub spares: Vec<Boxed<Dump>>,
+    // how many dumps more are given up before the first is kept
+    early: usize,
 }
 
 /// A report of nothing.
@@ -67,15 +72,19 @@ impl Blanks {
             one: None,
             done: None,
             spares: Vec::with_capacity(alloc, spares)?,
+            early: spares.saturating_mul(EARLY),
         })
     }
 
-    /// Keeps a dump that was read, where there is room for it.
+    /// Keeps a dump that was read, where there is room for it, unless it is an early one: where units
+    /// are polled a few times only, no memory waits for more polls.
     pub fn keep(&mut self, dump: Boxed<Dump>)
         ensures rows { self.new.rows ≡ self.old.rows }
         ensures done { self.new.done ≡ self.old.done }
     {
-        if self.spares.len() < self.spares.capacity() {
+        if self.early > 0 {
+            self.early -= 1;
+        } else if self.spares.len() < self.spares.capacity() {
             self.spares.push_reserved(dump);
         }
     }

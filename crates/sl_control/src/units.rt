@@ -6,7 +6,7 @@ ghost use Rattle.sl_control.specs.declared.known.Known.{Known};
 ghost use Rattle.sl_machine.specs.Machine.{send_all};
 ghost use Rattle.sl_control.specs.Control.{ask_by, ask_puts, dump_by, dump_puts, initiation, numbers_told, answered, answer_by, is_taken, is_swept};
 ghost use Rattle.sl_control.specs.Told.{is_read_by, answered_by, puts_by};
-ghost use Rattle.sl_control.specs.Joined.{AreApart, dumps_of, notices_of, HasDumpChoice, HasNoticeChoice};
+ghost use Rattle.sl_control.specs.Joined.{AreApart, choice_of, choices_of, HasChoice};
 
 use crate::blanks::Blanks;
 use crate::known::{Known, Told, has_wids};
@@ -34,26 +34,46 @@ pub fn ask_all(units: &mut Vec<Known>, spares: &mut Vec<Boxed<Dump>>, out: &mut 
     }
 }
 
-/// Whether there is a unit at a place whose notices are taken by a choice.
-fn has_notice(units: &[Known], place: usize, choice: u32) -> bool
-    ensures { IsTrue result → HasNoticeChoice choice place units.now }
+/// What a unit sends its control plane: each is taken by a choice of its own.
+#[derive(Clone, Copy)]
+enum Sent {
+    Notice,
+    Dump,
+}
+
+/// The choice by which a unit's notices, or its dumps, are taken.
+#[inline(always)]
+fn choice_of(sent: Sent, known: &Known) -> u32
+    ensures { result ≡ choice_of sent known.now }
+{
+    match sent {
+        Sent::Notice => known.wires.notice,
+        Sent::Dump => known.wires.dump,
+    }
+}
+
+/// Whether there is a unit at a place with this choice.
+#[inline(always)]
+fn has_choice(units: &[Known], place: usize, sent: Sent, choice: u32) -> bool
+    ensures { IsTrue result → HasChoice sent choice place units.now }
 {
     match units.get(place) {
-        Some(known) => known.wires.notice == choice,
+        Some(known) => choice_of(sent, known) == choice,
         None => false,
     }
 }
 
-/// The place of the unit whose notices are taken by a choice. It looks at the usual one first.
-fn find_notice(units: &[Known], choice: u32) -> Option<usize>
-    ensures { MatchOption result (AllByRecursion (λ r. r.wires.notice ≡ choice → ⊥) units.now) (λ i. HasNoticeChoice choice i units.now) }
+/// The place of the unit with this choice. It looks at the usual one first.
+#[inline(always)]
+fn find(units: &[Known], sent: Sent, choice: u32) -> Option<usize>
+    ensures { MatchOption result (AllByRecursion (λ y. y ≡ choice → ⊥) (choices_of sent units.now)) (λ i. HasChoice sent choice i units.now) }
 {
     let place = usual_place(choice);
-    if has_notice(units, place, choice) {
+    if has_choice(units, place, sent, choice) {
         return Some(place);
     }
     for place in 0..units.len() {
-        if units[place].wires.notice == choice {
+        if choice_of(sent, &units[place]) == choice {
             return Some(place);
         }
     }
@@ -67,13 +87,13 @@ pub fn ask_one(
     spares: &mut Vec<Boxed<Dump>>,
     out: &mut Outputs<Msg>,
 )
-    requires apart { AreApart (notices_of units.old.items) }
+    requires apart { AreApart (choices_of Sent.Notice units.old.items) }
     requires room { length out.old.items + length units.old.items ≤ out.old.room }
     ensures units { units.new.items ≡ map (ask_by (Some choice)) units.old.items }
     ensures puts { out.new.items ≡ out.old.items ++ flat_map (ask_puts (Some choice)) units.old.items }
     ensures room { out.new.room ≡ out.old.room }
 {
-    if let Some(i) = find_notice(units, choice) {
+    if let Some(i) = find(units, Sent::Notice, choice) {
         units[i].ask(spares, out);
     }
 }
@@ -115,32 +135,6 @@ pub fn put_inits(outs: &[u32], passes: bool, frame: &Framed, out: &mut Outputs<M
             out.put(*link, Msg::Frame(frame.again()));
         }
     }
-}
-
-/// Whether there is a unit at a place whose dumps are taken by a choice.
-fn has_dump(units: &[Known], place: usize, choice: u32) -> bool
-    ensures { IsTrue result → HasDumpChoice choice place units.now }
-{
-    match units.get(place) {
-        Some(known) => known.wires.dump == choice,
-        None => false,
-    }
-}
-
-/// The place of the unit whose dumps are taken by a choice. It looks at the usual one first.
-fn find_dump(units: &[Known], choice: u32) -> Option<usize>
-    ensures { MatchOption result (AllByRecursion (λ r. r.wires.dump ≡ choice → ⊥) units.now) (λ i. HasDumpChoice choice i units.now) }
-{
-    let place = usual_place(choice);
-    if has_dump(units, place, choice) {
-        return Some(place);
-    }
-    for place in 0..units.len() {
-        if units[place].wires.dump == choice {
-            return Some(place);
-        }
-    }
-    None
 }
 
 /// What a dump does to the unit of which it tells this.
@@ -214,14 +208,14 @@ pub fn answer_all(
     requires empty { blanks.old.rows.items ≡ [] }
     requires rows { ring ≤ vec_capacity blanks.old.rows }
     requires report { IsSome blanks.old.done }
-    requires apart { AreApart (dumps_of units.old.items) }
+    requires apart { AreApart (choices_of Sent.Dump units.old.items) }
     requires room { 0 < length units.old.items → length out.old.items + 2 ≤ out.old.room }
     ensures units { units.new.items ≡ map (dump_by (record { bits = width.bits; ring = ring }) choice dump.now) units.old.items }
     ensures puts { out.new.items ≡ out.old.items ++ flat_map (dump_puts (record { bits = width.bits; ring = ring }) done choice dump.now) units.old.items }
     ensures room { out.new.room ≡ out.old.room }
     ensures left { blanks.new.rows.items ≡ [] }
 {
-    if let Some(i) = find_dump(units, choice) {
+    if let Some(i) = find(units, Sent::Dump, choice) {
         answer_one(&mut units[i], width, ring, done, dump, blanks, out);
     }
 }

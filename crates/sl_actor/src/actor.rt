@@ -127,8 +127,8 @@ impl<A: Machine> Actor<A> {
     }
 
     /// One turn by a choice: it offers what waits in the outboxes, then the machine takes the next
-    /// message of the chosen link or acts, and where it made a step, the turn offers again. A turn
-    /// that is refused for memory has changed nothing.
+    /// message of the chosen link or acts. What it puts is offered at once, but on a link where
+    /// messages wait it waits behind them. A turn that is refused for memory has changed nothing.
     pub fn turn<R: Wait>(&mut self, rt: &R, choice: u32) -> Result<Moved, Memory>
         requires { IsChoice (held self.old).counts choice }
         ensures follows { (first : A.State) → Follows A.rules first (held self.old) → Follows A.rules first (held self.new) }
@@ -144,12 +144,11 @@ impl<A: Machine> Actor<A> {
     {
         let may_step = self.prepare(rt, choice)?;
         self.sleeper.note(&self.outs.waiting);
-        let before = self.outs.offer(rt);
+        let offered = self.outs.offer(rt);
         let did = self.step(rt, choice, may_step);
-        self.sleeper.note(&self.outs.waiting);
-        let after = self.outs.offer_after(rt, did);
-        self.sleeper.wake_full(&self.outs.waiting);
-        Ok(moved(did, before, after))
+        let has_moved = offered || did;
+        self.sleeper.wake_full(has_moved, &self.outs.waiting);
+        Ok(moved(did, offered))
     }
 
     /// The actor's place among the actors.
@@ -207,10 +206,12 @@ impl<A: Machine> Actor<A> {
         requires nothing { OnFalse may_step (NothingDone A.rules choice (held self.old) (held self.old)) }
         requires log { OnTrue may_step (vec_len self.old.log < vec_capacity self.old.log) }
         requires spare { OnTrue may_step (AreSpare self.old.outs.parts.items) }
+        requires fronts { AreOffered (held self.old).outs }
         requires ready { OnTrue may_step (A.ready_for self.old.machine ≡ Some choice) }
         ensures did { OnTrue result (Stepped A.rules choice (held self.old) (held self.new)) }
         ensures idle { OnFalse result (NothingDone A.rules choice (held self.old) (held self.new)) }
         ensures outs { OnFalse result ((held self.new).outs ≡ (held self.old).outs) }
+        ensures fronts { AreOffered (held self.new).outs }
         ensures ends { KeepsEnds (held self.old) (held self.new) }
         ensures counts { (held self.new).counts ≡ (held self.old).counts }
     {
@@ -228,10 +229,12 @@ impl<A: Machine> Actor<A> {
         requires choice { choice < length (held self.old).takes }
         requires log { vec_len self.old.log < vec_capacity self.old.log }
         requires spare { AreSpare self.old.outs.parts.items }
+        requires fronts { AreOffered (held self.old).outs }
         requires ready { A.ready_for self.old.machine ≡ Some choice }
         ensures did { OnTrue result (Stepped A.rules choice (held self.old) (held self.new)) }
         ensures idle { OnFalse result (NothingDone A.rules choice (held self.old) (held self.new)) }
         ensures outs { OnFalse result ((held self.new).outs ≡ (held self.old).outs) }
+        ensures fronts { AreOffered (held self.new).outs }
         ensures ends { KeepsEnds (held self.old) (held self.new) }
         ensures counts { (held self.new).counts ≡ (held self.old).counts }
     {
@@ -243,7 +246,15 @@ impl<A: Machine> Actor<A> {
         let number = next_number(rt, self.number, s.number);
         self.machine.take(choice, s.m, &mut self.out);
         self.number = number;
-        note(number, choice, &mut self.log, &mut self.outs, &mut self.out);
+        note(
+            rt,
+            number,
+            choice,
+            &mut self.log,
+            &mut self.outs,
+            &mut self.out,
+            &mut self.sleeper,
+        );
         true
     }
 
@@ -252,10 +263,12 @@ impl<A: Machine> Actor<A> {
         requires choice { IsChoice (held self.old).counts choice }
         requires log { vec_len self.old.log < vec_capacity self.old.log }
         requires spare { AreSpare self.old.outs.parts.items }
+        requires fronts { AreOffered (held self.old).outs }
         requires ready { A.ready_for self.old.machine ≡ Some choice }
         ensures did { OnTrue result (Stepped A.rules choice (held self.old) (held self.new)) }
         ensures idle { OnFalse result (NothingDone A.rules choice (held self.old) (held self.new)) }
         ensures outs { OnFalse result ((held self.new).outs ≡ (held self.old).outs) }
+        ensures fronts { AreOffered (held self.new).outs }
         ensures ends { KeepsEnds (held self.old) (held self.new) }
         ensures counts { (held self.new).counts ≡ (held self.old).counts }
     {
@@ -264,7 +277,15 @@ impl<A: Machine> Actor<A> {
         }
         let number = next_number(rt, self.number, 0);
         self.number = number;
-        note(number, choice, &mut self.log, &mut self.outs, &mut self.out);
+        note(
+            rt,
+            number,
+            choice,
+            &mut self.log,
+            &mut self.outs,
+            &mut self.out,
+            &mut self.sleeper,
+        );
         true
     }
 }

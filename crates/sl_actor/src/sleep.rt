@@ -222,19 +222,26 @@ impl Sleeper {
     /// Notes that on these links something is offered next.
     pub fn note(&mut self, waiting: &VecDeque<u32>) {
         for i in 0..waiting.len() {
-            let out = waiting[i];
-            if let Some(is_offered) = self.is_offered.get_mut(out as usize)
-                && !*is_offered
-                && self.offered.len() < self.offered.capacity()
-            {
-                *is_offered = true;
-                self.offered.push_back_reserved(out);
-            }
+            self.put_on(waiting[i]);
         }
     }
 
-    /// Wakes the receivers of the links that are full.
-    pub fn wake_full(&self, waiting: &VecDeque<u32>) {
+    /// Notes that on this link something is offered next.
+    pub fn put_on(&mut self, out: u32) {
+        if let Some(is_offered) = self.is_offered.get_mut(out as usize)
+            && !*is_offered
+            && self.offered.len() < self.offered.capacity()
+        {
+            *is_offered = true;
+            self.offered.push_back_reserved(out);
+        }
+    }
+
+    /// Where something moved, wakes the receivers of the links that are full.
+    pub fn wake_full(&self, has_moved: bool, waiting: &VecDeque<u32>) {
+        if !has_moved {
+            return;
+        }
         for i in 0..waiting.len() {
             if let Some(receiver) = self.receivers.get(waiting[i] as usize) {
                 self.roster.wake(receiver.actor);

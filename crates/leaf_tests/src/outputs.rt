@@ -15,13 +15,12 @@ fn first_in_first_out(rt: HostRuntime) -> Result<(), Fail> {
 }
 
 #[test]
-fn reversed_and_taken_from_the_end(rt: HostRuntime) -> Result<(), Fail> {
+fn taken_from_the_end(rt: HostRuntime) -> Result<(), Fail> {
     let mut out = Outputs::with_room(rt.alloc(), 2)?;
     out.put(1, 10u64);
     out.put(0, 20);
-    out.reverse();
-    assert_eq!(rt; out.take_last(), Some((1, 10)));
     assert_eq!(rt; out.take_last(), Some((0, 20)));
+    assert_eq!(rt; out.take_last(), Some((1, 10)));
     assert_eq!(rt; out.take_last(), None);
     Ok(())
 }

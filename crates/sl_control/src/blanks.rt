@@ -8,7 +8,7 @@ use sl_wire::{Boxed, Done, Dump, Rows};
 use std::alloc::{AllocError, Global};
 use std::mem;
 
-/// So many dumps of each unit are given up before the first is kept.
+/// So many dumps for each unit are given up before the first is kept, whichever units they are of.
 const EARLY: usize = 32;
 
 /// Room for one row.

@@ -75,18 +75,6 @@ impl Slots {
         })
     }
 
-    /// The slots in order. It takes no memory.
-    pub fn into_items(self) -> Vec<Slot>
-        ensures { result.items ≡ self }
-    {
-        let Slots {
-            mut items,
-            mut shared,
-        } = self;
-        settle(&mut items, &mut shared);
-        items
-    }
-
     /// How many there are.
     pub fn len(&self) -> usize
         ensures { result ≡ length self.now }

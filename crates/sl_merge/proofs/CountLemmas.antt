@@ -13,6 +13,7 @@ use Rattle.sl_merge.specs.Merging.{entries_by, joined, IsMerge}
 use Rattle.sl_merge.proofs.BoundLemmas.{each_so}
 use Rattle.sl_merge.proofs.PartLemmas.{part_of, AreBelow}
 use Rattle.sl_merge.proofs.RunLemmas.{AreRising}
+use Rattle.sl_merge.proofs.PairLemmas.{Pairs, each-append}
 use Rattle.sl_merge.proofs.BookLemmas.{by_actor, HasLogs}
 
 -- 1 for the entry that is looked for
@@ -40,8 +41,7 @@ found P x (y ∷ ys) h c = found_by ((y.0 == x.0) && (y.1 == x.1)) refl c (found
 
 -- the numbers of a log rise
 abbrev pub AreStrict : List (ℕ × ℕ) → Type 0
-AreStrict [] = ⊤
-AreStrict (y ∷ ys) = AllByRecursion (λ (w : ℕ × ℕ). y.0 < w.0) ys × AreStrict ys
+AreStrict log = Pairs (λ y w. y.0 < w.0) log
 
 AreWeak : List (ℕ × ℕ) → Type 0
 AreWeak [] = ⊤
@@ -113,10 +113,6 @@ part_below (suc n) a logs low =
         let other : n ≡ a → ⊥ = eqb-false n a e in
         let lt : a < n = grind arith in
         ap₂ (λ s t. s ++ t) (rest lt) (other_entries n a (logs n) e) ∙ append-nil (logs a)
-
-pub each-append : {X : Type 0} (P : X → Type 0) (xs ys : List X) → AllByRecursion P xs → AllByRecursion P ys → AllByRecursion P (xs ++ ys)
-each-append P [] ys h k = k
-each-append P (x ∷ xs) ys h k = (h.0, each-append P xs ys h.1 k)
 
 entries_at : (n m : ℕ) (log : List (ℕ × ℕ)) → n < m → AllByRecursion (λ (e : Entry). e.actor < m) (entries_by n log)
 entries_at n m [] lt = tt

@@ -164,14 +164,16 @@ module _ {S M : Type 0} (rules : Rules S M) (all : Ended S M) (h : HaveMet rules
     tied = flows;
   }
 
+  log_is : (a : ℕ) → a < length all.plan.ins → get_or (map (λ x. x.log) all.actors) a [] ≡ entries_of (histories a)
+  log_is a low =
+      let k = known a low in
+      get_or-map (λ (x : ActorView S M). x.log) all.actors a k.view [] (subst (λ (n : ℕ). a < n) (sym h.actors_each) low) ∙ (ap (λ (v : ActorView S M). v.log) (view_at a low k.view) ∙ sym k.is.logged)
+
   entries_are : log_entries all.actors ≡ all_entries outcome
   unfolding outcome
   entries_are =
       ap (λ (n : ℕ). joined n (λ a. get_or (map (λ x. x.log) all.actors) a [])) h.actors_each
-      ∙ joined_same (length all.plan.ins) (λ a. get_or (map (λ x. x.log) all.actors) a []) (λ a. entries_of (histories a)) (λ a low.
-      let k = known a low in
-      get_or-map (λ (x : ActorView S M). x.log) all.actors a k.view [] (subst (λ (n : ℕ). a < n) (sym h.actors_each) low)
-      ∙ (ap (λ (v : ActorView S M). v.log) (view_at a low k.view) ∙ sym k.is.logged))
+      ∙ joined_same (length all.plan.ins) (λ a. get_or (map (λ x. x.log) all.actors) a []) (λ a. entries_of (histories a)) log_is
 
   pub ended_is_run : (book : List Entry) → IsMerge (log_entries all.actors) book → IsRunOf rules all book
   unfolding outcome
@@ -193,6 +195,11 @@ module _ {S M : Type 0} (rules : Rules S M) (all : Ended S M) (h : HaveMet rules
   strict : (a : ℕ) → a < length all.plan.ins → AreStrict (entries_of (histories a))
   unfolding outcome
   strict a low = logs_rise rules outcome followed a low
+
+  -- so the numbers of each log rise
+  pub ended_rise : (a : ℕ) → a < length all.plan.ins → AreStrict (get_or (map (λ x. x.log) all.actors) a [])
+  unfolding outcome
+  ended_rise a low = subst AreStrict (sym (log_is a low)) (strict a low)
 
   -- the entries of all logs are in the order of their actors, and the numbers of each rise
   pub ended_logs : AreLogs (log_entries all.actors)

@@ -8,11 +8,14 @@ mod BoundLemmas
 pub mod NumberLemmas
 mod RunLemmas
 mod BookLemmas
+mod PairLemmas
 mod CountLemmas
 mod MergeLemmas
 mod AscendingLemmas
 mod EndedLemmas
 mod LogLemmas
+mod WindowLemmas
+mod GatherLemmas
 mod ResumedLemmas
 mod RowLemmas
 mod ApartLemmas

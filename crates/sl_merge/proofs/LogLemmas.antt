@@ -1,28 +1,19 @@
 -- The entries of logs, one log after the other: actors in order, and the numbers of each rise.
-use Rattle.std.proofs.Common.{◌≡◌, ℕ, zero, suc, ◌<◌, ◌≤◌, List, [], ◌∷◌, ◌++◌, length, get_or, inl, inr, arith, le_refl, refl, subst}
-use Rattle.std.specs.Prelude.{⊤}
+use Rattle.std.proofs.Common.{◌≡◌, ℕ, zero, suc, ◌<◌, ◌≤◌, List, [], ◌∷◌, get_or, inl, inr, arith, le_refl, refl, subst}
 use Rattle.std.specs.List.{AllByRecursion}
 use Rattle.std.specs.List.Sorted.{IsNonDecreasingBy}
 use Rattle.std.proofs.lemmas.Bool.{cases_lt}
-use Rattle.std.proofs.lemmas.List.Elements.{All-from_recursion}
 use Rattle.sl_machine.specs.declared.wiring.Entry.{Entry}
 use Rattle.sl_merge.specs.Merging.{entries_by, joined, AreLogs}
 use Rattle.sl_merge.proofs.BoundLemmas.{each_so}
-use Rattle.sl_merge.proofs.CountLemmas.{AreStrict, each-append, all_below}
+use Rattle.sl_merge.proofs.PairLemmas.{Pairs, pairs-append, by_place}
+use Rattle.sl_merge.proofs.CountLemmas.{AreStrict, all_below}
 
 -- a later entry is of a later actor, or of the same with a later number
-abbrev Follows : Entry → Entry → Type 0
+abbrev pub Follows : Entry → Entry → Type 0
 Follows e f = (e.actor ≤ f.actor) × (e.actor ≡ f.actor → e.number < f.number)
 
-abbrev Pairwise : List Entry → Type 0
-Pairwise [] = ⊤
-Pairwise (e ∷ es) = AllByRecursion (Follows e) es × Pairwise es
-
-pairs-append : (xs ys : List Entry) → Pairwise xs → Pairwise ys → AllByRecursion (λ x. AllByRecursion (Follows x) ys) xs → Pairwise (xs ++ ys)
-pairs-append [] ys h k cross = k
-pairs-append (x ∷ xs) ys h k cross = (each-append (Follows x) xs ys h.0 cross.0, pairs-append xs ys h.1 k cross.1)
-
-own_pairs : (n : ℕ) (log : List (ℕ × ℕ)) → AreStrict log → Pairwise (entries_by n log)
+own_pairs : (n : ℕ) (log : List (ℕ × ℕ)) → AreStrict log → Pairs Follows (entries_by n log)
 own_pairs n [] h = tt
 own_pairs n (p ∷ log) h = (later log h.0, own_pairs n log h.1)
   where
@@ -34,29 +25,23 @@ of_actor : (n : ℕ) (log : List (ℕ × ℕ)) → AllByRecursion (λ (e : Entry
 of_actor n [] = tt
 of_actor n (p ∷ log) = (refl, of_actor n log)
 
-pairs : (n : ℕ) (logs : ℕ → List (ℕ × ℕ)) → ((a : ℕ) → a < n → AreStrict (logs a)) → Pairwise (joined n logs)
+pub pairs : (n : ℕ) (logs : ℕ → List (ℕ × ℕ)) → ((a : ℕ) → a < n → AreStrict (logs a)) → Pairs Follows (joined n logs)
 pairs zero logs h = tt
 pairs (suc n) logs h =
     let ys : List Entry = entries_by n (logs n) in
-    pairs-append (joined n logs) ys (pairs n logs (λ a low. h a (omega arith))) (own_pairs n (logs n) (h n (omega arith)))
+    pairs-append Follows (joined n logs) ys (pairs n logs (λ a low. h a (omega arith))) (own_pairs n (logs n) (h n (omega arith)))
     (each_so (λ x. x.actor < n) (λ x. AllByRecursion (Follows x) ys)
     (λ x lt. each_so (λ y. y.actor ≡ n) (Follows x) (λ y is. (omega arith, λ same. absurd (omega arith))) ys (of_actor n (logs n)))
     (joined n logs) (all_below n n logs (le_refl n)))
 
-by_place : (es : List Entry) (i j : ℕ) (d : Entry) → Pairwise es → i < j → j < length es → Follows (get_or es i d) (get_or es j d)
-by_place [] i j d h lt low = absurd (omega arith)
-by_place (e ∷ es) i zero d h lt low = absurd (omega arith)
-by_place (e ∷ es) zero (suc j) d h lt low = All-from_recursion (Follows e) es h.0 j d (omega arith)
-by_place (e ∷ es) (suc i) (suc j) d h lt low = by_place es i j d h.1 (omega arith) (omega arith)
-
 module _ (n : ℕ) (logs : ℕ → List (ℕ × ℕ)) (h : (a : ℕ) → a < n → AreStrict (logs a)) where
   pub joined_logs : AreLogs (joined n logs)
-  joined_logs i j d lt low same = (by_place (joined n logs) i j d (pairs n logs h) lt low).1 same
+  joined_logs i j d lt low same = (by_place Follows (joined n logs) i j d (pairs n logs h) lt low).1 same
 
   pub in_order : IsNonDecreasingBy (λ e. e.actor) (joined n logs)
   in_order i j d le low =
       elim (cases_lt i j) [
-        | inl lt ↦ (by_place (joined n logs) i j d (pairs n logs h) lt low).0
+        | inl lt ↦ (by_place Follows (joined n logs) i j d (pairs n logs h) lt low).0
         | inr high ↦
             let same : i ≡ j = omega arith in
             subst (λ (k : ℕ). (get_or (joined n logs) i d).actor ≤ (get_or (joined n logs) k d).actor) same (le_refl _)

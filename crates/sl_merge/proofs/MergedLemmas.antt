@@ -25,11 +25,12 @@ use Rattle.sl_world.specs.Scene.{Scene, lines_with, schedule_of}
 use Rattle.sl_world.proofs.ResumeLemmas.{length-lines_with}
 use Rattle.sl_world.proofs.TurnLemmas.{some_at}
 use Rattle.sl_merge.specs.Lamport.{lamport_numbers}
-use Rattle.sl_merge.specs.Merging.{IsMerge, IsAscending}
+use Rattle.sl_merge.specs.Merging.{IsMerge, IsAscending, IsLog, all_entries, joined}
 use Rattle.sl_merge.specs.Ended.{Ended, HaveMet, IsMergeOf, IsRunOf, Rests, AreRests, StandsAsRun, resumed, log_entries, take_at, out_at}
-use Rattle.sl_merge.specs.Merged.{AreWired, AreLeft, list_put, list_taken, left_on, loss_before, losses_before}
-use Rattle.sl_merge.specs.Parted.{AreApart, AreThere, IsRestOf, AreRestsOf, rest_of}
-use Rattle.sl_merge.proofs.EndedLemmas.{ended_is_run}
+use Rattle.sl_merge.specs.Merged.{AreWired, AreLeft, left_on, loss_before, losses_before}
+use Rattle.sl_merge.specs.Parted.{AreApart, AreThere, AreRestsOf}
+use Rattle.sl_merge.proofs.EndedLemmas.{ended_is_run, ended_rise}
+use Rattle.sl_merge.proofs.WindowLemmas.{are_logs}
 use Rattle.sl_merge.proofs.ResumedLemmas.{line_with}
 use Rattle.sl_merge.proofs.RowLemmas.{Made, made_of, place_of_map}
 
@@ -49,9 +50,14 @@ counts_of {A} {B} f g plan xs ys same h =
     by : (n : Counts → ℕ) → map (λ x. n (f x)) xs ≡ map (λ y. n (g y)) ys
     by n = sym (map_twice n f xs) ∙ ap (map n) same ∙ map_twice n g ys
 
--- the entries of the logs of the same actors
-pub book_by : {S M X : Type 0} (e : X → ActorView S M) (xs ys : List X) (book : List Entry) → book ≡ log_entries (map e xs) → xs ≡ ys → book ≡ log_entries (map e ys)
-book_by e xs ys book is same = is ∙ ap (λ zs. log_entries (map e zs)) same
+-- the entries of the logs of actors
+pub entries_of_logs : {S M : Type 0} (actors : List (ActorView S M)) (logs : List (List (ℕ × ℕ))) → logs ≡ map (λ a. a.log) actors → all_entries logs ≡ log_entries actors
+entries_of_logs actors logs is = ap all_entries is ∙ ap (λ (n : ℕ). joined n (λ a. get_or (map (λ x. x.log) actors) a [])) (length-map actors (λ x. x.log))
+
+-- the logs of actors that have met rise
+pub all_rise : {S M : Type 0} (rules : Rules S M) (e : Ended S M) (logs : List (List (ℕ × ℕ))) → HaveMet rules e → logs ≡ map (λ a. a.log) e.actors → All IsLog logs
+all_rise rules e logs met is =
+    subst (All IsLog) (sym is) (are_logs (map (λ a. a.log) e.actors) (λ a low. ended_rise rules e met a (omega (arith, length-map e.actors (λ a. a.log), met.actors_each))))
 
 pub few_sorted : (entries sorted : List Entry) (all : List Entry) → IsPermutation entries sorted → entries ≡ all → length all < 2 ^ 39 → length sorted < 2 ^ 40
 few_sorted entries sorted all perm is few = omega (arith, length_permutation entries sorted perm, ap length is)

@@ -1,18 +1,17 @@
 -- The rests of links whose ends have met, link by link.
-use Rattle.std.proofs.Common.{◌≡◌, ◌≢◌, ◌⊎◌, ℕ, ◌+◌, ◌<◌, ◌≤◌, List, [], ◌∷◌, ◌++◌, length, get_or, map, drop, Option, None, Some, refl, ap, sym, ◌∙◌, subst, arith, inl, inr, le_refl}
+use Rattle.std.proofs.Common.{◌≡◌, ◌≢◌, ◌⊎◌, ℕ, ◌+◌, ◌<◌, List, [], ◌∷◌, ◌++◌, length, get_or, map, drop, Option, None, Some, refl, ap, sym, ◌∙◌, arith, inl, inr, le_refl}
 use Rattle.std.specs.Prelude.{Result, Ok, Err, OnOk}
 use Rattle.std.proofs.lemmas.Bool.{cases_eq}
 use Rattle.std.proofs.lemmas.List.{get_or_append_left, get_or_push, length_push, map-append, drop_at}
 use Rattle.std.proofs.lemmas.Option.{same_Some}
 use Rattle.sl_machine.specs.Plan.{link_at, link_in, link_out}
 use Rattle.sl_machine.specs.declared.wiring.Link.{Link}
-use Rattle.sl_loss.specs.Loss.{Loss}
 use Rattle.sl_link.specs.Ends.{TakeView}
 use Rattle.sl_link.specs.declared.ends.Stamped.{Stamped}
 use Rattle.sl_actor.specs.declared.part.OutPart.{OutPart}
 use Rattle.sl_actor.specs.Rows.{IsFilled, place_at}
 use Rattle.sl_merge.specs.Ended.{Rests}
-use Rattle.sl_merge.specs.Parted.{empty_at, AreApart, AreThere, IsRestOf, AreRestsOf, IsAdded, AreAsBefore, rest_of}
+use Rattle.sl_merge.specs.Parted.{empty_at, AreApart, AreThere, AreRestsOf, IsAdded, AreAsBefore, rest_of}
 use Rattle.sl_merge.proofs.RowLemmas.{filled_by, filled_row, else_there}
 
 -- two links do not share a place

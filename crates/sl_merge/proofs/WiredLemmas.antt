@@ -6,7 +6,7 @@ use Rattle.sl_machine.specs.Machine.{Counts}
 use Rattle.sl_machine.specs.Plan.{Plan, link_at, no_link}
 use Rattle.sl_machine.specs.Fit.{Fits}
 use Rattle.sl_loss.specs.Loss.{Loss, IsFresh}
-use Rattle.sl_link.specs.Ends.{TakeView, Channel}
+use Rattle.sl_link.specs.Ends.{TakeView}
 use Rattle.sl_link.specs.declared.ends.Stamped.{Stamped}
 use Rattle.sl_actor.specs.Losses.{unasked}
 use Rattle.sl_actor.specs.Outs.{OutView}
@@ -16,7 +16,7 @@ use Rattle.sl_actor.specs.Made.{HasEnds, AreTied}
 use Rattle.sl_merge.specs.Merging.{entries_by, joined}
 use Rattle.sl_merge.specs.Ended.{log_entries, take_at, out_at}
 use Rattle.sl_merge.specs.Merged.{AreWired, AreKept, loss_before, losses_before}
-use Rattle.sl_merge.proofs.MergedLemmas.{actors_each, counts_of, in_range, out_by, some_out}
+use Rattle.sl_merge.proofs.MergedLemmas.{counts_of, in_range, out_by, some_out}
 
 -- what a function makes of an element, where it makes the same of two lists
 same_by : {X Y : Type 0} (f : X → Y) (xs ys : List X) (i : ℕ) (d : X) → map f xs ≡ map f ys → i < length xs → f (get_or xs i d) ≡ f (get_or ys i d)

@@ -4,3 +4,4 @@ pub mod Outcome
 pub mod Ended
 pub mod Merged
 pub mod Parted
+pub mod Windows

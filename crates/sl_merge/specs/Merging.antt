@@ -13,6 +13,14 @@ abbrev pub joined : ℕ → (ℕ → List (ℕ × ℕ)) → List Entry
 joined zero logs = []
 joined (suc n) logs = joined n logs ++ entries_by n (logs n)
 
+-- the entries of all logs, of which each actor has one
+abbrev pub all_entries : List (List (ℕ × ℕ)) → List Entry
+all_entries logs = joined (length logs) (λ a. slice_index_or logs a [])
+
+-- the numbers of a log rise
+abbrev pub IsLog : List (ℕ × ℕ) → Type 0
+IsLog log = (i j : ℕ) (d : ℕ × ℕ) → i < j → j < length log → (slice_index_or log i d).0 < (slice_index_or log j d).0
+
 -- a book has just these entries, and its numbers never fall; entries of one number may stand in any order
 pub record IsMerge (entries book : List Entry) : Type 0 where
   pub same_entries : IsPermutation entries book

@@ -6,7 +6,8 @@ ghost use Rattle.sl_merge.specs.Merging.{IsMerge, AreLogs, IsAscending};
 use sl_machine::{Book, Memory};
 
 /// Puts the entries of a book, which come in the order of their actors, in the order of number and
-/// actor. Entries with both the same, of which logs have none, stay in their order.
+/// actor. Entries with both the same, of which logs have none, stay in their order. `merge` makes the
+/// same book of the logs themselves.
 pub fn sort_book(book: &mut Book) -> Result<(), Memory>
     requires { IsNonDecreasingBy (λ e. e.actor) book.old.entries }
     ensures same_entries { IsPermutation book.old.entries book.new.entries }

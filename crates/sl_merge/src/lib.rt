@@ -3,6 +3,7 @@
 
 mod book;
 mod laws;
+mod logs;
 mod merged;
 mod parts;
 mod rests;

@@ -10,9 +10,9 @@ ghost use Rattle.sl_merge.specs.Lamport.{lamport_numbers};
 ghost use Rattle.sl_merge.specs.Ended.{log_entries, StandsAsRun};
 ghost use Rattle.sl_merge.specs.Merged.{AreWired, AreLeft, losses_before};
 
-use crate::book::sort_book;
 use crate::laws::{actors_are_runs, merges_are_resumed};
-use crate::parts::{Parts, book_of, take_apart};
+use crate::logs::merge_logs;
+use crate::parts::{Parts, take_apart};
 use crate::rests::meet_all;
 use sl_actor::Actor;
 use sl_machine::{Machine, Memory, Wiring};
@@ -48,15 +48,15 @@ pub fn merge<R: Wait, A: Machine>(
 {
     actors_are_runs::<A>();
     merges_are_resumed::<A>();
-    let mut book = book_of(alloc, actors.as_slice())?;
     let Parts {
         machines,
+        logs,
         mut takes,
         mut outs,
     } = take_apart(alloc, actors)?;
     let links = wiring.links.as_slice();
     let rests = meet_all(rt, alloc, links, &mut takes, &mut outs)?;
-    sort_book(&mut book)?;
+    let book = merge_logs(alloc, logs.as_slice())?;
     let (losses, lost, messages) = rests.into_lists();
     World::resume(alloc, machines, wiring, losses, lost, messages, book)
 }

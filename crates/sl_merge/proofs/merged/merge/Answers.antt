@@ -1,5 +1,4 @@
-use Rattle.std.proofs.Common.{◌≡◌, ◌∙◌, List, length, map, sym, subst, ap}
-use Rattle.std.specs.List.Sorted.{IsNonDecreasingBy}
+use Rattle.std.proofs.Common.{◌≡◌, ◌∙◌, List, length, map, sym, subst, ap, arith}
 use Rattle.std.proofs.lemmas.List.{length-map}
 use Rattle.std.proofs.lemmas.Result.{IfOk-weaker}
 use Rattle.sl_machine.specs.Plan.{Plan}
@@ -8,9 +7,9 @@ use Rattle.sl_machine.specs.declared.wiring.Entry.{Entry}
 use Rattle.sl_actor.specs.Follows.{ActorView}
 use Rattle.sl_actor.specs.Held.{held}
 use Rattle.sl_world.specs.World.{scene}
-use Rattle.sl_merge.specs.Merging.{IsMerge, AreLogs}
+use Rattle.sl_merge.specs.Merging.{IsMerge}
 use Rattle.sl_merge.specs.Parted.{AreThere, AreRestsOf}
-use Rattle.sl_merge.proofs.MergedLemmas.{there, ended, have_met, are_rests, book_by, few_sorted, counts_of, IsMerged, merged, resumed_by}
+use Rattle.sl_merge.proofs.MergedLemmas.{there, ended, have_met, are_rests, entries_of_logs, all_rise, actors_each, few_sorted, counts_of, IsMerged, merged, resumed_by}
 use Rattle.sl_merge.proofs.merged.merge.Goals as goal
 
 pub meet_all-requires-clause-there : goal.meet_all-requires-clause-there
@@ -20,8 +19,14 @@ meet_all-requires-clause-there g c =
     subst (λ (l : List Link). AreThere {M = g.row.A-Msg.Denot} l p.takes.items p.outs.items) (sym links)
     (there c.args.wiring.now (map held c.args.actors.items) c.requires.wired p.takes.items p.outs.items c.in_ok-machines.ensures.takes c.in_ok-machines.ensures.outs)
 
-pub sort_book-requires : goal.sort_book-requires
-sort_book-requires g c =
+pub merge_logs-requires-clause-few : goal.merge_logs-requires-clause-few
+merge_logs-requires-clause-few g c =
+    let actors = map held c.args.actors.items in
+    let logs = c.in_ok-machines.field-0.logs.items in
+    omega (arith, ap length c.as_slice.ensures.value, length-map logs (λ log. log.items), ap length c.in_ok-machines.ensures.logs, length-map actors (λ a. a.log), actors_each c.args.wiring.now actors c.requires.wired, c.requires.wired.sound.actors_fit)
+
+pub merge_logs-requires-clause-logs : goal.merge_logs-requires-clause-logs
+merge_logs-requires-clause-logs g c =
     let plan = c.args.wiring.now in
     let actors = map held c.args.actors.items in
     let wired = c.requires.wired in
@@ -33,7 +38,7 @@ sort_book-requires g c =
     let each = length-map c.args.first.now g.A.Machine.state ∙ c.requires.first in
     let end = ended plan actors wired p.takes.items p.outs.items e.takes e.outs c.in_ok-rests.rests are g.A.Machine.rules firsts each c.requires.follows in
     let met = have_met plan actors wired p.takes.items p.outs.items e.takes e.outs c.in_ok-rests.rests are g.A.Machine.rules firsts each c.requires.follows in
-    subst (IsNonDecreasingBy (λ (x : Entry). x.actor)) (sym (book_by held _ _ _ c.in_ok-book.ensures c.as_slice.ensures.value)) (c.actors_are_runs.ensures.in_order end met)
+    all_rise g.A.Machine.rules end (map (λ log. log.items) c.as_slice.result.now) met (ap (map (λ log. log.items)) c.as_slice.ensures.value ∙ e.logs)
 
 pub resume-requires-clause-fit : goal.resume-requires-clause-fit
 resume-requires-clause-fit g c =
@@ -48,7 +53,7 @@ resume-requires-clause-fit g c =
 
 pub resume-requires-clause-book : goal.resume-requires-clause-book
 resume-requires-clause-book g c =
-    few_sorted _ _ _ c.sort_book.ensures.same_entries (book_by held _ _ _ c.in_ok-book.ensures c.as_slice.ensures.value) c.requires.few
+    few_sorted _ _ _ c.in_ok-book.ensures.merge.same_entries (entries_of_logs (map held c.args.actors.items) (map (λ log. log.items) c.as_slice.result.now) (ap (map (λ log. log.items)) c.as_slice.ensures.value ∙ c.in_ok-machines.ensures.logs)) c.requires.few
 
 pub resume-requires-clause-numbers : goal.resume-requires-clause-numbers
 resume-requires-clause-numbers g c =
@@ -63,8 +68,8 @@ resume-requires-clause-numbers g c =
     let each = length-map c.args.first.now g.A.Machine.state ∙ c.requires.first in
     let end = ended plan actors wired p.takes.items p.outs.items e.takes e.outs c.in_ok-rests.rests are g.A.Machine.rules firsts each c.requires.follows in
     let met = have_met plan actors wired p.takes.items p.outs.items e.takes e.outs c.in_ok-rests.rests are g.A.Machine.rules firsts each c.requires.follows in
-    let book = c.sort_book.new.book.entries in
-    (c.actors_are_runs.ensures.run end book met (subst (λ (es : List Entry). IsMerge es book) (book_by held _ _ _ c.in_ok-book.ensures c.as_slice.ensures.value) c.in_ok-sort_book.ensures.merge)).small
+    let book = c.in_ok-book.book.entries in
+    (c.actors_are_runs.ensures.run end book met (subst (λ (es : List Entry). IsMerge es book) (entries_of_logs (map held c.args.actors.items) (map (λ log. log.items) c.as_slice.result.now) (ap (map (λ log. log.items)) c.as_slice.ensures.value ∙ c.in_ok-machines.ensures.logs)) c.in_ok-book.ensures.merge)).small
 
 pub returns : goal.returns
 returns g c =
@@ -81,9 +86,8 @@ returns g c =
     let rules = g.A.Machine.rules in
     let end = ended plan actors wired p.takes.items p.outs.items e.takes e.outs rests are rules firsts each c.requires.follows in
     let met = have_met plan actors wired p.takes.items p.outs.items e.takes e.outs rests are rules firsts each c.requires.follows in
-    let book = c.sort_book.new.book.entries in
-    let m = subst (λ (es : List Entry). IsMerge es book) (book_by held _ _ _ c.in_ok-book.ensures c.as_slice.ensures.value) c.in_ok-sort_book.ensures.merge in
-    let order = c.in_ok-sort_book.ensures.ascending (subst AreLogs (sym (book_by held _ _ _ c.in_ok-book.ensures c.as_slice.ensures.value)) (c.actors_are_runs.ensures.logs end met)) in
+    let book = c.in_ok-book.book.entries in
+    let m = subst (λ (es : List Entry). IsMerge es book) (entries_of_logs (map held c.args.actors.items) (map (λ log. log.items) c.as_slice.result.now) (ap (map (λ log. log.items)) c.as_slice.ensures.value ∙ c.in_ok-machines.ensures.logs)) c.in_ok-book.ensures.merge in
     let l = c.into_lists-losses.ensures in
     let run = c.merges_are_resumed.ensures end rests book met (are_rests plan actors wired p.takes.items p.outs.items e.takes e.outs rests are rules firsts each c.requires.follows) m in
     let all = IfOk-weaker c.resume.result _ (λ w. IsMerged plan actors wired p.takes.items p.outs.items e.takes e.outs rests are rules firsts each c.requires.follows book m (scene w))
@@ -95,7 +99,7 @@ returns g c =
       numbers = IfOk-weaker c.resume.result _ _ (λ w h. h.numbers) all;
       small = IfOk-weaker c.resume.result _ _ (λ w h. h.small) all;
       book = IfOk-weaker c.resume.result _ _ (λ w h. h.book_is) all;
-      order = IfOk-weaker c.resume.result _ _ (λ w h. h.order order) all;
+      order = IfOk-weaker c.resume.result _ _ (λ w h. h.order c.in_ok-book.ensures.ascending) all;
       plan = IfOk-weaker c.resume.result _ _ (λ w h. h.plan_is) all;
       machines = IfOk-weaker c.resume.result _ _ (λ w h. h.machines) all;
       links = IfOk-weaker c.resume.result _ _ (λ w h. h.links) all;

@@ -17,11 +17,13 @@ loop-actor-preserved g c =
     let first = c.in-Some.ensures.items in
     let e = c.into_parts-parts.ensures in
     let machine : c.push.new.self.items ≡ c.loop-actor.machines.items ++ c.into_parts-parts.result.machine ∷ [] = search rules in
-    let take : c.push-in-Some.new.self.items ≡ c.loop-actor.takes.items ++ c.in_ok-new.field-0 ∷ [] = search rules in
-    let out : c.push-in-Some-2.new.self.items ≡ c.loop-actor.outs.items ++ c.in_ok-new-2.field-0 ∷ [] = search rules in (
+    let log : c.push-in-Some.new.self.items ≡ c.loop-actor.logs.items ++ c.into_parts-parts.result.log ∷ [] = search rules in
+    let take : c.push-in-Some-2.new.self.items ≡ c.loop-actor.takes.items ++ c.in_ok-new.field-0 ∷ [] = search rules in
+    let out : c.push-in-Some-3.new.self.items ≡ c.loop-actor.outs.items ++ c.in_ok-new-2.field-0 ∷ [] = search rules in (
       moved_by g.A.Machine.state (λ (a : ActorView g.A.Machine.State g.row.A-Msg.Denot). a.state) held c.loop-actor.machines.items c.push.new.self.items ws rest c.into_parts-parts.result.machine w _ h.0 first machine e.state,
       moved_by g.A.Machine.counts (λ (a : ActorView g.A.Machine.State g.row.A-Msg.Denot). a.counts) held c.loop-actor.machines.items c.push.new.self.items ws rest c.into_parts-parts.result.machine w _ h.1 first machine e.counts,
-      moved_on (λ (a : ActorView g.A.Machine.State g.row.A-Msg.Denot). map Some a.takes) held c.loop-actor.takes.items c.push-in-Some.new.self.items ws rest w c.in_ok-new.field-0 _ h.2 first take (c.in_ok-new.ensures ∙ ap (map Some) e.takes),
-      moved_by (λ (row : List (Option (OutPart g.row.A-Msg.Denot))). map (option_map out_view) row) (λ (a : ActorView g.A.Machine.State g.row.A-Msg.Denot). map Some a.outs) held c.loop-actor.outs.items c.push-in-Some-2.new.self.items ws rest c.in_ok-new-2.field-0 w _ h.3 first out
+      moved_by (λ log. log.items) (λ (a : ActorView g.A.Machine.State g.row.A-Msg.Denot). a.log) held c.loop-actor.logs.items c.push-in-Some.new.self.items ws rest c.into_parts-parts.result.log w _ h.2 first log e.log,
+      moved_on (λ (a : ActorView g.A.Machine.State g.row.A-Msg.Denot). map Some a.takes) held c.loop-actor.takes.items c.push-in-Some-2.new.self.items ws rest w c.in_ok-new.field-0 _ h.3 first take (c.in_ok-new.ensures ∙ ap (map Some) e.takes),
+      moved_by (λ (row : List (Option (OutPart g.row.A-Msg.Denot))). map (option_map out_view) row) (λ (a : ActorView g.A.Machine.State g.row.A-Msg.Denot). map Some a.outs) held c.loop-actor.outs.items c.push-in-Some-3.new.self.items ws rest c.in_ok-new-2.field-0 w _ h.4 first out
           (ap (map (option_map out_view)) c.in_ok-new-2.ensures ∙ seen_parts c.into_parts-parts.result.outs.items ∙ ap (map Some) e.outs),
     )

@@ -143,8 +143,7 @@ impl<A: Machine> Actor<A> {
         ensures counts { (held self.new).counts ≡ (held self.old).counts }
     {
         let may_step = self.prepare(rt, choice)?;
-        self.sleeper.note(&self.outs.waiting);
-        let offered = self.outs.offer(rt);
+        let offered = self.outs.offer(rt, &mut self.sleeper);
         let did = self.step(rt, choice, may_step);
         let has_moved = offered || did;
         self.sleeper.wake_full(has_moved, &self.outs.waiting);

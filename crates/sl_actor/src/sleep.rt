@@ -219,14 +219,7 @@ impl Sleeper {
         self.roster.leave();
     }
 
-    /// Notes that on these links something is offered next.
-    pub fn note(&mut self, waiting: &VecDeque<u32>) {
-        for i in 0..waiting.len() {
-            self.put_on(waiting[i]);
-        }
-    }
-
-    /// Notes that on this link something is offered next.
+    /// Notes that on this link something was put, or is offered next.
     pub fn put_on(&mut self, out: u32) {
         if let Some(is_offered) = self.is_offered.get_mut(out as usize)
             && !*is_offered

@@ -136,8 +136,8 @@ fn run_few<R: Threads + Wait + Sync, G: Gate + Sync>(
 }
 
 /// Runs an input on the nodes of its net to its end: each in a thread of its own until none moves
-/// any more, and then finishes in one thread. The gate is passed by each actor before each of its rounds. The
-/// script isn't used.
+/// any more, and then finishes in one thread. Each actor passes the gate before each of its rounds.
+/// The script isn't used.
 pub fn finish_threaded<R: Threads + Wait + Sync, G: Gate + Sync>(
     rt: &R,
     alloc: Global,

@@ -145,6 +145,7 @@ impl<A: Machine> Actor<A> {
         let may_step = self.prepare(rt, choice)?;
         let offered = self.outs.offer(rt, &mut self.sleeper);
         let did = self.step(rt, choice, may_step);
+        self.sleeper.turned(choice, did);
         let has_moved = offered || did;
         self.sleeper.wake_full(has_moved, &self.outs.waiting);
         Ok(moved(did, offered))

@@ -1,5 +1,6 @@
 // Runs of an actor: rounds of turns until nothing moves any more.
 ghost use Rattle.std.specs.Prelude.{◌≡◌, ◌+◌, ◌<◌, ◌≤◌, Ok, length, OnOk, OnErr, IfOk};
+ghost use Rattle.std.specs.Bool.{OnTrue};
 ghost use Rattle.std.specs.List.{All, Contains};
 ghost use Rattle.sl_machine.specs.Machine.{IsChoice};
 ghost use Rattle.sl_actor.specs.Outs.{AreOffered};
@@ -48,11 +49,12 @@ impl<A: Machine> Actor<A> {
     ghost use Rattle.sl_actor.specs.Turns.{KeepsEnds, NothingDone};
     ghost use Rattle.sl_actor.specs.Runs.{Advances, LogGoesOn, IsQuiet, Settled, MatchMoved, MatchRound};
 
-    /// Rounds of one turn by each choice of the plan, until the log has grown by `steps` entries
-    /// (`Spent`), or for `quiet` rounds in a row no turn did or moved anything (`Rested`). A run
-    /// that is refused for memory stands after the turns that it took. Between rounds in which
-    /// nothing moved it sleeps while others run or are to begin, until a neighbour puts something on
-    /// one of its links or makes room.
+    /// Rounds of turns by the choices of the plan, until the log has grown by `steps` entries (`Spent`),
+    /// or for `quiet` rounds in a row no turn did or moved anything (`Rested`). The last of these has one
+    /// turn by each choice. The others leave out each link on which nothing was put since the round
+    /// before and nothing was found in it. A run that is refused for memory stands after the turns that
+    /// it took. Between rounds in which nothing moved it sleeps while others run or are to begin, until a
+    /// neighbour puts something on one of its links or makes room.
     pub fn run<R: Wait, G: Gate>(
         &mut self,
         rt: &R,
@@ -108,14 +110,17 @@ impl<A: Machine> Actor<A> {
         let mut round = 0;
         for _ in rt.forever() {
             gate.pass(self.place(), round);
-            match self.round(rt, plan, steps, &mut done)? {
+            let is_last = idle + 1 >= quiet;
+            let asks_all = self.sleeper.asks_all(idle, &self.outs.waiting);
+            let by_all = is_last || asks_all;
+            match self.round(rt, plan, by_all, steps, &mut done)? {
                 Round::Full => return Ok(Rest::Spent),
                 Round::Busy => idle = 0,
                 Round::Calm => {
-                    idle += 1;
-                    if idle >= quiet {
+                    if is_last {
                         return Ok(Rest::Rested);
                     }
+                    idle += 1;
                 }
             }
             self.sleeper.pause(rt, &backoff, idle, &self.outs.waiting);
@@ -124,11 +129,13 @@ impl<A: Machine> Actor<A> {
         unreachable!()
     }
 
-    /// One turn by each choice of the plan, until all steps are made.
+    /// One turn by each choice of the plan of which something may come. Where nothing moved then and it is
+    /// asked for, one turn by each choice of the plan. It ends once all steps are made.
     fn round<R: Wait>(
         &mut self,
         rt: &R,
         plan: &[u32],
+        by_all: bool,
         steps: u64,
         done: &mut u64,
     ) -> Result<Round, Memory>
@@ -136,10 +143,42 @@ impl<A: Machine> Actor<A> {
         requires steps { done.old < steps }
         ensures advances { Advances A.rules plan.now (held self.old) (held self.new) }
         ensures done { length (held self.new).log + done.old ≡ length (held self.old).log + done.new }
-        ensures answer { IfOk result (λ r. MatchRound r (done.new ≡ steps) (done.new < steps) (IsQuiet A.rules plan.now (length plan.now) (held self.new))) }
+        ensures answer { IfOk result (λ r. MatchRound r (done.new ≡ steps) (done.new < steps) (OnTrue by_all (IsQuiet A.rules plan.now (length plan.now) (held self.new)))) }
+    {
+        if self.sleeper.has_news() {
+            match self.turns(rt, plan, false, steps, done)? {
+                Round::Full => return Ok(Round::Full),
+                Round::Busy => return Ok(Round::Busy),
+                Round::Calm => {}
+            }
+        }
+        if !by_all {
+            return Ok(Round::Calm);
+        }
+        self.turns(rt, plan, true, steps, done)
+    }
+
+    /// One turn by each choice of the plan, or by each of which something may come, until all steps are
+    /// made.
+    fn turns<R: Wait>(
+        &mut self,
+        rt: &R,
+        plan: &[u32],
+        by_all: bool,
+        steps: u64,
+        done: &mut u64,
+    ) -> Result<Round, Memory>
+        requires plan { All (λ choice. IsChoice (held self.old).counts choice) plan.now }
+        requires steps { done.old < steps }
+        ensures advances { Advances A.rules plan.now (held self.old) (held self.new) }
+        ensures done { length (held self.new).log + done.old ≡ length (held self.old).log + done.new }
+        ensures answer { IfOk result (λ r. MatchRound r (done.new ≡ steps) (done.new < steps) (OnTrue by_all (IsQuiet A.rules plan.now (length plan.now) (held self.new)))) }
     {
         let mut calm = true;
         for choice in plan {
+            if !by_all && !self.sleeper.may_find(*choice) {
+                continue;
+            }
             match self.advance(rt, plan, *choice)? {
                 Moved::Did => {
                     calm = false;

@@ -16,7 +16,7 @@ const AWAKE: u64 = 0;
 const ASLEEP: u64 = 1;
 
 /// After how many rounds in a row without any move an actor makes ready to sleep.
-const IDLE_ROUNDS: u64 = 2;
+const IDLE_ROUNDS: u64 = 4;
 
 /// How many milliseconds an actor sleeps at most while some have begun no run.
 const PATIENCE: u64 = 500;
@@ -24,10 +24,24 @@ const PATIENCE: u64 = 500;
 /// How many milliseconds it sleeps at most once all have.
 const LONGEST: u64 = 2000;
 
-/// What the actors of a wiring share beside their links: which of them sleep.
+/// What the actors share of one of them.
+#[derive(Drop)]
+struct Bed {
+    // whether it sleeps
+    state: AtomicU64,
+    // the incoming links on which something was put since it last asked, each as the bit of its choice
+    news: AtomicU64,
+}
+
+/// The bit of a choice. Choices 64 apart share one.
+fn bit_of(choice: u32) -> u64 {
+    1u64 << (choice % 64)
+}
+
+/// What the actors of a wiring share beside their links: which of them sleep, and what is new to them.
 #[derive(Drop)]
 pub struct Roster {
-    states: Vec<CachePadded<AtomicU64>>,
+    beds: Vec<CachePadded<Bed>>,
     // by link, whether its sender sleeps until the link is empty
     awaited: Vec<AtomicBool>,
     // how many actors have begun a run
@@ -41,13 +55,16 @@ pub struct Roster {
 impl Roster {
     /// The roster of the actors of a wiring.
     pub fn shared(alloc: Global, wiring: &Wiring) -> Result<Arc<Roster, Global>, Memory> {
-        let mut states = Vec::new(alloc);
+        let mut beds = Vec::new(alloc);
         for _ in 0..wiring.in_counts.len() {
-            states.push(CachePadded::new(AtomicU64::new(AWAKE)))?;
+            beds.push(CachePadded::new(Bed {
+                state: AtomicU64::new(AWAKE),
+                news: AtomicU64::new(0),
+            }))?;
         }
         let roster = Roster {
-            awake: CachePadded::new(AtomicU64::new(states.len() as u64)),
-            states,
+            awake: CachePadded::new(AtomicU64::new(beds.len() as u64)),
+            beds,
             awaited: none_awaited(alloc, wiring.links.len())?,
             begun: CachePadded::new(AtomicU64::new(0)),
             is_over: CachePadded::new(AtomicBool::new(false)),
@@ -57,15 +74,15 @@ impl Roster {
 
     /// Wakes an actor.
     fn wake(&self, actor: u32) {
-        if let Some(state) = self.states.get(actor as usize)
-            && state.load(SeqCst) != AWAKE
+        if let Some(bed) = self.beds.get(actor as usize)
+            && bed.state.load(SeqCst) != AWAKE
         {
             self.awake.fetch_add(1, SeqCst);
-            if state.swap(AWAKE, SeqCst) == AWAKE {
+            if bed.state.swap(AWAKE, SeqCst) == AWAKE {
                 // another has woken it, and has counted it
                 self.leave();
             } else {
-                state.wake_one();
+                bed.state.wake_one();
             }
         }
     }
@@ -80,9 +97,9 @@ impl Roster {
     /// Wakes all, for good.
     fn wake_all(&self) {
         self.is_over.store(true, SeqCst);
-        for state in &self.states {
-            state.store(AWAKE, SeqCst);
-            state.wake_one();
+        for bed in &self.beds {
+            bed.state.store(AWAKE, SeqCst);
+            bed.state.wake_one();
         }
     }
 }
@@ -99,6 +116,8 @@ fn none_awaited(alloc: Global, count: usize) -> Result<Vec<AtomicBool>, Memory> 
 #[derive(Clone, Copy)]
 struct Neighbour {
     actor: u32,
+    // the link's bit at its receiver
+    bit: u64,
     link: usize,
 }
 
@@ -117,8 +136,28 @@ impl Neighbours {
         let mut senders = rows(alloc, wiring.in_counts.as_slice())?;
         let mut receivers = rows(alloc, wiring.out_counts.as_slice())?;
         for (number, link) in wiring.links.iter().enumerate() {
-            write(&mut senders, link.to, link.choice, number, link.from);
-            write(&mut receivers, link.from, link.out, number, link.to);
+            let bit = bit_of(link.choice);
+            let (from, to) = (link.from, link.to);
+            write(
+                &mut senders,
+                to,
+                link.choice,
+                Neighbour {
+                    actor: from,
+                    bit,
+                    link: number,
+                },
+            );
+            write(
+                &mut receivers,
+                from,
+                link.out,
+                Neighbour {
+                    actor: to,
+                    bit,
+                    link: number,
+                },
+            );
         }
         Ok(Neighbours { senders, receivers })
     }
@@ -126,7 +165,11 @@ impl Neighbours {
 
 /// Rows of these lengths.
 fn rows(alloc: Global, counts: &[u32]) -> Result<Vec<Vec<Neighbour>>, Memory> {
-    let none = Neighbour { actor: 0, link: 0 };
+    let none = Neighbour {
+        actor: 0,
+        bit: 0,
+        link: 0,
+    };
     let mut rows = Vec::new(alloc);
     for count in counts {
         rows.push(vec![in alloc; none; *count as usize]?)?;
@@ -135,11 +178,11 @@ fn rows(alloc: Global, counts: &[u32]) -> Result<Vec<Vec<Neighbour>>, Memory> {
 }
 
 /// Writes at a place of a row.
-fn write(rows: &mut Vec<Vec<Neighbour>>, row: u32, place: u32, link: usize, actor: u32) {
+fn write(rows: &mut Vec<Vec<Neighbour>>, row: u32, place: u32, neighbour: Neighbour) {
     if let Some(row) = rows.get_mut(row as usize)
         && let Some(at) = row.get_mut(place as usize)
     {
-        *at = Neighbour { actor, link };
+        *at = neighbour;
     }
 }
 
@@ -165,6 +208,10 @@ pub struct Sleeper {
     // the outgoing links on which something may have been put since their receivers were last woken
     offered: VecDeque<u32>,
     is_offered: Vec<bool>,
+    // the choices of which a step may come in this round
+    open: u64,
+    // those of which one came in it
+    found: u64,
     // whether it was counted in a run
     has_begun: bool,
     // whether it is about to sleep
@@ -197,13 +244,16 @@ impl Sleeper {
             receivers,
             offered,
             is_offered,
+            open: 0,
+            found: 0,
             has_begun: false,
             is_ready: false,
         })
     }
 
-    /// A run begins.
+    /// A run begins. Each choice may find something.
     pub fn begin(&mut self) {
+        self.found = u64::MAX;
         if self.has_begun {
             self.roster.awake.fetch_add(1, SeqCst);
         } else {
@@ -219,8 +269,46 @@ impl Sleeper {
         self.roster.leave();
     }
 
-    /// Notes that on this link something was put, or is offered next.
+    /// A round begins. Whether something is new on an incoming link, or a step came in the round before.
+    pub fn has_news(&mut self) -> bool {
+        let mut news = 0;
+        if let Some(bed) = self.roster.beds.get(self.place as usize)
+            && bed.news.load(SeqCst) != 0
+        {
+            news = bed.news.swap(0, SeqCst);
+        }
+        self.open = self.found | news;
+        self.found = 0;
+        self.open != 0
+    }
+
+    /// Whether a round after so many idle ones is to try each choice. The round before a sleep is; so is
+    /// one where messages wait, since each turn offers them.
+    pub fn asks_all(&self, idle: u64, waiting: &VecDeque<u32>) -> bool {
+        self.is_ready || (idle > 0 && !waiting.is_empty())
+    }
+
+    /// Whether a step may come of a choice: of a link on which something is new or was found last, and
+    /// of an action.
+    pub fn may_find(&self, choice: u32) -> bool {
+        self.open & bit_of(choice) != 0 || (choice as usize) >= self.senders.len()
+    }
+
+    /// A turn by a choice has ended. Where a step came of it, the next round tries it again.
+    pub fn turned(&mut self, choice: u32, did: bool) {
+        if did {
+            self.found |= bit_of(choice);
+        }
+    }
+
+    /// Notes that on this link something was put, and tells its receiver.
     pub fn put_on(&mut self, out: u32) {
+        if let Some(receiver) = self.receivers.get(out as usize)
+            && let Some(bed) = self.roster.beds.get(receiver.actor as usize)
+            && bed.news.load(SeqCst) & receiver.bit == 0
+        {
+            bed.news.fetch_or(receiver.bit, SeqCst);
+        }
         if let Some(is_offered) = self.is_offered.get_mut(out as usize)
             && !*is_offered
             && self.offered.len() < self.offered.capacity()
@@ -299,8 +387,8 @@ impl Sleeper {
     fn stay_awake(&mut self) {
         if self.is_ready {
             self.is_ready = false;
-            if let Some(state) = self.roster.states.get(self.place as usize)
-                && state.swap(AWAKE, SeqCst) == AWAKE
+            if let Some(bed) = self.roster.beds.get(self.place as usize)
+                && bed.state.swap(AWAKE, SeqCst) == AWAKE
             {
                 // a neighbour has counted this one once more
                 self.roster.leave();
@@ -311,8 +399,8 @@ impl Sleeper {
     /// Tells that the actor is about to sleep. It has to see a whole round without any move after it.
     fn make_ready(&mut self, waiting: &VecDeque<u32>) {
         self.is_ready = true;
-        if let Some(state) = self.roster.states.get(self.place as usize) {
-            state.store(ASLEEP, SeqCst);
+        if let Some(bed) = self.roster.beds.get(self.place as usize) {
+            bed.state.store(ASLEEP, SeqCst);
         }
         for i in 0..waiting.len() {
             if let Some(receiver) = self.receivers.get(waiting[i] as usize)
@@ -328,12 +416,13 @@ impl Sleeper {
     fn sleep<R: Wait>(&mut self, rt: &R) {
         self.is_ready = false;
         let begun = self.roster.begun.load(SeqCst);
-        let have_all = begun >= self.roster.states.len() as u64;
+        let have_all = begun >= self.roster.beds.len() as u64;
         let most = if have_all { LONGEST } else { PATIENCE };
         self.roster.leave();
-        if let Some(state) = self.roster.states.get(self.place as usize) {
-            state.park_timeout(rt, ASLEEP as u32, Duration::from_millis(most));
-            let is_woken = state.load(SeqCst) == AWAKE;
+        if let Some(bed) = self.roster.beds.get(self.place as usize) {
+            bed.state
+                .park_timeout(rt, ASLEEP as u32, Duration::from_millis(most));
+            let is_woken = bed.state.load(SeqCst) == AWAKE;
             if !is_woken && !have_all && self.roster.begun.load(SeqCst) == begun {
                 self.roster.wake_all();
             }

@@ -4,3 +4,4 @@ pub mod Ways
 pub mod Fitting
 pub mod Channels
 pub mod Numbers
+pub mod Entrances

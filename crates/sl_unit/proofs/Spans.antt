@@ -17,6 +17,8 @@ one_without p n span f s = record {
   within = omega (arith, s.within);
   before = s.before;
   through = s.through ∙ sym (filter_below_more p n ∙ ap (λ b. filter p (below n) ++ cond b (n ∷ []) []) f ∙ append-nil (filter p (below n)));
+  first = s.first;
+  last = s.last;
 }
 
 -- all that pass lie below the end

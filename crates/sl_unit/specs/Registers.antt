@@ -79,12 +79,15 @@ seen (Upstream i) stamp r = record r { last = slice_set r.last i stamp }
 abbrev pub counted : ℕ → Registers → Registers
 counted bytes r = record r { packets = more r.packets 1; bytes = more r.bytes bytes }
 
--- after a stamp without data, and after a data packet
+-- after a stamp without data, after a data packet of so many bytes, and after a data packet
 abbrev pub after_stamp : Channel → Reading → Registers → Registers
 after_stamp channel x r = seen channel x.stamp (adopted x r)
 
+abbrev pub after_bytes : ℕ → ℕ → Reading → ℕ → Registers → Registers
+after_bytes n channel x bytes r = counted bytes (seen (Upstream channel) x.stamp (credited n channel x bytes (adopted x r)))
+
 abbrev pub after_data : ℕ → ℕ → Reading → Packet → Registers → Registers
-after_data n channel x p r = counted p.len (seen (Upstream channel) x.stamp (credited n channel x p.len (adopted x r)))
+after_data n channel x p r = after_bytes n channel x p.len r
 
 abbrev pub dump_of : Registers → Dump
 dump_of r = record { id = r.id; cpu = r.cpu; last = r.last; view = r.saved }

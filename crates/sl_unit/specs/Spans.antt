@@ -1,5 +1,5 @@
 -- Where the outgoing links of a way lie, so that who puts a message looks at few others. Nothing that other crates see depends on it.
-use Rattle.std.specs.Prelude.{◌≡◌, ℕ, ◌<◌, ◌≤◌, Bool, List, [], length, filter, slice_index_or}
+use Rattle.std.specs.Prelude.{◌≡◌, ℕ, ◌+◌, ◌<◌, ◌≤◌, Bool, true, List, [], length, filter, slice_index_or}
 use Rattle.sl_layout.specs.declared.actor.Sort.TheVariants.{Cable, ToHost, Crossbar, Notice, Dump}
 use Rattle.sl_parts.specs.Parts.{below}
 use Rattle.sl_unit.specs.declared.wires.Exit.{Exit}
@@ -9,12 +9,14 @@ use Rattle.sl_unit.specs.declared.wires.Way.{Way}
 use Rattle.sl_unit.specs.declared.wires.Way.TheVariants.{All, Toward}
 use Rattle.sl_unit.specs.Wires.{is_out}
 
--- of the numbers below a count, those that pass lie in the span
+-- of the numbers below a count, those that pass lie in the span, and where it isn't empty, its first and its last are of them
 pub record IsSpan (passes : ℕ → Bool) (count : ℕ) (span : Span) : Type 0 where
   pub start : span.from ≤ span.end
   pub within : span.end ≤ count
   pub before : filter passes (below span.from) ≡ []
   pub through : filter passes (below span.end) ≡ filter passes (below count)
+  pub first : span.from < span.end → passes span.from ≡ true
+  pub last : (k : ℕ) → k + 1 ≡ span.end → span.from < span.end → passes k ≡ true
 
 -- the links of a way lie in the span
 abbrev pub IsSpanOf : Way → List Exit → Span → Type 0

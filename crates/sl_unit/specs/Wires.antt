@@ -1,6 +1,6 @@
 -- What a unit knows of its links. It never changes.
 --     outs way exits     the numbers of the outgoing links on which a message goes, ascending
-use Rattle.std.specs.Prelude.{ℕ, ◌<◌, ◌^◌, Bool, true, false, ◌&&◌, List, length, filter, Option, slice_index_or, slice_get, option_and_then}
+use Rattle.std.specs.Prelude.{◌≡◌, ℕ, ◌<◌, ◌^◌, Bool, true, false, ◌&&◌, List, length, filter, Option, slice_index_or, slice_get, option_and_then}
 use Rattle.std.specs.List.{All as AllEach}
 use Rattle.sl_layout.specs.declared.actor.Sort.TheVariants.{Crossbar, FromHost}
 use Rattle.sl_layout.specs.declared.actor.ActorId.TheVariants.{Observer}
@@ -55,6 +55,11 @@ IsSmall _ = Unit {0}
 pub record IsUsable (w : Wires) : Type 0 where
   pub small : AllEach IsSmall w.entrances
   pub few : length w.exits < 2 ^ 32
+
+-- what comes by the first ten choices, apart
+pub record AreEarly (entrances early : List Entrance) : Type 0 where
+  pub many : length early ≡ 10
+  pub same : (choice : ℕ) → choice < 10 → slice_index_or early choice Other ≡ slice_index_or entrances choice Other
 
 abbrev pub is_poll : Entrance → Bool
 is_poll Poll = true

@@ -1,16 +1,17 @@
 // The links of a unit in a net.
-ghost use Rattle.std.specs.Prelude.{◌≡◌, ◌<◌, ◌≤◌, ◌^◌, ◌++◌, OnOk, IfOk, IsSome, length};
+ghost use Rattle.std.specs.Prelude.{◌≡◌, ◌<◌, ◌≤◌, ◌^◌, ◌++◌, OnOk, IfOk, IsSome, length, slice_index_or};
 ghost use Rattle.std.specs.List.{All};
 ghost use Rattle.sl_layout.specs.Net.{actor_of, choices_of, data_channels, place_in};
 ghost use Rattle.sl_ids.specs.Ids.{most_bits};
 ghost use Rattle.sl_parts.specs.Parts.{version_at};
 ghost use Rattle.sl_route.specs.Routes.{IsRoutesOf};
-ghost use Rattle.sl_unit.specs.Wires.{IsSmall};
+ghost use Rattle.sl_unit.specs.declared.wires.Entrance.TheVariants.{Other};
+ghost use Rattle.sl_unit.specs.Wires.{IsSmall, AreEarly};
 ghost use Rattle.sl_unit.specs.Spans.{IsSpanOf, AreByPort, AreSpans};
 ghost use Rattle.sl_layout.specs.Devices.{device_of};
 ghost use Rattle.sl_unit.specs.Made.{side_of, port_of, is_own, entrance, entrances_of, exits_of, ports_of, version_of, wires_of};
 
-use crate::wires::{Entrance, Exit, Span, Spans, Way, Wires};
+use crate::wires::{Entrance, Exit, Span, Spans, Way, Wires, span_of};
 use sl_ids::Width;
 use sl_net::{ActorId, CablePart, Net, PortRef, Side, Snapshot, Sort, nets_are_wired, push_if};
 use sl_route::Routes;
@@ -74,7 +75,7 @@ fn is_own(unit: ActorId, other: ActorId) -> bool
 }
 
 /// What comes by a link of a sort.
-fn entrance(sort: Sort, channel: u32, own: bool) -> Entrance
+fn entrance(sort: Sort, channel: u8, own: bool) -> Entrance
     ensures { result ≡ entrance sort channel own }
 {
     match sort {
@@ -123,7 +124,7 @@ fn list_entrances(alloc: Global, net: &Net, actor: u32) -> Result<Vec<Entrance>,
     let mut entrances = Vec::new(alloc);
     for choice in 0..links.len() {
         let link = net.link(links[choice]);
-        let place = place_in(channels.as_slice(), choice as u32) as u32;
+        let place = place_in(channels.as_slice(), choice as u32) as u8;
         let own = is_own(unit, net.actor(link.from));
         entrances.push(entrance(link.sort, place, own))?;
     }
@@ -145,20 +146,6 @@ fn list_exits(alloc: Global, net: &Net, actor: u32) -> Result<Vec<Exit>, AllocEr
         })?;
     }
     Ok(exits)
-}
-
-/// Where the outgoing links of a way lie: from the first of them to the last.
-fn span_of(exits: &[Exit], way: Way) -> Span
-    requires { length exits.now < 2 ^ 32 }
-    ensures { IsSpanOf way exits.now result }
-{
-    let mut span = Span { from: 0, end: 0 };
-    for i in 0..exits.len() {
-        if exits[i].leads(way) {
-            span = span.with(i as u32);
-        }
-    }
-    span
 }
 
 /// Where the crossbar links to the egress units of a device's first ports lie, by port.
@@ -237,6 +224,27 @@ fn version_of(cables: &[CablePart], version: u8, actor: ActorId) -> u8
     }
 }
 
+/// What comes by a choice, and `Other` past the last.
+fn entrance_in(entrances: &[Entrance], choice: usize) -> Entrance
+    ensures { result ≡ slice_index_or entrances.now choice Other }
+{
+    match entrances.get(choice) {
+        Some(entrance) => *entrance,
+        None => Entrance::Other,
+    }
+}
+
+/// The first ten of these entrances, and `Other` past the last.
+fn early_of(entrances: &[Entrance]) -> [Entrance; 10]
+    ensures { AreEarly entrances.now result }
+{
+    let mut early = [Entrance::Other; 10];
+    for choice in 0..10 {
+        early[choice] = entrance_in(entrances, choice);
+    }
+    early
+}
+
 /// The links of a unit, with the next ports to hosts.
 pub fn make_wires(
     alloc: Global,
@@ -260,7 +268,9 @@ pub fn make_wires(
     let exits = list_exits(alloc, net, actor)?;
     let device = device_of(unit);
     let spans = spans_of(exits.as_slice(), device);
+    let early = early_of(entrances.as_slice());
     Ok(Wires {
+        early,
         device,
         port: port_of(net, actor),
         entrances,

@@ -52,7 +52,7 @@ pub fn put_on(wires: &Wires, way: Way, note: &Note, out: &mut Outputs<Msg>)
 {
     let span = wires.span(way);
     for i in span.from..span.end {
-        put_if(out, wires.is_out(way, i), i, note);
+        put_if(out, wires.goes(way, span, i), i, note);
     }
 }
 
@@ -83,6 +83,6 @@ pub fn put_dumps(wires: &Wires, dumps: &mut Vec<Boxed<Dump>>, out: &mut Outputs<
     let way = Way::All(Sort::Dump);
     let span = wires.span(way);
     for i in span.from..span.end {
-        put_dump_if(out, wires.is_out(way, i), i, dumps);
+        put_dump_if(out, wires.goes(way, span, i), i, dumps);
     }
 }

@@ -2,11 +2,10 @@
 ghost use Rattle.std.specs.Prelude.{◌≡◌, ◌<◌, ◌≤◌, ◌-◌, ◌^◌, length, IfOk, OnOk};
 ghost use Rattle.sl_ids.specs.Ids.{distance};
 ghost use Rattle.sl_saves.specs.Rings.{ring_window};
-ghost use Rattle.sl_unit.specs.Registers.{IsChannel, first_registers, last_on, read_on, rise, age, is_near, adopted, credited, seen, counted, after_stamp, after_data, more, dump_of};
+ghost use Rattle.sl_unit.specs.Registers.{IsChannel, first_registers, last_on, read_on, rise, age, is_near, adopted, credited, seen, counted, after_stamp, after_bytes, more, dump_of};
 
 use sl_ids::{Wid, Width, wrap};
 use sl_machine::Memory;
-use sl_net::Packet;
 use sl_saves::{RingSaves, Saves};
 use sl_wire::{Boxed, Dump};
 use std::alloc::Global;
@@ -213,19 +212,20 @@ impl Registers {
         self.see(channel, reading.stamp);
     }
 
-    /// Takes the stamp of a data packet, and counts the packet.
-    pub fn take_data(&mut self, channel: u32, reading: Reading, packet: &Packet)
+    /// Takes the stamp of a data packet of so many bytes, and counts the packet.
+    #[inline(always)]
+    pub fn take_data(&mut self, channel: u32, reading: Reading, bytes: u16)
         requires channel { channel < 8 }
         requires above { rise reading ≤ self.old.window }
         requires below { age reading ≤ self.old.window }
-        ensures registers { registers_of self.new ≡ after_data (credits_of self.old) channel reading packet.now (registers_of self.old) }
+        ensures registers { registers_of self.new ≡ after_bytes (credits_of self.old) channel reading bytes (registers_of self.old) }
         ensures window { self.new.window ≡ self.old.window }
         ensures credits { credits_of self.new ≡ credits_of self.old }
     {
         self.adopt(reading);
-        self.credit(channel, reading, packet.len);
+        self.credit(channel, reading, bytes);
         self.see(Channel::Upstream(channel), reading.stamp);
-        self.count(packet.len);
+        self.count(bytes);
     }
 
     /// Counts a frame that is no plain frame.

@@ -63,6 +63,7 @@ fn put_notice(wires: &Wires, ahead: u16, out: &mut Outputs<Msg>)
 
 /// Sends a data packet on from an ingress unit, or drops it.
 #[tactic(auto, using(crate::proofs::Ways::outs_few))]
+#[inline(always)]
 fn route(wires: &Wires, registers: &mut Registers, packet: Packet, out: &mut Outputs<Msg>)
     requires empty { out.old.items ≡ [] }
     requires room { length wires.now.exits ≤ out.old.room }
@@ -195,7 +196,7 @@ fn take_cable_data(
     ensures room { out.new.room ≡ out.old.room }
 {
     if reading.is_near(registers.window) {
-        registers.take_data(place, reading, &packet);
+        registers.take_data(place, reading, packet.len);
         route(wires, registers, packet, out);
         put_notice(wires, reading.ahead, out);
     }
@@ -285,7 +286,7 @@ fn take_crossbar_data(
     ensures room { out.new.room ≡ out.old.room }
 {
     if reading.is_near(registers.window) {
-        registers.take_data(place, reading, packet);
+        registers.take_data(place, reading, packet.len);
         pass(wires, registers, packet, out);
         put_notice(wires, reading.ahead, out);
     }
@@ -426,7 +427,7 @@ pub fn take_init(wires: &Wires, registers: &mut Registers, m: &Msg, out: &mut Ou
 
 /// Takes a poll.
 #[tactic(auto, using(crate::proofs::Ways::outs_few))]
-pub fn take_poll(
+fn take_poll(
     wires: &Wires,
     registers: &Registers,
     dumps: &mut Vec<Boxed<Dump>>,
@@ -439,4 +440,27 @@ pub fn take_poll(
     ensures room { out.new.room ≡ out.old.room }
 {
     put_dumps(wires, dumps, out);
+}
+
+/// Takes a message from the control plane's link of polls. A dump that comes back with a poll
+/// becomes the spare one.
+pub fn take_polled(
+    wires: &Wires,
+    registers: &Registers,
+    dumps: &mut Vec<Boxed<Dump>>,
+    spare: &mut Option<Boxed<Dump>>,
+    m: Msg,
+    out: &mut Outputs<Msg>,
+)
+    requires empty { out.old.items ≡ [] }
+    requires room { length wires.now.exits ≤ out.old.room }
+    requires dumps { HasDumps wires.now (registers_of registers.now) dumps.old.items }
+    ensures state { (take_at Entrance.Poll (state_of wires.now registers.now) m).state ≡ state_of wires.now registers.now }
+    ensures puts { out.new.items ≡ (take_at Entrance.Poll (state_of wires.now registers.now) m).puts }
+    ensures room { out.new.room ≡ out.old.room }
+{
+    if let Msg::Poll(back) = m {
+        take_poll(wires, registers, dumps, out);
+        *spare = back.into_dump();
+    }
 }

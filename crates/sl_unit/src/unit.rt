@@ -5,7 +5,7 @@ ghost use Rattle.sl_unit.specs.Room.{HasRoom};
 use crate::make::{device_of, list_ports, make_wires};
 use crate::registers::Registers;
 use crate::room::make_dumps;
-use crate::step::{take_cable, take_crossbar, take_host, take_init, take_poll};
+use crate::step::{take_cable, take_crossbar, take_host, take_init, take_polled};
 use crate::wires::{Entrance, Wires};
 use sl_ids::Width;
 use sl_machine::{Machine, Memory, Outputs};
@@ -157,18 +157,17 @@ impl Machine for Unit {
         self.prepared = None;
         let wires = &self.wires;
         let registers = &mut self.registers;
-        match (wires.entrance(link), m) {
-            (Entrance::Host, m) => take_host(wires, registers, &m, out),
-            (Entrance::Cable(place), m) => take_cable(wires, registers, place, &m, out),
-            (Entrance::Crossbar { channel, own }, m) => {
-                take_crossbar(wires, registers, channel, own, &m, out);
+        match wires.entrance(link) {
+            Entrance::Host => take_host(wires, registers, &m, out),
+            Entrance::Cable(place) => take_cable(wires, registers, u32::from(place), &m, out),
+            Entrance::Crossbar { channel, own } => {
+                take_crossbar(wires, registers, u32::from(channel), own, &m, out);
             }
-            (Entrance::Init, m) => take_init(wires, registers, &m, out),
-            (Entrance::Poll, Msg::Poll(spare)) => {
-                take_poll(wires, registers, &mut self.dumps, out);
-                self.spare = spare.into_dump();
+            Entrance::Init => take_init(wires, registers, &m, out),
+            Entrance::Poll => {
+                take_polled(wires, registers, &mut self.dumps, &mut self.spare, m, out);
             }
-            _ => {}
+            Entrance::Other => {}
         }
     }
 

@@ -1,5 +1,5 @@
 // What a unit knows of its links.
-ghost use Rattle.std.specs.Prelude.{◌≡◌, ◌+◌, ◌<◌, ◌^◌, ℕ, Bool, true, [], length};
+ghost use Rattle.std.specs.Prelude.{◌≡◌, ◌+◌, ◌<◌, ◌≤◌, ◌^◌, ℕ, Bool, true, [], length};
 ghost use Rattle.sl_layout.specs.Net.{same_actor, egress};
 ghost use Rattle.sl_unit.specs.Wires.{IsSmall, entrance_at, leads, is_out, outs, port_to};
 ghost use Rattle.sl_unit.specs.Spans.{IsSpan, IsSpanOf};
@@ -15,9 +15,9 @@ pub enum Entrance {
     /// Frames of the host.
     Host,
     /// Data packets and probes of the cable.
-    Cable(u32),
+    Cable(u8),
     /// Data packets and probes of an ingress unit of the device, maybe of the unit's own port.
-    Crossbar { channel: u32, own: bool },
+    Crossbar { channel: u8, own: bool },
     /// Initiations.
     Init,
     /// Polls.
@@ -71,7 +71,8 @@ impl Exit {
     }
 }
 
-/// Outgoing links: those from one number on, below another.
+/// Outgoing links: those from one number on, below another. Where there are some, the first and the
+/// last go the way whose span it is.
 #[derive(Clone, Copy)]
 pub struct Span {
     /// The number of the first.
@@ -81,12 +82,16 @@ pub struct Span {
 }
 
 impl Span {
-    /// The span with one link more, which lies after it.
+    /// The span with one link more, which lies after it and goes the way.
     pub fn with(self, link: u32) -> Span
         requires { link + 1 < 2 ^ 32 }
-        ensures { (passes : ℕ → Bool) → IsSpan passes link self → IsSpan passes (link + 1) result }
+        ensures { (passes : ℕ → Bool) → passes link ≡ true → IsSpan passes link self → IsSpan passes (link + 1) result }
     {
-        let from = if self.end == 0 { link } else { self.from };
+        let from = if self.from < self.end {
+            self.from
+        } else {
+            link
+        };
         Span {
             from,
             end: link + 1,
@@ -97,45 +102,62 @@ impl Span {
 /// Where the outgoing links of some ways lie, each way's among those of its span.
 #[derive(Clone, Copy)]
 pub struct Spans {
-    /// The links of the cable.
-    pub cable: Span,
-    /// The links to the host.
-    pub to_host: Span,
+    /// The crossbar links to the egress units of the device's first ports, by port.
+    pub ports: [Span; 8],
     /// The links to egress units of the device.
     pub crossbar: Span,
     /// The links of notices.
     pub notice: Span,
     /// The links of dumps.
     pub dump: Span,
-    /// The crossbar links to the egress units of the device's first ports, by port.
-    pub ports: [Span; 8],
+    /// The links of the cable.
+    pub cable: Span,
+    /// The links to the host.
+    pub to_host: Span,
+}
+
+/// Where the outgoing links of a way lie: from the first of them to the last.
+#[inline(never)]
+pub fn span_of(exits: &[Exit], way: Way) -> Span
+    requires { length exits.now < 2 ^ 32 }
+    ensures { IsSpanOf way exits.now result }
+{
+    let mut span = Span { from: 0, end: 0 };
+    for i in 0..exits.len() {
+        if exits[i].leads(way) {
+            span = span.with(i as u32);
+        }
+    }
+    span
 }
 
 /// What a unit knows of its links and of the routes from its device.
 #[derive(Drop)]
 pub struct Wires {
-    /// The number of its device.
-    pub device: u32,
-    /// Its port.
-    pub port: u8,
     /// What comes by each choice.
     pub entrances: Vec<Entrance>,
     /// The outgoing links by their numbers.
     pub exits: Vec<Exit>,
+    /// How many own actions it has, which is none.
+    pub actions: u32,
     /// Where those of some ways lie.
     pub spans: Spans,
     /// The next port to each host, where there is a way.
     pub ports: Vec<Option<u8>>,
-    /// The width of wrapped ids.
-    pub width: Width,
+    /// The number of its device.
+    pub device: u32,
+    /// Its port.
+    pub port: u8,
     /// The version of the frames that it sends to other units.
     pub version: u8,
-    /// How many own actions it has, which is none.
-    pub actions: u32,
+    /// The width of wrapped ids.
+    pub width: Width,
+    /// What comes by the first choices, in place, so that no memory elsewhere is looked at.
+    pub early: [Entrance; 10],
 }
 
 impl Model for Wires {
-    ghost use Rattle.sl_unit.specs.Wires.{Wires, IsUsable};
+    ghost use Rattle.sl_unit.specs.Wires.{Wires, IsUsable, AreEarly};
     ghost use Rattle.sl_unit.specs.Spans.{AreSpans};
 
     ghost Value = { Wires };
@@ -143,7 +165,7 @@ impl Model for Wires {
     ghost view = { λ w. record { device = w.device; port = w.port; entrances = w.entrances.items; exits = w.exits.items; ports = w.ports.items; bits = w.width.bits; version = w.version; actions = w.actions } };
 
     ghost invariant = { λ w. IsUsable (record { device = w.device; port = w.port; entrances = w.entrances.items; exits = w.exits.items; ports = w.ports.items; bits = w.width.bits; version = w.version; actions = w.actions })
-        × AreSpans w.device w.exits.items w.spans };
+        × AreSpans w.device w.exits.items w.spans × AreEarly w.entrances.items w.early };
 }
 
 impl Wires {
@@ -152,10 +174,25 @@ impl Wires {
         ensures entrance { result ≡ entrance_at self.now choice }
         ensures small { IsSmall result }
     {
+        if choice < 10 {
+            return self.early[choice as usize];
+        }
         match self.entrances.get(choice as usize) {
             Some(entrance) => *entrance,
             None => Entrance::Other,
         }
+    }
+
+    /// Whether a message that goes a way goes on a link of the way's span. On its first and its last
+    /// it does, so that for a span of one link nothing is looked at.
+    #[inline(always)]
+    pub fn goes(&self, way: Way, span: Span, link: u32) -> bool
+        requires span { IsSpanOf way self.now.exits span }
+        requires from { span.from ≤ link }
+        requires end { link < span.end }
+        ensures { result ≡ is_out way self.now.exits link }
+    {
+        link == span.from || link + 1 == span.end || self.is_out(way, link)
     }
 
     /// Whether a message that goes a way goes on an outgoing link.
@@ -167,28 +204,20 @@ impl Wires {
         self.exits[link as usize].leads(way)
     }
 
-    /// All outgoing links.
-    fn all(&self) -> Span
-        ensures { (way : Way) → IsSpanOf way self.now.exits result }
-    {
-        Span {
-            from: 0,
-            end: self.exits.len() as u32,
-        }
-    }
-
     /// Where the crossbar links to the egress unit of a port lie.
+    #[inline(always)]
     fn span_toward(&self, device: u32, port: u32) -> Span
         ensures { IsSpanOf (Way.Toward device port) self.now.exits result }
     {
         if device == self.device && port < 8 {
             self.spans.ports[port as usize]
         } else {
-            self.all()
+            span_of(self.exits.as_slice(), Way::Toward { device, port })
         }
     }
 
     /// Where the outgoing links of a way lie. None of them lies elsewhere.
+    #[inline(always)]
     pub fn span(&self, way: Way) -> Span
         ensures { IsSpanOf way self.now.exits result }
     {
@@ -199,13 +228,14 @@ impl Wires {
                 Sort::Crossbar => self.spans.crossbar,
                 Sort::Notice => self.spans.notice,
                 Sort::Dump => self.spans.dump,
-                _ => self.all(),
+                _ => span_of(self.exits.as_slice(), way),
             },
             Way::Toward { device, port } => self.span_toward(device, port),
         }
     }
 
     /// Whether a way has no links, as far as its span tells.
+    #[inline(always)]
     pub fn has_none(&self, way: Way) -> bool
         ensures { result ≡ true → outs way self.now.exits ≡ [] }
     {

@@ -24,13 +24,13 @@ loop-i-init c =
 pub put_dump_if-requires-clause-room : goal.put_dump_if-requires-clause-room
 put_dump_if-requires-clause-room c t =
     let way = AllOf sort.Dump in
-    let more = is_one_more way c.args.wires.now.exits c.span-span.result c.loop-i.i c.span-span.ensures c.loop-i-test.true (sym c.is_out.ensures ∙ t) in
+    let more = is_one_more way c.args.wires.now.exits c.span-span.result c.loop-i.i c.span-span.ensures c.loop-i-test.true (sym c.goes.ensures ∙ t) in
     omega (arith, more, c.loop-i.invariant.many, c.requires.room, c.loop-i.invariant.room)
 
 pub put_dump_if-requires-clause-some : goal.put_dump_if-requires-clause-some
 put_dump_if-requires-clause-some c t =
     let way = AllOf sort.Dump in
-    let more = is_one_more way c.args.wires.now.exits c.span-span.result c.loop-i.i c.span-span.ensures c.loop-i-test.true (sym c.is_out.ensures ∙ t) in
+    let more = is_one_more way c.args.wires.now.exits c.span-span.result c.loop-i.i c.span-span.ensures c.loop-i-test.true (sym c.goes.ensures ∙ t) in
     omega (arith, more, c.loop-i.invariant.left, c.requires.dumps)
 
 pub loop-i-preserved : goal.loop-i-preserved
@@ -38,12 +38,12 @@ loop-i-preserved c =
     let p = is_out (AllOf sort.Dump) c.args.wires.now.exits in
     let i = c.loop-i.i in
     let before = c.args.out.now.items in
-    let one = ap (λ b. cond {A = ℕ} b 1 0) c.is_out.ensures in record {
+    let one = ap (λ b. cond {A = ℕ} b 1 0) c.goes.ensures in record {
       items = λ dump same.
           let m = Dump dump in
           c.put_dump_if.ensures.items dump (c.loop-i.invariant.same dump same)
-          ∙ ap (λ xs. xs ++ cond c.is_out.result ((i, m) ∷ []) []) (c.loop-i.invariant.items dump same)
-          ∙ ap (λ b. (before ++ send_all m (filter p (below i))) ++ cond b ((i, m) ∷ []) []) c.is_out.ensures ∙ sent_more m p before i;
+          ∙ ap (λ xs. xs ++ cond c.goes.result ((i, m) ∷ []) []) (c.loop-i.invariant.items dump same)
+          ∙ ap (λ b. (before ++ send_all m (filter p (below i))) ++ cond b ((i, m) ∷ []) []) c.goes.ensures ∙ sent_more m p before i;
       many = omega (arith, one, many_more p i, c.put_dump_if.ensures.many, c.loop-i.invariant.many);
       room = c.put_dump_if.ensures.room ∙ c.loop-i.invariant.room;
       left = omega (arith, one, many_more p i, c.put_dump_if.ensures.left, c.loop-i.invariant.left);

@@ -21,7 +21,7 @@ put_if-requires c = record {
       let before = c.args.out.now.items in
       let so_far = filter (is_out c.args.way exits) (below c.loop-i.i) in
       let sent = send_all (message_of c.args.note.now) so_far in
-      let more = is_one_more c.args.way exits c.span-span.result c.loop-i.i c.span-span.ensures c.loop-i-test.true (sym c.is_out.ensures ∙ t) in
+      let more = is_one_more c.args.way exits c.span-span.result c.loop-i.i c.span-span.ensures c.loop-i-test.true (sym c.goes.ensures ∙ t) in
       let many : length c.loop-i.out.items ≡ length before + length sent = ap length c.loop-i.invariant.items ∙ length-append before sent in
       omega (arith, more, many, length_sent (message_of c.args.note.now) so_far, c.requires.room, c.loop-i.invariant.room);
 }
@@ -32,8 +32,8 @@ loop-i-preserved c =
     let p = is_out c.args.way c.args.wires.now.exits in
     let i = c.loop-i.i in
     let before = c.args.out.now.items in record {
-      items = c.put_if.ensures.items ∙ ap (λ xs. xs ++ cond c.is_out.result ((i, m) ∷ []) []) c.loop-i.invariant.items
-          ∙ ap (λ b. (before ++ send_all m (filter p (below i))) ++ cond b ((i, m) ∷ []) []) c.is_out.ensures ∙ sent_more m p before i;
+      items = c.put_if.ensures.items ∙ ap (λ xs. xs ++ cond c.goes.result ((i, m) ∷ []) []) c.loop-i.invariant.items
+          ∙ ap (λ b. (before ++ send_all m (filter p (below i))) ++ cond b ((i, m) ∷ []) []) c.goes.ensures ∙ sent_more m p before i;
       room = c.put_if.ensures.room ∙ c.loop-i.invariant.room;
     }
 

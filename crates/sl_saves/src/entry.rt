@@ -110,6 +110,7 @@ impl View {
     ghost use Rattle.sl_saves.specs.Keeping.{view_adopted, view_credited};
 
     /// Moves on to another number, and saves the counters there.
+    #[inline(never)]
     pub(crate) fn adopt(&mut self, by: u16, packets: u64, bytes: u64)
         requires at { self.old.at < length self.old.slots }
         requires by { by ≤ length self.old.slots }
@@ -123,6 +124,7 @@ impl View {
     }
 
     /// Adds a data packet in flight to the slots of the last numbers, to so many at most.
+    #[inline(never)]
     pub(crate) fn credit(&mut self, credits: u8, channel: u32, age: u16, bytes: u64)
         requires at { self.old.at < length self.old.slots }
         requires channel { channel < 8 }

@@ -85,6 +85,7 @@ impl<M: Drop> Line<M> {
 
     /// Puts a message at the end, unless the loss takes it. Then it makes room for one more where
     /// memory allows it, and answers whether there is.
+    #[inline(always)]
     pub fn put(&mut self, m: M) -> bool
         requires { 0 < self.old.room }
         ensures line { self.new.line ≡ line_put self.old.line m }
@@ -110,13 +111,13 @@ impl<M: Drop> Line<M> {
         ensures line { self.new.line ≡ without_first self.old.line self.new.line.queue }
         ensures room { 0 < self.old.room → 0 < self.new.room }
     {
+        self.give_back();
         // The only message leaves at the back, so that the next one gets its place.
         let taken = if self.queue.len() == 1 {
             self.queue.pop_back()
         } else {
             self.queue.pop_front()
         };
-        self.give_back();
         match taken {
             Some(m) => m,
             None => unreachable!(),

@@ -72,6 +72,7 @@ impl<M: Drop> Lines<M> {
     }
 
     /// Puts a message on a link, and answers whether it has room for one more.
+    #[inline(always)]
     pub fn put(&mut self, link: usize, m: M) -> bool
         requires link { link < length self.old }
         requires room { 0 < room_at self.old link }

@@ -228,7 +228,7 @@ fn make_room_at<M: Drop>(
 
 /// Puts each message on the link that the table has for its number, and answers whether each of
 /// these links has room for one more. No two go to one link, so their order doesn't matter.
-#[inline(never)]
+#[inline(always)]
 fn put_at_places<M: Drop>(
     lines: &mut Lines<M>,
     outs: &Places,

@@ -274,9 +274,9 @@ impl<A: Machine> World<A> {
     {
         prepare(&mut self.machines, &mut self.links, actor, choice)?;
         make_room(&mut self.book.entries)?;
-        note(&mut self.book.entries, actor, choice);
         let m = self.links.take(link);
         take_at(&mut self.machines, actor as usize, choice, m, &mut self.out);
+        note(&mut self.book.entries, actor, choice);
         self.links.deliver(actor, &mut self.out);
         Ok(())
     }
@@ -305,6 +305,7 @@ impl<A: Machine> World<A> {
 }
 
 /// Takes the memory that a turn of an actor can need.
+#[inline(always)]
 fn prepare<A: Machine>(
     machines: &mut Vec<A>,
     links: &mut Links<A::Msg>,

@@ -1,4 +1,8 @@
 // The machine of any actor.
+ghost use Rattle.std.specs.Prelude.{◌≡◌, ◌<◌, ◌≤◌, [], Some, None, true, OnOk, OnErr};
+ghost use Rattle.sl_machine.specs.Machine.{IsChoice, is_fitting};
+ghost use Rattle.sl_proto.specs.Nodes.{node_state, node_rules, node_counts, node_ready};
+
 use sl_control::Control;
 use sl_host::Host;
 use sl_machine::{Machine, Memory, Outputs};
@@ -13,6 +17,46 @@ pub enum Node {
     Control(Control),
     Unit(Unit),
     Host(Host),
+}
+
+// Most turns are of units. Those of other machines stand apart, so that one comparison tells.
+impl Node {
+    #[inline(never)]
+    fn ready_apart(&mut self, choice: u32) -> Result<(), Memory>
+        requires { IsChoice (node_counts self.old) choice }
+        ensures state { node_state self.new ≡ node_state self.old }
+        ensures counts { node_counts self.new ≡ node_counts self.old }
+        ensures ok { OnOk result (node_ready self.new ≡ Some choice) }
+        ensures err { OnErr result (node_ready self.new ≡ None) }
+    {
+        match self {
+            Node::Observer(observer) => observer.ready(choice),
+            Node::Control(control) => control.ready(choice),
+            Node::Unit(unit) => unit.ready(choice),
+            Node::Host(host) => host.ready(choice),
+        }
+    }
+
+    #[inline(never)]
+    fn take_apart(&mut self, link: u32, m: Msg, out: &mut Outputs<Msg>)
+        requires link { link < (node_counts self.old).ins }
+        requires ready { node_ready self.old ≡ Some link }
+        requires empty { out.old.items ≡ [] }
+        requires room { (node_counts self.old).outs ≤ out.old.room }
+        ensures state { node_state self.new ≡ (node_rules.take (node_state self.old) link m).state }
+        ensures puts { out.new.items ≡ (node_rules.take (node_state self.old) link m).puts }
+        ensures fitting { is_fitting (node_counts self.old).outs out.new.items ≡ true }
+        ensures room { out.new.room ≡ out.old.room }
+        ensures counts { node_counts self.new ≡ node_counts self.old }
+        ensures spent { node_ready self.new ≡ None }
+    {
+        match self {
+            Node::Observer(observer) => observer.take(link, m, out),
+            Node::Control(control) => control.take(link, m, out),
+            Node::Unit(unit) => unit.take(link, m, out),
+            Node::Host(host) => host.take(link, m, out),
+        }
+    }
 }
 
 impl Machine for Node {
@@ -32,19 +76,15 @@ impl Machine for Node {
 
     fn ready(&mut self, choice: u32) -> Result<(), Memory> {
         match self {
-            Node::Observer(observer) => observer.ready(choice),
-            Node::Control(control) => control.ready(choice),
             Node::Unit(unit) => unit.ready(choice),
-            Node::Host(host) => host.ready(choice),
+            _ => self.ready_apart(choice),
         }
     }
 
     fn take(&mut self, link: u32, m: Msg, out: &mut Outputs<Msg>) {
         match self {
-            Node::Observer(observer) => observer.take(link, m, out),
-            Node::Control(control) => control.take(link, m, out),
             Node::Unit(unit) => unit.take(link, m, out),
-            Node::Host(host) => host.take(link, m, out),
+            _ => self.take_apart(link, m, out),
         }
     }
 

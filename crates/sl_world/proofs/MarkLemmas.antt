@@ -1,8 +1,9 @@
 -- Marks of the links that have a message.
-use Rattle.std.proofs.Common.{◌≡◌, ℕ, ◌+◌, ◌<◌, ◌↔◌, List, [], length, get_or, set, refl, ap, sym, ◌∙◌, arith, Bool, true, false, inl, inr}
-use Rattle.std.specs.Prelude.{IsTrue, not}
+use Rattle.std.proofs.Common.{◌≡◌, ℕ, ◌+◌, ◌<◌, ◌↔◌, List, [], ◌∷◌, ◌++◌, length, get_or, set, refl, ap, sym, ◌∙◌, arith, Bool, true, false, inl, inr}
+use Rattle.std.specs.Prelude.{IsTrue, not, slice_index_or}
 use Rattle.std.proofs.lemmas.Bool.{cases_eq}
-use Rattle.std.proofs.lemmas.List.{map-set, length-set, get_or-set_same, get_or-set_other}
+use Rattle.std.proofs.Math.Seq.{get_or-append_seam}
+use Rattle.std.proofs.lemmas.List.{map-set, length-set, length-append, get_or_append_left, get_or-set_same, get_or-set_other}
 use Rattle.sl_world.specs.Scene.{line_at, empty_line}
 use Rattle.sl_world.specs.LineView.{LineView}
 use Rattle.sl_world.specs.Mesh.{lines_of}
@@ -48,3 +49,34 @@ pub marked-same : {M : Type 0} (old new : List (LineView M)) (filled : List Bool
 marked-same old new filled same marked =
     let long : length new ≡ length old = length_same old new same in
     record { each = marked.each ∙ ap (λ n. n + 1) (sym long); is = λ j h. rw same (marked.is j (omega arith)); end = rw long marked.end }
+
+-- the first links of a list are marked
+pub record MarksFirst {M : Type 0} (views : List (LineView M)) (n : ℕ) (filled : List Bool) : Type 0 where
+  pub each : length filled ≡ n
+  pub is : (k : ℕ) → k < n → (slice_index_or filled k false ≡ false) ↔ ((line_at (lines_of views) k).queue ≡ [])
+
+-- the next link is marked
+pub marked-next : {M : Type 0} (views : List (LineView M)) (n : ℕ) (filled : List Bool) (e : LineView M) (empty : Bool) → MarksFirst views n filled → n < length views → e ≡ get_or views n e → (IsTrue empty ↔ (e.line.queue ≡ [])) → MarksFirst views (n + 1) (filled ++ not empty ∷ [])
+marked-next views n filled e empty first low read holds =
+    let b : Bool = not empty in
+    let seam : get_or (filled ++ b ∷ []) n false ≡ b = ap (λ i. get_or (filled ++ b ∷ []) i false) (sym first.each) ∙ get_or-append_seam filled b [] false in
+    record {
+      each = length-append filled (b ∷ []) ∙ ap (λ k. k + 1) first.each;
+      is = λ j h.
+          elim (cases_eq j n) [
+            | inl same ↦
+                rw (same, line_is views n e low read, seam) (mark b empty e.line.queue refl holds)
+            | inr other ↦
+                let below : j < n = omega (arith, other) in
+                rw (get_or_append_left filled (b ∷ []) false j (omega (arith, first.each))) (first.is j below)
+          ];
+    }
+
+-- all links and the end are marked
+pub marked-end : {M : Type 0} (views : List (LineView M)) (n : ℕ) (filled : List Bool) → MarksFirst views n filled → n ≡ length views → IsMarked views (filled ++ true ∷ [])
+marked-end views n filled first all =
+    record {
+      each = length-append filled (true ∷ []) ∙ ap (λ k. k + 1) (first.each ∙ all);
+      is = λ j h. rw (get_or_append_left filled (true ∷ []) false j (omega (arith, first.each, all))) (first.is j (omega (arith, all)));
+      end = ap (λ i. get_or (filled ++ true ∷ []) i false) (sym (first.each ∙ all)) ∙ get_or-append_seam filled true [] false;
+    }

@@ -1,5 +1,5 @@
 -- Room on links.
-use Rattle.std.proofs.Common.{◌≡◌, ◌≢◌, ℕ, zero, suc, ◌+◌, ◌<◌, List, [], ◌∷◌, ◌++◌, length, get_or, set, refl, ap, sym, ◌∙◌, subst, arith, Bool, true, false, inl, inr}
+use Rattle.std.proofs.Common.{◌≡◌, ◌≢◌, ℕ, zero, suc, ◌+◌, ◌<◌, List, [], ◌∷◌, ◌++◌, length, get_or, replicate, set, refl, ap, sym, ◌∙◌, subst, arith, Bool, true, false, inl, inr}
 use Rattle.std.specs.Prelude.{slice_index, All}
 use Rattle.std.proofs.lemmas.Bool.Decides.{nat_tests}
 use Rattle.std.proofs.lemmas.Bool.{cases_eq}
@@ -177,3 +177,13 @@ roomy_after links old new roomy actor b low own same known a h k below from =
           let there : room_at new k ≡ room_at old k = same k below (λ f. other (sym from ∙ f)) in
           omega (arith, known a (sym (get_or-set_other roomy actor a b false other) ∙ h) k below from)
     ]
+
+-- where no actor is known to have room
+pub none_roomy : (roomy : List Bool) (n a : ℕ) → roomy ≡ replicate n false → get_or roomy a false ≡ true → ⊥
+none_roomy roomy n a is h = in_none n a (ap (λ xs. get_or xs a false) (sym is) ∙ h)
+  where
+    in_none : (n a : ℕ) → get_or (replicate n false) a false ≡ true → ⊥
+    in_none zero zero h = cc
+    in_none zero (suc a) h = cc
+    in_none (suc n) zero h = cc
+    in_none (suc n) (suc a) h = in_none n a h

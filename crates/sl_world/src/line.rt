@@ -1,5 +1,5 @@
 // One link: the messages on it and its losses.
-ghost use Rattle.std.specs.Prelude.{◌≡◌, ◌<◌, ◌≤◌, ◌↔◌, ◌≢◌, ◌∷◌, [], IsTrue, OnOk};
+ghost use Rattle.std.specs.Prelude.{◌≡◌, ◌<◌, ◌≤◌, ◌↔◌, ◌≢◌, ◌∷◌, ◌++◌, [], IsTrue, OnOk, IfNone, IfSome, option_to_list};
 ghost use Rattle.std.specs.VecDeque.{deque_len, deque_capacity};
 ghost use Rattle.sl_world.specs.Scene.{line_put, without_first, new_line};
 
@@ -13,22 +13,26 @@ use std::marker::Model;
 /// longer needs.
 const LARGE: usize = 128;
 
-/// A link: the messages on it, its loss where it has one, and how many puts it lost.
+/// A link: the messages on it, its loss where it has one, and how many puts it lost. Most links have
+/// one message at most, so the first stands in the link itself, and those behind it in a queue.
 #[derive(Drop)]
 pub struct Line<M> {
-    queue: VecDeque<M>,
+    first: Option<M>,
+    rest: VecDeque<M>,
     loss: Option<Loss>,
     lost: u64,
 }
 
 impl<M> Model for Line<M> {
-    ghost use Rattle.std.specs.Prelude.{◌-◌};
+    ghost use Rattle.std.specs.Prelude.{◌≡◌, ◌-◌, ◌++◌, [], None, option_to_list};
     ghost use Rattle.std.specs.VecDeque.{deque_capacity, deque_len};
-    ghost use Rattle.sl_world.specs.LineView.{LineView};
+    ghost use Rattle.sl_world.specs.LineView.{LineView, room_behind};
 
     ghost Value = { LineView M };
 
-    ghost view = { λ a. record { line = record { queue = a.queue.items; loss = a.loss; lost = a.lost }; room = deque_capacity a.queue - deque_len a.queue } };
+    ghost view = { λ a. record { line = record { queue = option_to_list a.first ++ a.rest.items; loss = a.loss; lost = a.lost }; room = room_behind a.first (deque_capacity a.rest - deque_len a.rest) } };
+
+    ghost invariant = { λ a. a.first ≡ None → a.rest.items ≡ [] };
 }
 
 impl<M: Drop> Line<M> {
@@ -37,7 +41,8 @@ impl<M: Drop> Line<M> {
         ensures { result.line ≡ new_line loss }
     {
         Line {
-            queue: VecDeque::new(alloc),
+            first: None,
+            rest: VecDeque::new(alloc),
             loss,
             lost: 0,
         }
@@ -47,8 +52,10 @@ impl<M: Drop> Line<M> {
     pub fn with(loss: Option<Loss>, lost: u64, messages: Vec<M>) -> Line<M>
         ensures { result.line ≡ record { queue = messages.items; loss = loss; lost = lost } }
     {
+        let mut rest = VecDeque::from(messages);
         Line {
-            queue: VecDeque::from(messages),
+            first: rest.pop_front(),
+            rest,
             loss,
             lost,
         }
@@ -65,7 +72,7 @@ impl<M: Drop> Line<M> {
     pub fn is_empty(&self) -> bool
         ensures { IsTrue result ↔ (self.now.line.queue ≡ []) }
     {
-        self.queue.is_empty()
+        self.first.is_none()
     }
 
     /// Makes room for one more message. A full queue grows by a quarter, a large one by an eighth,
@@ -75,12 +82,12 @@ impl<M: Drop> Line<M> {
         ensures room { OnOk result (0 < self.new.room) }
         ensures keeps { self.old.room ≤ self.new.room }
     {
-        let len = self.queue.len();
-        if len < self.queue.capacity() {
+        let len = self.rest.len();
+        if self.first.is_none() || len < self.rest.capacity() {
             return Ok(());
         }
         let part = if len < LARGE { 4 } else { 8 };
-        Ok(self.queue.reserve_exact(1 + len / part)?)
+        Ok(self.rest.reserve_exact(1 + len / part)?)
     }
 
     /// Puts a message at the end, unless the loss takes it. Then it makes room for one more where
@@ -97,8 +104,10 @@ impl<M: Drop> Line<M> {
         };
         if is_lost {
             self.lost = self.lost.saturating_add(1);
+        } else if self.first.is_none() {
+            self.first = Some(m);
         } else {
-            self.queue.push_back_reserved(m);
+            self.rest.push_back_reserved(m);
         }
         self.make_room().is_ok()
     }
@@ -111,30 +120,30 @@ impl<M: Drop> Line<M> {
         ensures line { self.new.line ≡ without_first self.old.line self.new.line.queue }
         ensures room { 0 < self.old.room → 0 < self.new.room }
     {
-        self.give_back();
-        // The only message leaves at the back, so that the next one gets its place.
-        let taken = if self.queue.len() == 1 {
-            self.queue.pop_back()
-        } else {
-            self.queue.pop_front()
-        };
+        let taken = self.first.take();
+        if !self.rest.is_empty() {
+            self.first = take_next(&mut self.rest);
+        }
         match taken {
             Some(m) => m,
             None => unreachable!(),
         }
     }
+}
 
-    /// Gives back half of the memory of a large queue of which only a quarter is used.
-    #[inline(always)]
-    fn give_back(&mut self)
-        ensures line { self.new.line ≡ self.old.line }
-        ensures room { 0 < self.old.room → 0 < self.new.room }
-    {
-        let capacity = self.queue.capacity();
-        if capacity >= LARGE && self.queue.len() < capacity / 4 {
-            shrink(&mut self.queue, capacity / 2);
-        }
+/// Takes the first message of a queue. Where only a quarter of the memory of a large one is used, half
+/// of it is given back.
+#[inline(always)]
+fn take_next<M: Drop>(queue: &mut VecDeque<M>) -> Option<M>
+    ensures items { queue.old.items ≡ option_to_list result ++ queue.new.items }
+    ensures none { IfNone result (queue.new.items ≡ []) }
+    ensures room { IfSome result (λ _. deque_len queue.new < deque_capacity queue.new) }
+{
+    let capacity = queue.capacity();
+    if capacity >= LARGE && queue.len() < capacity / 4 {
+        shrink(queue, capacity / 2);
     }
+    queue.pop_front()
 }
 
 /// Gives back the memory of a queue but for so many messages. It is rarely called, and stands apart so

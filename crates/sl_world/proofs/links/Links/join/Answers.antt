@@ -1,4 +1,5 @@
-use Rattle.std.proofs.Common.{ap}
+use Rattle.std.proofs.Common.{ap, rules}
+use Rattle.sl_world.proofs.RoomLemmas.{none_roomy}
 use Rattle.std.proofs.lemmas.Result.{IfOk-from_err}
 use Rattle.sl_world.specs.Mesh.{lines_of}
 use Rattle.sl_world.proofs.links.Links.join.Goals as goal
@@ -17,3 +18,13 @@ returns-in_err-lines g c = record { plan = IfOk-from_err _ _ c.from_residual-in_
 
 pub returns : goal.returns
 returns g c = record { plan = c.in_ok-wiring.ensures; lines = ap lines_of c.in_ok-lines.ensures }
+
+pub invariant_of-result : goal.invariant_of-result
+invariant_of-result g c = rw (c.in_ok-wiring.ensures, c.in_ok-lines.ensures) (record {
+  sound = c.requires.sound;
+  in_places = c.in_ok-ins.ensures;
+  out_places = c.in_ok-outs.ensures;
+  lines_each = c.requires.each;
+  roomy_each = search rules;
+  room = λ a h. absurd (none_roomy _ _ a (c.in_ok-roomy.ensures.items_if_clones_equal (λ y e. e)) h);
+})

@@ -11,7 +11,7 @@ ghost use Rattle.sl_unit.specs.Spans.{IsSpanOf, AreByPort, AreSpans};
 ghost use Rattle.sl_layout.specs.Devices.{device_of};
 ghost use Rattle.sl_unit.specs.Made.{side_of, port_of, is_own, entrance, entrances_of, exits_of, ports_of, version_of, wires_of};
 
-use crate::wires::{Entrance, Exit, Span, Spans, Way, Wires, span_of};
+use crate::wires::{Entrance, Exit, Span, Spans, Way, Wires, entrance_in, span_of};
 use sl_ids::Width;
 use sl_net::{ActorId, CablePart, Net, PortRef, Side, Snapshot, Sort, nets_are_wired, push_if};
 use sl_route::Routes;
@@ -221,16 +221,6 @@ fn version_of(cables: &[CablePart], version: u8, actor: ActorId) -> u8
             }
         },
         _ => version,
-    }
-}
-
-/// What comes by a choice, and `Other` past the last.
-fn entrance_in(entrances: &[Entrance], choice: usize) -> Entrance
-    ensures { result ≡ slice_index_or entrances.now choice Other }
-{
-    match entrances.get(choice) {
-        Some(entrance) => *entrance,
-        None => Entrance::Other,
     }
 }
 

@@ -1,9 +1,10 @@
 // What a unit knows of its links.
-ghost use Rattle.std.specs.Prelude.{◌≡◌, ◌+◌, ◌<◌, ◌≤◌, ◌^◌, ℕ, Bool, true, [], length};
+ghost use Rattle.std.specs.Prelude.{◌≡◌, ◌+◌, ◌<◌, ◌≤◌, ◌^◌, ℕ, Bool, true, [], length, slice_index_or};
 ghost use Rattle.sl_layout.specs.Net.{same_actor, egress};
 ghost use Rattle.sl_unit.specs.Wires.{IsSmall, entrance_at, leads, is_out, outs, port_to};
 ghost use Rattle.sl_unit.specs.Spans.{IsSpan, IsSpanOf};
 ghost use Rattle.sl_unit.specs.declared.wires.Way.{Way};
+ghost use Rattle.sl_unit.specs.declared.wires.Entrance.TheVariants.{Other};
 
 use sl_ids::Width;
 use sl_net::{ActorId, Side, Sort};
@@ -131,6 +132,16 @@ pub fn span_of(exits: &[Exit], way: Way) -> Span
     span
 }
 
+/// What comes by a choice of these, and `Other` past the last.
+pub fn entrance_in(entrances: &[Entrance], choice: usize) -> Entrance
+    ensures { result ≡ slice_index_or entrances.now choice Other }
+{
+    match entrances.get(choice) {
+        Some(entrance) => *entrance,
+        None => Entrance::Other,
+    }
+}
+
 /// What a unit knows of its links and of the routes from its device.
 #[derive(Drop)]
 pub struct Wires {
@@ -177,10 +188,7 @@ impl Wires {
         if choice < 10 {
             return self.early[choice as usize];
         }
-        match self.entrances.get(choice as usize) {
-            Some(entrance) => *entrance,
-            None => Entrance::Other,
-        }
+        entrance_in(self.entrances.as_slice(), choice as usize)
     }
 
     /// Whether a message that goes a way goes on a link of the way's span. On its first and its last

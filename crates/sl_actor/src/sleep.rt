@@ -1,5 +1,6 @@
-// How actors sleep: one at which nothing moves sleeps until a neighbour has put something on one of
-// its links, or has emptied one on which it waits. No clause speaks of it.
+// How actors sleep, and what an awake one knows of its links: one at which nothing moves sleeps until a
+// neighbour has put something on one of its links, or has emptied one on which it waits, and each keeps
+// which of its links have news. No clause speaks of it.
 use crossbeam_utils::{Backoff, CachePadded};
 use sl_machine::{Memory, Wiring};
 use std::alloc::Global;

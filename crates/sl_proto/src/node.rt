@@ -21,6 +21,7 @@ pub enum Node {
 
 // Most turns are of units. Those of other machines stand apart, so that one comparison tells.
 impl Node {
+    /// `ready` of a machine that is no unit.
     #[inline(never)]
     fn ready_apart(&mut self, choice: u32) -> Result<(), Memory>
         requires { IsChoice (node_counts self.old) choice }
@@ -37,6 +38,7 @@ impl Node {
         }
     }
 
+    /// `take` of a machine that is no unit.
     #[inline(never)]
     fn take_apart(&mut self, link: u32, m: Msg, out: &mut Outputs<Msg>)
         requires link { link < (node_counts self.old).ins }

@@ -8,6 +8,7 @@ use sl_loss::Loss;
 use sl_machine::{Book, Entry, Memory, Wiring};
 use sl_world::{Turn, World, every_schedule};
 use std::alloc::{AllocError, Global};
+use std::collections::VecDeque;
 use std::test::Fail;
 
 pub fn ring_wiring(alloc: Global) -> Result<Wiring, AllocError>
@@ -254,5 +255,56 @@ fn a_world_goes_on_from_another(rt: HostRuntime) -> Result<(), Fail> {
     let world = ring_world(rt.alloc())?;
     let right = goes_on_again(rt.alloc(), world)?;
     assert!(rt; right);
+    Ok(())
+}
+
+/// The numbers from this one down to 1.
+fn numbers_down(alloc: Global, first: u32) -> Result<Vec<u32>, AllocError> {
+    let mut numbers = Vec::new(alloc);
+    for behind in 0..first {
+        numbers.push(first - behind)?;
+    }
+    Ok(numbers)
+}
+
+/// The last of so many messages that are taken from a plain queue.
+fn last_of_queue(messages: Vec<u32>, count: u32) -> Option<u32> {
+    let mut queue = VecDeque::from(messages);
+    let mut last = None;
+    for _i in 0..count {
+        last = queue.pop_front();
+    }
+    last
+}
+
+/// Takes so many messages from the link to actor 0.
+fn take_many(world: &mut World<Relay>, count: u32) -> Result<(), Fail>
+    requires { (scene world.old).plan ≡ ring }
+    ensures { (scene world.new).plan ≡ ring }
+{
+    for _i in 0..count {
+        if world.book().entries.len() > 1000 {
+            return Err("too many turns".into());
+        }
+        world.turn(0, 0)?;
+    }
+    Ok(())
+}
+
+/// What the actors saw last, the first one first.
+fn seen_last(alloc: Global, world: World<Relay>) -> Result<Vec<u32>, AllocError> {
+    let (machines, _book) = world.into_book();
+    machines.iter().map(|m| m.last).collect(alloc)
+}
+
+#[test]
+fn many_messages_keep_their_order(rt: HostRuntime) -> Result<(), Fail> {
+    for count in [1, 2, 3, 299, 300] {
+        let mut world = ring_later(rt.alloc(), numbers_down(rt.alloc(), 300)?)?;
+        take_many(&mut world, count)?;
+        let last = seen_last(rt.alloc(), world)?;
+        let plain = last_of_queue(numbers_down(rt.alloc(), 300)?, count);
+        assert_eq!(rt; last.first().copied(), plain);
+    }
     Ok(())
 }

@@ -37,7 +37,14 @@ step hostile_frames
 device = [{name = "a", ports = 2}]
 host = [{name = "h0", at = "a.0"}, {name = "h1", at = "a.1"}]
 snapshot = {bits = 2, window = 3, ring = 3, count = 1, retries = 0}
-raw = [{from = "h0", hex = "010100030000000100000002006407010000000000000000"}, {from = "h0", hex = "03ff00010000000000000000000000010000000000000000"}, {from = "h0", hex = "000000010000000100000000006408010000000000000000"}, {from = "h0", hex = ""}, {from = "h0", hex = "000000000000000100000000006400010000000000000000"}, {from = "h0", hex = "000000000000000900000000006408010000000000000000"}]
+raw = [
+    {from = "h0", hex = "010100030000000100000002006407010000000000000000"},
+    {from = "h0", hex = "03ff00010000000000000000000000010000000000000000"},
+    {from = "h0", hex = "000000010000000100000000006408010000000000000000"},
+    {from = "h0", hex = ""},
+    {from = "h0", hex = "000000000000000100000000006400010000000000000000"},
+    {from = "h0", hex = "000000000000000900000000006408010000000000000000"}
+]
 --
 speedlight 1
 network devices 1 units 4 hosts 2
@@ -212,7 +219,10 @@ device = [{name = "a", ports = 2}]
 host = [{name = "h0", at = "a.0"}, {name = "h1", at = "a.1"}]
 flow = [{from = "h0", to = "h1", count = 3, bytes = 100, hops = 8}]
 snapshot = {bits = 2, window = 3, ring = 3, count = 1, retries = 0}
-script = {entries = ["host h0 inject", "host h0 inject", "in a.0 host", "in a.0 host", "observer issue", "control a begin", "in a.1 init", "out a.1 x1", "out a.1 x0", "out a.1 x0"]}
+script = {entries = [
+    "host h0 inject", "host h0 inject", "in a.0 host", "in a.0 host", "observer issue",
+    "control a begin", "in a.1 init", "out a.1 x1", "out a.1 x0", "out a.1 x0"
+]}
 --
 speedlight 1
 network devices 1 units 4 hosts 2
@@ -320,7 +330,10 @@ cable = [{a = "a.1", b = "b.0"}]
 host = [{name = "h0", at = "a.0"}, {name = "h1", at = "b.1"}]
 flow = [{from = "h0", to = "h1", count = 1, bytes = 100, hops = 8}]
 snapshot = {bits = 2, window = 1, ring = 1, count = 2, retries = 0}
-script = {entries = ["observer issue", "control a begin", "in a.0 init", "host h0 inject", "in a.0 host", "out a.1 x0", "out a.1 x0", "in b.0 cable", "observer issue"]}
+script = {entries = [
+    "observer issue", "control a begin", "in a.0 init", "host h0 inject", "in a.0 host",
+    "out a.1 x0", "out a.1 x0", "in b.0 cable", "observer issue"
+]}
 --
 speedlight 1
 network devices 2 units 8 hosts 2
@@ -434,7 +447,10 @@ device = [{name = "a", ports = 2}]
 host = [{name = "h0", at = "a.0"}, {name = "h1", at = "a.1"}]
 flow = [{from = "h0", to = "h1", count = 1, bytes = 100, hops = 8}]
 snapshot = {bits = 2, window = 2, ring = 2, count = 2, retries = 0}
-script = {entries = ["host h0 inject", "in a.0 host", "observer issue", "observer issue", "control a begin", "control a begin", "in a.1 init", "in a.1 init", "out a.1 x1", "out a.1 x1", "out a.1 x0"]}
+script = {entries = [
+    "host h0 inject", "in a.0 host", "observer issue", "observer issue", "control a begin",
+    "control a begin", "in a.1 init", "in a.1 init", "out a.1 x1", "out a.1 x1", "out a.1 x0"
+]}
 --
 speedlight 1
 network devices 1 units 4 hosts 2
@@ -456,7 +472,10 @@ device = [{name = "a", ports = 2}]
 host = [{name = "h0", at = "a.0"}, {name = "h1", at = "a.1"}]
 flow = [{from = "h0", to = "h1", count = 1, bytes = 100, hops = 8}]
 snapshot = {bits = 2, window = 2, ring = 2, count = 2, retries = 0, credits = 2}
-script = {entries = ["host h0 inject", "in a.0 host", "observer issue", "observer issue", "control a begin", "control a begin", "in a.1 init", "in a.1 init", "out a.1 x1", "out a.1 x1", "out a.1 x0"]}
+script = {entries = [
+    "host h0 inject", "in a.0 host", "observer issue", "observer issue", "control a begin",
+    "control a begin", "in a.1 init", "in a.1 init", "out a.1 x1", "out a.1 x1", "out a.1 x0"
+]}
 --
 speedlight 1
 network devices 1 units 4 hosts 2
@@ -482,7 +501,11 @@ device = [{name = "a", ports = 2}]
 host = [{name = "h0", at = "a.0"}, {name = "h1", at = "a.1"}]
 flow = [{from = "h0", to = "h1", count = 1, bytes = 100, hops = 8}]
 snapshot = {bits = 2, window = 3, ring = 3, count = 3, retries = 0, credits = 2}
-script = {entries = ["host h0 inject", "in a.0 host", "observer issue", "observer issue", "observer issue", "control a begin", "control a begin", "control a begin", "in a.1 init", "in a.1 init", "in a.1 init", "out a.1 x1", "out a.1 x1", "out a.1 x1", "out a.1 x0"]}
+script = {entries = [
+    "host h0 inject", "in a.0 host", "observer issue", "observer issue", "observer issue",
+    "control a begin", "control a begin", "control a begin", "in a.1 init", "in a.1 init",
+    "in a.1 init", "out a.1 x1", "out a.1 x1", "out a.1 x1", "out a.1 x0"
+]}
 --
 speedlight 1
 network devices 1 units 4 hosts 2
@@ -601,7 +624,19 @@ speedlight: I9 N1
 step refused_inputs.8
 device = [{name = "a", ports = 2}]
 host = [{name = "h0", at = "a.0"}, {name = "h1", at = "a.1"}]
-flow = [{from = "h0", to = "h1", count = 20000, bytes = 100, hops = 8}, {from = "h0", to = "h1", count = 20000, bytes = 100, hops = 8}, {from = "h0", to = "h1", count = 20000, bytes = 100, hops = 8}, {from = "h0", to = "h1", count = 20000, bytes = 100, hops = 8}, {from = "h0", to = "h1", count = 20000, bytes = 100, hops = 8}, {from = "h0", to = "h1", count = 20000, bytes = 100, hops = 8}, {from = "h0", to = "h1", count = 20000, bytes = 100, hops = 8}, {from = "h0", to = "h1", count = 20000, bytes = 100, hops = 8}, {from = "h0", to = "h1", count = 20000, bytes = 100, hops = 8}, {from = "h0", to = "h1", count = 20000, bytes = 100, hops = 8}, {from = "h0", to = "h1", count = 1, bytes = 100, hops = 8}]
+flow = [
+    {from = "h0", to = "h1", count = 20000, bytes = 100, hops = 8},
+    {from = "h0", to = "h1", count = 20000, bytes = 100, hops = 8},
+    {from = "h0", to = "h1", count = 20000, bytes = 100, hops = 8},
+    {from = "h0", to = "h1", count = 20000, bytes = 100, hops = 8},
+    {from = "h0", to = "h1", count = 20000, bytes = 100, hops = 8},
+    {from = "h0", to = "h1", count = 20000, bytes = 100, hops = 8},
+    {from = "h0", to = "h1", count = 20000, bytes = 100, hops = 8},
+    {from = "h0", to = "h1", count = 20000, bytes = 100, hops = 8},
+    {from = "h0", to = "h1", count = 20000, bytes = 100, hops = 8},
+    {from = "h0", to = "h1", count = 20000, bytes = 100, hops = 8},
+    {from = "h0", to = "h1", count = 1, bytes = 100, hops = 8}
+]
 snapshot = {bits = 2, window = 3, ring = 3, count = 1, retries = 0}
 --
 speedlight: I10 200001
@@ -665,7 +700,10 @@ cable = [{a = "a.1", b = "b.0"}]
 host = [{name = "h0", at = "a.0"}, {name = "h1", at = "b.1"}]
 flow = [{from = "h0", to = "h1", count = 1, bytes = 100, hops = 8}]
 snapshot = {bits = 2, window = 1, ring = 1, count = 2, retries = 0}
-script = {entries = ["observer issue", "control a begin", "in a.0 init", "host h0 inject", "in a.0 host", "out a.1 x0", "out a.1 x0", "in b.0 cable", "observer issue"]}
+script = {entries = [
+    "observer issue", "control a begin", "in a.0 init", "host h0 inject", "in a.0 host",
+    "out a.1 x0", "out a.1 x0", "in b.0 cable", "observer issue"
+]}
 --
 balance 1
 table 1 a 1 0 0 0
@@ -687,7 +725,10 @@ device = [{name = "a", ports = 2}]
 host = [{name = "h0", at = "a.0"}, {name = "h1", at = "a.1"}]
 flow = [{from = "h0", to = "h1", count = 3, bytes = 100, hops = 8}]
 snapshot = {bits = 2, window = 3, ring = 3, count = 1, retries = 0}
-script = {entries = ["host h0 inject", "host h0 inject", "in a.0 host", "in a.0 host", "observer issue", "control a begin", "in a.1 init", "out a.1 x1", "out a.1 x0", "out a.1 x0"]}
+script = {entries = [
+    "host h0 inject", "host h0 inject", "in a.0 host", "in a.0 host", "observer issue",
+    "control a begin", "in a.1 init", "out a.1 x1", "out a.1 x0", "out a.1 x0"
+]}
 --
 poll 1
 read in a.0 3 1 100
@@ -702,7 +743,10 @@ device = [{name = "a", ports = 2}]
 host = [{name = "h0", at = "a.0"}, {name = "h1", at = "a.1"}]
 flow = [{from = "h0", to = "h1", count = 3, bytes = 100, hops = 8}]
 snapshot = {bits = 2, window = 3, ring = 3, count = 1, retries = 0}
-script = {entries = ["host h0 inject", "host h0 inject", "in a.0 host", "in a.0 host", "observer issue", "control a begin", "in a.1 init", "out a.1 x1", "out a.1 x0", "out a.1 x0"]}
+script = {entries = [
+    "host h0 inject", "host h0 inject", "in a.0 host", "in a.0 host", "observer issue",
+    "control a begin", "in a.1 init", "out a.1 x1", "out a.1 x0", "out a.1 x0"
+]}
 --
 poll 1
 read in a.0 3 1 100
@@ -721,7 +765,10 @@ device = [{name = "a", ports = 2}]
 host = [{name = "h0", at = "a.0"}, {name = "h1", at = "a.1"}]
 flow = [{from = "h0", to = "h1", count = 1, bytes = 100, hops = 8}]
 snapshot = {bits = 2, window = 2, ring = 2, count = 2, retries = 0}
-script = {entries = ["host h0 inject", "in a.0 host", "observer issue", "observer issue", "control a begin", "control a begin", "in a.1 init", "in a.1 init", "out a.1 x1", "out a.1 x1", "out a.1 x0"]}
+script = {entries = [
+    "host h0 inject", "in a.0 host", "observer issue", "observer issue", "control a begin",
+    "control a begin", "in a.1 init", "in a.1 init", "out a.1 x1", "out a.1 x1", "out a.1 x0"
+]}
 --
 values 1
 snapshot 1 whole

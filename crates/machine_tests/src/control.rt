@@ -2,9 +2,9 @@
 ghost use Rattle.std.specs.Prelude.{◌≡◌, ◌<◌, IfOk, length};
 ghost use Rattle.sl_layout.specs.Net.{links_into, links_from};
 
-use crate::bench::{Bench, IDLE, Turn, first_wrong};
 use crate::messages::Event::{Act, Begin, Dump, Notice};
 use crate::nets::{net, sent};
+use crate::rig::{IDLE, Rig, Turn, first_wrong};
 use sl_control::Control;
 use sl_machine::Memory;
 use sl_net::{Net, Snapshot};
@@ -43,7 +43,13 @@ fn turns() -> &'static [Turn] {
 #[tactic(auto, using(crate::proofs::Links::control_links))]
 fn made(alloc: Global, net: &Net) -> Result<Control, Memory>
     requires { 0 < length net.now.parts.devices }
-    ensures { IfOk result (λ c. c.counts ≡ record { ins = length (links_into net.now 1); outs = length (links_from net.now 1); actions = 1 }) }
+    ensures { IfOk result
+        (λ c. c.counts
+        ≡ record {
+          ins = length (links_into net.now 1);
+          outs = length (links_from net.now 1);
+          actions = 1;
+        }) }
 {
     let _parts = net.parts();
     let snapshot = Snapshot {
@@ -58,13 +64,13 @@ fn made(alloc: Global, net: &Net) -> Result<Control, Memory>
     Control::new(alloc, net, 0, &snapshot)
 }
 
-fn control_of(alloc: Global, net: &Net) -> Result<Bench<Control>, Fail> {
+fn control_of(alloc: Global, net: &Net) -> Result<Rig<Control>, Fail> {
     if net.parts().devices.is_empty() || net.actors().len() < 2 {
         return Err("no control plane".into());
     }
     let ins = net.links_into(1).len() as u32;
     let outs = net.links_from(1).len() as u32;
-    Ok(Bench {
+    Ok(Rig {
         machine: sent(made(alloc, net)?),
         ins,
         outs,
@@ -72,7 +78,7 @@ fn control_of(alloc: Global, net: &Net) -> Result<Bench<Control>, Fail> {
     })
 }
 
-fn control(alloc: Global) -> Result<Bench<Control>, Fail> {
+fn control(alloc: Global) -> Result<Rig<Control>, Fail> {
     let net = net(alloc, 2)?;
     control_of(alloc, &net)
 }

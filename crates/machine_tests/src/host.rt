@@ -3,8 +3,8 @@ ghost use Rattle.std.specs.Prelude.{IfOk};
 ghost use Rattle.std.specs.List.{All};
 ghost use Rattle.sl_flow.specs.Flow.{HasAddresses};
 
-use crate::bench::Bench;
 use crate::nets::{net, sent};
+use crate::rig::Rig;
 use sl_host::Host;
 use sl_net::{Bytes, Flow, Input, LossSpec, Packet, RawPart, Snapshot};
 use sl_wire::{Framed, Msg, Spare};
@@ -68,10 +68,10 @@ fn input(alloc: Global) -> Result<Input, Fail>
 }
 
 /// The first host of an input.
-fn host_of(alloc: Global, input: &Input) -> Result<Bench<Host>, Fail>
+fn host_of(alloc: Global, input: &Input) -> Result<Rig<Host>, Fail>
     requires { All HasAddresses input.now.flows }
 {
-    Ok(Bench {
+    Ok(Rig {
         machine: sent(Host::new(alloc, 0, input)?),
         ins: 1,
         outs: 1,
@@ -79,13 +79,13 @@ fn host_of(alloc: Global, input: &Input) -> Result<Bench<Host>, Fail>
     })
 }
 
-fn host(alloc: Global) -> Result<Bench<Host>, Fail> {
+fn host(alloc: Global) -> Result<Rig<Host>, Fail> {
     let input = input(alloc)?;
     host_of(alloc, &input)
 }
 
 /// What the host sends next, where it sends something.
-fn next_message(alloc: Global, host: &mut Bench<Host>) -> Result<Option<Msg>, Fail> {
+fn next_message(alloc: Global, host: &mut Rig<Host>) -> Result<Option<Msg>, Fail> {
     match host.act(alloc, 1)? {
         None => Ok(None),
         Some(mut out) => match out.take_first() {
@@ -116,7 +116,7 @@ fn frames() -> &'static [&'static [u8]] {
 }
 
 /// The place of the first frame that is sent otherwise, or the number of frames.
-fn first_wrong(alloc: Global, host: &mut Bench<Host>, frames: &[&[u8]]) -> Result<usize, Fail> {
+fn first_wrong(alloc: Global, host: &mut Rig<Host>, frames: &[&[u8]]) -> Result<usize, Fail> {
     for place in 0..frames.len() {
         match next_message(alloc, host)? {
             Some(message) if carries(&message, frames[place]) => {}
@@ -136,7 +136,7 @@ fn packets_then_raw_frames(rt: HostRuntime) -> Result<(), Fail> {
 }
 
 /// How many frames the host has taken after this message.
-fn taken(alloc: Global, host: &mut Bench<Host>, m: Msg) -> Result<u64, Fail> {
+fn taken(alloc: Global, host: &mut Rig<Host>, m: Msg) -> Result<u64, Fail> {
     host.take(alloc, 0, m)?;
     Ok(host.machine.delivered())
 }

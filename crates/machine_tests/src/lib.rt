@@ -3,8 +3,6 @@
 #![tactic(auto)]
 
 #[cfg(test)]
-mod bench;
-#[cfg(test)]
 mod control;
 #[cfg(test)]
 mod host;
@@ -14,5 +12,7 @@ mod messages;
 mod nets;
 #[cfg(test)]
 mod observe;
+#[cfg(test)]
+mod rig;
 #[cfg(test)]
 mod unit;

@@ -1,10 +1,10 @@
 // The observer of a device with one port, which has two units.
 ghost use Rattle.std.specs.Prelude.{◌≡◌, length};
 
-use crate::bench::{Bench, IDLE, Turn, first_wrong};
 use crate::messages::Event::{Act, Done};
 use crate::messages::report;
 use crate::nets::{net, sent};
+use crate::rig::{IDLE, Rig, Turn, first_wrong};
 use sl_net::{Net, Snapshot};
 use sl_observe::Observer;
 use sl_saves::Saved;
@@ -15,22 +15,22 @@ use std::test::Fail;
 /// An observer, with the number of its units.
 #[derive(Drop)]
 struct Collector {
-    bench: Bench<Observer>,
+    rig: Rig<Observer>,
     units: usize,
-    ghost units_are: { length bench.machine.state.units ≡ units },
+    ghost units_are: { length rig.machine.state.units ≡ units },
 }
 
 impl Collector {
     /// Takes a report on a unit with rows from one number to another.
     fn hear(&mut self, alloc: Global, unit: u32, first: u64, reached: u64) -> Result<(), Fail> {
         let done = report(alloc, unit, first, reached)?;
-        self.bench.take(alloc, 0, Msg::Done(done))?;
+        self.rig.take(alloc, 0, Msg::Done(done))?;
         Ok(())
     }
 
     fn saved(&self, unit: u32, k: u64) -> Option<Saved> {
         if (unit as usize) < self.units {
-            self.bench.machine.saved(unit, k).copied()
+            self.rig.machine.saved(unit, k).copied()
         } else {
             None
         }
@@ -39,7 +39,7 @@ impl Collector {
     /// The id of a unit by the last report on it.
     fn id(&self, unit: u32) -> Option<u64> {
         if (unit as usize) < self.units {
-            Some(self.bench.machine.seen(unit).id)
+            Some(self.rig.machine.seen(unit).id)
         } else {
             None
         }
@@ -63,13 +63,13 @@ fn collector_of(alloc: Global, net: &Net) -> Result<Collector, Fail> {
     let ins = net.links_into(0).len() as u32;
     let outs = net.links_from(0).len() as u32;
     let units = net.units().len();
-    let bench = Bench {
+    let rig = Rig {
         machine: sent(Observer::new(alloc, net, &snapshot)?),
         ins,
         outs,
         actions: 2,
     };
-    Ok(Collector { bench, units })
+    Ok(Collector { rig, units })
 }
 
 fn make_collector(alloc: Global) -> Result<Collector, Fail> {
@@ -101,9 +101,9 @@ fn turns() -> &'static [Turn] {
 
 #[test]
 fn window_and_retries(rt: HostRuntime) -> Result<(), Fail> {
-    let mut bench = make_collector(rt.alloc())?.bench;
-    assert_eq!(rt; first_wrong(rt.alloc(), &mut bench, turns())?, None);
-    let observer = bench.machine;
+    let mut rig = make_collector(rt.alloc())?.rig;
+    assert_eq!(rt; first_wrong(rt.alloc(), &mut rig, turns())?, None);
+    let observer = rig.machine;
     assert_eq!(rt;
         (observer.floor(), observer.issued(), observer.resent()),
         (1, 3, 1)

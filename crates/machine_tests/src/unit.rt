@@ -4,9 +4,9 @@ ghost use Rattle.sl_layout.specs.Net.{units, links_into, links_from};
 ghost use Rattle.sl_unit.specs.Made.{IsRanged};
 ghost use Rattle.sl_unit.specs.Units.{unit_counts};
 
-use crate::bench::{Bench, Turn, first_wrong};
 use crate::messages::Event::{Data, Frame, Probe};
 use crate::nets::net;
+use crate::rig::{Rig, Turn, first_wrong};
 use sl_machine::Memory;
 use sl_net::{Net, Side, Snapshot};
 use sl_route::Routes;
@@ -39,7 +39,12 @@ fn unit_of(alloc: Global, net: &Net, place: u32, credits: u8) -> Result<Unit, Me
     requires least { 1 ≤ credits }
     requires most { credits ≤ 4 }
     ensures { IfOk result (λ unit. let a = slice_index (units net.now) place in
-        unit_counts unit ≡ record { ins = length (links_into net.now a); outs = length (links_from net.now a); actions = 0 }) }
+        unit_counts unit
+        ≡ record {
+          ins = length (links_into net.now a);
+          outs = length (links_from net.now a);
+          actions = 0;
+        }) }
 {
     match unit_side(net, place) {
         Side::Ingress => {
@@ -51,7 +56,7 @@ fn unit_of(alloc: Global, net: &Net, place: u32, credits: u8) -> Result<Unit, Me
 }
 
 /// The unit at a place of a net, with its links and so many credits.
-fn joined(alloc: Global, net: &Net, place: u32, credits: u8) -> Result<Bench<Unit>, Fail>
+fn joined(alloc: Global, net: &Net, place: u32, credits: u8) -> Result<Rig<Unit>, Fail>
     requires least { 1 ≤ credits }
     requires most { credits ≤ 4 }
 {
@@ -61,7 +66,7 @@ fn joined(alloc: Global, net: &Net, place: u32, credits: u8) -> Result<Bench<Uni
     let actor = net.unit_actor(place);
     let ins = net.links_into(actor).len() as u32;
     let outs = net.links_from(actor).len() as u32;
-    Ok(Bench {
+    Ok(Rig {
         machine: unit_of(alloc, net, place, credits)?,
         ins,
         outs,
@@ -70,7 +75,7 @@ fn joined(alloc: Global, net: &Net, place: u32, credits: u8) -> Result<Bench<Uni
 }
 
 /// The unit at a place: `in a.0`, `out a.0`, `in a.1`, `out a.1`.
-fn unit(alloc: Global, place: u32, credits: u8) -> Result<Bench<Unit>, Fail>
+fn unit(alloc: Global, place: u32, credits: u8) -> Result<Rig<Unit>, Fail>
     requires least { 1 ≤ credits }
     requires most { credits ≤ 4 }
 {
@@ -81,7 +86,7 @@ fn unit(alloc: Global, place: u32, credits: u8) -> Result<Bench<Unit>, Fail>
 /// The dump with which a unit answers a poll by its last choice. The poll takes another one back.
 fn polled(
     alloc: Global,
-    unit: &mut Bench<Unit>,
+    unit: &mut Rig<Unit>,
     back: Option<Boxed<Dump>>,
 ) -> Result<Boxed<Dump>, Fail> {
     let mut out = unit.take(alloc, 2, Msg::Poll(Spare::new(back)))?;

@@ -4,6 +4,13 @@ use sl_read::{InputFault, read_input};
 use std::alloc::Global;
 use std::test::Fail;
 
+const FOUR_PORTS: &str = "device = [{name = \"a\", ports = 4}]\n";
+
+/// A device of eight ports and its four cables, up to what may stand behind the ends of the last.
+const FOUR_CABLES: &str = r#"device = [{name = "a", ports = 8}]
+cable = [
+    {a = "a.0", b = "a.1"}, {a = "a.2", b = "a.3"}, {a = "a.4", b = "a.5"}, {a = "a.6", b = "a.7""#;
+
 const DEVICE: &str = "device = [{name = \"a\", ports = 2}]\n";
 
 const HOSTS: &str = "host = [{name = \"h0\", at = \"a.0\"}, {name = \"h1\", at = \"a.1\"}]\n";
@@ -118,12 +125,21 @@ device = [{name = "a", ports = 65535}] ; snapshot = {} => I3 snapshot.bits
 device = [{colour = 1}] ; snapshot = {} => I4 device.0
 device = [{name = "a", ports = 2}, {name = 1, colour = 1}] ; snapshot = {} => I4 device.1
 device = [{}, {colour = 1}] ; snapshot = {} => I3 device.0.name
-device = [{name = "a", ports = 4}] ; cable = [{a = "a.0", b = "a.1"}, {a = "a.2", b = "a.3", version = 1}] ; snapshot = {bits = 9, window = 3, ring = 3, count = 1, version = 2} => I11 cable.1.version
-device = [{name = "a", ports = 4}] ; cable = [{a = "a.0", b = "a.1", version = 1}, {a = "a.2", b = "a.3", version = 1}] ; snapshot = {bits = 16, window = 3, ring = 3, count = 1, version = 2} => I11 cable.0.version
-device = [{name = "a", ports = 4}] ; cable = [{a = "a.0", b = "a.1", version = 1}, {a = "a.2", b = "a.3"}] ; snapshot = {bits = 8, window = 3, ring = 3, count = 1, version = 2} => accepted
-device = [{name = "a", ports = 8}] ; cable = [{a = "a.0", b = "a.1"}, {a = "a.2", b = "a.3"}, {a = "a.4", b = "a.5"}, {a = "a.6", b = "a.7"}] ; snapshot = {bits = 8, window = 1, ring = 1, count = 64000} => accepted
-device = [{name = "a", ports = 8}] ; cable = [{a = "a.0", b = "a.1"}, {a = "a.2", b = "a.3"}, {a = "a.4", b = "a.5"}, {a = "a.6", b = "a.7"}] ; snapshot = {bits = 8, window = 1, ring = 1, count = 64001} => I12 1024016
-device = [{name = "a", ports = 8}] ; cable = [{a = "a.0", b = "a.1"}, {a = "a.2", b = "a.3"}, {a = "a.4", b = "a.5"}, {a = "a.6", b = "a.7", version = 1}] ; snapshot = {bits = 9, window = 1, ring = 1, count = 64001, version = 2} => I11 cable.3.version
+"#
+}
+
+/// Texts after a device of four ports.
+fn with_cables() -> &'static str {
+    r#"cable = [{a="a.0",b="a.1"},{a="a.2",b="a.3",version=1}] ; snapshot = {bits = 9, window = 3, ring = 3, count = 1, version = 2} => I11 cable.1.version
+cable = [{a="a.0",b="a.1",version=1},{a="a.2",b="a.3",version=1}] ; snapshot = {bits = 16, window = 3, ring = 3, count = 1, version = 2} => I11 cable.0.version
+cable = [{a = "a.0", b = "a.1", version = 1}, {a = "a.2", b = "a.3"}] ; snapshot = {bits = 8, window = 3, ring = 3, count = 1, version = 2} => accepted
+"#
+}
+
+/// Texts after a device of eight ports and its four cables.
+fn with_many_values() -> &'static str {
+    r#"snapshot = {bits = 8, window = 1, ring = 1, count = 64000} => accepted
+snapshot = {bits = 8, window = 1, ring = 1, count = 64001} => I12 1024016
 "#
 }
 
@@ -328,6 +344,20 @@ fn wrong_line<'a>(
 fn refusals(rt: HostRuntime) -> Result<(), Fail> {
     let alloc = rt.alloc();
     assert_eq!(rt; wrong_line(alloc, &[], alone(), "")?, None);
+    assert_eq!(rt; wrong_line(alloc, &[FOUR_PORTS], with_cables(), "")?, None);
+    assert_eq!(rt;
+        wrong_line(alloc, &[FOUR_CABLES, "}]\n"], with_many_values(), "")?,
+        None
+    );
+    assert_eq!(rt;
+        wrong_line(
+            alloc,
+            &[FOUR_CABLES, ", version = 1}]\n"],
+            "snapshot = {bits = 9, window = 1, ring = 1, count = 64001, version = 2} => I11 cable.3.version",
+            ""
+        )?,
+        None
+    );
     assert_eq!(rt; wrong_line(alloc, &[DEVICE], with_device(), "")?, None);
     assert_eq!(rt;
         wrong_line(alloc, &[DEVICE, HOSTS, SNAPSHOT], with_net(), "")?,
@@ -469,8 +499,13 @@ fn versions_of(alloc: Global, cables: &[CablePart]) -> Result<Vec<u8>, Fail> {
 #[test]
 fn versions(rt: HostRuntime) -> Result<(), Fail> {
     let alloc = rt.alloc();
-    let net =
-        "device = [{name = \"a\", ports = 6}]\ncable = [{a = \"a.0\", b = \"a.1\", version = 1}, {a = \"a.2\", b = \"a.3\"}, {a = \"a.4\", b = \"a.5\", version = 2}]\n";
+    let net = r#"device = [{name = "a", ports = 6}]
+cable = [
+    {a = "a.0", b = "a.1", version = 1},
+    {a = "a.2", b = "a.3"},
+    {a = "a.4", b = "a.5", version = 2},
+]
+"#;
     let tables: [(&str, u8); 2] = [(SNAPSHOT, 1), (VERSION_2, 2)];
     for (table, version) in tables {
         let text = joined(alloc, &[net, table])?;

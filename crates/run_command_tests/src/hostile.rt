@@ -5,8 +5,18 @@ use std::test::Fail;
 
 /// A forged packet with a stamp, a forged initiation, a plain frame with an id, no byte, a packet
 /// without hops left, and one to a host that isn't there.
-const HOSTILE: &str =
-    "device = [{name = \"a\", ports = 2}]\nhost = [{name = \"h0\", at = \"a.0\"}, {name = \"h1\", at = \"a.1\"}]\nsnapshot = {bits = 2, window = 3, ring = 3, count = 1, retries = 0}\nraw = [{from = \"h0\", hex = \"010100030000000100000002006407010000000000000000\"}, {from = \"h0\", hex = \"03ff00010000000000000000000000010000000000000000\"}, {from = \"h0\", hex = \"000000010000000100000000006408010000000000000000\"}, {from = \"h0\", hex = \"\"}, {from = \"h0\", hex = \"000000000000000100000000006400010000000000000000\"}, {from = \"h0\", hex = \"000000000000000900000000006408010000000000000000\"}]\n";
+const HOSTILE: &str = r#"device = [{name = "a", ports = 2}]
+host = [{name = "h0", at = "a.0"}, {name = "h1", at = "a.1"}]
+snapshot = {bits = 2, window = 3, ring = 3, count = 1, retries = 0}
+raw = [
+    {from = "h0", hex = "010100030000000100000002006407010000000000000000"},
+    {from = "h0", hex = "03ff00010000000000000000000000010000000000000000"},
+    {from = "h0", hex = "000000010000000100000000006408010000000000000000"},
+    {from = "h0", hex = ""},
+    {from = "h0", hex = "000000000000000100000000006400010000000000000000"},
+    {from = "h0", hex = "000000000000000900000000006408010000000000000000"}
+]
+"#;
 
 /// Whatever the order of the threads, each frame is dropped by its cause.
 #[test]

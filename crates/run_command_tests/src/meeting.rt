@@ -54,6 +54,10 @@ fn wait_for(own: &AtomicU64, other: &AtomicU64, met: &AtomicU64, round: u64) {
 }
 
 impl Gate for Meeting {
+    ghost use Rattle.std.specs.Prelude.{⊤};
+
+    ghost passed = { λ gate actor round. ⊤ };
+
     fn pass(&self, actor: u32, round: u64) {
         if actor == self.pair.0 {
             wait_for(&self.began.0, &self.began.1, &self.met, round);

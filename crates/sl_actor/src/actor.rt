@@ -1,5 +1,6 @@
 // An actor: a machine with its log, the ends from which it takes and the links on which it puts.
-ghost use Rattle.std.specs.Prelude.{◌≡◌, ◌+◌, ◌<◌, ◌≤◌, ◌++◌, ◌∷◌, [], Some, Ok, length, IfOk, IfSome, OnOk, OnErr};
+ghost use Rattle.std.specs.Prelude.{◌≡◌, ◌+◌, ◌<◌, ◌≤◌, ◌++◌, ◌∷◌, [], Some, Ok, length, IfOk};
+ghost use Rattle.std.specs.Prelude.{IfSome, OnOk, OnErr};
 ghost use Rattle.std.specs.Bool.{OnTrue, OnFalse};
 ghost use Rattle.std.specs.List.{All};
 ghost use Rattle.std.specs.Vec.{vec_capacity, vec_len};
@@ -12,7 +13,7 @@ use crate::moved::Moved;
 use crate::outs::Outs;
 use crate::part::OutPart;
 use crate::rows::Row;
-use crate::sleep::Sleeper;
+use crate::sleeper::Sleeper;
 use crate::steps::{moved, next_number, note};
 use sl_link::TakeEnd;
 use sl_machine::{Machine, Memory, Outputs};
@@ -22,7 +23,7 @@ use std::sync::Wait;
 /// A machine with its log, its incoming links and its outgoing links.
 #[derive(Drop)]
 pub struct Actor<A: Machine> {
-    place: u32,
+    pub(crate) place: u32,
     machine: A,
     number: u64,
     log: Vec<(u64, u32)>,
@@ -70,7 +71,8 @@ impl<A: Machine> Actor<A> {
         requires ins { length takes ≡ (A.counts machine).ins }
         requires outs_each { length outs ≡ (A.counts machine).outs }
         requires empty { All (λ p. IfSome p IsNewPart) outs }
-        ensures { IfOk result (λ a. IsNew (A.state machine) (A.counts machine) takes outs (held a)) }
+        ensures { IfOk result
+            (λ a. IsNew place (A.state machine) (A.counts machine) takes outs (held a)) }
     {
         let out = Outputs::with_room(alloc, outs.len())?;
         let takes = takes.into_list(alloc)?;
@@ -126,65 +128,35 @@ impl<A: Machine> Actor<A> {
         }
     }
 
-    /// One turn by a choice: it offers what waits in the outboxes, then the machine takes the next
-    /// message of the chosen link or acts. What it puts is offered at once, but on a link where
-    /// messages wait it waits behind them. A turn that is refused for memory has changed nothing.
+    /// One turn by a choice. First it takes all memory that it can need; a turn that is refused it has
+    /// changed nothing. Then it offers what waits in the outboxes, and the machine takes the next message
+    /// of the chosen link or acts. What it puts is offered at once, but on a link where messages wait it
+    /// waits behind them.
     pub fn turn<R: Wait>(&mut self, rt: &R, choice: u32) -> Result<Moved, Memory>
         requires { IsChoice (held self.old).counts choice }
-        ensures follows { (first : A.State) → Follows A.rules first (held self.old) → Follows A.rules first (held self.new) }
-        ensures did { result ≡ Ok Moved.Did → (held self.new).log ≡ (held self.old).log ++ ((held self.new).number, choice) ∷ [] }
-        ensures offered { result ≡ Ok Moved.Offered → NothingDone A.rules choice (held self.old) (held self.new) }
-        ensures put { result ≡ Ok Moved.Offered → SomePut (held self.old).outs (held self.new).outs }
-        ensures idle { result ≡ Ok Moved.Idle → NothingDone A.rules choice (held self.old) (held self.new) }
+        ensures follows { (first : A.State) → Follows A.rules first (held self.old)
+            → Follows A.rules first (held self.new) }
+        ensures did { result ≡ Ok Moved.Did → (held self.new).log
+            ≡ (held self.old).log ++ ((held self.new).number, choice) ∷ [] }
+        ensures offered { result ≡ Ok Moved.Offered
+            → NothingDone A.rules choice (held self.old) (held self.new) }
+        ensures put { result ≡ Ok Moved.Offered
+            → SomePut (held self.old).outs (held self.new).outs }
+        ensures idle { result ≡ Ok Moved.Idle
+            → NothingDone A.rules choice (held self.old) (held self.new) }
         ensures still { result ≡ Ok Moved.Idle → (held self.new).outs ≡ (held self.old).outs }
         ensures fronts { OnOk result (AreOffered (held self.new).outs) }
         ensures err { OnErr result (held self.new ≡ held self.old) }
         ensures ends { KeepsEnds (held self.old) (held self.new) }
         ensures counts { (held self.new).counts ≡ (held self.old).counts }
     {
-        let may_step = self.prepare(rt, choice)?;
+        self.make_ready(choice)?;
         let offered = self.outs.offer(rt, &mut self.sleeper);
-        let did = self.step(rt, choice, may_step);
+        let did = self.step(rt, choice);
         self.sleeper.turned(choice, did);
         let has_moved = offered || did;
         self.sleeper.wake_full(has_moved, &self.outs.waiting);
         Ok(moved(did, offered))
-    }
-
-    /// The actor's place among the actors.
-    pub(crate) fn place(&self) -> u32 {
-        self.place
-    }
-
-    /// Whether a step may come of a choice, for which the memory that it can need is taken then.
-    fn prepare<R: Wait>(&mut self, rt: &R, choice: u32) -> Result<bool, Memory>
-        requires { IsChoice (held self.old).counts choice }
-        ensures same { held self.new ≡ held self.old }
-        ensures nothing { IfOk result (λ may. OnFalse may (NothingDone A.rules choice (held self.old) (held self.old))) }
-        ensures log { IfOk result (λ may. OnTrue may (vec_len self.new.log < vec_capacity self.new.log)) }
-        ensures spare { IfOk result (λ may. OnTrue may (AreSpare self.new.outs.parts.items)) }
-        ensures ready { IfOk result (λ may. OnTrue may (A.ready_for self.new.machine ≡ Some choice)) }
-    {
-        if !self.may_step(rt, choice) {
-            return Ok(false);
-        }
-        self.make_ready(choice)?;
-        Ok(true)
-    }
-
-    /// Whether a step may come of a choice: an action, or a link with a message.
-    fn may_step<R: Wait>(&mut self, rt: &R, choice: u32) -> bool
-        requires { IsChoice (held self.old).counts choice }
-        ensures same { held self.new ≡ held self.old }
-        ensures nothing { OnFalse result (NothingDone A.rules choice (held self.old) (held self.old)) }
-    {
-        if (choice as usize) >= self.takes.len() {
-            return true;
-        }
-        let link = &mut self.takes[choice as usize];
-        let has_next = link.look(rt);
-        self.sleeper.looked(choice, has_next);
-        has_next
     }
 
     /// Takes the memory that a step by a choice can need.
@@ -200,14 +172,13 @@ impl<A: Machine> Actor<A> {
         self.machine.ready(choice)
     }
 
-    /// The step of the machine by a choice of which one may come. Whether it made one.
-    fn step<R: Wait>(&mut self, rt: &R, choice: u32, may_step: bool) -> bool
+    /// The step of the machine by a choice, for which it is ready. Whether it made one.
+    fn step<R: Wait>(&mut self, rt: &R, choice: u32) -> bool
         requires choice { IsChoice (held self.old).counts choice }
-        requires nothing { OnFalse may_step (NothingDone A.rules choice (held self.old) (held self.old)) }
-        requires log { OnTrue may_step (vec_len self.old.log < vec_capacity self.old.log) }
-        requires spare { OnTrue may_step (AreSpare self.old.outs.parts.items) }
+        requires log { vec_len self.old.log < vec_capacity self.old.log }
+        requires spare { AreSpare self.old.outs.parts.items }
         requires fronts { AreOffered (held self.old).outs }
-        requires ready { OnTrue may_step (A.ready_for self.old.machine ≡ Some choice) }
+        requires ready { A.ready_for self.old.machine ≡ Some choice }
         ensures did { OnTrue result (Stepped A.rules choice (held self.old) (held self.new)) }
         ensures idle { OnFalse result (NothingDone A.rules choice (held self.old) (held self.new)) }
         ensures outs { OnFalse result ((held self.new).outs ≡ (held self.old).outs) }
@@ -215,9 +186,6 @@ impl<A: Machine> Actor<A> {
         ensures ends { KeepsEnds (held self.old) (held self.new) }
         ensures counts { (held self.new).counts ≡ (held self.old).counts }
     {
-        if !may_step {
-            return false;
-        }
         if (choice as usize) < self.takes.len() {
             self.take_step(rt, choice)
         } else {
@@ -240,7 +208,10 @@ impl<A: Machine> Actor<A> {
     {
         let end = &mut self.takes[choice as usize];
         let s = match end.take(rt) {
-            None => return false,
+            None => {
+                self.sleeper.found_empty(choice);
+                return false;
+            }
             Some(s) => s,
         };
         let number = next_number(rt, self.number, s.number);

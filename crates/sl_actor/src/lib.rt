@@ -3,16 +3,20 @@
 #![tactic(auto)]
 
 mod actor;
+mod laws;
 mod make;
 mod moved;
+mod neighbours;
 mod outs;
 mod part;
+mod roster;
 mod rows;
 mod run;
-mod sleep;
+mod sleeper;
 mod steps;
 
 pub use actor::{Actor, ActorParts};
+pub use laws::no_wake_up_is_lost;
 pub use make::make_actors;
 pub use moved::Moved;
 pub use part::OutPart;

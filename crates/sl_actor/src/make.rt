@@ -1,17 +1,21 @@
 // Making actors: the links of a wiring, and the actors that they join.
-ghost use Rattle.std.specs.Prelude.{◌≡◌, ◌<◌, ◌≤◌, ◌^◌, ◌∷◌, [], None, length, map, slice_index_or, IfOk, OnOk, OnErr};
+ghost use Rattle.std.specs.Prelude.{◌≡◌, ◌<◌, ◌≤◌, ◌^◌, ◌∷◌, [], None, length, map};
+ghost use Rattle.std.specs.Prelude.{slice_index_or, IfOk, OnOk, OnErr};
 ghost use Rattle.std.specs.List.{All};
 ghost use Rattle.std.specs.VecDeque.{deque_len};
 ghost use Rattle.sl_machine.specs.Fit.{Fits, ins_of, outs_of};
 ghost use Rattle.sl_loss.specs.Loss.{IsFresh};
-ghost use Rattle.sl_actor.specs.Made.{IsNewEnd, IsNewPart, FitRows, AreJoined, Joins, AreNew, EachFollows, HasEnds, AreTied};
+ghost use Rattle.sl_actor.specs.Made.{IsNewEnd, IsNewPart, FitRows, AreJoined, Joins, AreNew};
+ghost use Rattle.sl_actor.specs.Made.{ArePlaced, EachFollows, HasEnds, AreTied};
 ghost use Rattle.sl_actor.specs.Held.{held};
 ghost use Rattle.sl_actor.specs.Rows.{AreSuch, IsFilled};
 
 use crate::actor::Actor;
+use crate::neighbours::Neighbours;
 use crate::part::OutPart;
+use crate::roster::Roster;
 use crate::rows::{Row, empty_rows, fill_at};
-use crate::sleep::{Neighbours, Roster, Sleeper};
+use crate::sleeper::Sleeper;
 use sl_link::{TakeEnd, make_link};
 use sl_loss::Loss;
 use sl_machine::{Link, Machine, Memory, Wiring};
@@ -30,12 +34,17 @@ pub fn make_actors<A: Machine>(
     requires fit { Fits A.counts wiring.now machines.items losses.items }
     requires fresh { All IsFresh losses.items }
     requires capacity { (1 ≤ capacity) × (capacity ≤ 1024) }
-    ensures states { IfOk result (λ v. map (λ a. a.state) (map held v.items) ≡ map A.state machines.items) }
-    ensures counts { IfOk result (λ v. map (λ a. a.counts) (map held v.items) ≡ map A.counts machines.items) }
+    ensures places { IfOk result (λ v. ArePlaced (map held v.items)) }
+    ensures states { IfOk result
+        (λ v. map (λ a. a.state) (map held v.items) ≡ map A.state machines.items) }
+    ensures counts { IfOk result
+        (λ v. map (λ a. a.counts) (map held v.items) ≡ map A.counts machines.items) }
     ensures logs { IfOk result (λ v. All (λ a. a.log ≡ []) (map held v.items)) }
-    ensures follows { IfOk result (λ v. EachFollows A.rules (map A.state machines.items) (map held v.items)) }
+    ensures follows { IfOk result
+        (λ v. EachFollows A.rules (map A.state machines.items) (map held v.items)) }
     ensures ends { IfOk result (λ v. All HasEnds (map held v.items)) }
-    ensures tied { IfOk result (λ v. AreTied wiring.now.links losses.items capacity (map held v.items)) }
+    ensures tied { IfOk result
+        (λ v. AreTied wiring.now.links losses.items capacity (map held v.items)) }
 {
     let mut takes = empty_rows(alloc, wiring.in_counts.as_slice())?;
     let mut outs = empty_rows(alloc, wiring.out_counts.as_slice())?;
@@ -59,7 +68,9 @@ fn assemble<A: Machine>(
     requires outs { All (λ row. All IsFilled row) outs.items }
     requires parts { AreSuch IsNewPart outs.items }
     ensures len { IfOk result (λ v. length v.items ≡ length machines.items) }
-    ensures new { IfOk result (λ v. AreNew A.state A.counts machines.items (length machines.items) takes.items outs.items (map held v.items)) }
+    ensures new { IfOk result
+        (λ v. AreNew A.state A.counts machines.items (length machines.items) takes.items outs.items
+        (map held v.items)) }
 {
     let roster = Roster::shared(alloc, wiring)?;
     let neighbours = Neighbours::in_wiring(alloc, wiring)?;
@@ -107,7 +118,9 @@ fn join_all<M: Drop>(
     ensures outs { map length outs.new.items ≡ map length outs.old.items }
     ensures ends { AreSuch IsNewEnd takes.new.items }
     ensures parts { AreSuch IsNewPart outs.new.items }
-    ensures joined { OnOk result (AreJoined links.now losses.items capacity (length links.now) takes.new.items outs.new.items) }
+    ensures joined { OnOk result
+        (AreJoined links.now losses.items capacity (length links.now)
+        takes.new.items outs.new.items) }
 {
     let mut losses = VecDeque::from(losses);
     for link in links {
@@ -134,8 +147,10 @@ fn join_one<M: Drop>(
     requires from { link.from < length outs.old.items }
     requires out { link.out < length (slice_index_or outs.old.items link.from []) }
     requires loss { IsFresh loss }
-    ensures same { OnErr result ((takes.new.items ≡ takes.old.items) × (outs.new.items ≡ outs.old.items)) }
-    ensures joins { OnOk result (Joins link loss capacity takes.old.items takes.new.items outs.old.items outs.new.items) }
+    ensures same { OnErr result ((takes.new.items ≡ takes.old.items)
+        × (outs.new.items ≡ outs.old.items)) }
+    ensures joins { OnOk result
+        (Joins link loss capacity takes.old.items takes.new.items outs.old.items outs.new.items) }
 {
     let (put, take) = make_link::<M>(alloc, capacity)?;
     let part = OutPart {

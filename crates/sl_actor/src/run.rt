@@ -1,5 +1,6 @@
+// Trusted types: Gate.
 // Runs of an actor: rounds of turns until nothing moves any more.
-ghost use Rattle.std.specs.Prelude.{◌≡◌, ◌+◌, ◌<◌, ◌≤◌, Ok, length, OnOk, OnErr, IfOk};
+ghost use Rattle.std.specs.Prelude.{ℕ, ⊤, ◌≡◌, ◌+◌, ◌<◌, ◌≤◌, Ok, length, OnOk, OnErr, IfOk};
 ghost use Rattle.std.specs.Bool.{OnTrue};
 ghost use Rattle.std.specs.List.{All, Contains};
 ghost use Rattle.sl_machine.specs.Machine.{IsChoice};
@@ -14,8 +15,12 @@ use std::sync::Wait;
 /// What an actor passes at the start of each round of a run. Where nothing moves at an actor, its next
 /// round may come only seconds later.
 pub trait Gate {
+    /// What is known once an actor has passed before a round. A run knows it by its passes alone.
+    ghost passed: { Self → ℕ → ℕ → Type 0 };
+
     /// The actor of this number begins a round of its run. `round` counts from 0.
-    fn pass(&self, actor: u32, round: u64);
+    fn pass(&self, actor: u32, round: u64)
+        ensures { passed self.now actor round };
 }
 
 /// A gate at which nothing happens.
@@ -23,6 +28,8 @@ pub trait Gate {
 pub struct FreeGate;
 
 impl Gate for FreeGate {
+    ghost passed = { λ gate actor round. ⊤ };
+
     fn pass(&self, _actor: u32, _round: u64) {}
 }
 
@@ -47,14 +54,15 @@ impl<A: Machine> Actor<A> {
     ghost use Rattle.sl_actor.specs.Held.{held};
     ghost use Rattle.sl_actor.specs.Follows.{Follows};
     ghost use Rattle.sl_actor.specs.Turns.{KeepsEnds, NothingDone};
-    ghost use Rattle.sl_actor.specs.Runs.{Advances, LogGoesOn, IsQuiet, Settled, MatchMoved, MatchRound};
+    ghost use Rattle.sl_actor.specs.Runs.{HasPassed, Advances, LogGoesOn, IsQuiet, Settled};
+    ghost use Rattle.sl_actor.specs.Runs.{MatchMoved, MatchRound};
 
     /// Rounds of turns by the choices of the plan, until the log has grown by `steps` entries (`Spent`),
     /// or for `quiet` rounds in a row no turn did or moved anything (`Rested`). The last of these has one
     /// turn by each choice. The others leave out each link on which nothing was put since the round
     /// before and nothing was found in it. A run that is refused for memory stands after the turns that
-    /// it took. Between rounds in which nothing moved it sleeps while others run or are to begin, until a
-    /// neighbour puts something on one of its links or makes room.
+    /// it took. The actor passes the gate before each round. Between rounds in which nothing moved it sleeps
+    /// while others run or are to begin, until a neighbour puts something on one of its links or makes room.
     pub fn run<R: Wait, G: Gate>(
         &mut self,
         rt: &R,
@@ -65,12 +73,19 @@ impl<A: Machine> Actor<A> {
     ) -> Result<Rest, Memory>
         requires plan { All (λ choice. IsChoice (held self.old).counts choice) plan.now }
         requires quiet { 1 ≤ quiet }
-        ensures follows { (first : A.State) → Follows A.rules first (held self.old) → Follows A.rules first (held self.new) }
+        ensures follows { (first : A.State) → Follows A.rules first (held self.old)
+            → Follows A.rules first (held self.new) }
         ensures log { LogGoesOn plan.now (held self.old).log (held self.new).log }
-        ensures spent { result ≡ Ok Rest.Spent → length (held self.new).log ≡ length (held self.old).log + steps }
-        ensures rested { result ≡ Ok Rest.Rested → length (held self.new).log < length (held self.old).log + steps }
-        ensures settled { result ≡ Ok Rest.Rested → All (λ choice. Settled A.rules choice (held self.new)) plan.now }
-        ensures fronts { result ≡ Ok Rest.Rested → 0 < length plan.now → AreOffered (held self.new).outs }
+        ensures spent { result ≡ Ok Rest.Spent → length (held self.new).log
+            ≡ length (held self.old).log + steps }
+        ensures rested { result ≡ Ok Rest.Rested
+            → length (held self.new).log < length (held self.old).log + steps }
+        ensures settled { result ≡ Ok Rest.Rested
+            → All (λ choice. Settled A.rules choice (held self.new)) plan.now }
+        ensures fronts { result ≡ Ok Rest.Rested → 0 < length plan.now
+            → AreOffered (held self.new).outs }
+        ensures passed { result ≡ Ok Rest.Rested
+            → HasPassed G.passed gate.now (held self.old).place quiet }
         ensures ends { KeepsEnds (held self.old) (held self.new) }
         ensures counts { (held self.new).counts ≡ (held self.old).counts }
     {
@@ -95,12 +110,19 @@ impl<A: Machine> Actor<A> {
         requires plan { All (λ choice. IsChoice (held self.old).counts choice) plan.now }
         requires steps { 0 < steps }
         requires quiet { 1 ≤ quiet }
-        ensures follows { (first : A.State) → Follows A.rules first (held self.old) → Follows A.rules first (held self.new) }
+        ensures follows { (first : A.State) → Follows A.rules first (held self.old)
+            → Follows A.rules first (held self.new) }
         ensures log { LogGoesOn plan.now (held self.old).log (held self.new).log }
-        ensures spent { result ≡ Ok Rest.Spent → length (held self.new).log ≡ length (held self.old).log + steps }
-        ensures rested { result ≡ Ok Rest.Rested → length (held self.new).log < length (held self.old).log + steps }
-        ensures settled { result ≡ Ok Rest.Rested → All (λ choice. Settled A.rules choice (held self.new)) plan.now }
-        ensures fronts { result ≡ Ok Rest.Rested → 0 < length plan.now → AreOffered (held self.new).outs }
+        ensures spent { result ≡ Ok Rest.Spent → length (held self.new).log
+            ≡ length (held self.old).log + steps }
+        ensures rested { result ≡ Ok Rest.Rested
+            → length (held self.new).log < length (held self.old).log + steps }
+        ensures settled { result ≡ Ok Rest.Rested
+            → All (λ choice. Settled A.rules choice (held self.new)) plan.now }
+        ensures fronts { result ≡ Ok Rest.Rested → 0 < length plan.now
+            → AreOffered (held self.new).outs }
+        ensures passed { result ≡ Ok Rest.Rested
+            → HasPassed G.passed gate.now (held self.old).place quiet }
         ensures ends { KeepsEnds (held self.old) (held self.new) }
         ensures counts { (held self.new).counts ≡ (held self.old).counts }
     {
@@ -108,8 +130,9 @@ impl<A: Machine> Actor<A> {
         let mut done = 0;
         let mut idle = 0;
         let mut round = 0;
+        let place = self.place;
         for _ in rt.forever() {
-            gate.pass(self.place(), round);
+            gate.pass(place, round);
             let is_last = idle + 1 >= quiet;
             let asks_all = self.sleeper.asks_all(idle, &self.outs.waiting);
             let by_all = is_last || asks_all;
@@ -142,8 +165,11 @@ impl<A: Machine> Actor<A> {
         requires plan { All (λ choice. IsChoice (held self.old).counts choice) plan.now }
         requires steps { done.old < steps }
         ensures advances { Advances A.rules plan.now (held self.old) (held self.new) }
-        ensures done { length (held self.new).log + done.old ≡ length (held self.old).log + done.new }
-        ensures answer { IfOk result (λ r. MatchRound r (done.new ≡ steps) (done.new < steps) (OnTrue by_all (IsQuiet A.rules plan.now (length plan.now) (held self.new)))) }
+        ensures done { length (held self.new).log + done.old
+            ≡ length (held self.old).log + done.new }
+        ensures answer { IfOk result
+            (λ r. MatchRound r (done.new ≡ steps) (done.new < steps)
+            (OnTrue by_all (IsQuiet A.rules plan.now (length plan.now) (held self.new)))) }
     {
         if self.sleeper.has_news() {
             match self.turns(rt, plan, false, steps, done)? {
@@ -171,8 +197,11 @@ impl<A: Machine> Actor<A> {
         requires plan { All (λ choice. IsChoice (held self.old).counts choice) plan.now }
         requires steps { done.old < steps }
         ensures advances { Advances A.rules plan.now (held self.old) (held self.new) }
-        ensures done { length (held self.new).log + done.old ≡ length (held self.old).log + done.new }
-        ensures answer { IfOk result (λ r. MatchRound r (done.new ≡ steps) (done.new < steps) (OnTrue by_all (IsQuiet A.rules plan.now (length plan.now) (held self.new)))) }
+        ensures done { length (held self.new).log + done.old
+            ≡ length (held self.old).log + done.new }
+        ensures answer { IfOk result
+            (λ r. MatchRound r (done.new ≡ steps) (done.new < steps)
+            (OnTrue by_all (IsQuiet A.rules plan.now (length plan.now) (held self.new)))) }
     {
         let mut calm = true;
         for choice in plan {
@@ -202,7 +231,9 @@ impl<A: Machine> Actor<A> {
         requires choice { IsChoice (held self.old).counts choice }
         requires plan { Contains plan.now choice }
         ensures advances { Advances A.rules plan.now (held self.old) (held self.new) }
-        ensures answer { IfOk result (λ m. MatchMoved m (length (held self.new).log ≡ length (held self.old).log + 1) (NothingDone A.rules choice (held self.old) (held self.new))) }
+        ensures answer { IfOk result
+            (λ m. MatchMoved m (length (held self.new).log ≡ length (held self.old).log + 1)
+            (NothingDone A.rules choice (held self.old) (held self.new))) }
         ensures err { OnErr result (length (held self.new).log ≡ length (held self.old).log) }
         ensures fronts { OnOk result (AreOffered (held self.new).outs) }
     {

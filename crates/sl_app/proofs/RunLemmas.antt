@@ -1,5 +1,5 @@
 -- An accepted input can be run within the bound, and so can a sample's; what is served for a run.
-use Rattle.std.proofs.Common.{◌≡◌, ℕ, ◌+◌, ◌*◌, ◌<◌, ◌≤◌, ◌^◌, Bool, List, [], ◌∷◌, length, map, Option, Some, None, inl, inr, arith, sym, subst}
+use Rattle.std.proofs.Common.{◌≡◌, ℕ, ◌+◌, ◌*◌, ◌<◌, ◌≤◌, ◌^◌, Bool, List, [], ◌∷◌, length, map, Option, Some, None, inl, inr, arith, ap, sym, subst}
 use Rattle.std.specs.Prelude.{sum}
 use Rattle.std.specs.List.{All}
 use Rattle.sl_net.specs.declared.input.Flow.{Flow}
@@ -14,6 +14,7 @@ use Rattle.sl_read.specs.Accepted.{IsAccepted}
 use Rattle.sl_flow.specs.Sample.{IsSample, flow, host_count, sample_parts}
 use Rattle.sl_parts.specs.Lists.{Each}
 use Rattle.std.proofs.lemmas.List.{length-map}
+use Rattle.std.proofs.lemmas.List.Sums.{sum-map}
 use Rattle.sl_model.specs.declared.findings.Findings.{Findings}
 use Rattle.sl_model.specs.History.{Losses}
 use Rattle.sl_model.specs.Setup.{Setup, setup_of}
@@ -56,6 +57,11 @@ Small = (i : Input) → IsNet i.net → i.snapshot.count ≤ 100000 → i.snapsh
 
 pub small : Small → (i : Input) → CanRun i → IsAccepted i → input_bound i < 2 ^ 27
 small law i can a = law i can.net a.snapshot.count a.few_values a.snapshot.retries a.few_packets a.few_entries
+
+-- so is that of a sample, whose net has no more units than any net
+pub small_sample : Small → (i : Input) → CanRun i → IsSample i → length (units i.net) ≤ 1217 → input_bound i < 2 ^ 27
+small_sample law i can s few = law i can.net (omega (arith, s.count)) (subst (λ n. n * length (units i.net) ≤ 1024000) (sym s.count) (omega (arith, few))) (omega (arith, s.retries))
+    (omega (arith, s.few_packets, sum-map (λ (f : Flow). f.count) i.flows, ap length s.raws)) (omega (arith, ap length s.script))
 
 -- a run in threads sweeps as little as a run with no script
 pub small_threads : Small → (i : Input) → CanRun i → IsAccepted i → bound_of (setup_of i) 0 < 2 ^ 27

@@ -1,3 +1,4 @@
+-- Trusted text, in part.
 -- How a call of the program ends, and the cause of each ending.
 use Rattle.std.specs.Prelude.{◌≡◌, ℕ, ◌<◌, ◌≤◌, ◌^◌, Bool, ◌⊎◌, List, length, map, take, Option, Some, None, Result, Ok, Err, string_bytes}
 use Rattle.std.specs.declared.string.String.{String}

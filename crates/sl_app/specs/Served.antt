@@ -1,3 +1,4 @@
+-- Trusted text, but for IsReport, ServesThreads, IsTable, IsReading, AreValues.
 -- What is served: for an input the book and the nodes of its run, and the text; for a sample the text.
 use Rattle.std.specs.Prelude.{◌≡◌, ℕ, ◌<◌, ◌≤◌, Bool, true, false, if◌then◌else◌, List, [], ◌++◌, length, map, Option, Some, None, option_map, Result, Ok, Err, Vec}
 use Rattle.std.specs.Global.{Global}

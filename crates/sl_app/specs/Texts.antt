@@ -1,3 +1,4 @@
+-- Trusted text.
 -- The exit statuses, and the lines that are written for them.
 use Rattle.std.specs.Prelude.{ℕ, List, [], ◌++◌, codes, decimal}
 use Rattle.sl_app.specs.declared.ended.Refusal.{Refusal}

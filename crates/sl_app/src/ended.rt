@@ -1,3 +1,4 @@
+// Trusted types: Refusal, Ended.
 // How a call ends, and what a refusal is.
 ghost use Rattle.std.specs.Prelude.{◌≡◌};
 ghost use Rattle.sl_app.specs.Texts.{status_of, refusal_text};

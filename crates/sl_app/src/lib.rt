@@ -4,6 +4,7 @@
 mod ended;
 mod laws;
 mod polling;
+mod printed;
 mod run;
 mod sample;
 mod stream;
@@ -12,5 +13,6 @@ mod top;
 mod valued;
 
 pub use ended::{Ended, Refusal};
-pub use laws::printed_runs_are_checked;
+pub use laws::{printed_runs_are_checked, served_worlds_are_in_window};
+pub use printed::printed_reports_tell_findings;
 pub use top::{one_thread, refuse, speedlight};

@@ -27,7 +27,9 @@ fn schedule_of(alloc: Global, entries: &[Entry]) -> Result<Vec<(u32, u32)>, Allo
 /// after `start` entries, each further one after `gap` more.
 pub fn serve_poll(alloc: Global, input: &Input, start: u64, gap: u64) -> Result<Served, Memory>
     requires { CanRun input.now }
-    ensures reading { IfOk result (λ s. IsReading input.now (losses input.now) s.book s.front (states_of s.nodes) start gap s.text.items) }
+    ensures reading { IfOk result
+        (λ s. IsReading input.now (losses input.now) s.book s.front
+        (states_of s.nodes) start gap s.text.items) }
     ensures status { IfOk result (λ s. s.status ≡ 0) }
 {
     let run = run_stepped(alloc, input)?;

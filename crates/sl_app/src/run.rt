@@ -1,5 +1,6 @@
 // What is served for an input: the report of a run with its trace, stepped or in threads, and routes.
-ghost use Rattle.std.specs.Prelude.{◌≡◌, ◌<◌, ◌^◌, None, IfOk, OnOk, length, if◌then◌else◌, [], ◌++◌};
+ghost use Rattle.std.specs.Prelude.{◌≡◌, ◌<◌, ◌^◌, None, IfOk, OnOk, length, if◌then◌else◌, []};
+ghost use Rattle.std.specs.Prelude.{◌++◌};
 ghost use Rattle.std.specs.List.{All};
 ghost use Rattle.sl_model.specs.Setup.{setup_of};
 ghost use Rattle.sl_model.specs.Losses.{losses};
@@ -11,15 +12,14 @@ ghost use Rattle.sl_proto.specs.Standing.{case_of, world_of, StandsFor};
 ghost use Rattle.sl_proto.specs.RunBook.{CanRun, IsRunBook};
 ghost use Rattle.sl_emul.specs.Run.{HasEnded};
 ghost use Rattle.sl_emul.specs.Threaded.{IsThreadedBook};
-ghost use Rattle.sl_app.specs.Served.{run_text, IsReport, ServesThreads, states_of};
+ghost use Rattle.sl_app.specs.Served.{IsReport, ServesThreads, states_of};
 
 use sl_actor::Gate;
-use sl_emul::{EmulFault, Ran, finish_stepped, finish_threaded};
+use sl_emul::{EmulFault, Ran, finish_stepped, finish_threaded, report_of};
 use sl_machine::{Book, Memory};
 use sl_net::{Input, Net};
 use sl_proto::Node;
 use sl_report::{add_trace, legal_books_are_choices, routes_bytes};
-use sl_reporting::report_of;
 use sl_route::Routes;
 use std::alloc::Global;
 use std::sync::Wait;
@@ -63,7 +63,9 @@ fn add_trace_if(
     trace: bool,
 ) -> Result<(), Memory>
     requires { All (IsEntryOf net.now) book.now.entries }
-    ensures { OnOk result (text.new.items ≡ text.old.items ++ (if trace then trace_text net.now book.now.entries else [])) }
+    ensures { OnOk result
+        (text.new.items ≡ text.old.items
+        ++ (if trace then trace_text net.now book.now.entries else [])) }
 {
     if trace {
         add_trace(alloc, text, net, book)
@@ -74,13 +76,20 @@ fn add_trace_if(
 
 /// What is served for a run that ended: its report, with its trace where that is asked for.
 fn report_run(alloc: Global, input: &Input, ran: Ran, trace: bool) -> Result<Served, Memory>
-    requires stands { StandsFor input.now.net (case_of input.now (losses input.now)) (scene ran.world) }
+    requires stands { StandsFor input.now.net (case_of input.now (losses input.now))
+        (scene ran.world) }
     requires few { length (scene ran.world).book < 2 ^ 40 }
-    requires finished { IsFinished (setup_of input.now) (losses input.now) (world_of (case_of input.now (losses input.now)) (scene ran.world)) }
+    requires finished { IsFinished (setup_of input.now) (losses input.now)
+        (world_of (case_of input.now (losses input.now)) (scene ran.world)) }
     ensures stepped { HasEnded IsRunBook input.now (losses input.now) (scene ran.world) ran.front
-        → IfOk result (λ s. IsReport IsRunBook input.now (losses input.now) s.book s.front (states_of s.nodes) trace s.text.items) }
-    ensures threaded { HasEnded IsThreadedBook input.now (losses input.now) (scene ran.world) ran.front
-        → IfOk result (λ s. IsReport IsThreadedBook input.now (losses input.now) s.book s.front (states_of s.nodes) trace s.text.items) }
+        → IfOk result
+        (λ s. IsReport IsRunBook input.now (losses input.now) s.book s.front
+        (states_of s.nodes) trace s.text.items) }
+    ensures threaded { HasEnded IsThreadedBook input.now (losses input.now)
+        (scene ran.world) ran.front
+        → IfOk result
+        (λ s. IsReport IsThreadedBook input.now (losses input.now) s.book s.front
+        (states_of s.nodes) trace s.text.items) }
     ensures status { IfOk result (λ s. s.status ≡ 0) }
 {
     legal_books_are_choices();
@@ -99,7 +108,9 @@ fn report_run(alloc: Global, input: &Input, ran: Ran, trace: bool) -> Result<Ser
 /// Runs an input by its script, and reports it.
 pub fn serve_run(alloc: Global, input: &Input, trace: bool) -> Result<Served, Memory>
     requires { CanRun input.now }
-    ensures report { IfOk result (λ s. IsReport IsRunBook input.now (losses input.now) s.book s.front (states_of s.nodes) trace s.text.items) }
+    ensures report { IfOk result
+        (λ s. IsReport IsRunBook input.now (losses input.now) s.book s.front
+        (states_of s.nodes) trace s.text.items) }
     ensures status { IfOk result (λ s. s.status ≡ 0) }
 {
     let ran = finish_stepped(alloc, input)?;

@@ -17,7 +17,9 @@ use std::alloc::Global;
 pub fn serve_balance(alloc: Global, input: &Input) -> Result<Served, Memory>
     requires can { CanRun input.now }
     requires small { input_bound input.now < 2 ^ 27 }
-    ensures table { IfOk result (λ s. IsTable input.now (losses input.now) s.book s.front (states_of s.nodes) s.text.items) }
+    ensures table { IfOk result
+        (λ s. IsTable input.now (losses input.now) s.book s.front
+        (states_of s.nodes) s.text.items) }
     ensures status { IfOk result (λ s. s.status ≡ 0) }
 {
     counts_are_few();

@@ -7,7 +7,9 @@ ghost use Rattle.sl_proto.specs.RunBook.{CanRun};
 ghost use Rattle.sl_words.specs.Words.{words_of};
 ghost use Rattle.sl_words.specs.declared.command.Command.TheVariants as command;
 ghost use Rattle.sl_app.specs.Texts.{many_text};
-ghost use Rattle.sl_app.specs.Ends.{reading, writing, texts_of, reads_input, reads, asks_for_run, TellsFault, TellsTooMany, Accepts, Serves, ServesSample, TellsWriteFault, Refuses, ReportsServed, Ends};
+ghost use Rattle.sl_app.specs.Ends.{reading, writing, texts_of, reads_input, reads, asks_for_run};
+ghost use Rattle.sl_app.specs.Ends.{TellsFault, TellsTooMany, Accepts, Serves, ServesSample};
+ghost use Rattle.sl_app.specs.Ends.{TellsWriteFault, Refuses, ReportsServed, Ends};
 
 use crate::ended::{Ended, Refusal};
 use crate::polling::serve_poll;
@@ -258,7 +260,8 @@ pub fn refuse<E: Sink>(refusal: &Refusal, err: &mut E) -> Ended
 
 /// Writes what is served, or that it could not be written.
 fn report<O: Sink, E: Sink>(served: Served, out: &mut O, err: &mut E) -> Ended
-    ensures { ReportsServed (writing O.Sink out.old out.new) (writing E.Sink err.old err.new) served result }
+    ensures { ReportsServed (writing O.Sink out.old out.new)
+        (writing E.Sink err.old err.new) served result }
 {
     let status = match write_all(out, &served.text) {
         Ok(()) => served.status,
@@ -285,7 +288,8 @@ pub fn one_thread<I: Source, O: Sink, E: Sink>(
     err: &mut E,
 ) -> Ended
     requires { ¬ asks_for_run (words_of (texts_of words.now)) }
-    ensures { Ends (reading I.Source (texts_of words.now) input.old input.new) (writing O.Sink out.old out.new) (writing E.Sink err.old err.new) result }
+    ensures { Ends (reading I.Source (texts_of words.now) input.old input.new)
+        (writing O.Sink out.old out.new) (writing E.Sink err.old err.new) result }
 {
     match serve(alloc, words, input) {
         Ok(served) => report(served, out, err),
@@ -305,7 +309,8 @@ pub fn speedlight<R: Threads + Wait + Sync, I: Source, O: Sink, E: Sink, G: Gate
     err: &mut E,
     gate: &G,
 ) -> Ended
-    ensures { Ends (reading I.Source (texts_of words.now) input.old input.new) (writing O.Sink out.old out.new) (writing E.Sink err.old err.new) result }
+    ensures { Ends (reading I.Source (texts_of words.now) input.old input.new)
+        (writing O.Sink out.old out.new) (writing E.Sink err.old err.new) result }
 {
     match words_of(alloc, words) {
         Ok(Some(Command::Run(trace))) => {

@@ -13,7 +13,9 @@ use std::alloc::Global;
 /// Runs an input on nodes that keep values, and shows them.
 pub fn serve_values(alloc: Global, input: &Input) -> Result<Served, Memory>
     requires { CanRun input.now }
-    ensures values { IfOk result (λ s. AreValues input.now (losses input.now) s.book s.front (states_of s.nodes) s.text.items) }
+    ensures values { IfOk result
+        (λ s. AreValues input.now (losses input.now) s.book s.front
+        (states_of s.nodes) s.text.items) }
     ensures status { IfOk result (λ s. s.status ≡ 0) }
 {
     let run = run_values(alloc, input)?;

@@ -1,3 +1,4 @@
+-- Trusted text, but for AreFew.
 -- The table of balance.
 --     balance net fs      a line for each consistent snapshot and in it for each device with a cable
 use Rattle.std.specs.Prelude.{ℕ, ◌^◌, ◌<◌, List, [], ◌∷◌, map, flat_map, length, slice_get, unwrap_or, option_map}

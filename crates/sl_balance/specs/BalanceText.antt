@@ -1,3 +1,4 @@
+-- Trusted text.
 -- The text of the table of balance. Each line ends with a newline; numbers are decimal.
 use Rattle.std.specs.Prelude.{ℕ, List, ◌++◌, flat_map, length, codes, decimal}
 use Rattle.sl_parts.specs.Parts.{Parts, below}

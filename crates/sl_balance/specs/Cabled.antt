@@ -1,3 +1,4 @@
+-- Trusted text.
 -- The units of a device that have a cable.
 --     cabled net d    the egress units of the device d that have a cable, by their places among the units
 use Rattle.std.specs.Prelude.{ℕ, Bool, false, ◌&&◌, ◌==◌, List, filter, length, slice_index}

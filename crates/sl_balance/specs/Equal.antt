@@ -1,3 +1,4 @@
+-- Trusted text, but for BeginsLeastWalk.
 -- Equal shortest ways.
 --     equal_ports parts d h    the number of ports of the device d by which shortest walks to the host h begin, 1 on its own device, 0 where none leads there
 use Rattle.std.specs.Prelude.{◌≡◌, ℕ, zero, suc, Bool, ◌&&◌, ◌||◌, ◌∷◌, filter, length, Option, Some, None}

@@ -1,3 +1,4 @@
+-- Trusted text, but for spread_from_sums.
 -- The least and the greatest of some numbers, and how far they are apart.
 --     spread xs    over all pairs of them, the squares of their differences, added up
 use Rattle.std.specs.Prelude.{ℕ, ◌+◌, ◌-◌, ◌*◌, min, max, List, [], ◌∷◌, length, sum, sum_by}

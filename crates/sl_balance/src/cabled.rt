@@ -66,7 +66,8 @@ fn cabled(alloc: Global, net: &Net, device: u32) -> Result<Vec<u32>, AllocError>
 
 /// For each device in order, its egress units that have a cable, by their places among the units.
 pub fn list_cabled(alloc: Global, net: &Net) -> Result<Vec<Numbers>, AllocError>
-    ensures { IfOk result (λ table. table.items ≡ map (cabled net.now) (below (length net.now.parts.devices))) }
+    ensures { IfOk result
+        (λ table. table.items ≡ map (cabled net.now) (below (length net.now.parts.devices))) }
 {
     let mut table = Vec::new(alloc);
     for device in 0..net.device_count() {

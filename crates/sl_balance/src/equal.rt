@@ -59,7 +59,9 @@ fn begins_by(routes: &Routes, net: &Net, device: u32, host: u32, hops: u32, port
 fn count_ports(net: &Net, routes: &Routes, device: u32, host: u32, hops: u32) -> u32
     requires routes { IsRoutesOf net.now routes.now }
     requires device { device < length net.now.parts.devices }
-    ensures { result ≡ length (filter (begins_by net.now.parts device host hops) (below (ports_of net.now.parts device))) }
+    ensures { result
+        ≡ length (filter (begins_by net.now.parts device host hops)
+        (below (ports_of net.now.parts device))) }
 {
     let mut count = 0;
     for port in 0..net.parts().devices[device as usize].ports {

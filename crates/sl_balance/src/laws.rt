@@ -29,21 +29,24 @@ pub fn spread_is_of_pairs()
 /// the verdict consistent, before which the device's units counted what the line tells.
 pub fn lines_are_of_one_cut()
     ensures { (s : Setup) (lost : Losses) (es : List Entry) → IsNet s.net
-        → All (IsOfOneCut s.credits s.net lost (world s lost es)) (balance s.net (findings s lost es).list) }
+        → All (IsOfOneCut s.credits s.net lost (world s lost es))
+        (balance s.net (findings s lost es).list) }
 {
     cuts_are_consistent()
 }
 
 /// The rows in the findings of a run of fewer than 2^40 entries have counts of packets below that.
 pub fn counts_are_few()
-    ensures { (s : Setup) (lost : Losses) (es : List Entry) → length es < 2 ^ 40 → All (λ f. AreFew f.rows) (findings s lost es).list }
+    ensures { (s : Setup) (lost : Losses) (es : List Entry) → length es < 2 ^ 40
+        → All (λ f. AreFew f.rows) (findings s lost es).list }
 {
     counts_fit()
 }
 
 /// The ports that are counted as equal are those by which a walk of the least length begins.
 pub fn equal_ports_begin_least_walks()
-    ensures { (parts : Parts) (d h n port : ℕ) (at : PortRef) → IsValid parts → host_port parts h ≡ Some at → hops parts d h ≡ Some (suc n)
+    ensures { (parts : Parts) (d h n port : ℕ) (at : PortRef) → IsValid parts
+        → host_port parts h ≡ Some at → hops parts d h ≡ Some (suc n)
         → IsTrue (begins_by parts d h n port) ↔ BeginsLeastWalk parts d at.device port }
 {
     hops_are_least()

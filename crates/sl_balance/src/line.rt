@@ -1,3 +1,4 @@
+// Trusted types: Line1.
 // A line of the table.
 
 /// How evenly the cables of a device are used at the cut of the snapshot `k`: the number of its

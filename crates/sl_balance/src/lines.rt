@@ -3,7 +3,8 @@ ghost use Rattle.std.specs.Prelude.{◌≡◌, ◌++◌, ◌<◌, ◌≤◌, ◌
 ghost use Rattle.std.specs.List.{All};
 ghost use Rattle.sl_parts.specs.Parts.{below};
 ghost use Rattle.sl_balance.specs.Cabled.{cabled};
-ghost use Rattle.sl_balance.specs.Balance.{packets_at, line_of, device_line, finding_lines, balance, AreFew};
+ghost use Rattle.sl_balance.specs.Balance.{packets_at, line_of, device_line, finding_lines};
+ghost use Rattle.sl_balance.specs.Balance.{balance, AreFew};
 
 use crate::cabled::list_cabled;
 use crate::line::Line1;
@@ -69,7 +70,9 @@ fn push_lines(
 ) -> Result<(), AllocError>
     requires table { table.now ≡ map (cabled net.now) (below (length net.now.parts.devices)) }
     requires small { AreFew rows.now }
-    ensures { OnOk result (lines.new.items ≡ lines.old.items ++ flat_map (device_line net.now k rows.now) (below (length net.now.parts.devices))) }
+    ensures { OnOk result
+        (lines.new.items ≡ lines.old.items ++ flat_map (device_line net.now k rows.now)
+        (below (length net.now.parts.devices))) }
 {
     let _units = net.unit_count();
     for device in 0..net.device_count() {

@@ -3,7 +3,8 @@ ghost use Rattle.std.specs.Prelude.{◌≡◌, ◌++◌, ◌<◌, IfOk, OnOk, le
 ghost use Rattle.sl_parts.specs.Parts.{below};
 ghost use Rattle.sl_net.specs.Spelling.{device_name};
 ghost use Rattle.sl_route.specs.Routes.{IsRoutesOf};
-ghost use Rattle.sl_balance.specs.BalanceText.{table_line, line_text, paths_line, paths_text, device_paths, balance_text};
+ghost use Rattle.sl_balance.specs.BalanceText.{table_line, line_text, paths_line, paths_text};
+ghost use Rattle.sl_balance.specs.BalanceText.{device_paths, balance_text};
 
 use crate::equal::equal_ports;
 use crate::line::Line1;
@@ -14,7 +15,8 @@ use std::alloc::{AllocError, Global};
 
 /// Writes the name of a device, or nothing where there is none.
 fn push_device(out: &mut String, parts: &Parts, device: u32) -> Result<(), AllocError>
-    ensures { OnOk result (string_bytes out.new ≡ string_bytes out.old ++ device_name parts.now device) }
+    ensures { OnOk result
+        (string_bytes out.new ≡ string_bytes out.old ++ device_name parts.now device) }
 {
     match parts.devices.get(device as usize) {
         Some(part) => {
@@ -28,7 +30,8 @@ fn push_device(out: &mut String, parts: &Parts, device: u32) -> Result<(), Alloc
 /// Writes a line of the table.
 #[tactic(auto, unfolding(crate::specs::BalanceText::table_line))]
 fn push_line(out: &mut String, parts: &Parts, line: &Line1) -> Result<(), AllocError>
-    ensures { OnOk result (string_bytes out.new ≡ string_bytes out.old ++ line_text parts.now line.now) }
+    ensures { OnOk result
+        (string_bytes out.new ≡ string_bytes out.old ++ line_text parts.now line.now) }
 {
     let k = line.k;
     let cables = line.cables;
@@ -43,7 +46,8 @@ fn push_line(out: &mut String, parts: &Parts, line: &Line1) -> Result<(), AllocE
 /// Writes the lines of the table.
 #[tactic(auto, using(crate::proofs::Texts::lines_more))]
 fn push_lines(out: &mut String, parts: &Parts, lines: &[Line1]) -> Result<(), AllocError>
-    ensures { OnOk result (string_bytes out.new ≡ string_bytes out.old ++ flat_map (line_text parts.now) lines.now) }
+    ensures { OnOk result
+        (string_bytes out.new ≡ string_bytes out.old ++ flat_map (line_text parts.now) lines.now) }
 {
     for line in lines {
         push_line(out, parts, line)?;
@@ -53,7 +57,8 @@ fn push_lines(out: &mut String, parts: &Parts, lines: &[Line1]) -> Result<(), Al
 
 #[tactic(auto, unfolding(crate::specs::BalanceText::paths_line))]
 fn push_ways(out: &mut String, device: &Name, host: &Name, count: u32) -> Result<(), AllocError>
-    ensures { OnOk result (string_bytes out.new ≡ string_bytes out.old ++ paths_line device.now host.now count) }
+    ensures { OnOk result
+        (string_bytes out.new ≡ string_bytes out.old ++ paths_line device.now host.now count) }
 {
     write!(out, "paths {device} {host} {count}\n")
 }
@@ -69,7 +74,8 @@ fn push_path(
     requires routes { IsRoutesOf net.now routes.now }
     requires device { device < length net.now.parts.devices }
     requires host { host < length net.now.parts.hosts }
-    ensures { OnOk result (string_bytes out.new ≡ string_bytes out.old ++ paths_text net.now.parts device host) }
+    ensures { OnOk result
+        (string_bytes out.new ≡ string_bytes out.old ++ paths_text net.now.parts device host) }
 {
     let count = equal_ports(net, routes, device, host);
     let parts = net.parts();
@@ -90,7 +96,8 @@ fn push_device_paths(
 ) -> Result<(), AllocError>
     requires routes { IsRoutesOf net.now routes.now }
     requires device { device < length net.now.parts.devices }
-    ensures { OnOk result (string_bytes out.new ≡ string_bytes out.old ++ device_paths net.now.parts device) }
+    ensures { OnOk result
+        (string_bytes out.new ≡ string_bytes out.old ++ device_paths net.now.parts device) }
 {
     for host in 0..net.host_count() {
         push_path(out, net, routes, device, host)?;
@@ -100,7 +107,9 @@ fn push_device_paths(
 
 fn push_paths(out: &mut String, net: &Net, routes: &Routes) -> Result<(), AllocError>
     requires { IsRoutesOf net.now routes.now }
-    ensures { OnOk result (string_bytes out.new ≡ string_bytes out.old ++ flat_map (device_paths net.now.parts) (below (length net.now.parts.devices))) }
+    ensures { OnOk result
+        (string_bytes out.new ≡ string_bytes out.old ++ flat_map (device_paths net.now.parts)
+        (below (length net.now.parts.devices))) }
 {
     for device in 0..net.device_count() {
         push_device_paths(out, net, routes, device)?;

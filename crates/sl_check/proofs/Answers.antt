@@ -16,11 +16,11 @@ use Rattle.sl_model.specs.Setup.{Setup, setup_of}
 use Rattle.sl_model.specs.World.{Entry}
 use Rattle.sl_model.specs.Books.{schedule_of}
 use Rattle.sl_model.specs.Findings.{findings}
-use Rattle.sl_report.specs.Names.{HasNames}
+use Rattle.sl_net.specs.Names.{HasNames}
 use Rattle.sl_report.specs.TraceText.{IsEntryOf, count_line, entry_line, trace_text}
-use Rattle.sl_ending.specs.declared.ending.Ending.{Ending}
-use Rattle.sl_ending.specs.declared.ending.Ending.TheVariants as ending
-use Rattle.sl_ending.specs.Ending.{HasEnding}
+use Rattle.sl_model.specs.declared.ending.Ending.{Ending}
+use Rattle.sl_model.specs.declared.ending.Ending.TheVariants as ending
+use Rattle.sl_model.specs.Ending.{HasEnding}
 use Rattle.sl_check.specs.declared.answer.Checked.{Checked}
 use Rattle.sl_check.specs.declared.answer.Checked.TheVariants.{Yes, NoTrace, NoLegal, NoFinished, NoReport}
 use Rattle.sl_check.specs.Spellings.{SpellsLines}

@@ -14,8 +14,8 @@ use Rattle.sl_read.specs.Inputs.{input_of}
 use Rattle.sl_model.specs.Losses.{losses}
 use Rattle.sl_model.specs.Setup.{setup_of}
 use Rattle.sl_model.specs.World.{Entry}
-use Rattle.sl_ending.specs.Ending.{HasEnding}
-use Rattle.sl_ending.specs.declared.ending.Ending.TheVariants.{Idle, Unfinished, Finished}
+use Rattle.sl_model.specs.Ending.{HasEnding}
+use Rattle.sl_model.specs.declared.ending.Ending.TheVariants.{Idle, Unfinished, Finished}
 use Rattle.sl_check.specs.declared.answer.Checked.{Checked}
 use Rattle.sl_check.specs.declared.answer.Checked.TheVariants.{Yes, NoTrace, NoLegal, NoFinished, NoReport}
 use Rattle.sl_check.specs.Lines.{PartsAt}

@@ -21,8 +21,8 @@ use Rattle.sl_world.proofs.BookLaws.{schedule_of-numbered_from}
 use Rattle.sl_proto.specs.Nodes.{NodeState}
 use Rattle.sl_proto.specs.Runs.{grown, Follows}
 use Rattle.sl_proto.specs.Standing.{Case, world_of, run_at, StandsFor}
-use Rattle.sl_ending.specs.Ending.{IsFirstIdle}
-use Rattle.sl_ending.proofs.Endings.{first_idle}
+use Rattle.sl_model.specs.Ending.{IsFirstIdle}
+use Rattle.sl_model.proofs.Finishing.Endings.{first_idle}
 use Rattle.sl_check.specs.Driven.{Turned, Rested}
 
 grown-turns : (old new : List BookEntry) (es : List Entry) → new ≡ grown old es → schedule_of new ≡ schedule_of old ++ es

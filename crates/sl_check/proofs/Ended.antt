@@ -23,8 +23,8 @@ use Rattle.sl_world.specs.Scene.{Scene}
 use Rattle.sl_proto.specs.Nodes.{NodeState}
 use Rattle.sl_proto.specs.Standing.{Case, case_of, world_of, StandsFor}
 use Rattle.sl_proto.specs.Calls.{KeepsStanding}
-use Rattle.sl_ending.specs.Ending.{HasEnding}
-use Rattle.sl_ending.specs.declared.ending.Ending.TheVariants.{Idle, Unfinished, Finished}
+use Rattle.sl_model.specs.Ending.{HasEnding}
+use Rattle.sl_model.specs.declared.ending.Ending.TheVariants.{Idle, Unfinished, Finished}
 use Rattle.sl_check.specs.Polled.{newest, is_polled, all_polled, ends_well, choose_all, last_choices}
 use Rattle.sl_check.specs.Driven.{FirstIdle, TakesAll, IsIdle, StandsIn, Tells}
 

@@ -1,4 +1,3 @@
-pub mod Lists
 pub mod LineLemmas
 pub mod ScriptLemmas
 pub mod Printable
@@ -7,6 +6,7 @@ pub mod SettledPass
 pub mod ReportLines
 pub mod ClaimLemmas
 pub mod Answers
+pub mod OneAnswer
 pub mod Runnable
 pub mod Driven
 pub mod Ended

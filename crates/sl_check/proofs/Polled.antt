@@ -13,7 +13,6 @@ use Rattle.sl_layout.specs.declared.actor.Sort.{Sort}
 use Rattle.sl_layout.specs.declared.actor.Sort.TheVariants.{FromHost, ToHost, Cable, Crossbar, Init, Poll, Notice, Dump, Begin, Done}
 use Rattle.sl_parts.specs.Lists.{Each, Member}
 use Rattle.sl_parts.specs.Parts.{below}
-use Rattle.sl_check.proofs.Lists.{each-at, each-imp, each-passes, each-both-of}
 use Rattle.sl_layout.specs.Net.{Net, actor_of, link_of, links_into, links_out, same_sort, choice_of, unit_place, units, is_unit, action_choice}
 use Rattle.sl_layout.specs.Wiring.{kind_of}
 use Rattle.sl_net.specs.declared.input.Packet.{Packet}
@@ -37,6 +36,7 @@ use Rattle.sl_model.specs.Reported.{AreReported}
 use Rattle.sl_model.specs.Passing.{PassesMessages}
 use Rattle.sl_model.specs.End.{AllTaken, KnowsAll}
 use Rattle.sl_check.specs.Polled.{newest, carries_polls, is_polled, all_polled}
+use Rattle.sl_parts.proofs.Lists.{each-both-of, each-at, each-imp, each-passes}
 
 -- Dumps among puts.
 

@@ -15,7 +15,7 @@ use Rattle.sl_parts.specs.Parts.{Parts}
 use Rattle.sl_parts.specs.Text.{IsName, is_name_byte}
 use Rattle.sl_layout.specs.Net.{Net, actor_of, link_of, link_at, action_choice}
 use Rattle.sl_net.specs.Spelling.{device_name, host_name, side_text, actor_text, sender_text, port_of, link_word, link_rest, link_text, action_text, choice_word, choice_text}
-use Rattle.sl_report.specs.Names.{HasNames}
+use Rattle.sl_net.specs.Names.{HasNames}
 use Rattle.sl_check.specs.Lines.{IsLine}
 
 pub line-append : (xs ys : List ℕ) → IsLine xs → IsLine ys → IsLine (xs ++ ys)

@@ -27,11 +27,11 @@ use Rattle.sl_model.specs.declared.findings.Drops.{Drops}
 use Rattle.sl_model.specs.declared.findings.Lost.{Lost}
 use Rattle.sl_model.specs.declared.findings.Findings.{Findings}
 use Rattle.sl_model.specs.Findings.{channel_links}
-use Rattle.sl_report.specs.Names.{HasNames}
+use Rattle.sl_net.specs.Names.{HasNames}
 use Rattle.sl_report.specs.Report.{port_text, unit_or_none, unit_text, unit_at, sort_text, channel_text, channel_at, cause_text, lag_text, verdict_text, verdict_line, totals_text, row_line, rows_text, finding_text, network_line, observer_line, host_line, hosts_text, drops_line, lost_line, report_text}
 use Rattle.sl_check.specs.Lines.{IsLine, lines_text, PartsAt}
 use Rattle.sl_check.proofs.Printable.{line-append, decimal-line, line_of_test, has_no_newline, actor-line, name-line}
-use Rattle.sl_check.proofs.Lists.{each-append}
+use Rattle.sl_parts.proofs.Lists.{each-append}
 
 -- it doesn't begin as `end` does
 abbrev BeginsElse : List ℕ → Type 0

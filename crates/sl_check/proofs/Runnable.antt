@@ -23,7 +23,7 @@ use Rattle.sl_wire.specs.Frames.{carries}
 use Rattle.sl_unit.specs.Made.{IsRanged}
 use Rattle.sl_model.specs.Setup.{setup_of}
 use Rattle.sl_model.specs.Short.{SendsShort}
-use Rattle.sl_image.specs.Messages.{CarryIds}
+use Rattle.sl_simulation.specs.Messages.{CarryIds}
 use Rattle.sl_proto.specs.Script.{IsScriptEntry}
 use Rattle.sl_proto.specs.RunBook.{CanRun}
 

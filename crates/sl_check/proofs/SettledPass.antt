@@ -18,8 +18,8 @@ use Rattle.sl_model.specs.Puts.{puts_of, action, begin_all, guarded, send_all}
 use Rattle.sl_model.specs.World.{Entry, carried, floor_for, front, next_step, step_by, taking, acting, turn, kept_from}
 use Rattle.sl_model.specs.Schedule.{link_entries, pass_actions, settling_pass}
 use Rattle.sl_model.specs.End.{Settled, IsFinished, IsSpent, is_collected, KnowsAll}
-use Rattle.sl_check.proofs.Lists.{each-append, each-map, each-flat, each-below}
 use Rattle.sl_check.specs.Polled.{all_polled, ends_well}
+use Rattle.sl_parts.proofs.Lists.{each-flat, each-append, each-map, each-below}
 
 kept-none : (s : Setup) (lost : Losses) (w : World) (es : List Entry) → Each (λ e. next_step s lost w e ≡ None) es → kept_from s lost w es ≡ []
 kept-none s lost w [] h = refl

@@ -1,6 +1,9 @@
+-- Trusted text, but for IsGiven, ReadsNoOther, IsInputText, stream_of.
 -- What a check of a claim answers, and of a stream: an input, a line `---`, and a claim.
 --     IsAnswer i claim a      the answer for a claim of a run of the input i
 --     IsChecked bytes r       the answer for a stream, or why there is none
+--     IsGiven r               r is an answer or a refusal, and not want of memory
+--     ReadsNoOther bytes i    where an input stands before the first line `---` of the stream, it is i
 --     stream_of bytes i book  an input, and after it what a run with this book prints with its trace
 use Rattle.std.specs.Prelude.{◌≡◌, ℕ, ◌<◌, ◌≤◌, List, ◌++◌, length, Result, Ok, Err, codes}
 use Rattle.sl_machine.specs.declared.wiring.Entry.{Entry as BookEntry}
@@ -15,9 +18,9 @@ use Rattle.sl_model.specs.Books.{schedule_of}
 use Rattle.sl_model.specs.Findings.{findings}
 use Rattle.sl_report.specs.Report.{report_text}
 use Rattle.sl_report.specs.TraceText.{trace_text}
-use Rattle.sl_ending.specs.Ending.{HasEnding}
-use Rattle.sl_ending.specs.declared.ending.Ending.{Ending}
-use Rattle.sl_ending.specs.declared.ending.Ending.TheVariants as ending
+use Rattle.sl_model.specs.Ending.{HasEnding}
+use Rattle.sl_model.specs.declared.ending.Ending.{Ending}
+use Rattle.sl_model.specs.declared.ending.Ending.TheVariants as ending
 use Rattle.sl_check.specs.declared.answer.Checked.{Checked}
 use Rattle.sl_check.specs.declared.answer.Checked.TheVariants.{Yes, NoTrace, NoLegal, NoFinished, NoReport}
 use Rattle.sl_check.specs.declared.answer.CheckFault.{CheckFault}
@@ -59,6 +62,13 @@ IsChecked bytes (Err NoMark) = (length bytes ≤ 4194304) × ((input claim : Lis
 IsChecked bytes (Err (Refused fault)) = (claim : List ℕ) × IsStream bytes (Err fault) claim
 IsChecked bytes (Err Memory) = Unit {0}
 IsChecked bytes (Ok a) = (i : Input) × (claim : List ℕ) × IsStream bytes (Ok i) claim × IsAnswer i claim a
+
+abbrev pub IsGiven : Result Checked CheckFault → Type 0
+IsGiven (Err Memory) = ⊥
+IsGiven _ = Unit {0}
+
+abbrev pub ReadsNoOther : List ℕ → Input → Type 0
+ReadsNoOther bytes i = (j : Input) (claim : List ℕ) → IsStream bytes (Ok j) claim → j ≡ i
 
 -- What a run prints, after its input and the line between them.
 

@@ -1,3 +1,4 @@
+-- Trusted text.
 -- The text of an answer: one line.
 use Rattle.std.specs.Prelude.{ℕ, List, ◌++◌, codes, decimal}
 use Rattle.sl_check.specs.declared.answer.Checked.{Checked}

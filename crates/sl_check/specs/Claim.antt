@@ -1,3 +1,4 @@
+-- Trusted text.
 -- A claim of a run: the text of a report, up to and with the first line `end`, and then that of a trace.
 --     schedule_text net es           the text of the trace of a book with these turns; it tells no numbers
 --     IsTrace net text es            the text is the trace of this schedule

@@ -19,7 +19,7 @@ use Rattle.sl_model.specs.Losses.{losses}
 use Rattle.sl_world.specs.Scene.{Scene}
 use Rattle.sl_proto.specs.Nodes.{NodeState}
 use Rattle.sl_proto.specs.Standing.{Case, case_of, world_of, StandsFor}
-use Rattle.sl_ending.specs.Ending.{IsFirstIdle}
+use Rattle.sl_model.specs.Ending.{IsFirstIdle}
 
 abbrev pub Turned : Case → Scene NodeState Msg → Entry → Bool → Scene NodeState Msg → Type 0
 Turned x v e true u = schedule_of u.book ≡ schedule_of v.book ++ (e ∷ [])

@@ -1,3 +1,4 @@
+-- Trusted text.
 -- Texts as lines, each of which ends with a newline.
 --     PartsAt mark text front back     the first line that is exactly the mark stands between the lines of the front and the back
 use Rattle.std.specs.Prelude.{◌≡◌, ℕ, List, ◌++◌, flat_map, codes}

@@ -1,3 +1,4 @@
+// Trusted types: Checked, CheckFault.
 // What a check answers, and its text.
 ghost use Rattle.std.specs.Prelude.{◌≡◌, IfOk, string_bytes};
 ghost use Rattle.sl_check.specs.declared.answer.CheckFault.TheVariants as fault;

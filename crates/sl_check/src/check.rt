@@ -16,8 +16,8 @@ use crate::claim::read_claim;
 use crate::end::end_of;
 use crate::laws::accepted_inputs_can_run;
 use crate::lines::part_at;
-use sl_ending::Ending;
 use sl_machine::Memory;
+use sl_model::Ending;
 use sl_net::Input;
 use sl_proto::{Node, Taker, findings, first_world, passes_are_choices};
 use sl_read::read_input;
@@ -31,8 +31,11 @@ const MOST_BYTES: usize = 4_194_304;
 /// Whether a text is the report of a finished world of nodes.
 fn is_report(alloc: Global, input: &Input, world: &World<Node>, text: &[u8]) -> Result<bool, Memory>
     requires stands { StandsIn input.now (scene world.now) }
-    requires finished { IsFinished (setup_of input.now) (losses input.now) (world_of (case_of input.now (losses input.now)) (scene world.now)) }
-    ensures { IfOk result (λ same. Decides same (text.now ≡ report_of input.now (schedule_of (scene world.now).book))) }
+    requires finished { IsFinished (setup_of input.now) (losses input.now)
+        (world_of (case_of input.now (losses input.now)) (scene world.now)) }
+    ensures { IfOk result
+        (λ same. Decides same
+        (text.now ≡ report_of input.now (schedule_of (scene world.now).book))) }
 {
     // A book of 2^40 entries would fill any memory.
     if world.entries() >= 1 << 40 {

@@ -1,7 +1,6 @@
 // A claim of a run: its report, and the schedule of its trace.
 ghost use Rattle.std.specs.Prelude.{◌≡◌, ◌++◌, ℕ, List, IfOk, IfSome, IfNone, codes, decimal};
 ghost use Rattle.sl_model.specs.World.{Entry};
-ghost use Rattle.sl_check.specs.Spellings.{SpellsLines};
 ghost use Rattle.sl_check.specs.Claim.{IsClaim, IsTrace};
 
 use crate::laws::spellings_are_lines;
@@ -29,7 +28,8 @@ fn count_words(alloc: Global, count: usize) -> Result<Vec<u8>, AllocError>
 /// The schedule whose trace a text is, or none.
 fn read_trace(alloc: Global, net: &Net, text: &[u8]) -> Result<Option<Vec<(u32, u32)>>, Memory>
     ensures read { IfOk result (λ read. IfSome read (λ es. IsTrace net.now text.now es.items)) }
-    ensures none { IfOk result (λ read. IfNone read ((es : List Entry) → IsTrace net.now text.now es → ⊥)) }
+    ensures none { IfOk result
+        (λ read. IfNone read ((es : List Entry) → IsTrace net.now text.now es → ⊥)) }
 {
     spellings_are_lines(net);
     let Some((count, script)) = split_line(text) else {
@@ -49,8 +49,12 @@ fn read_trace(alloc: Global, net: &Net, text: &[u8]) -> Result<Option<Vec<(u32, 
 
 /// The report and the schedule that a text claims, or none.
 pub fn read_claim<'a>(alloc: Global, net: &Net, text: &'a [u8]) -> Result<Option<Claim<'a>>, Memory>
-    ensures read { IfOk result (λ read. IfSome read (λ claim. IsClaim net.now text.now claim.report.now claim.schedule.items)) }
-    ensures none { IfOk result (λ read. IfNone read ((report : List ℕ) (es : List Entry) → IsClaim net.now text.now report es → ⊥)) }
+    ensures read { IfOk result
+        (λ read. IfSome read
+        (λ claim. IsClaim net.now text.now claim.report.now claim.schedule.items)) }
+    ensures none { IfOk result
+        (λ read. IfNone read ((report : List ℕ) (es : List Entry)
+        → IsClaim net.now text.now report es → ⊥)) }
 {
     let Some((front, trace)) = part_at(text, b"end") else {
         return Ok(None);

@@ -12,33 +12,34 @@ ghost use Rattle.sl_world.specs.Scene.{Scene};
 ghost use Rattle.sl_world.specs.World.{scene};
 ghost use Rattle.sl_proto.specs.Nodes.{NodeState, ObserverNode};
 ghost use Rattle.sl_proto.specs.Standing.{case_of, world_of, HasObserver};
-ghost use Rattle.sl_ending.specs.Ending.{HasEnding};
+ghost use Rattle.sl_model.specs.Ending.{HasEnding};
 ghost use Rattle.sl_check.specs.Polled.{ends_well};
 ghost use Rattle.sl_check.specs.Driven.{StandsIn, Tells};
 
 use crate::last::{all_polled, last_choices};
 use crate::laws::worlds_finish_well;
 use crate::nodes::{follow, take_pass};
-use sl_ending::Ending;
-use sl_image::observers_tell;
 use sl_machine::Memory;
-use sl_model::worlds_take_turns;
+use sl_model::{Ending, worlds_take_turns};
 use sl_net::{Input, nets_are_wired};
 use sl_observe::Observer;
 use sl_proto::{Node, Taker};
+use sl_simulation::observers_tell;
 use sl_world::World;
 use std::alloc::Global;
 
 /// Whether all snapshots are issued and collected.
 fn is_collected(input: &Input, observer: &Observer) -> bool
-    ensures { let o = observer.now.state in result ≡ ((register_floor o == o.issued) && (o.issued == input.now.snapshot.count)) }
+    ensures { let o = observer.now.state in
+        result ≡ ((register_floor o == o.issued) && (o.issued == input.now.snapshot.count)) }
 {
     observer.floor() == observer.issued() && observer.issued() == input.snapshot.count
 }
 
 /// The observer's node of a world of nodes tells what the world of histories says.
 fn observer_nodes_tell()
-    ensures { (i : Input) (v : Scene NodeState Msg) (o : ObserverState) → StandsIn i v → slice_get v.states 0 ≡ Some (ObserverNode o)
+    ensures { (i : Input) (v : Scene NodeState Msg) (o : ObserverState)
+        → StandsIn i v → slice_get v.states 0 ≡ Some (ObserverNode o)
         → Tells (setup_of i) (world_of (case_of i (losses i)) v) o }
 {
     nets_are_wired();
@@ -56,7 +57,9 @@ fn ends_well(
     requires observer { HasObserver (scene world.now) }
     requires stands { StandsIn input.now (scene world.now) }
     requires schedule { schedule_of (scene world.now).book ≡ schedule.now }
-    ensures { IfOk result (λ ends. ends ≡ ends_well (setup_of input.now) (world_of (case_of input.now (losses input.now)) (scene world.now))) }
+    ensures { IfOk result
+        (λ ends. ends ≡ ends_well (setup_of input.now)
+        (world_of (case_of input.now (losses input.now)) (scene world.now))) }
 {
     observer_nodes_tell();
     worlds_take_turns();
@@ -86,7 +89,8 @@ pub fn end_of(
     requires choices { All (λ e. HasChoice (plan_of input.now.net) e.0 e.1) schedule.now }
     ensures ending { IfOk result (HasEnding (setup_of input.now) (losses input.now) schedule.now) }
     ensures stands { StandsIn input.now (scene world.new) }
-    ensures finished { IfOk result (λ ending. ending ≡ Ending.Finished → schedule_of (scene world.new).book ≡ schedule.now) }
+    ensures finished { IfOk result (λ ending. ending ≡ Ending.Finished
+        → schedule_of (scene world.new).book ≡ schedule.now) }
 {
     worlds_finish_well();
     if let Some(entry) = follow(&input.net, world, schedule)? {

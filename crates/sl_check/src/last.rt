@@ -44,7 +44,8 @@ fn is_polled(net: &Net, unit: u32, last: Option<u32>) -> bool
 /// Whether the last step of each unit took a poll, or it made none.
 pub fn all_polled(net: &Net, last: &[Option<u32>]) -> bool
     requires { length last.now ≡ length net.now.actors }
-    ensures { result ≡ list_all (λ u. is_polled net.now u (slice_index_or last.now u None)) (units net.now) }
+    ensures { result ≡ list_all (λ u. is_polled net.now u (slice_index_or last.now u None))
+        (units net.now) }
 {
     for unit in net.unit_actors() {
         if !is_polled(net, *unit, last[*unit as usize]) {

@@ -18,5 +18,6 @@ pub use check::check_bytes;
 pub use claim::{Claim, read_claim};
 pub use laws::{
     accepted_inputs_can_run, claims_have_one_answer, polled_units_are_known,
-    printed_runs_are_right, settled_worlds_are_idle, spellings_are_lines, worlds_finish_well,
+    printed_runs_are_right, settled_worlds_are_idle, spellings_are_lines, streams_have_one_answer,
+    worlds_finish_well,
 };

@@ -20,7 +20,8 @@ pub fn split_line(text: &[u8]) -> Option<(&[u8], &[u8])>
 pub fn part_at<'a>(text: &'a [u8], mark: &[u8]) -> Option<(&'a [u8], &'a [u8])>
     requires { IsLine mark.now }
     ensures parts { IfSome result (λ p. PartsAt mark.now text.now p.0.now p.1.now) }
-    ensures none { IfNone result ((front back : List ℕ) → PartsAt mark.now text.now front back → ⊥) }
+    ensures none { IfNone result ((front back : List ℕ) → PartsAt mark.now text.now front back
+        → ⊥) }
 {
     let mut at = 0;
     let mut rest = text;

@@ -22,7 +22,8 @@ fn take_turn(net: &Net, world: &mut World<Node>, entry: (u32, u32)) -> Result<bo
     ensures plan { (scene world.new).plan ≡ plan_of net.now }
     ensures observer { HasObserver (scene world.old) → HasObserver (scene world.new) }
     ensures stands { KeepsStanding net.now (scene world.old) (scene world.new) }
-    ensures turn { IfOk result (λ did. Turns net.now (scene world.old) entry did (scene world.new)) }
+    ensures turn { IfOk result
+        (λ did. Turns net.now (scene world.old) entry did (scene world.new)) }
 {
     let before = world.entries();
     drive_within(net, world, &[entry], None)?;
@@ -42,8 +43,11 @@ pub fn follow(
     ensures plan { (scene world.new).plan ≡ plan_of net.now }
     ensures observer { HasObserver (scene world.old) → HasObserver (scene world.new) }
     ensures stands { KeepsStanding net.now (scene world.old) (scene world.new) }
-    ensures idle { IfOk result (λ first. IfSome first (FirstIdle net.now (scene world.old) schedule.now)) }
-    ensures all { IfOk result (λ first. IfNone first (TakesAll net.now (scene world.old) schedule.now (scene world.new))) }
+    ensures idle { IfOk result
+        (λ first. IfSome first (FirstIdle net.now (scene world.old) schedule.now)) }
+    ensures all { IfOk result
+        (λ first. IfNone first
+        (TakesAll net.now (scene world.old) schedule.now (scene world.new))) }
 {
     for (i, entry) in schedule.iter().enumerate() {
         if !take_turn(net, world, *entry)? {

@@ -19,7 +19,8 @@ pub fn read_script(
     requires spelled { All (IsSpelled net.now) spelled.now }
     requires lines { SpellsLines net.now }
     ensures read { IfOk result (λ read. IfSome read (λ es. IsScript net.now text.now es.items)) }
-    ensures none { IfOk result (λ read. IfNone read ((es : List (ℕ × ℕ)) → IsScript net.now text.now es → ⊥)) }
+    ensures none { IfOk result
+        (λ read. IfNone read ((es : List (ℕ × ℕ)) → IsScript net.now text.now es → ⊥)) }
 {
     let mut entries = Vec::new(alloc);
     let mut rest = text;

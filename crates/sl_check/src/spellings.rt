@@ -24,7 +24,8 @@ fn add_choices(
     actor: u32,
 ) -> Result<(), Memory>
     requires { actor < length net.now.actors }
-    ensures { OnOk result (All (IsSpelled net.now) spelled.old.items → All (IsSpelled net.now) spelled.new.items) }
+    ensures { OnOk result (All (IsSpelled net.now) spelled.old.items
+        → All (IsSpelled net.now) spelled.new.items) }
 {
     for choice in 0..net.choice_count(actor) {
         let text = choice_text(alloc, net, actor, choice)?;
@@ -55,8 +56,11 @@ pub fn all_spelled(alloc: Global, net: &Net) -> Result<Vec<Spelled>, Memory>
 fn find_at(alloc: Global, net: &Net, actor: u32, text: &[u8]) -> Result<Option<u32>, Memory>
     requires { actor < length net.now.actors }
     ensures found { IfOk result (λ found. IfSome found (λ c. HasChoice net.now actor c)) }
-    ensures spelled { IfOk result (λ found. IfSome found (λ c. choice_text net.now actor c ≡ text.now)) }
-    ensures none { IfOk result (λ found. IfNone found ((c : ℕ) → HasChoice net.now actor c → ¬ (choice_text net.now actor c ≡ text.now))) }
+    ensures spelled { IfOk result
+        (λ found. IfSome found (λ c. choice_text net.now actor c ≡ text.now)) }
+    ensures none { IfOk result
+        (λ found. IfNone found ((c : ℕ) → HasChoice net.now actor c
+        → ¬ (choice_text net.now actor c ≡ text.now))) }
 {
     for choice in 0..net.choice_count(actor) {
         let spelling = choice_text(alloc, net, actor, choice)?;
@@ -70,8 +74,11 @@ fn find_at(alloc: Global, net: &Net, actor: u32, text: &[u8]) -> Result<Option<u
 /// The choice with this spelling, where the sorted list doesn't have it.
 fn find_slowly(alloc: Global, net: &Net, text: &[u8]) -> Result<Option<(u32, u32)>, Memory>
     ensures found { IfOk result (λ found. IfSome found (λ e. HasChoice net.now e.0 e.1)) }
-    ensures spelled { IfOk result (λ found. IfSome found (λ e. choice_text net.now e.0 e.1 ≡ text.now)) }
-    ensures none { IfOk result (λ found. IfNone found ((a c : ℕ) → HasChoice net.now a c → ¬ (choice_text net.now a c ≡ text.now))) }
+    ensures spelled { IfOk result
+        (λ found. IfSome found (λ e. choice_text net.now e.0 e.1 ≡ text.now)) }
+    ensures none { IfOk result
+        (λ found. IfNone found ((a c : ℕ) → HasChoice net.now a c
+        → ¬ (choice_text net.now a c ≡ text.now))) }
 {
     for actor in 0..net.actors().len() as u32 {
         if let Some(choice) = find_at(alloc, net, actor, text)? {
@@ -93,7 +100,8 @@ fn place_of(spelled: &[Spelled], text: &[u8]) -> Option<usize>
 
 /// The choice of the sorted list with this spelling.
 fn find_sorted(spelled: &[Spelled], text: &[u8]) -> Option<(u32, u32)>
-    ensures { IfSome result (λ e. (net : Net) → All (IsSpelled net) spelled.now → HasChoice net e.0 e.1 × (choice_text net e.0 e.1 ≡ text.now)) }
+    ensures { IfSome result (λ e. (net : Net) → All (IsSpelled net) spelled.now
+        → HasChoice net e.0 e.1 × (choice_text net e.0 e.1 ≡ text.now)) }
 {
     let place = place_of(spelled, text)?;
     let found = &spelled[place];
@@ -114,8 +122,11 @@ pub fn find_spelled(
 ) -> Result<Option<(u32, u32)>, Memory>
     requires { All (IsSpelled net.now) spelled.now }
     ensures found { IfOk result (λ found. IfSome found (λ e. HasChoice net.now e.0 e.1)) }
-    ensures spelled { IfOk result (λ found. IfSome found (λ e. choice_text net.now e.0 e.1 ≡ text.now)) }
-    ensures none { IfOk result (λ found. IfNone found ((a c : ℕ) → HasChoice net.now a c → ¬ (choice_text net.now a c ≡ text.now))) }
+    ensures spelled { IfOk result
+        (λ found. IfSome found (λ e. choice_text net.now e.0 e.1 ≡ text.now)) }
+    ensures none { IfOk result
+        (λ found. IfNone found ((a c : ℕ) → HasChoice net.now a c
+        → ¬ (choice_text net.now a c ≡ text.now))) }
 {
     match find_sorted(spelled, text) {
         Some(entry) => Ok(Some(entry)),

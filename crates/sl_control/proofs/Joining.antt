@@ -10,8 +10,8 @@ use Rattle.sl_layout.specs.Net.{Net, actor_of, link_of, links_into, links_from, 
 use Rattle.sl_layout.specs.Serving.{choice_from, serving, served}
 use Rattle.sl_net.specs.Wired.{IsWired, Reports}
 use Rattle.sl_layout.specs.Wires.{out_of}
-use Rattle.sl_parts.specs.Lists.{Each, Member, Distinct}
-use Rattle.sl_parts.proofs.Lists.{each-map, each-imp, each-at, each-of, distinct-filter, distinct-from, distinct-map, length_filter_le}
+use Rattle.sl_parts.specs.Lists.{Each, Member}
+use Rattle.sl_parts.proofs.Lists.{each-map, each-imp, each-at, each-of, distinct-filter, distinct-from, distinct-map, length_filter_le, Distinct}
 use Rattle.std.proofs.lemmas.List.{length-map}
 use Rattle.sl_net.specs.Ways.{IsOut, HasWays}
 use Rattle.std.proofs.lemmas.Simd.{map-map}

@@ -1,3 +1,4 @@
+-- Trusted text for nodes, in part.
 -- A control plane as data, and its step (Yaseen, Sonchack and Liu 2018: control planes initiate snapshots and collect what units saved).
 --     control_take s c m     what it makes of the message m that it takes by the choice c
 --     control_act s c        what its own action does, or None where it is idle

@@ -1,3 +1,4 @@
+-- Trusted text for nodes, but for control_of, unheard, first_control, control_counts.
 -- How the control plane of a device is joined in a net, and what it knows at first.
 use Rattle.std.specs.Prelude.{ℕ, false, List, map, length, replicate, nat_lt, slice_index_or}
 use Rattle.sl_machine.specs.Machine.{Counts}

@@ -44,12 +44,24 @@ impl Model for Control {
     ghost Value = { ControlView };
 
     ghost view = { λ a. record {
-      state = record { wires = record { begin = 0; sweep = a.links; inits = a.inits.items; done = a.done; sizes = record { bits = a.width.bits; ring = a.ring }; version = a.version }; units = a.units.items };
+      state = record {
+        wires = record {
+          begin = 0;
+          sweep = a.links;
+          inits = a.inits.items;
+          done = a.done;
+          sizes = record { bits = a.width.bits; ring = a.ring };
+          version = a.version;
+        };
+        units = a.units.items;
+      };
       counts = record { ins = a.links; outs = a.outs; actions = 1 };
       ready = a.prepared;
     } };
 
-    ghost invariant = { λ a. IsJoined a.outs a.inits.items a.done a.units.items × HasRoom a.ring a.prepared a.blanks.rows.items (vec_capacity a.blanks.rows) a.blanks.done };
+    ghost invariant = { λ a. IsJoined a.outs a.inits.items a.done a.units.items
+        × HasRoom a.ring a.prepared a.blanks.rows.items (vec_capacity a.blanks.rows)
+        a.blanks.done };
 }
 
 impl Control {
@@ -65,8 +77,11 @@ impl Control {
         requires device { device < length net.now.parts.devices }
         requires some_bits { 1 ≤ snapshot.now.width }
         requires few_bits { snapshot.now.width ≤ most_bits }
-        ensures state { IfOk result (λ c. c.state ≡ first_control net.now (control_of net.now device) (sizes_of snapshot.now)) }
-        ensures counts { IfOk result (λ c. c.counts ≡ control_counts net.now (control_of net.now device)) }
+        ensures state { IfOk result
+            (λ c. c.state ≡ first_control net.now (control_of net.now device)
+            (sizes_of snapshot.now)) }
+        ensures counts { IfOk result
+            (λ c. c.counts ≡ control_counts net.now (control_of net.now device)) }
         ensures ready { IfOk result (λ c. c.ready ≡ None) }
     {
         Control::make(alloc, net, control_of(net, device), snapshot)
@@ -77,7 +92,8 @@ impl Control {
         requires actor { actor < length net.now.actors }
         requires some_bits { 1 ≤ snapshot.now.width }
         requires few_bits { snapshot.now.width ≤ most_bits }
-        ensures state { IfOk result (λ c. c.state ≡ first_control net.now actor (sizes_of snapshot.now)) }
+        ensures state { IfOk result
+            (λ c. c.state ≡ first_control net.now actor (sizes_of snapshot.now)) }
         ensures counts { IfOk result (λ c. c.counts ≡ control_counts net.now actor) }
         ensures ready { IfOk result (λ c. c.ready ≡ None) }
     {
@@ -122,7 +138,8 @@ impl Control {
         requires ready { self.old.ready ≡ Some link }
         requires empty { out.old.items ≡ [] }
         requires room { self.old.counts.outs ≤ out.old.room }
-        ensures state { self.new.state ≡ (control_take self.old.state link (Msg.Dump dump.now)).state }
+        ensures state { self.new.state
+            ≡ (control_take self.old.state link (Msg.Dump dump.now)).state }
         ensures puts { out.new.items ≡ (control_take self.old.state link (Msg.Dump dump.now)).puts }
         ensures fitting { is_fitting self.old.counts.outs out.new.items ≡ true }
         ensures room { out.new.room ≡ out.old.room }

@@ -1,3 +1,4 @@
+// Trusted types: for nodes UnitWires, Known.
 // What a control plane knows of a unit.
 ghost use Rattle.std.specs.Prelude.{◌≡◌, ◌≤◌, ◌<◌, ◌++◌, ◌+◌, true, length, [], ◌∷◌, if◌then◌else◌};
 ghost use Rattle.std.specs.Bool.{OnTrue};
@@ -8,7 +9,8 @@ ghost use Rattle.sl_wire.specs.Reach.{reached};
 ghost use Rattle.sl_wire.specs.Wids.{is_wid, has_room, unwrapped_each};
 ghost use Rattle.sl_control.specs.Rows.{seen_on};
 ghost use Rattle.sl_control.specs.Control.{asked, poll_by, has_wids, has_rooms, numbers_told};
-ghost use Rattle.sl_control.specs.Told.{told_of, is_read_by, rows_by, floor_by, done_by, answered_by, puts_by};
+ghost use Rattle.sl_control.specs.Told.{told_of, is_read_by, rows_by, floor_by, done_by};
+ghost use Rattle.sl_control.specs.Told.{answered_by, puts_by};
 
 use crate::rows::{is_sized, read_rows};
 use sl_ids::{Wid, Width, unwrap_from};
@@ -212,7 +214,8 @@ impl Known {
     /// Polls the unit where it was asked for again.
     fn poll_again(&self, spares: &mut Vec<Boxed<Dump>>, out: &mut Outputs<Msg>)
         requires { length out.old.items < out.old.room }
-        ensures puts { out.new.items ≡ out.old.items ++ (if self.now.again then (self.now.wires.poll, poll) ∷ [] else []) }
+        ensures puts { out.new.items ≡ out.old.items
+            ++ (if self.now.again then (self.now.wires.poll, poll) ∷ [] else []) }
         ensures room { out.new.room ≡ out.old.room }
     {
         if self.again {

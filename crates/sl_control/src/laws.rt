@@ -10,5 +10,6 @@ ghost use Rattle.sl_control.specs.Known.{IsNoLess};
 /// No dump lowers a number that a control plane knows of a unit, or the number up to which its rows
 /// are collected.
 pub fn dumps_lower_nothing()
-    ensures { (sizes : Lengths) (c : ℕ) (d : Dump) (r : Known) → length d.last ≡ 8 → IsNoLess r (dump_by sizes c d r) }
+    ensures { (sizes : Lengths) (c : ℕ) (d : Dump) (r : Known) → length d.last ≡ 8
+        → IsNoLess r (dump_by sizes c d r) }
 {}

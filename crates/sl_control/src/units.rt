@@ -1,10 +1,12 @@
 // What a control plane knows of its units, one after the other.
-ghost use Rattle.std.specs.Prelude.{◌≡◌, ◌≤◌, ◌<◌, ◌++◌, ◌+◌, [], None, Some, MatchOption, IsSome, IsTrue, length, map, flat_map, cond};
+ghost use Rattle.std.specs.Prelude.{◌≡◌, ◌≤◌, ◌<◌, ◌++◌, ◌+◌, [], None, Some, MatchOption};
+ghost use Rattle.std.specs.Prelude.{IsSome, IsTrue, length, map, flat_map, cond};
 ghost use Rattle.std.specs.Vec.{vec_capacity};
 ghost use Rattle.std.specs.List.{AllByRecursion};
 ghost use Rattle.sl_control.specs.declared.known.Known.{Known};
 ghost use Rattle.sl_machine.specs.Machine.{send_all};
-ghost use Rattle.sl_control.specs.Control.{ask_by, ask_puts, dump_by, dump_puts, initiation, numbers_told, answered, answer_by, is_taken, is_swept};
+ghost use Rattle.sl_control.specs.Control.{ask_by, ask_puts, dump_by, dump_puts, initiation};
+ghost use Rattle.sl_control.specs.Control.{numbers_told, answered, answer_by, is_taken, is_swept};
 ghost use Rattle.sl_control.specs.Told.{is_read_by, answered_by, puts_by};
 ghost use Rattle.sl_control.specs.Joined.{AreApart, choice_of, choices_of, HasChoice};
 
@@ -66,7 +68,8 @@ fn has_choice(units: &[Known], place: usize, sent: Sent, choice: u32) -> bool
 /// The place of the unit with this choice. It looks at the usual one first.
 #[inline(always)]
 fn find(units: &[Known], sent: Sent, choice: u32) -> Option<usize>
-    ensures { MatchOption result (AllByRecursion (λ y. y ≡ choice → ⊥) (choices_of sent units.now)) (λ i. HasChoice sent choice i units.now) }
+    ensures { MatchOption result (AllByRecursion (λ y. y ≡ choice → ⊥) (choices_of sent units.now))
+        (λ i. HasChoice sent choice i units.now) }
 {
     let place = usual_place(choice);
     if has_choice(units, place, sent, choice) {
@@ -90,7 +93,8 @@ pub fn ask_one(
     requires apart { AreApart (choices_of Sent.Notice units.old.items) }
     requires room { length out.old.items + length units.old.items ≤ out.old.room }
     ensures units { units.new.items ≡ map (ask_by (Some choice)) units.old.items }
-    ensures puts { out.new.items ≡ out.old.items ++ flat_map (ask_puts (Some choice)) units.old.items }
+    ensures puts { out.new.items ≡ out.old.items ++ flat_map
+        (ask_puts (Some choice)) units.old.items }
     ensures room { out.new.room ≡ out.old.room }
 {
     if let Some(i) = find(units, Sent::Notice, choice) {
@@ -127,7 +131,8 @@ pub fn initiation(width: Width, version: u8, number: u64) -> Framed
 /// Puts a frame on each of these links where it passes.
 pub fn put_inits(outs: &[u32], passes: bool, frame: &Framed, out: &mut Outputs<Msg>)
     requires { length out.old.items + length outs.now ≤ out.old.room }
-    ensures puts { out.new.items ≡ out.old.items ++ cond passes (send_all (Msg.Frame frame.now) outs.now) [] }
+    ensures puts { out.new.items ≡ out.old.items ++ cond passes
+        (send_all (Msg.Frame frame.now) outs.now) [] }
     ensures room { out.new.room ≡ out.old.room }
 {
     if passes {
@@ -152,8 +157,11 @@ fn answer_told(
     requires report { IsSome blanks.old.done }
     requires most { told.now.reached ≤ told.now.id }
     requires room { length out.old.items + 2 ≤ out.old.room }
-    ensures known { known.new ≡ cond (is_read_by ring told.now view.now known.old) (answered_by told.now known.old) known.old }
-    ensures puts { out.new.items ≡ out.old.items ++ cond (is_read_by ring told.now view.now known.old) (puts_by done told.now view.now known.old) [] }
+    ensures known { known.new ≡ cond (is_read_by ring told.now view.now known.old)
+        (answered_by told.now known.old) known.old }
+    ensures puts { out.new.items ≡ out.old.items ++ cond
+        (is_read_by ring told.now view.now known.old) (puts_by done told.now view.now known.old)
+        [] }
     ensures room { out.new.room ≡ out.old.room }
     ensures left { blanks.new.rows.items ≡ [] }
 {
@@ -181,9 +189,11 @@ fn answer_one(
     requires rows { ring ≤ vec_capacity blanks.old.rows }
     requires report { IsSome blanks.old.done }
     requires room { length out.old.items + 2 ≤ out.old.room }
-    ensures known { known.new ≡ cond (is_taken (record { bits = width.bits; ring = ring }) dump.now known.old)
+    ensures known { known.new
+        ≡ cond (is_taken (record { bits = width.bits; ring = ring }) dump.now known.old)
         (answered (numbers_told width.bits dump.now known.old) known.old) known.old }
-    ensures puts { out.new.items ≡ out.old.items ++ cond (is_taken (record { bits = width.bits; ring = ring }) dump.now known.old)
+    ensures puts { out.new.items ≡ out.old.items ++ cond
+        (is_taken (record { bits = width.bits; ring = ring }) dump.now known.old)
         (answer_by done (numbers_told width.bits dump.now known.old) dump.now.view known.old) [] }
     ensures room { out.new.room ≡ out.old.room }
     ensures left { blanks.new.rows.items ≡ [] }
@@ -210,8 +220,12 @@ pub fn answer_all(
     requires report { IsSome blanks.old.done }
     requires apart { AreApart (choices_of Sent.Dump units.old.items) }
     requires room { 0 < length units.old.items → length out.old.items + 2 ≤ out.old.room }
-    ensures units { units.new.items ≡ map (dump_by (record { bits = width.bits; ring = ring }) choice dump.now) units.old.items }
-    ensures puts { out.new.items ≡ out.old.items ++ flat_map (dump_puts (record { bits = width.bits; ring = ring }) done choice dump.now) units.old.items }
+    ensures units { units.new.items
+        ≡ map (dump_by (record { bits = width.bits; ring = ring }) choice dump.now)
+        units.old.items }
+    ensures puts { out.new.items ≡ out.old.items ++ flat_map
+        (dump_puts (record { bits = width.bits; ring = ring }) done choice dump.now)
+        units.old.items }
     ensures room { out.new.room ≡ out.old.room }
     ensures left { blanks.new.rows.items ≡ [] }
 {

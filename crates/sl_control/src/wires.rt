@@ -1,5 +1,6 @@
 // How the control plane of a device is joined in a net.
-ghost use Rattle.std.specs.Prelude.{◌≡◌, ◌<◌, ◌≤◌, ◌++◌, ◌∷◌, [], IfOk, OnOk, cond, length, map, slice_index_or};
+ghost use Rattle.std.specs.Prelude.{◌≡◌, ◌<◌, ◌≤◌, ◌++◌, ◌∷◌, [], IfOk, OnOk, cond, length, map};
+ghost use Rattle.std.specs.Prelude.{slice_index_or};
 ghost use Rattle.sl_layout.specs.declared.actor.ActorId.{ActorId};
 ghost use Rattle.sl_layout.specs.Net.{same_actor, place_of, actor_of, choices_of};
 ghost use Rattle.sl_layout.specs.Serving.{choice_from, serving, served};
@@ -50,7 +51,8 @@ pub fn control_of(net: &Net, device: u32) -> u32
 /// Adds the place of a link among its sender's links where it passes.
 fn add_out(outs: &mut Vec<u32>, net: &Net, link: u32, passes: bool) -> Result<(), AllocError>
     requires { link < length net.now.links }
-    ensures { OnOk result (outs.new.items ≡ outs.old.items ++ cond passes (out_of net.now link ∷ []) []) }
+    ensures { OnOk result
+        (outs.new.items ≡ outs.old.items ++ cond passes (out_of net.now link ∷ []) []) }
 {
     if passes {
         outs.push(net.wire(link).out)?;
@@ -150,7 +152,9 @@ fn add_unit(
 ) -> Result<(), AllocError>
     requires actor { actor < length net.now.actors }
     requires link { link < length net.now.links }
-    ensures { OnOk result (units.new.items ≡ units.old.items ++ cond passes (unheard (unit_wires net.now (serving net.now actor link)) ∷ []) []) }
+    ensures { OnOk result
+        (units.new.items ≡ units.old.items ++ cond passes
+        (unheard (unit_wires net.now (serving net.now actor link)) ∷ []) []) }
 {
     if passes {
         units.push(unheard(unit_wires(alloc, net, actor, link)?))?;
@@ -161,7 +165,8 @@ fn add_unit(
 /// The units that a control plane serves, none of which was heard.
 pub fn units_of(alloc: Global, net: &Net, actor: u32) -> Result<Vec<Known>, AllocError>
     requires { actor < length net.now.actors }
-    ensures { IfOk result (λ units. units.items ≡ map (λ v. unheard (unit_wires net.now v)) (served net.now actor)) }
+    ensures { IfOk result
+        (λ units. units.items ≡ map (λ v. unheard (unit_wires net.now v)) (served net.now actor)) }
 {
     let mut units = Vec::new(alloc);
     for link in net.links_from(actor) {

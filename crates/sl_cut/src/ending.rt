@@ -7,22 +7,26 @@ ghost use Rattle.sl_model.specs.Losses.{losses};
 ghost use Rattle.sl_model.specs.Setup.{setup_of, frames_of};
 ghost use Rattle.sl_model.specs.World.{receiver, carried, taken_by};
 ghost use Rattle.sl_model.specs.End.{AllTaken, AllSent, KnowsAll, IsFinished, is_collected};
-ghost use Rattle.sl_ending.specs.Ending.{HasEnding};
+ghost use Rattle.sl_model.specs.Ending.{HasEnding};
 ghost use Rattle.sl_cut.specs.Sent.{HasSent};
 
-use sl_ending::Ending;
+use crate::history::World;
+use crate::knowledge::{can_issue, floor, issued, resent};
+use crate::losses::carried;
+use crate::schedule::follow_legal;
+use crate::tell::{known, taken};
+use crate::wires::action_choice;
 use sl_flow::packets_of;
 use sl_machine::Memory;
+use sl_model::Ending;
 use sl_net::{ActorId, Input, Net, RawPart};
-use sl_replay::{
-    World, action_choice, can_issue, carried, floor, follow_legal, issued, known, resent, taken,
-};
 use std::alloc::Global;
 
 /// Whether all messages that a link carried were taken.
 fn is_taken(alloc: Global, input: &Input, world: &World, link: u32) -> Result<bool, Memory>
     requires { link < length input.now.net.links }
-    ensures { IfOk result (λ done. done ≡ (taken_by input.now.net link (receiver input.now.net world.now link)
+    ensures { IfOk result
+        (λ done. done ≡ (taken_by input.now.net link (receiver input.now.net world.now link)
         == length (carried input.now.net (losses input.now) world.now link))) }
 {
     let part = input.net.link(link);
@@ -32,7 +36,8 @@ fn is_taken(alloc: Global, input: &Input, world: &World, link: u32) -> Result<bo
 }
 
 fn all_taken(alloc: Global, input: &Input, world: &World) -> Result<bool, Memory>
-    ensures { IfOk result (λ done. Decides done (AllTaken input.now.net (losses input.now) world.now)) }
+    ensures { IfOk result
+        (λ done. Decides done (AllTaken input.now.net (losses input.now) world.now)) }
 {
     for link in 0..input.net.links().len() as u32 {
         if !is_taken(alloc, input, world, link)? {
@@ -108,7 +113,8 @@ fn is_collected(alloc: Global, input: &Input, world: &World) -> Result<bool, Mem
 
 fn is_finished(alloc: Global, input: &Input, world: &World) -> Result<bool, Memory>
     requires { All HasAddresses input.now.flows }
-    ensures { IfOk result (λ done. Decides done (IsFinished (setup_of input.now) (losses input.now) world.now)) }
+    ensures { IfOk result
+        (λ done. Decides done (IsFinished (setup_of input.now) (losses input.now) world.now)) }
 {
     if !all_taken(alloc, input, world)? || !all_sent(alloc, input, world)? {
         return Ok(false);

@@ -1,26 +1,31 @@
 // The findings of a run of whole histories.
-ghost use Rattle.std.specs.Prelude.{◌≡◌, ◌+◌, ◌<◌, ◌≤◌, ◌^◌, cond, length, map, IfOk, IfSome, is_some};
+ghost use Rattle.std.specs.Prelude.{◌≡◌, ◌+◌, ◌<◌, ◌≤◌, ◌^◌, cond, length, map, IfOk, IfSome};
+ghost use Rattle.std.specs.Prelude.{is_some};
 ghost use Rattle.sl_layout.specs.Net.{actor_of, units, hosts};
 ghost use Rattle.sl_layout.specs.Devices.{device_of};
 ghost use Rattle.sl_model.specs.History.{history};
 ghost use Rattle.sl_model.specs.Counting.{bad, expired, noroute};
 ghost use Rattle.sl_model.specs.Setup.{setup_of};
-ghost use Rattle.sl_model.specs.Findings.{row, rows_for, finding, is_ingress, drops_of, sent_by, delivered_to, findings_in, findings};
+ghost use Rattle.sl_model.specs.Findings.{row, rows_for, finding, is_ingress, drops_of, sent_by};
+ghost use Rattle.sl_model.specs.Findings.{delivered_to, findings_in, findings};
 ghost use Rattle.std.specs.List.{All, range_with_len};
 ghost use Rattle.sl_route.specs.Routes.{IsRoutesOf};
 ghost use Rattle.sl_model.specs.Losses.{losses};
 ghost use Rattle.sl_model.specs.History.{steps_in};
 ghost use Rattle.sl_flow.specs.Flow.{HasAddresses};
 
+use crate::counting::{bad, expired, noroute};
+use crate::history::World;
 use crate::judge::verdict;
+use crate::knowledge::{floor, issued, resent};
 use crate::lost::losses_of;
+use crate::schedule::follow;
+use crate::tell::taken;
 use crate::values::row;
+use crate::wires::{action_choice, hosts};
 use sl_machine::Memory;
 use sl_model::{Counts, Drops, Finding, FindingList, Findings, Rows1, Verdict};
 use sl_net::{ActorId, Input, Net, Side};
-use sl_replay::{
-    World, action_choice, bad, expired, floor, follow, hosts, issued, noroute, resent, taken,
-};
 use sl_route::Routes;
 use std::alloc::Global;
 
@@ -33,7 +38,8 @@ fn rows(
 ) -> Result<Rows1, Memory>
     requires small { steps_in world.now < 2 ^ 40 }
     requires each { All (λ u. u < length input.now.net.actors) units.now }
-    ensures { IfOk result (λ rows. rows ≡ map (row input.now.net (losses input.now) world.now snapshot) units.now) }
+    ensures { IfOk result
+        (λ rows. rows ≡ map (row input.now.net (losses input.now) world.now snapshot) units.now) }
 {
     let mut items = Vec::new(alloc);
     for unit in units {
@@ -50,7 +56,8 @@ fn rows_for(
     verdict: Verdict,
 ) -> Result<Rows1, Memory>
     requires { steps_in world.now < 2 ^ 40 }
-    ensures { IfOk result (λ rows. rows ≡ rows_for input.now.net (losses input.now) world.now snapshot verdict) }
+    ensures { IfOk result
+        (λ rows. rows ≡ rows_for input.now.net (losses input.now) world.now snapshot verdict) }
 {
     match verdict {
         Verdict::Consistent => rows(alloc, input, world, snapshot, input.net.unit_actors()),
@@ -62,7 +69,9 @@ fn rows_for(
 
 fn finding(alloc: Global, input: &Input, world: &World, snapshot: u64) -> Result<Finding, Memory>
     requires { steps_in world.now < 2 ^ 40 }
-    ensures { IfOk result (λ one. one ≡ finding input.now.snapshot.credits input.now.net (losses input.now) world.now snapshot) }
+    ensures { IfOk result
+        (λ one. one ≡ finding input.now.snapshot.credits input.now.net
+        (losses input.now) world.now snapshot) }
 {
     let verdict = verdict(alloc, input.snapshot.credits, &input.net, world, snapshot)?;
     Ok(Finding {
@@ -79,7 +88,10 @@ fn finding_list(
     count: u64,
 ) -> Result<FindingList, Memory>
     requires { steps_in world.now < 2 ^ 40 }
-    ensures { IfOk result (λ list. list ≡ map (finding input.now.snapshot.credits input.now.net (losses input.now) world.now) (range_with_len 1 count)) }
+    ensures { IfOk result
+        (λ list. list
+        ≡ map (finding input.now.snapshot.credits input.now.net (losses input.now) world.now)
+        (range_with_len 1 count)) }
 {
     let mut items = Vec::new(alloc);
     for done in 0..count {
@@ -108,12 +120,19 @@ fn ingress_device(net: &Net, actor: u32) -> Option<u32>
 fn drops_at(net: &Net, routes: &Routes, world: &World, actor: u32) -> Drops
     requires routes { IsRoutesOf net.now routes.now }
     requires actor { actor < length net.now.actors }
-    ensures bad { result.bad ≡ cond (is_ingress (actor_of net.now actor)) (bad (history world.now actor)) 0 }
-    ensures expired { result.expired ≡ cond (is_ingress (actor_of net.now actor)) (expired (history world.now actor)) 0 }
-    ensures noroute { let at = actor_of net.now actor in result.noroute ≡ cond (is_ingress at) (noroute net.now.parts (device_of at) (history world.now actor)) 0 }
-    ensures few_bad { result.bad ≤ cond (is_ingress (actor_of net.now actor)) (length (history world.now actor)) 0 }
-    ensures few_expired { result.expired ≤ cond (is_ingress (actor_of net.now actor)) (length (history world.now actor)) 0 }
-    ensures few_noroute { result.noroute ≤ cond (is_ingress (actor_of net.now actor)) (length (history world.now actor)) 0 }
+    ensures bad { result.bad ≡ cond (is_ingress (actor_of net.now actor))
+        (bad (history world.now actor)) 0 }
+    ensures expired { result.expired ≡ cond (is_ingress (actor_of net.now actor))
+        (expired (history world.now actor)) 0 }
+    ensures noroute { let at = actor_of net.now actor in
+        result.noroute ≡ cond (is_ingress at)
+        (noroute net.now.parts (device_of at) (history world.now actor)) 0 }
+    ensures few_bad { result.bad ≤ cond (is_ingress (actor_of net.now actor))
+        (length (history world.now actor)) 0 }
+    ensures few_expired { result.expired ≤ cond (is_ingress (actor_of net.now actor))
+        (length (history world.now actor)) 0 }
+    ensures few_noroute { result.noroute ≤ cond (is_ingress (actor_of net.now actor))
+        (length (history world.now actor)) 0 }
 {
     let Some(device) = ingress_device(net, actor) else {
         return Drops {
@@ -174,7 +193,8 @@ fn delivered_to(alloc: Global, world: &World, hosts: &[u32]) -> Result<Counts, M
 fn findings_in(alloc: Global, input: &Input, world: &World) -> Result<Findings, Memory>
     requires small { steps_in world.now < 2 ^ 40 }
     requires actors { length world.now ≡ length input.now.net.actors }
-    ensures { IfOk result (λ all. all ≡ findings_in (setup_of input.now) (losses input.now) world.now) }
+    ensures { IfOk result
+        (λ all. all ≡ findings_in (setup_of input.now) (losses input.now) world.now) }
 {
     let net = &input.net;
     let hosts = hosts(alloc, net)?;
@@ -198,7 +218,8 @@ pub fn findings_of(
     schedule: &[(u32, u32)],
 ) -> Result<Findings, Memory>
     requires addresses { All HasAddresses input.now.flows }
-    ensures findings { IfOk result (λ all. all ≡ findings (setup_of input.now) (losses input.now) schedule.now) }
+    ensures findings { IfOk result
+        (λ all. all ≡ findings (setup_of input.now) (losses input.now) schedule.now) }
 {
     // A schedule of 2^40 entries would fill any memory.
     if schedule.len() >= 1 << 40 {

@@ -1,21 +1,28 @@
 // Verdicts on snapshots, from whole histories.
-ghost use Rattle.std.specs.Prelude.{◌≡◌, ◌+◌, ◌-◌, ◌<◌, ◌^◌, ◌∷◌, ◌&&◌, length, reverse, slice_index_or, nat_lt, min, unwrap_or, if◌then◌else◌, IfOk, Some};
+ghost use Rattle.std.specs.Prelude.{◌≡◌, ◌+◌, ◌-◌, ◌<◌, ◌^◌, ◌∷◌, ◌&&◌, length, reverse};
+ghost use Rattle.std.specs.Prelude.{slice_index_or, nat_lt, min, unwrap_or, if◌then◌else◌, IfOk};
+ghost use Rattle.std.specs.Prelude.{Some};
 ghost use Rattle.std.specs.List.{All};
 ghost use Rattle.sl_layout.specs.Net.{units};
 ghost use Rattle.sl_model.specs.Words.{first_told};
 ghost use Rattle.sl_route.specs.Least.{least};
 ghost use Rattle.sl_model.specs.History.{history};
 ghost use Rattle.sl_model.specs.Knowledge.{floor, unit_floor};
-ghost use Rattle.sl_model.specs.Verdict.{skipped_to, is_old_data, miscredits, cause, channel_lag, lag, issued_verdict, holds_floor, place_or_zero, verdict};
+ghost use Rattle.sl_model.specs.Verdict.{skipped_to, is_old_data, miscredits, cause, channel_lag};
+ghost use Rattle.sl_model.specs.Verdict.{lag, issued_verdict, holds_floor, place_or_zero};
+ghost use Rattle.sl_model.specs.Verdict.{verdict};
 
+use crate::history::World;
+use crate::knowledge::{floor, issued, unit_floor};
+use crate::tell::{id, last, stamp_taken};
+use crate::wires::data_channels;
 use sl_machine::Memory;
 use sl_model::{Cause, Lag, Message, Step, Verdict};
 use sl_net::Net;
-use sl_replay::{World, data_channels, floor, id, issued, last, stamp_taken, unit_floor};
 use std::alloc::Global;
 
 /// The number to which a unit skipped a snapshot, if it did.
-#[tactic(auto, using(sl_replay::proofs::ForwardSteps::reverse_more))]
+#[tactic(auto, using(crate::proofs::ForwardSteps::reverse_more))]
 fn skipped_to(snapshot: u64, steps: &[Step]) -> Option<u64>
     ensures { result ≡ skipped_to snapshot (reverse steps.now) }
 {
@@ -52,7 +59,9 @@ fn nth_of(n: u8, numbers: &[u64]) -> u64
 
 /// Puts a number before others where it is above an id.
 fn adopt(adopted: &mut Vec<u64>, id: u64, next: u64) -> Result<(), Memory>
-    ensures { IfOk result (λ _. adopted.new.items ≡ (if nat_lt id next then next ∷ adopted.old.items else adopted.old.items)) }
+    ensures { IfOk result
+        (λ _. adopted.new.items
+        ≡ (if nat_lt id next then next ∷ adopted.old.items else adopted.old.items)) }
 {
     if id < next {
         adopted.insert(0, next)?;
@@ -72,7 +81,7 @@ fn least_with(by: Option<u64>, counts: bool, number: u64) -> Option<u64>
 }
 
 /// The least number by which a unit miscredited a snapshot, if it did.
-#[tactic(auto, using(sl_replay::proofs::ForwardSteps::reverse_more, crate::proofs::ForwardFindings::least_if))]
+#[tactic(auto, using(crate::proofs::ForwardSteps::reverse_more, crate::proofs::ForwardFindings::least_if))]
 fn miscredited_by(
     alloc: Global,
     credits: u8,
@@ -157,7 +166,9 @@ fn first_lag(
 ) -> Result<Option<(u32, Lag)>, Memory>
     requires each { All (λ u. u < length net.now.actors) units.now }
     requires few { length units.now < 2 ^ 32 }
-    ensures { IfOk result (λ first. first ≡ first_told (λ u. lag net.now snapshot u (history world.now u)) units.now) }
+    ensures { IfOk result
+        (λ first. first ≡ first_told (λ u. lag net.now snapshot u (history world.now u))
+        units.now) }
 {
     let mut place = 0;
     for unit in units {
@@ -178,7 +189,9 @@ fn first_with_cause(
     units: &[u32],
 ) -> Result<Option<(u32, Cause)>, Memory>
     requires { length units.now < 2 ^ 32 }
-    ensures { IfOk result (λ first. first ≡ first_told (λ u. cause credits snapshot (history world.now u)) units.now) }
+    ensures { IfOk result
+        (λ first. first ≡ first_told (λ u. cause credits snapshot (history world.now u))
+        units.now) }
 {
     let mut place = 0;
     for unit in units {
@@ -224,7 +237,8 @@ fn issued_verdict(
 fn holder_of(alloc: Global, net: &Net, world: &World, units: &[u32]) -> Result<u32, Memory>
     requires each { All (λ u. u < length net.now.actors) units.now }
     requires few { length units.now < 2 ^ 32 }
-    ensures { IfOk result (λ place. place ≡ place_or_zero (first_told (holds_floor net.now world.now) units.now)) }
+    ensures { IfOk result
+        (λ place. place ≡ place_or_zero (first_told (holds_floor net.now world.now) units.now)) }
 {
     let floor = floor(alloc, net, world)?;
     let mut place = 0;

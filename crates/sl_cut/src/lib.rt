@@ -1,20 +1,41 @@
-// The findings of a schedule and how it ends, computed from whole histories, and the types of findings;
-// the trail of a schedule.
+// A run computed from whole histories by the definitions: what histories tell, the step that each
+// kind of actor makes, what is lost on the way, the world that a schedule reaches, its findings and
+// how it ends. Slow by design. Beside it, under one name, the types of findings and the trail of a
+// schedule.
 #![tactic(auto)]
 
+mod control;
+mod counting;
 mod ending;
+mod flow;
+mod frames;
 mod gather;
+mod history;
 mod judge;
+mod knowledge;
+mod losses;
 mod lost;
+mod message;
+mod schedule;
+mod sends;
+mod step;
+mod tell;
+mod units;
 mod values;
+mod wires;
 
+pub use counting::{bad, bytes, expired, noroute, packets};
 pub use ending::ending_of;
 pub use gather::findings_of;
-pub use sl_ending::{Ending, endings_are_one};
+pub use history::{History, World};
+pub use knowledge::{can_issue, floor, issued, resent, unit_floor};
+pub use losses::{carried, without_lost};
+pub use schedule::{follow, follow_legal};
 pub use sl_model::{
-    Cause, Counts, Drops, Finding, FindingList, Findings, Lag, Lost, Message, Put, Puts, Row,
-    Rows1, Step, Verdict,
+    Cause, Counts, Drops, Ending, Finding, FindingList, Findings, Lag, Lost, Message, Put, Puts,
+    Row, Rows1, Step, Verdict, endings_are_one,
 };
 pub use sl_poll::{Counted, CountedList, Pair, PairList, Trail, trail_of};
-pub use sl_replay::{History, World};
 pub use sl_saves::Total;
+pub use tell::{id, known, last, put, stamp_taken, taken};
+pub use wires::{action_choice, data_channels, hosts};

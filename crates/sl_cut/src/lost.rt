@@ -5,17 +5,20 @@ ghost use Rattle.sl_model.specs.Findings.{lost_on, lost_of, losses_of};
 ghost use Rattle.sl_model.specs.Losses.{losses};
 ghost use Rattle.sl_model.specs.Words.{weigh};
 
+use crate::history::World;
+use crate::losses::without_lost;
+use crate::tell::put;
 use sl_machine::Memory;
 use sl_model::Lost;
 use sl_net::{Input, Sort};
-use sl_replay::{World, put, without_lost};
 use std::alloc::Global;
 
 /// How many puts on a link are lost.
-#[tactic(auto, using(sl_replay::proofs::ForwardLosses::lost_and_kept))]
+#[tactic(auto, using(crate::proofs::ForwardLosses::lost_and_kept))]
 fn lost_on(alloc: Global, input: &Input, world: &World, link: u32) -> Result<u64, Memory>
     requires { link < length input.now.net.links }
-    ensures { IfOk result (λ count. count ≡ lost_on input.now.net (losses input.now) world.now link) }
+    ensures { IfOk result
+        (λ count. count ≡ lost_on input.now.net (losses input.now) world.now link) }
 {
     let messages = put(alloc, link, world.steps(input.net.link(link).from))?;
     let kept = without_lost(alloc, input, link, messages.as_slice())?;
@@ -31,7 +34,9 @@ fn lost_if(
     sort: Sort,
 ) -> Result<u64, Memory>
     requires { link < length input.now.net.links }
-    ensures { IfOk result (λ count. count ≡ weigh (lost_on input.now.net (losses input.now) world.now) (cond (same_sort (link_of input.now.net link).sort sort) (link ∷ []) [])) }
+    ensures { IfOk result
+        (λ count. count ≡ weigh (lost_on input.now.net (losses input.now) world.now)
+        (cond (same_sort (link_of input.now.net link).sort sort) (link ∷ []) [])) }
 {
     if input.net.link(link).sort.is(sort) {
         lost_on(alloc, input, world, link)
@@ -43,7 +48,8 @@ fn lost_if(
 /// How many puts on links of a sort are lost. A number past the last of a u64 is answered as want
 /// of memory: so many messages are nowhere.
 fn lost_of(alloc: Global, input: &Input, world: &World, sort: Sort) -> Result<u64, Memory>
-    ensures { IfOk result (λ count. count ≡ lost_of input.now.net (losses input.now) world.now sort) }
+    ensures { IfOk result
+        (λ count. count ≡ lost_of input.now.net (losses input.now) world.now sort) }
 {
     let mut total: u64 = 0;
     for link in 0..input.net.links().len() as u32 {

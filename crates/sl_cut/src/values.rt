@@ -1,5 +1,6 @@
 // The values of a snapshot: what units counted before their cuts, and what was in flight.
-ghost use Rattle.std.specs.Prelude.{◌≡◌, ◌≤◌, ◌<◌, ◌^◌, length, map, reverse, take, drop, IfOk, slice_index_or};
+ghost use Rattle.std.specs.Prelude.{◌≡◌, ◌≤◌, ◌<◌, ◌^◌, length, map, reverse, take, drop, IfOk};
+ghost use Rattle.std.specs.Prelude.{slice_index_or};
 ghost use Rattle.std.specs.List.{All};
 ghost use Rattle.sl_model.specs.Words.{weigh};
 ghost use Rattle.sl_model.specs.Cut.{before, data_count, data_bytes, channel_value};
@@ -8,15 +9,19 @@ ghost use Rattle.sl_saves.specs.Keeping.{no_total};
 ghost use Rattle.sl_model.specs.Losses.{losses};
 ghost use Rattle.sl_model.specs.History.{steps_in};
 
+use crate::counting::{bytes, packets};
+use crate::history::World;
+use crate::losses::carried;
+use crate::tell::{stamp_taken, taken};
+use crate::wires::data_channels;
 use sl_machine::Memory;
 use sl_model::{Message, Row, Step};
 use sl_net::{Input, Net};
-use sl_replay::{World, bytes, carried, data_channels, packets, stamp_taken, taken};
 use sl_saves::Total;
 use std::alloc::Global;
 
 /// The steps after which the id of a unit is below a snapshot.
-#[tactic(auto, using(sl_replay::proofs::ForwardSteps::reverse_more))]
+#[tactic(auto, using(crate::proofs::ForwardSteps::reverse_more))]
 fn before(snapshot: u64, steps: &[Step]) -> &[Step]
     ensures value { reverse result.now ≡ before snapshot (reverse steps.now) }
     ensures bound { length result.now ≤ length steps.now }
@@ -94,7 +99,8 @@ fn channel_value(
 ) -> Result<Total, Memory>
     requires small { steps_in world.now < 2 ^ 40 }
     requires link { link < length input.now.net.links }
-    ensures { IfOk result (λ total. total ≡ channel_value input.now.net (losses input.now) world.now snapshot link) }
+    ensures { IfOk result
+        (λ total. total ≡ channel_value input.now.net (losses input.now) world.now snapshot link) }
 {
     let ends = input.net.link(link);
     let choice = input.net.wire(link).choice as usize;
@@ -114,7 +120,9 @@ fn channel_values(
 ) -> Result<Vec<Total>, Memory>
     requires small { steps_in world.now < 2 ^ 40 }
     requires each { All (λ l. l < length input.now.net.links) links.now }
-    ensures { IfOk result (λ totals. totals.items ≡ map (channel_value input.now.net (losses input.now) world.now snapshot) links.now) }
+    ensures { IfOk result
+        (λ totals. totals.items
+        ≡ map (channel_value input.now.net (losses input.now) world.now snapshot) links.now) }
 {
     let mut totals = Vec::new(alloc);
     for link in links {
@@ -176,7 +184,8 @@ pub fn row(
 ) -> Result<Row, Memory>
     requires small { steps_in world.now < 2 ^ 40 }
     requires unit { unit < length input.now.net.actors }
-    ensures { IfOk result (λ one. one ≡ row input.now.net (losses input.now) world.now snapshot unit) }
+    ensures { IfOk result
+        (λ one. one ≡ row input.now.net (losses input.now) world.now snapshot unit) }
 {
     let steps = before(snapshot, world.steps(unit));
     let totals = channel_values(

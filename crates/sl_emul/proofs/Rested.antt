@@ -22,8 +22,8 @@ use Rattle.sl_model.specs.Puts.{action, begin_all, send_all}
 use Rattle.sl_model.specs.World.{next_step, acting}
 use Rattle.sl_model.specs.Books.{schedule_of}
 use Rattle.sl_model.specs.End.{AllSent}
-use Rattle.sl_model.proofs.NetWiring.{Wiring, wiring}
-use Rattle.sl_model.proofs.Idle.{get-past, none-past, none-of-idle, own-step, sent-within, there, guard-fails}
+use Rattle.sl_model.proofs.Finishing.NetWiring.{Wiring, wiring}
+use Rattle.sl_model.proofs.Finishing.Idle.{get-past, none-past, none-of-idle, own-step, sent-within, there, guard-fails}
 use Rattle.sl_world.specs.Scene.{Scene}
 use Rattle.sl_world.proofs.TurnLemmas.{some_at}
 use Rattle.sl_threads.specs.Threads.{AreAtRest}

@@ -1,3 +1,4 @@
+-- Trusted text, but for HasEnded, IsOutcomeOf, IsOutcome.
 -- What a run of an input on its nodes comes to, and what it leaves.
 --     HasEnded IsBook ..    the scene to which a run with such a book came
 --     AreNodesOf i w ns     one node per actor, each of which stands for its history

@@ -1,3 +1,4 @@
+-- Trusted text, but for tried_actions, tried_by, plans_of, IsThreadedOutcome.
 -- The run of an input with a thread for each actor.
 --     plans_of net           what the actors try in each round
 --     HasRested s w          what no actor has left to try

@@ -40,7 +40,8 @@ pub fn finish_run(alloc: Global, input: &Input, mut world: World<Node>) -> Resul
     requires stands { StandsFor input.now.net (case_of input.now (losses input.now)) (scene world) }
     requires observer { HasObserver (scene world) }
     requires plan { (scene world).plan ≡ plan_of input.now.net }
-    ensures { IfOk result (λ r. IsFinishedFrom input.now (losses input.now) (scene world) (scene r.world) r.front) }
+    ensures { IfOk result
+        (λ r. IsFinishedFrom input.now (losses input.now) (scene world) (scene r.world) r.front) }
 {
     let front = world.entries();
     finish(alloc, &input.net, &mut world)?;
@@ -53,10 +54,14 @@ pub fn finish_run(alloc: Global, input: &Input, mut world: World<Node>) -> Resul
 
 /// Tells what a run came to.
 pub fn tell_run(alloc: Global, input: &Input, ran: Ran) -> Result<Run, Memory>
-    requires stands { StandsFor input.now.net (case_of input.now (losses input.now)) (scene ran.world) }
+    requires stands { StandsFor input.now.net (case_of input.now (losses input.now))
+        (scene ran.world) }
     requires few { length (scene ran.world).book < 2 ^ 40 }
-    requires finished { IsFinished (setup_of input.now) (losses input.now) (world_of (case_of input.now (losses input.now)) (scene ran.world)) }
-    ensures { IfOk result (λ r. IsToldOf input.now (losses input.now) (scene ran.world) ran.front r.book.entries r.front r.findings (map node_state r.nodes.items)) }
+    requires finished { IsFinished (setup_of input.now) (losses input.now)
+        (world_of (case_of input.now (losses input.now)) (scene ran.world)) }
+    ensures { IfOk result
+        (λ r. IsToldOf input.now (losses input.now) (scene ran.world)
+        ran.front r.book.entries r.front r.findings (map node_state r.nodes.items)) }
 {
     let findings = findings(alloc, input, &ran.world)?;
     let (nodes, book) = ran.world.into_book();

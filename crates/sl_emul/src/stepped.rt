@@ -15,7 +15,8 @@ use std::alloc::Global;
 /// Runs an input on the nodes of its net to its end: takes the turns of its script, and finishes.
 pub fn finish_stepped(alloc: Global, input: &Input) -> Result<Ran, Memory>
     requires { CanRun input.now }
-    ensures { IfOk result (λ r. HasEnded IsRunBook input.now (losses input.now) (scene r.world) r.front) }
+    ensures { IfOk result
+        (λ r. HasEnded IsRunBook input.now (losses input.now) (scene r.world) r.front) }
 {
     let mut world = first_world(alloc, input)?;
     let front = run_script(alloc, input, &mut world)?;
@@ -25,7 +26,9 @@ pub fn finish_stepped(alloc: Global, input: &Input) -> Result<Ran, Memory>
 /// Runs an input as `finish_stepped` does, and tells what the run came to.
 pub fn run_stepped(alloc: Global, input: &Input) -> Result<Run, Memory>
     requires { CanRun input.now }
-    ensures { IfOk result (λ r. IsOutcome input.now (losses input.now) r.book.entries r.front r.findings (map node_state r.nodes.items)) }
+    ensures { IfOk result
+        (λ r. IsOutcome input.now (losses input.now) r.book.entries r.front r.findings
+        (map node_state r.nodes.items)) }
 {
     let ran = finish_stepped(alloc, input)?;
     tell_run(alloc, input, ran)

@@ -1,5 +1,6 @@
 // The run of an input with a thread for each actor.
-ghost use Rattle.std.specs.Prelude.{◌≡◌, ◌<◌, ◌≤◌, ◌^◌, [], ◌∷◌, IfOk, IsErrOf, IsOkUnless, length, map, if◌then◌else◌};
+ghost use Rattle.std.specs.Prelude.{◌≡◌, ◌<◌, ◌≤◌, ◌^◌, [], ◌∷◌, IfOk, IsErrOf, IsOkUnless};
+ghost use Rattle.std.specs.Prelude.{length, map, if◌then◌else◌};
 ghost use Rattle.sl_layout.specs.Net.{actor_of, links_into};
 ghost use Rattle.sl_layout.specs.Wiring.{plan_of};
 ghost use Rattle.sl_model.specs.Losses.{losses};
@@ -8,7 +9,8 @@ ghost use Rattle.sl_world.specs.World.{scene};
 ghost use Rattle.sl_proto.specs.Nodes.{node_state};
 ghost use Rattle.sl_proto.specs.Standing.{case_of, world_of, StandsFor, HasObserver};
 ghost use Rattle.sl_proto.specs.RunBook.{CanRun};
-ghost use Rattle.sl_emul.specs.Threaded.{tried_actions, tried_by, plans_of, HasRested, IsThreadedFront, IsThreadedBook, IsThreadedOutcome};
+ghost use Rattle.sl_emul.specs.Threaded.{tried_actions, tried_by, plans_of, HasRested};
+ghost use Rattle.sl_emul.specs.Threaded.{IsThreadedFront, IsThreadedBook, IsThreadedOutcome};
 ghost use Rattle.sl_emul.specs.Run.{HasEnded};
 
 use crate::fault::EmulFault;
@@ -35,7 +37,8 @@ const MOST_ACTORS: u32 = 256;
 /// Whether an actor tries the first of its own actions: the observer and the hosts do.
 fn acts(net: &Net, actor: u32) -> bool
     requires { actor < length net.now.actors }
-    ensures { tried_actions net.now actor (actor_of net.now actor) ≡ (if result then length (links_into net.now actor) ∷ [] else []) }
+    ensures { tried_actions net.now actor (actor_of net.now actor)
+        ≡ (if result then length (links_into net.now actor) ∷ [] else []) }
 {
     match net.actor(actor) {
         ActorId::Observer => true,
@@ -84,12 +87,14 @@ pub fn threaded_world<R: Threads + Wait + Sync, G: Gate + Sync>(
 ) -> Result<World<Node>, Memory>
     requires can { CanRun input.now }
     requires few { length input.now.net.actors ≤ 256 }
-    ensures stands { IfOk result (λ w. StandsFor input.now.net (case_of input.now (losses input.now)) (scene w)) }
+    ensures stands { IfOk result
+        (λ w. StandsFor input.now.net (case_of input.now (losses input.now)) (scene w)) }
     ensures observer { IfOk result (λ w. HasObserver (scene w)) }
     ensures plan { IfOk result (λ w. (scene w).plan ≡ plan_of input.now.net) }
     ensures front { IfOk result (λ w. IsThreadedFront input.now (losses input.now) (scene w).book) }
     ensures rest { IfOk result (λ w. length (scene w).book < 2 ^ 27
-        → HasRested (setup_of input.now) (world_of (case_of input.now (losses input.now)) (scene w))) }
+        → HasRested (setup_of input.now)
+        (world_of (case_of input.now (losses input.now)) (scene w))) }
 {
     inputs_spare_reliable_links();
     inputs_are_runnable();
@@ -127,7 +132,8 @@ fn run_few<R: Threads + Wait + Sync, G: Gate + Sync>(
 ) -> Result<Ran, Memory>
     requires can { CanRun input.now }
     requires few { length input.now.net.actors ≤ 256 }
-    ensures { IfOk result (λ r. HasEnded IsThreadedBook input.now (losses input.now) (scene r.world) r.front) }
+    ensures { IfOk result
+        (λ r. HasEnded IsThreadedBook input.now (losses input.now) (scene r.world) r.front) }
 {
     runs_are_bounded();
     cuts_are_consistent();
@@ -145,8 +151,10 @@ pub fn finish_threaded<R: Threads + Wait + Sync, G: Gate + Sync>(
     gate: &G,
 ) -> Result<Ran, EmulFault>
     requires { CanRun input.now }
-    ensures run { IfOk result (λ r. HasEnded IsThreadedBook input.now (losses input.now) (scene r.world) r.front) }
-    ensures many { 256 < length input.now.net.actors → IsErrOf result (EmulFault.TooMany (length input.now.net.actors)) }
+    ensures run { IfOk result
+        (λ r. HasEnded IsThreadedBook input.now (losses input.now) (scene r.world) r.front) }
+    ensures many { 256 < length input.now.net.actors
+        → IsErrOf result (EmulFault.TooMany (length input.now.net.actors)) }
     ensures few { length input.now.net.actors ≤ 256 → IsOkUnless result EmulFault.Memory }
 {
     let actors = input.net.actors().len() as u32;
@@ -164,8 +172,11 @@ pub fn run_threaded<R: Threads + Wait + Sync, G: Gate + Sync>(
     gate: &G,
 ) -> Result<Run, EmulFault>
     requires { CanRun input.now }
-    ensures run { IfOk result (λ r. IsThreadedOutcome input.now (losses input.now) r.book.entries r.front r.findings (map node_state r.nodes.items)) }
-    ensures many { 256 < length input.now.net.actors → IsErrOf result (EmulFault.TooMany (length input.now.net.actors)) }
+    ensures run { IfOk result
+        (λ r. IsThreadedOutcome input.now (losses input.now) r.book.entries r.front r.findings
+        (map node_state r.nodes.items)) }
+    ensures many { 256 < length input.now.net.actors
+        → IsErrOf result (EmulFault.TooMany (length input.now.net.actors)) }
     ensures few { length input.now.net.actors ≤ 256 → IsOkUnless result EmulFault.Memory }
 {
     let ran = finish_threaded(rt, alloc, input, gate)?;

@@ -1,3 +1,4 @@
+-- Trusted text, but for HasAddresses.
 -- The packets of a host: those of its flows in input order, each flow whole, numbered from 0 in each.
 use Rattle.std.specs.Prelude.{ℕ, ◌^◌, ◌<◌, List, map, filter, flat_map, ◌==◌}
 use Rattle.sl_net.specs.declared.input.Flow.{Flow}

@@ -1,3 +1,4 @@
+-- Trusted text.
 -- An input that has no drop, raw frame and script entry as a TOML document, a line for each key. Rows of a list are parted by a comma and a space.
 use Rattle.std.specs.Prelude.{ℕ, List, ◌++◌, codes, decimal}
 use Rattle.std.specs.List.{join_by}

@@ -1,3 +1,4 @@
+-- Trusted text, but for IsSampleNumber, IsSampleFlow, IsSample.
 -- The sample inputs, one for each number from 1 to 64. Each is a leaf-spine net with two hosts at each leaf and a flow from each host to the next.
 -- Where the number is odd, messages are lost and the window is full.
 use Rattle.std.specs.Prelude.{◌≡◌, ℕ, ◌+◌, ◌*◌, ◌/◌, ◌%◌, ◌<◌, ◌≤◌, ◌==◌, ◌++◌, if◌then◌else◌, List, [], ◌∷◌, map, length, None, codes, decimal}

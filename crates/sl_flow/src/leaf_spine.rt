@@ -5,7 +5,8 @@ ghost use Rattle.sl_parts.specs.Parts.{below};
 ghost use Rattle.sl_parts.specs.Fault.{fault_of};
 ghost use Rattle.sl_parts.specs.Valid.{AreVersioned};
 ghost use Rattle.sl_layout.specs.Net.{net_of};
-ghost use Rattle.sl_flow.specs.Sample.{spine, leaf, devices, spine_port, leaf_port, cable, host, leaf_spine};
+ghost use Rattle.sl_flow.specs.Sample.{spine, leaf, devices, spine_port, leaf_port, cable, host};
+ghost use Rattle.sl_flow.specs.Sample.{leaf_spine};
 
 use sl_net::{CablePart, DevicePart, HostPart, Name, Net, NetFault, Parts, PortRef};
 use std::alloc::{AllocError, Global};

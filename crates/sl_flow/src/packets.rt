@@ -35,7 +35,8 @@ fn add_flow(packets: &mut Vec<Packet>, flow: Flow) -> Result<(), AllocError>
 /// Adds the packets of a flow where it comes from this host.
 fn add_share(packets: &mut Vec<Packet>, flow: Flow, host: u32) -> Result<(), AllocError>
     requires { HasAddresses flow }
-    ensures { OnOk result (packets.new.items ≡ packets.old.items ++ cond (flow.from == host) (flow_packets flow) []) }
+    ensures { OnOk result
+        (packets.new.items ≡ packets.old.items ++ cond (flow.from == host) (flow_packets flow) []) }
 {
     if flow.from == host {
         add_flow(packets, flow)?;

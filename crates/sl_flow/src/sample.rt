@@ -1,7 +1,8 @@
 // The sample inputs as data.
 ghost use Rattle.std.specs.Prelude.{◌≡◌, ◌<◌, ◌≤◌, ◌*◌, ◌↔◌, IfOk, OnOk, IfErr, IsTrue, map};
 ghost use Rattle.sl_parts.specs.Parts.{below};
-ghost use Rattle.sl_flow.specs.Sample.{IsSampleNumber, IsSample, leaf_count, leaf_spine, host_count, flow, by_parity, snapshot, loss, sample_parts};
+ghost use Rattle.sl_flow.specs.Sample.{IsSampleNumber, IsSample, leaf_count, leaf_spine};
+ghost use Rattle.sl_flow.specs.Sample.{host_count, flow, by_parity, snapshot, loss, sample_parts};
 
 use crate::fault::SampleFault;
 use crate::leaf_spine::{built, leaf_spine};

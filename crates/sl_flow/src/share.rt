@@ -1,5 +1,6 @@
 // The packets of a host, made as they are sent.
-ghost use Rattle.std.specs.Prelude.{◌≡◌, ◌+◌, ◌&&◌, ◌<◌, ◌==◌, IfOk, filter, length, min, nat_lt, slice_get};
+ghost use Rattle.std.specs.Prelude.{◌≡◌, ◌+◌, ◌&&◌, ◌<◌, ◌==◌, IfOk, filter, length, min, nat_lt};
+ghost use Rattle.std.specs.Prelude.{slice_get};
 ghost use Rattle.std.specs.List.{All};
 ghost use Rattle.sl_flow.specs.Flow.{packets_of, HasAddresses};
 ghost use Rattle.sl_flow.specs.Share.{all_packets, sent_before, IsAt};
@@ -29,14 +30,19 @@ impl Model for Share {
 
     ghost Value = { ShareView };
 
-    ghost view = { λ s. record { packets = all_packets s.flows.items; sent = sent_before s.flows.items s.flow s.number } };
+    ghost view = { λ s.
+        record {
+          packets = all_packets s.flows.items;
+          sent = sent_before s.flows.items s.flow s.number;
+        } };
 
     ghost invariant = { λ s. IsShare s.flows.items s.count s.flow s.number };
 }
 
 /// The flows of a host that have packets.
 fn own_flows(alloc: Global, host: u32, flows: &[Flow]) -> Result<Vec<Flow>, AllocError>
-    ensures { IfOk result (λ own. own.items ≡ filter (λ f. (f.from == host) && nat_lt 0 f.count) flows.now) }
+    ensures { IfOk result
+        (λ own. own.items ≡ filter (λ f. (f.from == host) && nat_lt 0 f.count) flows.now) }
 {
     flows
         .iter()
@@ -77,7 +83,8 @@ fn packet_at(flows: &[Flow], flow: usize, number: u32) -> Option<Packet>
 fn place_after(flows: &[Flow], flow: usize, number: u32) -> (usize, u32)
     requires some { All (λ f. 0 < f.count) flows.now }
     requires at { IsAt flows.now flow number }
-    ensures sent { sent_before flows.now result.0 result.1 ≡ min (sent_before flows.now flow number + 1) (length (all_packets flows.now)) }
+    ensures sent { sent_before flows.now result.0 result.1
+        ≡ min (sent_before flows.now flow number + 1) (length (all_packets flows.now)) }
     ensures at { IsAt flows.now result.0 result.1 }
 {
     if flow >= flows.len() {

@@ -1,9 +1,12 @@
 // The sample inputs as TOML.
-ghost use Rattle.std.specs.Prelude.{◌≡◌, ◌≤◌, ◌++◌, ◌==◌, List, ℕ, [], ◌↔◌, cond, IfOk, OnOk, IfErr, codes, string_bytes};
+ghost use Rattle.std.specs.Prelude.{◌≡◌, ◌≤◌, ◌++◌, ◌==◌, List, ℕ, [], ◌↔◌, cond, IfOk, OnOk};
+ghost use Rattle.std.specs.Prelude.{IfErr, codes, string_bytes};
 ghost use Rattle.sl_parts.specs.Parts.{Parts};
 ghost use Rattle.sl_net.specs.Spelling.{host_name};
 ghost use Rattle.sl_flow.specs.Sample.{IsSampleNumber};
-ghost use Rattle.sl_flow.specs.InputText.{port_text, device_row, cable_row, host_row, flow_row, rows_text, list_line, snapshot_line, loss_line, document, sample_text};
+ghost use Rattle.sl_flow.specs.InputText.{port_text, device_row, cable_row, host_row, flow_row};
+ghost use Rattle.sl_flow.specs.InputText.{rows_text, list_line, snapshot_line, loss_line};
+ghost use Rattle.sl_flow.specs.InputText.{document, sample_text};
 
 use crate::fault::SampleFault;
 use crate::sample::{flows, is_sample_number, loss, parts, snapshot};
@@ -17,13 +20,15 @@ trait Row {
 
     /// Writes the row.
     fn push(&self, out: &mut String, parts: &Parts) -> Result<(), AllocError>
-        ensures { OnOk result (string_bytes out.new ≡ string_bytes out.old ++ text parts.now self.now) };
+        ensures { OnOk result
+            (string_bytes out.new ≡ string_bytes out.old ++ text parts.now self.now) };
 }
 
 /// Writes a port by its device's name and its number.
 #[tactic(auto, unfolding(crate::specs::InputText::port_text))]
 fn push_port(out: &mut String, parts: &Parts, port: PortRef) -> Result<(), AllocError>
-    ensures { OnOk result (string_bytes out.new ≡ string_bytes out.old ++ port_text parts.now port) }
+    ensures { OnOk result
+        (string_bytes out.new ≡ string_bytes out.old ++ port_text parts.now port) }
 {
     let number = port.port;
     match parts.devices.get(port.device as usize) {
@@ -36,7 +41,8 @@ fn push_port(out: &mut String, parts: &Parts, port: PortRef) -> Result<(), Alloc
 }
 
 fn push_host_name(out: &mut String, parts: &Parts, host: u32) -> Result<(), AllocError>
-    ensures { OnOk result (string_bytes out.new ≡ string_bytes out.old ++ host_name parts.now host) }
+    ensures { OnOk result
+        (string_bytes out.new ≡ string_bytes out.old ++ host_name parts.now host) }
 {
     match parts.hosts.get(host as usize) {
         Some(part) => {
@@ -101,7 +107,8 @@ impl Row for Flow {
 
 /// Writes what parts the row of a place from the row before.
 fn push_separator(out: &mut String, place: usize) -> Result<(), AllocError>
-    ensures { OnOk result (string_bytes out.new ≡ string_bytes out.old ++ cond (place == 0) [] (codes ", ")) }
+    ensures { OnOk result
+        (string_bytes out.new ≡ string_bytes out.old ++ cond (place == 0) [] (codes ", ")) }
 {
     if place == 0 {
         Ok(())
@@ -111,7 +118,8 @@ fn push_separator(out: &mut String, place: usize) -> Result<(), AllocError>
 }
 
 fn push_rows<R: Row>(out: &mut String, parts: &Parts, rows: &[R]) -> Result<(), AllocError>
-    ensures { OnOk result (string_bytes out.new ≡ string_bytes out.old ++ rows_text (R.text parts.now) rows.now) }
+    ensures { OnOk result
+        (string_bytes out.new ≡ string_bytes out.old ++ rows_text (R.text parts.now) rows.now) }
 {
     for i in 0..rows.len() {
         push_separator(out, i)?;
@@ -128,7 +136,9 @@ fn push_list<R: Row>(
     key: &str,
     rows: &[R],
 ) -> Result<(), AllocError>
-    ensures { OnOk result (string_bytes out.new ≡ string_bytes out.old ++ list_line key.now (R.text parts.now) rows.now) }
+    ensures { OnOk result
+        (string_bytes out.new ≡ string_bytes out.old ++ list_line key.now
+        (R.text parts.now) rows.now) }
 {
     write!(out, "{key} = [")?;
     push_rows(out, parts, rows)?;

@@ -1,3 +1,4 @@
+-- Trusted text.
 -- Tables and their keys.
 use Rattle.std.specs.Prelude.{ℕ, ℤ, pos, negsuc, Bool, true, ◌&&◌, if◌then◌else◌, nat_le, List, Option, Some, None, Result, Ok, Err}
 use Rattle.std.specs.List.{list_any}

@@ -1,3 +1,4 @@
+-- Trusted text.
 -- Tables of the input, their keys, and how both are written.
 use Rattle.std.specs.Prelude.{ℕ, List, [], ◌++◌, Option, Some, None, codes, decimal}
 use Rattle.sl_form.specs.declared.path.TableName.{TableName}

@@ -1,3 +1,4 @@
+-- Trusted text, but for Fails, Answers, Shows.
 -- How a definition refuses, and how the answer of a function meets it.
 use Rattle.std.specs.Prelude.{◌≡◌, Result, Ok, Err}
 use Rattle.sl_form.specs.declared.refusal.Refusal.{Refusal}

@@ -3,7 +3,9 @@ ghost use Rattle.std.specs.Prelude.{◌≡◌, ◌≤◌, option_map, IfOk, IfSo
 ghost use Rattle.toml.specs.Data.{get_member};
 ghost use Rattle.toml.specs.View.{view, table_view};
 ghost use Rattle.sl_form.specs.Refusals.{Shows};
-ghost use Rattle.sl_form.specs.Fields.{get_key, has_only, only, is_listed, number, in_range, text_at, required_number, optional_number, given_number, required_text};
+ghost use Rattle.sl_form.specs.Fields.{get_key, has_only, only, is_listed, number, in_range};
+ghost use Rattle.sl_form.specs.Fields.{text_at, required_number, optional_number, given_number};
+ghost use Rattle.sl_form.specs.Fields.{required_text};
 
 use crate::path::{Key, Path, TableName};
 use crate::refusal::Refusal;

@@ -1,9 +1,11 @@
+// Trusted types: PortText.
 // Forms of texts: names, ports, bytes in hexadecimal, numbers of passes.
 ghost use Rattle.std.specs.Prelude.{◌≡◌, ◌+◌, ◌<◌, ◌≤◌, IfOk, IfSome, length, drop, option_map};
 ghost use Rattle.toml.specs.View.{table_view};
 ghost use Rattle.sl_form.specs.Refusals.{Answers};
 ghost use Rattle.sl_form.specs.Fields.{required_form};
-ghost use Rattle.sl_form.specs.Forms.{name_of, port_of, hex_of, digit_of, byte_of, pairs_of, pass_of};
+ghost use Rattle.sl_form.specs.Forms.{name_of, port_of, hex_of, digit_of, byte_of, pairs_of};
+ghost use Rattle.sl_form.specs.Forms.{pass_of};
 
 use crate::fields::required_text;
 use crate::path::{Key, Path, TableName};
@@ -115,7 +117,8 @@ fn past_pair(bytes: &[u8]) -> &[u8]
 #[tactic(auto, using(crate::proofs::FormLemmas::pair_steps))]
 fn pairs_of(alloc: Global, text: &[u8]) -> Result<Option<Vec<u8>>, Memory>
     ensures value { IfOk result (λ made. option_map (λ v. v.items) made ≡ pairs_of text.now) }
-    ensures len { IfOk result (λ made. IfSome made (λ v. length v.items + length v.items ≡ length text.now)) }
+    ensures len { IfOk result
+        (λ made. IfSome made (λ v. length v.items + length v.items ≡ length text.now)) }
 {
     let mut bytes = Vec::new(alloc);
     let mut left = text;

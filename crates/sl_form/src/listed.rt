@@ -1,3 +1,4 @@
+// Trusted types: Text, Listed.
 // Texts, and lists of what was read, as contracts see them.
 ghost use Rattle.std.specs.Prelude.{◌≡◌, IfOk, List};
 

@@ -1,3 +1,4 @@
+// Trusted types: TableName, Key, Path.
 // Where something stands in the input: a table, or a key of a table.
 use std::fmt;
 

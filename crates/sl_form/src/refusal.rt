@@ -1,3 +1,4 @@
+// Trusted types: Refusal.
 // Why an input is refused, and where.
 use crate::path::{Path, TableName};
 use sl_net::NetFault;

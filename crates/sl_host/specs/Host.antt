@@ -1,3 +1,4 @@
+-- Trusted text for nodes, in part.
 -- What a host sends, and what the turns of its machine do.
 --     messages_of input h          the frames that the host h sends, in order
 --     host_take, host_act        bytes that come are counted; the next frame is sent

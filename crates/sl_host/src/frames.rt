@@ -1,5 +1,6 @@
 // The frames that a host sends.
-ghost use Rattle.std.specs.Prelude.{◌≡◌, ◌++◌, ◌∷◌, [], ◌==◌, IfOk, OnOk, cond, length, min, option_map, slice_get};
+ghost use Rattle.std.specs.Prelude.{◌≡◌, ◌++◌, ◌∷◌, [], ◌==◌, IfOk, OnOk, cond, length, min};
+ghost use Rattle.std.specs.Prelude.{option_map, slice_get};
 ghost use Rattle.sl_wire.specs.Carried.{carrying};
 ghost use Rattle.sl_host.specs.Host.{messages, raws_of};
 
@@ -28,7 +29,9 @@ fn copied(alloc: Global, bytes: &Bytes) -> Result<Msg, AllocError>
 
 /// Adds a copy of a raw frame where it is this host's.
 fn add_raw(frames: &mut Vec<Bytes>, raw: &RawPart, host: u32) -> Result<(), AllocError>
-    ensures { OnOk result (frames.new.items ≡ frames.old.items ++ cond (raw.now.from == host) (raw.now.bytes ∷ []) []) }
+    ensures { OnOk result
+        (frames.new.items ≡ frames.old.items ++ cond (raw.now.from == host)
+        (raw.now.bytes ∷ []) []) }
 {
     if raw.from == host {
         let alloc = *frames.allocator();
@@ -59,7 +62,9 @@ pub fn message_at(
     place: u64,
 ) -> Result<Option<Msg>, AllocError>
     requires { share.now.sent ≡ min place (length share.now.packets) }
-    ensures { IfOk result (λ message. message ≡ option_map carrying (slice_get (messages share.now.packets raws.now) place)) }
+    ensures { IfOk result
+        (λ message. message ≡ option_map carrying
+        (slice_get (messages share.now.packets raws.now) place)) }
 {
     if let Some(packet) = share.next() {
         return Ok(Some(Msg::Frame(Framed::plain(&packet))));

@@ -1,5 +1,6 @@
 // The machine of a host.
-ghost use Rattle.std.specs.Prelude.{◌≡◌, ◌+◌, ◌<◌, Option, None, IfOk, length, nat_lt, option_map, slice_get, min, OnOk, OnErr};
+ghost use Rattle.std.specs.Prelude.{◌≡◌, ◌+◌, ◌<◌, Option, None, IfOk, length, nat_lt};
+ghost use Rattle.std.specs.Prelude.{option_map, slice_get, min, OnOk, OnErr};
 ghost use Rattle.std.specs.List.{All};
 ghost use Rattle.sl_flow.specs.Flow.{HasAddresses};
 ghost use Rattle.sl_wire.specs.Carried.{carrying};
@@ -35,7 +36,11 @@ impl Model for Host {
 
     ghost Value = { kept.Host };
 
-    ghost view = { λ h. record { state = kept.state_of h.share.packets h.raws.items h.sent h.delivered; ready = h.prepared } };
+    ghost view = { λ h.
+        record {
+          state = kept.state_of h.share.packets h.raws.items h.sent h.delivered;
+          ready = h.prepared;
+        } };
 
     ghost invariant = { λ h. kept.IsKept h.share h.raws.items h.sent h.next h.prepared };
 }
@@ -50,7 +55,9 @@ fn make_next(
     sent: u64,
 ) -> Result<(), AllocError>
     requires { share.now.sent ≡ min sent (length share.now.packets) }
-    ensures made { OnOk result (next.new ≡ option_map carrying (slice_get (messages share.now.packets raws.now.items) sent)) }
+    ensures made { OnOk result
+        (next.new ≡ option_map carrying
+        (slice_get (messages share.now.packets raws.now.items) sent)) }
     ensures same { OnErr result (next.new ≡ next.old) }
 {
     *next = message_at(*raws.allocator(), share, raws.as_slice(), sent)?;
@@ -62,7 +69,9 @@ impl Host {
     /// hosts that flows name are below 65,536, as those of an accepted input are.
     pub fn new(alloc: Global, host: u32, input: &Input) -> Result<Host, Memory>
         requires { All HasAddresses input.now.flows }
-        ensures state { IfOk result (λ h. h.state ≡ record { messages = messages_of input.now host; sent = 0; delivered = 0 }) }
+        ensures state { IfOk result
+            (λ h. h.state
+            ≡ record { messages = messages_of input.now host; sent = 0; delivered = 0 }) }
         ensures ready { IfOk result (λ h. h.ready ≡ None) }
     {
         let share = Share::of(alloc, host, input.flows.as_slice())?;

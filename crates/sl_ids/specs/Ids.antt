@@ -1,3 +1,4 @@
+-- Trusted text for nodes, but for most_bits, distance, unwrapped.
 -- Wrapped ids of some bits. Of Yaseen, Sonchack and Liu 2018: ids on the wire wrap, and are compared relative to one
 -- that is known.
 use Rattle.std.specs.Prelude.{ℕ, ◌+◌, ◌-◌, ◌%◌, ◌^◌}

@@ -1,3 +1,4 @@
+-- Trusted text for nodes.
 -- Wrapped ids as values.
 use Rattle.std.specs.Prelude.{ℕ}
 use Rattle.sl_ids.specs.declared.wid.Wid.{Wid}

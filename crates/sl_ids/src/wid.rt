@@ -1,3 +1,4 @@
+// Trusted types: for nodes Wid.
 // Wrapped ids, and what one tells beside another.
 ghost use Rattle.std.specs.Prelude.{◌≡◌, ℕ, ◌+◌, ◌-◌, ◌<◌, ◌≤◌, ◌^◌, ◌↔◌, IsTrue};
 ghost use Rattle.sl_ids.specs.Ids.{modulus, wrapped, distance, unwrapped};
@@ -52,7 +53,8 @@ pub fn unwrap_from(width: Width, base: u64, w: Wid) -> u64
     ensures near { result < base + modulus width.bits }
 
     // Of the numbers near the base no other has this wrapped id.
-    ensures only { (n : ℕ) → base ≤ n → n < base + modulus width.bits → wrapped width.bits n ≡ w.raw → result ≡ n }
+    ensures only { (n : ℕ) → base ≤ n → n < base + modulus width.bits
+        → wrapped width.bits n ≡ w.raw → result ≡ n }
 {
     base + u64::from(distance(width, wrap(width, base), w))
 }
@@ -62,11 +64,14 @@ pub fn newer(width: Width, base: Wid, a: Wid, b: Wid) -> bool
     requires base { base.raw < modulus width.bits }
     requires a { a.raw < modulus width.bits }
     requires b { b.raw < modulus width.bits }
-    ensures value { IsTrue result ↔ (distance width.bits base.raw b.raw < distance width.bits base.raw a.raw) }
+    ensures value { IsTrue result
+        ↔ (distance width.bits base.raw b.raw < distance width.bits base.raw a.raw) }
 
     // Of three numbers it is the order of the second and the third, if they lie near the first.
-    ensures numbers { (n m k : ℕ) → wrapped width.bits n ≡ base.raw → wrapped width.bits m ≡ a.raw → wrapped width.bits k ≡ b.raw
-        → n ≤ m → m < n + modulus width.bits → n ≤ k → k < n + modulus width.bits → IsTrue result ↔ (k < m) }
+    ensures numbers { (n m k : ℕ) → wrapped width.bits n ≡ base.raw
+        → wrapped width.bits m ≡ a.raw → wrapped width.bits k ≡ b.raw
+        → n ≤ m → m < n + modulus width.bits → n ≤ k → k < n + modulus width.bits
+        → IsTrue result ↔ (k < m) }
 {
     distance(width, base, a) > distance(width, base, b)
 }

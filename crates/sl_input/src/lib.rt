@@ -7,4 +7,4 @@ mod losses;
 
 pub use frames::packet_of;
 pub use laws::losses_answer_in_order;
-pub use losses::{loses_next, loss_on};
+pub use losses::{loses_next, loss_on, loss_with};

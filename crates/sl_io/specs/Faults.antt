@@ -1,3 +1,4 @@
+-- Trusted text.
 -- Counts of faults. A count never falls, and it stays at the last value of a u64.
 use Rattle.std.specs.Prelude.{◌≡◌, ℕ, ◌-◌, ◌^◌, ◌<◌, ◌⊎◌}
 

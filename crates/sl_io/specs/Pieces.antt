@@ -1,3 +1,4 @@
+-- Trusted text, but for TakesUpTo.
 -- What calls take from a source and append to a sink: `old` and `new` are the bytes left of a source, or the
 -- bytes written of a sink, before and after, where the object tells them.
 use Rattle.std.specs.Prelude.{◌≡◌, ℕ, ◌<◌, ◌≤◌, List, length, take, Option, is_some}

@@ -1,5 +1,7 @@
 // A source and a sink in memory, with calls that fail by their number.
-ghost use Rattle.std.specs.Prelude.{◌≡◌, ◌+◌, ◌<◌, ◌≤◌, ◌⊎◌, ◌↔◌, [], length, drop, min, Some, IfOk, OnErr, IsOk, IsErr, IsTrue, is_err, if◌then◌else◌, Contains};
+ghost use Rattle.std.specs.Prelude.{◌≡◌, ◌+◌, ◌<◌, ◌≤◌, ◌⊎◌, ◌↔◌, [], length, drop, min, Some};
+ghost use Rattle.std.specs.Prelude.{IfOk, OnErr, IsOk, IsErr, IsTrue, is_err, if◌then◌else◌};
+ghost use Rattle.std.specs.Prelude.{Contains};
 ghost use Rattle.std.specs.Io.{ReadsAtMost, WritesAtMost};
 ghost use Rattle.std.specs.Io.KnownBytes.{ReadConsumes, WriteAppends};
 ghost use Rattle.sl_machine.specs.Counting.{one_more};
@@ -63,7 +65,13 @@ impl Model for MemorySource {
 
     ghost Value = { Supply };
 
-    ghost view = { λ s. record { left = drop s.at s.bytes.items; fail = s.calls.fail.items; calls = s.calls.made; faults = s.calls.faults } };
+    ghost view = { λ s.
+        record {
+          left = drop s.at s.bytes.items;
+          fail = s.calls.fail.items;
+          calls = s.calls.made;
+          faults = s.calls.faults;
+        } };
 
     ghost invariant = { λ s. s.at ≤ length s.bytes.items };
 }
@@ -96,7 +104,8 @@ impl Source for MemorySource {
         // It fails exactly where the call's number is listed, and counts just that.
         ensures fails { IsErr result ↔ Contains self.old.fail (self.old.calls + 1) }
         ensures calls { self.new.calls ≡ one_more self.old.calls }
-        ensures faults { self.new.faults ≡ (if is_err result then one_more self.old.faults else self.old.faults) }
+        ensures faults { self.new.faults
+            ≡ (if is_err result then one_more self.old.faults else self.old.faults) }
         ensures plan { self.new.fail ≡ self.old.fail }
 
         // It gives as many bytes as there is room for, and leaves the rest of the buffer alone.
@@ -131,7 +140,14 @@ impl Model for MemorySink {
 
     ghost Value = { Store };
 
-    ghost view = { λ s. record { written = s.bytes.items; room = s.room; fail = s.calls.fail.items; calls = s.calls.made; faults = s.calls.faults } };
+    ghost view = { λ s.
+        record {
+          written = s.bytes.items;
+          room = s.room;
+          fail = s.calls.fail.items;
+          calls = s.calls.made;
+          faults = s.calls.faults;
+        } };
 
     ghost invariant = { λ s. vec_len s.bytes + s.room ≤ vec_capacity s.bytes };
 }
@@ -140,7 +156,9 @@ impl MemorySink {
     /// A sink with room for `room` bytes whose calls fail where their number, from 1, is in `fail`,
     /// or where no byte fits of a piece that isn't empty.
     pub fn new(alloc: Global, room: usize, fail: Vec<u64>) -> Result<MemorySink, Memory>
-        ensures made { IfOk result (λ sink. sink ≡ record { written = []; room = room; fail = fail.items; calls = 0; faults = 0 }) }
+        ensures made { IfOk result
+            (λ sink. sink
+            ≡ record { written = []; room = room; fail = fail.items; calls = 0; faults = 0 }) }
         ensures no_room { room ≡ 0 → IsOk result }
     {
         let bytes = Vec::with_capacity(alloc, room)?;
@@ -167,7 +185,8 @@ impl Sink for MemorySink {
     fn write(&mut self, buf: &[u8]) -> Result<usize, Failed>
         ensures bound { WritesAtMost result buf.now }
         ensures some { 0 < length buf.now → IfOk result (λ n. 0 < n) }
-        ensures appended { WriteAppends (Some self.old.written) (Some self.new.written) result buf.now }
+        ensures appended { WriteAppends (Some self.old.written)
+            (Some self.new.written) result buf.now }
         ensures tells { TellsAsBefore (Some self.old.written) (Some self.new.written) }
         ensures never_falls { self.old.faults ≤ self.new.faults }
         ensures fault { OnErr result (Rose self.old.faults self.new.faults) }
@@ -176,12 +195,14 @@ impl Sink for MemorySink {
         ensures fails { IsErr result ↔ (Contains self.old.fail (self.old.calls + 1)
             ⊎ ((0 < length buf.now) × (self.old.room ≡ 0))) }
         ensures calls { self.new.calls ≡ one_more self.old.calls }
-        ensures faults { self.new.faults ≡ (if is_err result then one_more self.old.faults else self.old.faults) }
+        ensures faults { self.new.faults
+            ≡ (if is_err result then one_more self.old.faults else self.old.faults) }
         ensures plan { self.new.fail ≡ self.old.fail }
 
         // It takes as many bytes as fit.
         ensures most { IfOk result (λ n. n ≡ min (length buf.now) self.old.room) }
-        ensures room { self.new.room + length self.new.written ≡ self.old.room + length self.old.written }
+        ensures room { self.new.room + length self.new.written
+            ≡ self.old.room + length self.old.written }
     {
         let planned = self.calls.count();
         if planned || (self.room == 0 && !buf.is_empty()) {

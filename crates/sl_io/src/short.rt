@@ -48,7 +48,8 @@ impl<T: Sink + Drop> Sink for Short<T> {
     fn write(&mut self, buf: &[u8]) -> Result<usize, Failed>
         ensures bound { WritesAtMost result buf.now }
         ensures some { 0 < length buf.now → IfOk result (λ n. 0 < n) }
-        ensures appended { WriteAppends (T.written self.old.inner) (T.written self.new.inner) result buf.now }
+        ensures appended { WriteAppends (T.written self.old.inner)
+            (T.written self.new.inner) result buf.now }
         ensures tells { TellsAsBefore (T.written self.old.inner) (T.written self.new.inner) }
         ensures never_falls { T.faults self.old.inner ≤ T.faults self.new.inner }
         ensures fault { OnErr result (Rose (T.faults self.old.inner) (T.faults self.new.inner)) }

@@ -1,5 +1,6 @@
 // The standard streams as a source and as sinks: the trusted edge.
-ghost use Rattle.std.specs.Prelude.{◌≡◌, ◌<◌, ◌≤◌, length, None, IfOk, OnErr, is_err, if◌then◌else◌};
+ghost use Rattle.std.specs.Prelude.{◌≡◌, ◌<◌, ◌≤◌, length, None, IfOk, OnErr, is_err};
+ghost use Rattle.std.specs.Prelude.{if◌then◌else◌};
 ghost use Rattle.std.specs.Io.{ReadsAtMost, WritesAtMost};
 ghost use Rattle.std.specs.Io.KnownBytes.{ReadConsumes, WriteAppends};
 ghost use Rattle.sl_machine.specs.Counting.{one_more};
@@ -41,8 +42,10 @@ impl<R: Read + Drop> Source for StdSource<R> {
         ensures fault { OnErr result (Rose self.old.faults self.new.faults) }
 
         // It is one read of the input, and counts just its error.
-        ensures once { ReadConsumes (R.remaining self.old.input) (R.remaining self.new.input) result buf.new }
-        ensures faults { self.new.faults ≡ (if is_err result then one_more self.old.faults else self.old.faults) }
+        ensures once { ReadConsumes (R.remaining self.old.input)
+            (R.remaining self.new.input) result buf.new }
+        ensures faults { self.new.faults
+            ≡ (if is_err result then one_more self.old.faults else self.old.faults) }
     {
         match self.input.read(buf) {
             Ok(n) => Ok(n),
@@ -88,8 +91,10 @@ impl<W: Write + Drop> Sink for StdSink<W> {
         ensures fault { OnErr result (Rose self.old.faults self.new.faults) }
 
         // It is one write of the output, and counts just its failure.
-        ensures once { WriteAppends (W.contents self.old.output) (W.contents self.new.output) result buf.now }
-        ensures faults { self.new.faults ≡ (if is_err result then one_more self.old.faults else self.old.faults) }
+        ensures once { WriteAppends (W.contents self.old.output)
+            (W.contents self.new.output) result buf.now }
+        ensures faults { self.new.faults
+            ≡ (if is_err result then one_more self.old.faults else self.old.faults) }
     {
         match self.output.write(buf) {
             Ok(n) if n > 0 || buf.is_empty() => Ok(n),

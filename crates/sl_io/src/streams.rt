@@ -1,3 +1,4 @@
+// Trusted types: Failed, Source, Sink.
 // What reads bytes and what writes bytes, each with a count of its faults.
 ghost use Rattle.std.specs.Prelude.{ℕ, ◌<◌, ◌≤◌, List, length, Option, IfOk, OnErr};
 ghost use Rattle.std.specs.Io.{ReadsAtMost, WritesAtMost};

@@ -48,12 +48,14 @@ pub fn read_all<S: Source>(
     source: &mut S,
     limit: usize,
 ) -> Result<Vec<u8>, ReadFault>
-    ensures read { IfOk result (λ bytes. IsReadUpTo limit (S.left source.old) (S.left source.new) bytes.items) }
+    ensures read { IfOk result
+        (λ bytes. IsReadUpTo limit (S.left source.old) (S.left source.new) bytes.items) }
     ensures nothing_to_read { limit ≡ 0 → IsOk result }
     ensures lost { OnErr result (TakesUpTo limit (S.left source.old) (S.left source.new)) }
     ensures tells { TellsAsBefore (S.left source.old) (S.left source.new) }
     ensures never_falls { S.faults source.old ≤ S.faults source.new }
-    ensures fault { result ≡ Err ReadFault.Failed → Rose (S.faults source.old) (S.faults source.new) }
+    ensures fault { result ≡ Err ReadFault.Failed
+        → Rose (S.faults source.old) (S.faults source.new) }
 {
     let mut bytes = Vec::new(alloc);
     let mut chunk = [0u8; CHUNK];

@@ -8,8 +8,8 @@ use Rattle.sl_layout.specs.declared.actor.Side.TheVariants.{Ingress, Egress}
 use Rattle.sl_parts.specs.Parts.{Parts, below, is_used, used_ports, ports_of}
 use Rattle.sl_layout.specs.Net.{net_of, actor_of, nobody, same_actor, ingress, egress, units_of, actors_of, place_of}
 use Rattle.sl_layout.specs.Roster.{IsActor}
-use Rattle.sl_parts.specs.Lists.{Each, Member, Distinct}
-use Rattle.sl_parts.proofs.Lists.{each-append, each-map, each-imp, each-flat, each-below, each-both, each-of, each-at, member-left, member-right, member-flat, member-map, member-filter, member-from, member-parts, distinct-append, distinct-filter, distinct-flat, distinct-from, inside, all-from_each}
+use Rattle.sl_parts.specs.Lists.{Each, Member}
+use Rattle.sl_parts.proofs.Lists.{each-append, each-map, each-imp, each-flat, each-below, each-both, each-of, each-at, member-left, member-right, member-flat, member-map, member-filter, member-from, member-parts, distinct-append, distinct-filter, distinct-flat, distinct-from, inside, all-from_each, Distinct}
 use Rattle.std.specs.List.{All}
 use Rattle.sl_layout.proofs.Numbering.{actor_tells, AreOneActor, AreTwoActors}
 

@@ -14,8 +14,8 @@ use Rattle.sl_layout.specs.Wires.{HasEnds, AreWires, out_of}
 use Rattle.sl_layout.specs.Groups.{Sorted}
 use Rattle.std.specs.List.{All, range_with_len}
 use Rattle.sl_layout.specs.Wiring.{actions_of, wired_link, plan_of}
-use Rattle.sl_parts.specs.Lists.{Member, Distinct}
-use Rattle.sl_parts.proofs.Lists.{distinct-filter, distinct-from, member-filter, member-from, inside, each-below, each-both, each-index, length_filter_le}
+use Rattle.sl_parts.specs.Lists.{Member}
+use Rattle.sl_parts.proofs.Lists.{distinct-filter, distinct-from, member-filter, member-from, inside, each-below, each-both, each-index, length_filter_le, Distinct}
 use Rattle.std.proofs.lemmas.List.{length-map}
 use Rattle.std.proofs.lemmas.List.FromFn.{get_or-map-range_with_len, length-map-range_with_len, length-range_with_len}
 

@@ -1,3 +1,4 @@
+-- Trusted text.
 -- The devices of units.
 use Rattle.std.specs.Prelude.{ℕ}
 use Rattle.sl_layout.specs.declared.actor.ActorId.{ActorId}

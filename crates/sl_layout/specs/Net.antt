@@ -1,3 +1,4 @@
+-- Trusted text.
 -- The network: its actors, its links, and what an actor may choose.
 --     actors      the observer; for each device its control plane and its units; the hosts
 --     links       for each actor those that it takes from, in the order of its choices

@@ -1,3 +1,4 @@
+-- Trusted text.
 -- The units that a control plane serves.
 use Rattle.std.specs.Prelude.{ℕ, List, map, filter, ◌==◌, slice_index_or}
 use Rattle.sl_layout.specs.declared.actor.Sort.{Sort}

@@ -1,3 +1,4 @@
+-- Trusted text for nodes, but for HasEnds, AreWires.
 -- The links of a net, with tables to look them up.
 use Rattle.std.specs.Prelude.{◌≡◌, ◌≤◌, ◌<◌, ℕ, List, length, map}
 use Rattle.std.specs.List.{All}

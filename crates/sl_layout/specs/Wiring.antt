@@ -1,3 +1,4 @@
+-- Trusted text, in part.
 -- How a net's actors are joined, and the kinds of its links for losses.
 use Rattle.std.specs.Prelude.{ℕ, Bool, true, false, List, map, length}
 use Rattle.sl_machine.specs.declared.wiring.Link.{Link}

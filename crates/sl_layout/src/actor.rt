@@ -1,3 +1,4 @@
+// Trusted types: Side, UnitId, ActorId, Sort, LinkKind, LinkPart.
 // Actors and links of a net.
 
 /// A direction of a port. An ingress unit handles what comes in from the cable or the host, an

@@ -1,5 +1,6 @@
 // Numbers grouped by keys.
-ghost use Rattle.std.specs.Prelude.{ℕ, ◌≡◌, ◌<◌, ◌++◌, ◌∷◌, ◌^◌, [], OnOk, IfOk, length, map, slice_index_or, slice_set};
+ghost use Rattle.std.specs.Prelude.{ℕ, ◌≡◌, ◌<◌, ◌++◌, ◌∷◌, ◌^◌, [], OnOk, IfOk, length, map};
+ghost use Rattle.std.specs.Prelude.{slice_index_or, slice_set};
 ghost use Rattle.std.specs.List.{All};
 ghost use Rattle.sl_parts.specs.Parts.{below};
 ghost use Rattle.sl_layout.specs.Groups.{grouped, places_in_groups};
@@ -58,7 +59,9 @@ fn add_to(lists: &mut Vec<Numbers>, key: u32, number: u32) -> Result<u32, AllocE
     requires key { key < length lists.old.items }
     requires few { length (slice_index_or lists.old.items key []) < 2 ^ 32 }
     ensures place { IfOk result (λ place. place ≡ length (slice_index_or lists.old.items key [])) }
-    ensures added { OnOk result (lists.new.items ≡ slice_set lists.old.items key (slice_index_or lists.old.items key [] ++ number ∷ [])) }
+    ensures added { OnOk result
+        (lists.new.items ≡ slice_set lists.old.items key
+        (slice_index_or lists.old.items key [] ++ number ∷ [])) }
 {
     let list = &mut lists[key as usize];
     let place = list.items.len() as u32;
@@ -70,8 +73,10 @@ fn add_to(lists: &mut Vec<Numbers>, key: u32, number: u32) -> Result<u32, AllocE
 pub fn group(alloc: Global, keys: &[u32], count: usize) -> Result<Groups, AllocError>
     requires keys { All (λ k. k < count) keys.now }
     requires few { length keys.now < 2 ^ 32 }
-    ensures lists { IfOk result (λ groups. groups.lists ≡ map (grouped keys.now (length keys.now)) (below count)) }
-    ensures places { IfOk result (λ groups. groups.places ≡ map (places_in_groups keys.now) (below (length keys.now))) }
+    ensures lists { IfOk result
+        (λ groups. groups.lists ≡ map (grouped keys.now (length keys.now)) (below count)) }
+    ensures places { IfOk result
+        (λ groups. groups.places ≡ map (places_in_groups keys.now) (below (length keys.now))) }
 {
     let mut lists = empty_lists(alloc, count)?;
     let mut places = Vec::new(alloc);

@@ -1,5 +1,6 @@
 // Parts that are a net's, with tables to look things up.
-ghost use Rattle.std.specs.Prelude.{◌≡◌, ◌≢◌, ◌<◌, ◌≤◌, ◌||◌, None, Some, OnOk, IfOk, IfErr, IfSome, length, map, is_some, slice_index_or};
+ghost use Rattle.std.specs.Prelude.{◌≡◌, ◌≢◌, ◌<◌, ◌≤◌, ◌||◌, None, Some, OnOk, IfOk, IfErr};
+ghost use Rattle.std.specs.Prelude.{IfSome, length, map, is_some, slice_index_or};
 ghost use Rattle.std.specs.List.{All};
 ghost use Rattle.sl_parts.specs.Parts.{below, is_used, ports_of, used_ports, other_end, host_at};
 ghost use Rattle.sl_parts.specs.Fault.{fault_of};
@@ -35,7 +36,9 @@ fn is_used(table: &PortTable, port: PortRef) -> bool
     requires port { port.port < 8 }
     requires ends { slot_of port < length table.now.ends }
     requires guests { slot_of port < length table.now.guests }
-    ensures { result ≡ (is_some (slice_index_or table.now.ends (slot_of port) None) || is_some (slice_index_or table.now.guests (slot_of port) None)) }
+    ensures { result
+        ≡ (is_some (slice_index_or table.now.ends (slot_of port) None)
+        || is_some (slice_index_or table.now.guests (slot_of port) None)) }
 {
     let slot = slot_of(port);
     table.ends[slot].is_some() || table.guests[slot].is_some()
@@ -70,7 +73,8 @@ fn device_ports(
 fn all_ports(alloc: Global, parts: &Parts, table: &PortTable) -> Result<Vec<Numbers>, AllocError>
     requires valid { IsValid parts.now }
     requires shown { ShowsPorts parts.now table.now }
-    ensures { IfOk result (λ used. used.items ≡ map (used_ports parts.now) (below (length parts.now.devices))) }
+    ensures { IfOk result
+        (λ used. used.items ≡ map (used_ports parts.now) (below (length parts.now.devices))) }
 {
     let mut used = Vec::new(alloc);
     for device in 0..parts.devices.len() as u32 {

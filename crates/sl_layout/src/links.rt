@@ -3,7 +3,8 @@ ghost use Rattle.std.specs.Prelude.{◌≡◌, ◌<◌, ◌++◌, ◌∷◌, [],
 ghost use Rattle.sl_layout.specs.declared.actor.Sort.TheVariants.{Notice, Dump, Begin, Init, Poll};
 ghost use Rattle.sl_layout.specs.declared.actor.ActorId.TheVariants.{Observer, Control};
 ghost use Rattle.sl_parts.specs.Parts.{used_ports};
-ghost use Rattle.sl_layout.specs.Net.{actors_of, ingress, egress, incoming, unit_incoming, from_outside, place_of, links_to};
+ghost use Rattle.sl_layout.specs.Net.{actors_of, ingress, egress, incoming, unit_incoming};
+ghost use Rattle.sl_layout.specs.Net.{from_outside, place_of, links_to};
 ghost use Rattle.sl_parts.specs.Valid.{IsValid};
 ghost use Rattle.sl_parts.specs.Ports.{IsNear};
 ghost use Rattle.sl_layout.specs.Roster.{IsFew, IsActor, link_by};
@@ -22,7 +23,8 @@ fn add_link(
     sort: Sort,
 ) -> Result<(), AllocError>
     requires { IsFew from }
-    ensures { OnOk result (links.new.items ≡ links.old.items ++ map (link_by roster.now to) ((from, sort) ∷ [])) }
+    ensures { OnOk result
+        (links.new.items ≡ links.old.items ++ map (link_by roster.now to) ((from, sort) ∷ [])) }
 {
     links.push(LinkPart {
         from: roster.number_of(from),
@@ -39,7 +41,9 @@ fn add_reports(
     unit: ActorId,
 ) -> Result<(), AllocError>
     requires { IsFew unit }
-    ensures { OnOk result (links.new.items ≡ links.old.items ++ map (link_by roster.now to) ((unit, Notice) ∷ (unit, Dump) ∷ [])) }
+    ensures { OnOk result
+        (links.new.items ≡ links.old.items ++ map (link_by roster.now to)
+        ((unit, Notice) ∷ (unit, Dump) ∷ [])) }
 {
     add_link(links, roster, to, unit, Sort::Notice)?;
     add_link(links, roster, to, unit, Sort::Dump)
@@ -48,7 +52,9 @@ fn add_reports(
 /// The links to the observer: from each control plane.
 fn add_to_observer(links: &mut Vec<LinkPart>, roster: &Roster, to: u32) -> Result<(), AllocError>
     requires { IsValid roster.now }
-    ensures { OnOk result (links.new.items ≡ links.old.items ++ map (link_by roster.now to) (incoming roster.now Observer)) }
+    ensures { OnOk result
+        (links.new.items ≡ links.old.items ++ map (link_by roster.now to)
+        (incoming roster.now Observer)) }
 {
     for device in 0..roster.layout().parts().devices.len() as u32 {
         add_link(links, roster, to, ActorId::Control(device), Sort::Done)?;
@@ -65,7 +71,9 @@ fn add_to_control(
 ) -> Result<(), AllocError>
     requires valid { IsValid roster.now }
     requires place { device < length roster.now.devices }
-    ensures { OnOk result (links.new.items ≡ links.old.items ++ map (link_by roster.now to) (incoming roster.now (Control device))) }
+    ensures { OnOk result
+        (links.new.items ≡ links.old.items ++ map (link_by roster.now to)
+        (incoming roster.now (Control device))) }
 {
     add_link(links, roster, to, ActorId::Observer, Sort::Begin)?;
     for port in roster.layout().used_ports(device) {
@@ -85,7 +93,9 @@ fn add_from_outside(
 ) -> Result<(), AllocError>
     requires valid { IsValid roster.now }
     requires place { IsNear (length roster.now.devices) port }
-    ensures { OnOk result (links.new.items ≡ links.old.items ++ map (link_by roster.now to) (from_outside roster.now port)) }
+    ensures { OnOk result
+        (links.new.items ≡ links.old.items ++ map (link_by roster.now to)
+        (from_outside roster.now port)) }
 {
     let layout = roster.layout();
     if let Some(host) = layout.host_at(port) {
@@ -105,7 +115,9 @@ fn add_to_ingress(
 ) -> Result<(), AllocError>
     requires valid { IsValid roster.now }
     requires place { IsNear (length roster.now.devices) port }
-    ensures { OnOk result (links.new.items ≡ links.old.items ++ map (link_by roster.now to) (unit_incoming roster.now port.device port.port Side.Ingress)) }
+    ensures { OnOk result
+        (links.new.items ≡ links.old.items ++ map (link_by roster.now to)
+        (unit_incoming roster.now port.device port.port Side.Ingress)) }
 {
     let control = ActorId::Control(port.device);
     add_from_outside(links, roster, to, port)?;
@@ -121,7 +133,9 @@ fn add_to_egress(
 ) -> Result<(), AllocError>
     requires valid { IsValid roster.now }
     requires place { IsNear (length roster.now.devices) port }
-    ensures { OnOk result (links.new.items ≡ links.old.items ++ map (link_by roster.now to) (unit_incoming roster.now port.device port.port Side.Egress)) }
+    ensures { OnOk result
+        (links.new.items ≡ links.old.items ++ map (link_by roster.now to)
+        (unit_incoming roster.now port.device port.port Side.Egress)) }
 {
     for other in roster.layout().used_ports(port.device) {
         add_link(
@@ -143,7 +157,9 @@ fn add_to_host(
 ) -> Result<(), AllocError>
     requires valid { IsValid roster.now }
     requires place { host < length roster.now.hosts }
-    ensures { OnOk result (links.new.items ≡ links.old.items ++ map (link_by roster.now to) (incoming roster.now (ActorId.Host host))) }
+    ensures { OnOk result
+        (links.new.items ≡ links.old.items ++ map (link_by roster.now to)
+        (incoming roster.now (ActorId.Host host))) }
 {
     let at = roster.layout().parts().hosts[host as usize].at;
     add_link(links, roster, to, egress(at.device, at.port), Sort::ToHost)
@@ -159,7 +175,8 @@ fn add_links_to(
     requires valid { IsValid roster.now }
     requires actor { IsActor roster.now actor }
     requires placed { place_of actor (actors_of roster.now) ≡ to }
-    ensures { OnOk result (links.new.items ≡ links.old.items ++ links_to roster.now (actors_of roster.now) actor) }
+    ensures { OnOk result
+        (links.new.items ≡ links.old.items ++ links_to roster.now (actors_of roster.now) actor) }
 {
     match actor {
         ActorId::Observer => add_to_observer(links, roster, to),
@@ -180,7 +197,9 @@ fn add_links_to(
 
 /// The links in order: by receiving actor, then by choice.
 pub fn list_links(alloc: Global, roster: &Roster) -> Result<Vec<LinkPart>, AllocError>
-    ensures { IfOk result (λ links. links.items ≡ flat_map (links_to roster.now (actors_of roster.now)) (actors_of roster.now)) }
+    ensures { IfOk result
+        (λ links. links.items ≡ flat_map (links_to roster.now (actors_of roster.now))
+        (actors_of roster.now)) }
 {
     let actors = roster.actors();
     let mut links = Vec::new(alloc);

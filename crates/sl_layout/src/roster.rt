@@ -1,5 +1,6 @@
 // The actors of a net, with their numbers.
-ghost use Rattle.std.specs.Prelude.{ℕ, ◌≡◌, ◌+◌, ◌^◌, ◌<◌, ◌≤◌, ◌++◌, ◌∷◌, [], OnOk, IfOk, length, slice_index_or};
+ghost use Rattle.std.specs.Prelude.{ℕ, ◌≡◌, ◌+◌, ◌^◌, ◌<◌, ◌≤◌, ◌++◌, ◌∷◌, [], OnOk, IfOk};
+ghost use Rattle.std.specs.Prelude.{length, slice_index_or};
 ghost use Rattle.std.specs.List.{All};
 ghost use Rattle.sl_layout.specs.declared.actor.ActorId.{ActorId};
 ghost use Rattle.sl_parts.specs.Parts.{Parts, used_ports};
@@ -62,7 +63,8 @@ fn seat_of(actor: ActorId) -> usize
 }
 
 fn add_units(actors: &mut Vec<ActorId>, device: u32, port: u32) -> Result<(), AllocError>
-    ensures { OnOk result (actors.new.items ≡ actors.old.items ++ ingress device port ∷ egress device port ∷ []) }
+    ensures { OnOk result
+        (actors.new.items ≡ actors.old.items ++ ingress device port ∷ egress device port ∷ []) }
 {
     actors.push(ingress(device, port))?;
     actors.push(egress(device, port))?;
@@ -88,7 +90,9 @@ fn add_control(actors: &mut Vec<ActorId>, device: u32) -> Result<(), AllocError>
 
 fn add_device(actors: &mut Vec<ActorId>, layout: &Layout, device: u32) -> Result<(), AllocError>
     requires { device < length layout.now.devices }
-    ensures { OnOk result (actors.new.items ≡ actors.old.items ++ ActorId.Control device ∷ units_of layout.now device) }
+    ensures { OnOk result
+        (actors.new.items ≡ actors.old.items ++ ActorId.Control device ∷ units_of
+        layout.now device) }
 {
     add_control(actors, device)?;
     add_ports(actors, layout, device)
@@ -172,7 +176,8 @@ impl Roster {
         ensures few { length result.now ≤ 1217 }
         ensures valid { IsValid self.now }
         ensures each { All (IsActor self.now) result.now }
-        ensures placed { (i : ℕ) (d : ActorId) → i < length result.now → place_of (slice_index_or result.now i d) (actors_of self.now) ≡ i }
+        ensures placed { (i : ℕ) (d : ActorId) → i < length result.now
+            → place_of (slice_index_or result.now i d) (actors_of self.now) ≡ i }
     {
         self.actors.as_slice()
     }

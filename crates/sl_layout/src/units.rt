@@ -1,5 +1,6 @@
 // The units of a net, with tables to look them up.
-ghost use Rattle.std.specs.Prelude.{◌≡◌, ◌<◌, ◌^◌, ◌++◌, ◌∷◌, [], OnOk, IfOk, length, cond, map, filter, slice_index_or};
+ghost use Rattle.std.specs.Prelude.{◌≡◌, ◌<◌, ◌^◌, ◌++◌, ◌∷◌, [], OnOk, IfOk, length, cond, map};
+ghost use Rattle.std.specs.Prelude.{filter, slice_index_or};
 ghost use Rattle.std.specs.List.{All};
 ghost use Rattle.sl_parts.specs.Parts.{below};
 ghost use Rattle.sl_layout.specs.Net.{is_unit, units, unit_place, nobody};
@@ -39,8 +40,11 @@ fn add_unit(
     actor: ActorId,
     number: u32,
 ) -> Result<(), AllocError>
-    ensures numbers { OnOk result (numbers.new.items ≡ numbers.old.items ++ cond (is_unit actor) (number ∷ []) []) }
-    ensures ids { OnOk result (map ActorId.Unit ids.new.items ≡ map ActorId.Unit ids.old.items ++ cond (is_unit actor) (actor ∷ []) []) }
+    ensures numbers { OnOk result
+        (numbers.new.items ≡ numbers.old.items ++ cond (is_unit actor) (number ∷ []) []) }
+    ensures ids { OnOk result
+        (map ActorId.Unit ids.new.items ≡ map ActorId.Unit ids.old.items
+        ++ cond (is_unit actor) (actor ∷ []) []) }
 {
     if let ActorId::Unit(unit) = actor {
         ids.push(unit)?;
@@ -67,8 +71,12 @@ fn place_numbers(alloc: Global, numbers: &[u32], count: usize) -> Result<Vec<u32
 /// The units among actors, and their numbers there.
 fn list_units(alloc: Global, actors: &[ActorId]) -> Result<(Vec<UnitId>, Vec<u32>), AllocError>
     requires { length actors.now < 2 ^ 32 }
-    ensures numbers { IfOk result (λ list. list.1.items ≡ filter (λ a. is_unit (slice_index_or actors.now a nobody)) (below (length actors.now))) }
-    ensures ids { IfOk result (λ list. map ActorId.Unit list.0.items ≡ map (λ a. slice_index_or actors.now a nobody) list.1.items) }
+    ensures numbers { IfOk result
+        (λ list. list.1.items ≡ filter (λ a. is_unit (slice_index_or actors.now a nobody))
+        (below (length actors.now))) }
+    ensures ids { IfOk result
+        (λ list. map ActorId.Unit list.0.items
+        ≡ map (λ a. slice_index_or actors.now a nobody) list.1.items) }
 {
     let mut ids = Vec::new(alloc);
     let mut numbers = Vec::new(alloc);

@@ -16,7 +16,9 @@ fn add_senders(
     sort: Sort,
 ) -> Result<(), AllocError>
     requires { unit < length listed.now.actors }
-    ensures { OnOk result (senders.new.items ≡ senders.old.items ++ map (sender_by listed.now unit) (choices_of listed.now unit sort)) }
+    ensures { OnOk result
+        (senders.new.items ≡ senders.old.items ++ map (sender_by listed.now unit)
+        (choices_of listed.now unit sort)) }
 {
     let wires = listed.wires();
     for link in wires.links_into(unit) {
@@ -38,7 +40,8 @@ fn unit_upstream(alloc: Global, listed: &Units, unit: u32) -> Result<Numbers, Al
 
 /// The senders of each unit's data channels, as places among the units.
 pub fn list_upstream(alloc: Global, listed: &Units) -> Result<Vec<Numbers>, AllocError>
-    ensures { IfOk result (λ upstream. upstream.items ≡ map (upstream_of listed.now) (units listed.now)) }
+    ensures { IfOk result
+        (λ upstream. upstream.items ≡ map (upstream_of listed.now) (units listed.now)) }
 {
     let mut upstream = Vec::new(alloc);
     for unit in listed.actors() {

@@ -2,7 +2,8 @@
 ghost use Rattle.std.specs.Prelude.{◌≡◌, ◌<◌, ◌≤◌, IfOk, length, map};
 ghost use Rattle.std.specs.List.{All};
 ghost use Rattle.sl_parts.specs.Parts.{below};
-ghost use Rattle.sl_layout.specs.Net.{net_of, link_of, link_numbers, links_into, links_from, choice_of};
+ghost use Rattle.sl_layout.specs.Net.{net_of, link_of, link_numbers, links_into, links_from};
+ghost use Rattle.sl_layout.specs.Net.{choice_of};
 ghost use Rattle.sl_layout.specs.Wires.{HasEnds, out_of};
 
 use crate::actor::LinkPart;
@@ -47,8 +48,12 @@ fn senders(alloc: Global, links: &[LinkPart]) -> Result<Vec<u32>, AllocError>
 
 fn by_receivers(alloc: Global, roster: &Roster, links: &[LinkPart]) -> Result<Groups, AllocError>
     requires { links.now ≡ (net_of roster.now).links }
-    ensures lists { IfOk result (λ groups. groups.lists ≡ map (links_into (net_of roster.now)) (below (length (net_of roster.now).actors))) }
-    ensures places { IfOk result (λ groups. groups.places ≡ map (choice_of (net_of roster.now)) (link_numbers (net_of roster.now))) }
+    ensures lists { IfOk result
+        (λ groups. groups.lists ≡ map (links_into (net_of roster.now))
+        (below (length (net_of roster.now).actors))) }
+    ensures places { IfOk result
+        (λ groups. groups.places ≡ map (choice_of (net_of roster.now))
+        (link_numbers (net_of roster.now))) }
 {
     let actors = roster.actors();
     let keys = receivers(alloc, links)?;
@@ -57,8 +62,12 @@ fn by_receivers(alloc: Global, roster: &Roster, links: &[LinkPart]) -> Result<Gr
 
 fn by_senders(alloc: Global, roster: &Roster, links: &[LinkPart]) -> Result<Groups, AllocError>
     requires { links.now ≡ (net_of roster.now).links }
-    ensures lists { IfOk result (λ groups. groups.lists ≡ map (links_from (net_of roster.now)) (below (length (net_of roster.now).actors))) }
-    ensures places { IfOk result (λ groups. groups.places ≡ map (out_of (net_of roster.now)) (link_numbers (net_of roster.now))) }
+    ensures lists { IfOk result
+        (λ groups. groups.lists ≡ map (links_from (net_of roster.now))
+        (below (length (net_of roster.now).actors))) }
+    ensures places { IfOk result
+        (λ groups. groups.places ≡ map (out_of (net_of roster.now))
+        (link_numbers (net_of roster.now))) }
 {
     let actors = roster.actors();
     let keys = senders(alloc, links)?;

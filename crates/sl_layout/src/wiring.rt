@@ -1,6 +1,7 @@
 // How the actors of a net are joined, for the world that runs them.
 ghost use Rattle.std.specs.Prelude.{◌≡◌, ◌≤◌, IfOk, map};
-ghost use Rattle.sl_layout.specs.Wiring.{actions_of, wired_links, in_counts, out_counts, action_counts, plan_of};
+ghost use Rattle.sl_layout.specs.Wiring.{actions_of, wired_links, in_counts, out_counts};
+ghost use Rattle.sl_layout.specs.Wiring.{action_counts, plan_of};
 
 use crate::actor::ActorId;
 use crate::wires::Wires;

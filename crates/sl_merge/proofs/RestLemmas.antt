@@ -1,5 +1,5 @@
 -- The rests of links whose ends have met, link by link.
-use Rattle.std.proofs.Common.{◌≡◌, ◌≢◌, ◌⊎◌, ℕ, ◌+◌, ◌<◌, List, [], ◌∷◌, ◌++◌, length, get_or, map, drop, Option, None, Some, refl, ap, sym, ◌∙◌, arith, inl, inr, le_refl}
+use Rattle.std.proofs.Common.{◌≡◌, ◌≢◌, ℕ, ◌+◌, ◌<◌, List, [], ◌∷◌, ◌++◌, length, get_or, map, drop, Option, None, Some, refl, ap, sym, ◌∙◌, arith, inl, inr, le_refl, ◌≤◌}
 use Rattle.std.specs.Prelude.{Result, Ok, Err, OnOk}
 use Rattle.std.proofs.lemmas.Bool.{cases_eq}
 use Rattle.std.proofs.lemmas.List.{get_or_append_left, get_or_push, length_push, map-append, drop_at}
@@ -11,16 +11,14 @@ use Rattle.sl_link.specs.declared.ends.Stamped.{Stamped}
 use Rattle.sl_actor.specs.declared.part.OutPart.{OutPart}
 use Rattle.sl_actor.specs.Rows.{IsFilled, place_at}
 use Rattle.sl_merge.specs.Ended.{Rests}
-use Rattle.sl_merge.specs.Parted.{empty_at, AreApart, AreThere, AreRestsOf, IsAdded, AreAsBefore, rest_of}
+use Rattle.sl_merge.specs.Parted.{empty_at, AreApart, AreThere, AreRestsOf, IsAdded, rest_of}
 use Rattle.sl_merge.proofs.RowLemmas.{filled_by, filled_row, else_there}
+use Rattle.sl_actor.proofs.MakeLemmas.{apart_by}
 
--- two links do not share a place
-apart_by : (find : ℕ → ℕ → ℕ) (l n a b c d : ℕ) → find a c ≡ l → find b d ≡ n → l ≢ n → (a ≢ b) ⊎ (c ≢ d)
-apart_by find l n a b c d at_l at_n other =
-    elim (cases_eq a b) [
-      | inr apart ↦ inl apart
-      | inl same ↦ inr (λ (is : c ≡ d). other (sym at_l ∙ ap (λ x. find x c) same ∙ ap (find b) is ∙ at_n))
-    ]
+-- the ends of the links from the n-th on are at their places as before
+pub record AreAsBefore {M : Type 0} (links : List Link) (n : ℕ) (takes takes' : List (List (Option (TakeView (Stamped M))))) (outs outs' : List (List (Option (OutPart M)))) : Type 0 where
+  pub takes_at : (l : ℕ) → n ≤ l → l < length links → place_at takes' (link_at links l).to (link_at links l).choice ≡ place_at takes (link_at links l).to (link_at links l).choice
+  pub outs_at : (l : ℕ) → n ≤ l → l < length links → place_at outs' (link_at links l).from (link_at links l).out ≡ place_at outs (link_at links l).from (link_at links l).out
 
 -- a list with one more element
 pushed_at : {X : Type 0} (xs xs' : List X) (y d : X) (n l : ℕ) → xs' ≡ xs ++ y ∷ [] → length xs ≡ n → l ≡ n → get_or xs' l d ≡ y

@@ -1,3 +1,4 @@
+-- Trusted text, but for entries_by, joined, all_entries, IsLog, IsMerge, AreLogs.
 -- The merge of logs: all their entries in the order of their numbers. It is a total order of the events of a distributed
 -- system in the sense of Lamport, "Time, Clocks, and the Ordering of Events in a Distributed System", 1978.
 use Rattle.std.specs.Prelude.{◌≡◌, ◌<◌, ◌⊎◌, ℕ, zero, suc, map, List, [], ◌++◌, length, slice_index_or}

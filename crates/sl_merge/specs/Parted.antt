@@ -1,5 +1,5 @@
 -- What actors hold, taken apart, and what is left on links whose two ends have met.
-use Rattle.std.specs.Prelude.{◌≡◌, ◌<◌, ◌≤◌, ℕ, map, drop, List, [], ◌∷◌, ◌++◌, length, Option, Some, None, slice_index_or, slice_set}
+use Rattle.std.specs.Prelude.{◌≡◌, ◌<◌, ℕ, map, drop, List, [], ◌∷◌, ◌++◌, length, Option, Some, None, slice_index_or, slice_set}
 use Rattle.sl_machine.specs.Plan.{link_at, link_in, link_out}
 use Rattle.sl_machine.specs.declared.wiring.Link.{Link}
 use Rattle.sl_loss.specs.Loss.{Loss}
@@ -58,8 +58,3 @@ pub record IsAdded {M : Type 0} (end : TakeView (Stamped M)) (part : OutPart M) 
   pub losses : new.losses ≡ old.losses ++ part.loss ∷ []
   pub lost : new.lost ≡ old.lost ++ part.lost ∷ []
   pub messages : new.messages ≡ old.messages ++ rest_of end part ∷ []
-
--- the ends of the links from the n-th on are at their places as before
-pub record AreAsBefore {M : Type 0} (links : List Link) (n : ℕ) (takes takes' : List (List (Option (TakeView (Stamped M))))) (outs outs' : List (List (Option (OutPart M)))) : Type 0 where
-  pub takes_at : (l : ℕ) → n ≤ l → l < length links → place_at takes' (link_at links l).to (link_at links l).choice ≡ place_at takes (link_at links l).to (link_at links l).choice
-  pub outs_at : (l : ℕ) → n ≤ l → l < length links → place_at outs' (link_at links l).from (link_at links l).out ≡ place_at outs (link_at links l).from (link_at links l).out

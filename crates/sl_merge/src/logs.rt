@@ -15,7 +15,8 @@ const WINDOW: usize = 256;
 pub fn merge_logs(alloc: Global, logs: &[Vec<(u64, u32)>]) -> Result<Book, Memory>
     requires few { length logs.now < 2 ^ 32 }
     requires logs { All IsLog (map (λ log. log.items) logs.now) }
-    ensures merge { IfOk result (λ b. IsMerge (all_entries (map (λ log. log.items) logs.now)) b.entries) }
+    ensures merge { IfOk result
+        (λ b. IsMerge (all_entries (map (λ log. log.items) logs.now)) b.entries) }
     ensures ascending { IfOk result (λ b. IsAscending b.entries) }
 {
     let mut entries = Vec::with_capacity(alloc, count_in(logs))?;
@@ -74,8 +75,11 @@ fn gather(
     requires logs { All IsLog (map (λ log. log.items) logs.now) }
     requires buckets { AreEmpty (map (λ bucket. bucket.items) buckets.old.items) }
     requires places { AreAt low (map (λ log. log.items) logs.now) places.old.items }
-    ensures buckets { OnOk result (HaveNumbered low (all_entries (map (λ log. log.items) logs.now)) (map (λ bucket. bucket.items) buckets.new.items)) }
-    ensures places { OnOk result (AreAt (low + 256) (map (λ log. log.items) logs.now) places.new.items) }
+    ensures buckets { OnOk result
+        (HaveNumbered low (all_entries (map (λ log. log.items) logs.now))
+        (map (λ bucket. bucket.items) buckets.new.items)) }
+    ensures places { OnOk result
+        (AreAt (low + 256) (map (λ log. log.items) logs.now) places.new.items) }
 {
     for i in 0..logs.len() {
         places[i] = gather_log(buckets, low, i as u32, logs[i].as_slice(), places[i])?;
@@ -95,7 +99,9 @@ fn gather_log(
     requires each { length buckets.old.items ≡ 256 }
     requires log { IsLog log.now }
     requires place { IsAt low log.now place }
-    ensures buckets { OnOk result (HaveMore low (entries_by actor log.now) (map (λ bucket. bucket.items) buckets.old.items) (map (λ bucket. bucket.items) buckets.new.items)) }
+    ensures buckets { OnOk result
+        (HaveMore low (entries_by actor log.now) (map (λ bucket. bucket.items) buckets.old.items)
+        (map (λ bucket. bucket.items) buckets.new.items)) }
     ensures place { IfOk result (λ next. IsAt (low + 256) log.now next) }
 {
     for i in place..log.len() {
@@ -117,7 +123,9 @@ fn gather_log(
 fn pour(buckets: &mut Vec<Vec<Entry>>, entries: &mut Vec<Entry>) -> Result<(), Memory>
     requires { length buckets.old.items ≡ 256 }
     ensures empty { OnOk result (AreEmpty (map (λ bucket. bucket.items) buckets.new.items)) }
-    ensures entries { OnOk result ((low : ℕ) (es : List Entry) → HaveNumbered low es (map (λ bucket. bucket.items) buckets.old.items) → entries.old.items ≡ up_to low es → entries.new.items ≡ up_to (low + 256) es) }
+    ensures entries { OnOk result ((low : ℕ) (es : List Entry)
+        → HaveNumbered low es (map (λ bucket. bucket.items) buckets.old.items)
+        → entries.old.items ≡ up_to low es → entries.new.items ≡ up_to (low + 256) es) }
 {
     for i in 0..buckets.len() {
         entries.append(&mut buckets[i])?;

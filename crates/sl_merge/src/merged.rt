@@ -35,16 +35,21 @@ pub fn merge<R: Wait, A: Machine>(
     requires first { length first.now ≡ length wiring.now.ins }
     requires follows { EachFollows A.rules (map A.state first.now) (map held actors.items) }
     requires few { length (log_entries (map held actors.items)) < 2 ^ 39 }
-    ensures run { IfOk result (λ w. let losses = losses_before wiring.now.links (map held actors.items) in
+    ensures run { IfOk result
+        (λ w. let losses = losses_before wiring.now.links (map held actors.items) in
         StandsAsRun A.rules wiring.now (map A.state first.now) losses (scene w)) }
-    ensures numbers { IfOk result (λ w. let losses = losses_before wiring.now.links (map held actors.items) in
-        lamport_numbers A.rules wiring.now (map A.state first.now) losses (schedule_of (scene w).book) ≡ map (λ e. e.number) (scene w).book) }
+    ensures numbers { IfOk result
+        (λ w. let losses = losses_before wiring.now.links (map held actors.items) in
+        lamport_numbers A.rules wiring.now (map A.state first.now) losses
+        (schedule_of (scene w).book) ≡ map (λ e. e.number) (scene w).book) }
     ensures small { IfOk result (λ w. All (λ e. e.number ≤ length (scene w).book) (scene w).book) }
     ensures book { IfOk result (λ w. IsMerge (log_entries (map held actors.items)) (scene w).book) }
     ensures order { IfOk result (λ w. IsAscending (scene w).book) }
     ensures plan { IfOk result (λ w. (scene w).plan ≡ wiring.now) }
-    ensures machines { IfOk result (λ w. (scene w).states ≡ map (λ a. a.state) (map held actors.items)) }
-    ensures links { IfOk result (λ w. AreLeft wiring.now.links (map held actors.items) (scene w).lines) }
+    ensures machines { IfOk result
+        (λ w. (scene w).states ≡ map (λ a. a.state) (map held actors.items)) }
+    ensures links { IfOk result
+        (λ w. AreLeft wiring.now.links (map held actors.items) (scene w).lines) }
 {
     actors_are_runs::<A>();
     merges_are_resumed::<A>();

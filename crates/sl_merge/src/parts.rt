@@ -21,11 +21,17 @@ pub struct Parts<A: Machine> {
 
 /// Takes actors apart.
 pub fn take_apart<A: Machine>(alloc: Global, actors: Vec<Actor<A>>) -> Result<Parts<A>, Memory>
-    ensures states { IfOk result (λ p. map A.state p.machines.items ≡ map (λ a. a.state) (map held actors.items)) }
-    ensures counts { IfOk result (λ p. map A.counts p.machines.items ≡ map (λ a. a.counts) (map held actors.items)) }
-    ensures logs { IfOk result (λ p. map (λ log. log.items) p.logs.items ≡ map (λ a. a.log) (map held actors.items)) }
-    ensures takes { IfOk result (λ p. p.takes.items ≡ map (λ a. map Some a.takes) (map held actors.items)) }
-    ensures outs { IfOk result (λ p. map (λ row. map (option_map out_view) row) p.outs.items ≡ map (λ a. map Some a.outs) (map held actors.items)) }
+    ensures states { IfOk result
+        (λ p. map A.state p.machines.items ≡ map (λ a. a.state) (map held actors.items)) }
+    ensures counts { IfOk result
+        (λ p. map A.counts p.machines.items ≡ map (λ a. a.counts) (map held actors.items)) }
+    ensures logs { IfOk result
+        (λ p. map (λ log. log.items) p.logs.items ≡ map (λ a. a.log) (map held actors.items)) }
+    ensures takes { IfOk result
+        (λ p. p.takes.items ≡ map (λ a. map Some a.takes) (map held actors.items)) }
+    ensures outs { IfOk result
+        (λ p. map (λ row. map (option_map out_view) row) p.outs.items
+        ≡ map (λ a. map Some a.outs) (map held actors.items)) }
 {
     let mut actors = VecDeque::from(actors);
     let mut machines = Vec::new(alloc);

@@ -26,7 +26,12 @@ impl<M> Model for Rests<M> {
 
     ghost Value = { RestsView M };
 
-    ghost view = { λ r. record { losses = r.losses.items; lost = r.lost.items; messages = map (λ v. v.items) r.messages.items } };
+    ghost view = { λ r.
+        record {
+          losses = r.losses.items;
+          lost = r.lost.items;
+          messages = map (λ v. v.items) r.messages.items;
+        } };
 }
 
 impl<M: Drop> Rests<M> {
@@ -45,7 +50,8 @@ impl<M: Drop> Rests<M> {
     fn add(&mut self, loss: Option<Loss>, lost: u64, messages: Vec<M>) -> Result<(), Memory>
         ensures losses { OnOk result (self.new.losses ≡ self.old.losses ++ loss ∷ []) }
         ensures lost { OnOk result (self.new.lost ≡ self.old.lost ++ lost ∷ []) }
-        ensures messages { OnOk result (self.new.messages ≡ self.old.messages ++ messages.items ∷ []) }
+        ensures messages { OnOk result
+            (self.new.messages ≡ self.old.messages ++ messages.items ∷ []) }
     {
         self.losses.push(loss)?;
         self.lost.push(lost)?;
@@ -73,7 +79,8 @@ pub fn meet_all<R: Wait, M: Drop>(
 ) -> Result<Rests<M>, Memory>
     requires apart { AreApart links.now }
     requires there { AreThere links.now takes.old.items outs.old.items }
-    ensures { IfOk result (λ r. AreRestsOf links.now (length links.now) takes.old.items outs.old.items r) }
+    ensures { IfOk result
+        (λ r. AreRestsOf links.now (length links.now) takes.old.items outs.old.items r) }
 {
     let mut rests = Rests::new(alloc);
     for link in links {

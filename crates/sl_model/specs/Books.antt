@@ -1,3 +1,4 @@
+-- Trusted text.
 -- The turns of a book, and their numbers.
 use Rattle.std.specs.Prelude.{ℕ, List, map}
 use Rattle.sl_machine.specs.declared.wiring.Entry.{Entry as BookEntry}

@@ -1,3 +1,4 @@
+-- Trusted text.
 -- The bound on the turns of a whole run that do something.
 use Rattle.std.specs.Prelude.{ℕ, ◌+◌, ◌*◌, Bool, true, false, ◌&&◌, length, ◌==◌}
 use Rattle.sl_layout.specs.declared.actor.ActorId.{ActorId}

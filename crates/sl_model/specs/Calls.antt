@@ -1,3 +1,4 @@
+-- Trusted text for nodes.
 -- What a unit's history makes it save (Yaseen, Sonchack and Liu 2018). cs are the unit's data channels, as choices.
 --     credits_in cs k c o    what a step by the choice c that took o credits to the number k
 --     calls cs h             the calls on the saved entries that the steps of h make

@@ -1,3 +1,4 @@
+-- Trusted text.
 -- What a unit counts, and what it drops.
 --     packets h, bytes h       the data packets that it took, and their bytes
 --     bad, expired, noroute    the steps in which an ingress unit dropped what it took

@@ -1,3 +1,4 @@
+-- Trusted text, but for outside.
 -- The cut of a snapshot, and its values (Chandy and Lamport 1985; Yaseen, Sonchack and Liu 2018).
 --     cut k h                       how many steps of a unit leave its id below k
 --     value k h                     what it counted in these steps

@@ -1,3 +1,4 @@
+-- Trusted text.
 -- The end of a run. fuel is a number of rounds; where it is too small the answer is None, and more fuel changes no other answer.
 --     settle fuel s lost w    what settling does from the world w: settling passes until one in which nothing happens
 --     finish fuel s lost w    what finishing does

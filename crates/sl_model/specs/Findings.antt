@@ -1,3 +1,4 @@
+-- Trusted text.
 -- The findings of a run, as data.
 use Rattle.std.specs.Prelude.{ℕ, Bool, false, List, [], ◌++◌, map, filter, length, take, replicate}
 use Rattle.std.specs.List.{range_with_len}

@@ -1,3 +1,4 @@
+-- Trusted text.
 -- The book of the run of an input: its script, and then finishing.
 use Rattle.std.specs.Prelude.{◌≡◌, ℕ, List, length, take, drop}
 use Rattle.std.specs.List.{range_with_len}

@@ -1,3 +1,4 @@
+-- Trusted text.
 -- Plain frames: the packets of hosts as 24 bytes, numbers big-endian.
 --     kind 0, channel 0, id 0 (2 bytes), source (2), destination (2), number in the flow (4), length (2), hop limit, version 1, 8 bytes of 0
 use Rattle.std.specs.Prelude.{ℕ, ◌+◌, ◌*◌, ◌/◌, ◌%◌, Bool, ◌&&◌, List, [], ◌∷◌, ◌++◌, length, ◌==◌, if◌then◌else◌, Option, Some, None, slice_index, take, drop, replicate}

@@ -1,10 +1,11 @@
+-- Trusted text; dump_of for nodes, but for begin_of, takes, steps_in.
 -- Histories: what an actor took and put (Chandy and Lamport 1985: the events of a process). A history is a list of steps, the newest first.
 --     id h             the id of a unit: the greatest stamp that it took
 --     last c h         the stamp of the last stamped message that it took by the choice c
 --     first n h        its first n steps
 --     takes c h        the messages that it took by the choice c, in order
 --     put l h          the messages that it put on the link l, in order
-use Rattle.std.specs.Prelude.{ℕ, suc, ◌≤◌, max, Bool, List, [], ◌∷◌, ◌++◌, length, nat_lt, ◌==◌, cond, if◌then◌else◌, Option, Some, None, slice_index_or, unwrap_or, option_and_then}
+use Rattle.std.specs.Prelude.{ℕ, suc, max, Bool, List, [], ◌∷◌, ◌++◌, length, nat_lt, ◌==◌, cond, if◌then◌else◌, Option, Some, None, slice_index_or, unwrap_or, option_and_then}
 use Rattle.sl_model.specs.declared.message.Message.{Message}
 use Rattle.sl_model.specs.declared.message.Message.TheVariants.{Data, Probe as ProbeMsg, Init as InitMsg, Dump as DumpMsg, Begin as BeginMsg, Done as DoneMsg}
 use Rattle.sl_model.specs.declared.message.Put.{Put}
@@ -59,11 +60,6 @@ heard f c (s ∷ h) = if s.choice == c then unwrap_or (option_and_then f s.taken
 -- each message on a stamped link has a stamp, so there this is the stamp of the last message taken
 abbrev pub last : ℕ → History → ℕ
 last c h = heard stamp_of c h
-
--- a number of a history never falls as it grows
-abbrev pub NeverFalls : (History → ℕ) → History → Type 0
-NeverFalls g [] = Unit {0}
-NeverFalls g (s ∷ h) = (g h ≤ g (s ∷ h)) × NeverFalls g h
 
 -- Steps.
 

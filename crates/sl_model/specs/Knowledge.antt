@@ -1,3 +1,4 @@
+-- Trusted text; dumped, told_of for nodes.
 -- What is known of units (Yaseen, Sonchack and Liu 2018: the collection by control planes and the observer).
 --     upto_of, floor_of       what a unit with a history has reached
 --     dumped c h, told_of     what a control plane knows of a unit

@@ -1,3 +1,4 @@
+-- Trusted text.
 -- The numbers of the entries of a legal schedule by the clock of Lamport, "Time, Clocks, and the Ordering of Events in a Distributed System", 1978.
 -- An entry's number is one more than the larger of two: that of its actor's entry before it, and that of the entry that put the message which it took.
 -- One that isn't there counts as 0.

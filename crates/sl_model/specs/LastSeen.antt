@@ -1,3 +1,4 @@
+-- Trusted text for nodes, but for or_else, last_seen, IsClean.
 -- What the last-seen numbers of a unit tell (Yaseen, Sonchack and Liu 2018).
 --     lasts, cpu_last       those of its data channels, and that of its initiations
 --     last_seen net u h     those that tell whether the unit lags

@@ -48,3 +48,4 @@ pub mod Potential
 pub mod Sweeps
 pub mod FirstNet
 pub mod Ended
+pub mod Ending

@@ -1,3 +1,4 @@
+-- Trusted text.
 -- The losses of an input.
 --     loss_on i l      what decides which puts on the link l are lost, None where it is reliable
 --     losses i l n     the n-th put on the link l is lost
@@ -33,7 +34,3 @@ loses (Some loss) n = is_lost loss n
 
 abbrev pub losses : Input → Losses
 losses i l n = loses (loss_on i l) n
-
--- nothing is lost
-abbrev pub no_loss : Losses
-no_loss l n = false

@@ -1,3 +1,4 @@
+-- Trusted text.
 -- Matching and consistent cuts (Chandy and Lamport 1985).
 -- The n-th take of a link matches the n-th message that the link carried. Here n counts from 0, so the n-th take lies in a prefix
 -- of the receiver's history exactly where that prefix took more than n messages of the link, and the put of the n-th message carried

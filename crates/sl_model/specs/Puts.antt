@@ -1,3 +1,4 @@
+-- Trusted text.
 -- What an actor puts in a step, by its kind. a or u is the actor's number and h its history before the step.
 --     puts_of     where it takes the message m by the choice c from the link l
 --     action      where it does its n-th own action, or None where its guard fails

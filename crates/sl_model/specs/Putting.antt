@@ -1,3 +1,4 @@
+-- Trusted text.
 -- Which entries put what links carried, by the numbers that entries have.
 use Rattle.std.specs.Prelude.{ℕ, ◌-◌, List, [], ◌++◌, length, replicate}
 use Rattle.sl_layout.specs.Net.{Net}

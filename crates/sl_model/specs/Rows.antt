@@ -1,3 +1,4 @@
+-- Trusted text for nodes, but for entry, entries.
 -- What a unit's history says of a number: its value, or that it was skipped or miscredited. cs are the unit's data channels, as choices, and a
 -- data packet is credited to n saved numbers at most.
 --     credits_at n cs k h  the data packets that came while k was among the last n adopted numbers, with a stamp below k

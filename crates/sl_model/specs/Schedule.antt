@@ -1,3 +1,4 @@
+-- Trusted text.
 -- Schedules that the program takes: passes, sweeps, and the expansion of a script.
 use Rattle.std.specs.Prelude.{ℕ, suc, Bool, true, false, List, [], ◌∷◌, ◌++◌, map, flat_map, length, if◌then◌else◌}
 use Rattle.sl_layout.specs.declared.actor.ActorId.{ActorId}

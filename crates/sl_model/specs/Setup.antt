@@ -1,3 +1,4 @@
+-- Trusted text.
 -- What is run: of an input, the net, the window, the count, the retries and the credits of its snapshot table, and what its hosts send.
 use Rattle.std.specs.Prelude.{ℕ, List, ◌++◌, map, filter, ◌==◌}
 use Rattle.sl_net.specs.declared.input.Flow.{Flow}

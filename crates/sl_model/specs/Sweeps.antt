@@ -1,3 +1,4 @@
+-- Trusted text.
 -- The sweeps of a schedule: how many of its entries are sweeps of control planes.
 use Rattle.std.specs.Prelude.{◌==◌, List, ℕ, ◌&&◌, Bool}
 use Rattle.sl_layout.specs.Net.{Net, action_choice, actor_of}

@@ -1,3 +1,4 @@
+-- Trusted text.
 -- Verdicts (Yaseen, Sonchack and Liu 2018). Units and data channels are named by their places among the units and among the unit's data channels.
 --     skipped_to k h    the number to which a unit skipped k
 --     adopted h         the numbers to which its id rose, the newest first

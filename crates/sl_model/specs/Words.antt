@@ -1,3 +1,4 @@
+-- Trusted text; listed for nodes, but for Rises, numbers, last_of.
 -- Words on lists and numbers that the definitions share.
 --     Rises n xs b     n, then the numbers xs, then b, never fall
 --     weigh f xs       a number of each element, added up

@@ -1,3 +1,4 @@
+-- Trusted text, but for IsLossTable.
 -- The world of whole histories, and how an entry of a schedule changes it (Chandy and Lamport 1985: processes, channels and events).
 -- An entry is an actor with one of its choices; a schedule is a list of entries, the oldest first.
 --     next_step s lost w e    the step that the entry makes, or None where it is idle

@@ -7,5 +7,6 @@ ghost use Rattle.sl_model.specs.End.{IsFin};
 
 /// No entry of the schedule that finishing takes from a world is idle.
 pub fn finishing_is_legal()
-    ensures { (s : Setup) (lost : Losses) (w : World) (es : List Entry) → IsFin s lost w es → IsLegalFrom s lost w es }
+    ensures { (s : Setup) (lost : Losses) (w : World) (es : List Entry)
+        → IsFin s lost w es → IsLegalFrom s lost w es }
 {}

@@ -1,3 +1,4 @@
+// Trusted types: Row, Rows1, Finding, FindingList, Counts, Drops, Lost, Findings.
 // Findings: what a run showed, as the report prints it.
 use crate::verdict::Verdict;
 use sl_saves::Total;

@@ -4,6 +4,7 @@
 
 mod cut_laws;
 mod end_laws;
+mod ending;
 mod findings;
 mod finish_laws;
 mod message;
@@ -22,6 +23,7 @@ pub use cut_laws::{
     worlds_are_runs,
 };
 pub use end_laws::finishing_is_legal;
+pub use ending::{Ending, endings_are_one};
 pub use findings::{Counts, Drops, Finding, FindingList, Findings, Lost, Row, Rows1};
 pub use finish_laws::{
     bound_is_enough_fuel, bounds_are_small, finishing_ends, finishing_finishes,

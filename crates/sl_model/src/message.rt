@@ -1,3 +1,4 @@
+// Trusted types: Message, Put, Puts, Step.
 // Messages, and the steps that actors make with them.
 use sl_net::{Bytes, Packet};
 use std::marker::Model;

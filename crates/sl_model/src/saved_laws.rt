@@ -1,6 +1,7 @@
 // Laws of one unit's history and of what it saves. The functions do nothing: their contracts are
 // the laws, and the proofs are in proofs/. cs are the unit's data channels, as choices.
-ghost use Rattle.std.specs.Prelude.{◌≡◌, ℕ, ◌+◌, ◌-◌, ◌*◌, ◌^◌, ◌<◌, ◌≤◌, List, [], ◌∷◌, length, Some, None, false};
+ghost use Rattle.std.specs.Prelude.{◌≡◌, ℕ, ◌+◌, ◌-◌, ◌*◌, ◌^◌, ◌<◌, ◌≤◌, List, [], ◌∷◌, length};
+ghost use Rattle.std.specs.Prelude.{Some, None, false};
 ghost use Rattle.sl_net.specs.declared.input.Packet.{Packet};
 ghost use Rattle.sl_layout.specs.Net.{place_in};
 ghost use Rattle.sl_saves.specs.declared.entry.View.{View};
@@ -24,11 +25,14 @@ use sl_saves::shown_is_read;
 /// What a step that takes a message adds to the calls: an adoption where its stamp lies above the
 /// id, a credit where it is a data packet with a stamp below the id, and else nothing.
 pub fn calls_follow_steps()
-    ensures adopts { (cs : List ℕ) (s : Step) (h : History) (m : Message) → s.taken ≡ Some m → id h < stamp m
+    ensures adopts { (cs : List ℕ) (s : Step) (h : History) (m : Message)
+        → s.taken ≡ Some m → id h < stamp m
         → calls cs (s ∷ h) ≡ Adopt (stamp m - id h) (packets h) (bytes h) ∷ calls cs h }
-    ensures credits { (cs : List ℕ) (s : Step) (h : History) (t : ℕ) (p : Packet) → s.taken ≡ Some (Data t p) → t < id h
+    ensures credits { (cs : List ℕ) (s : Step) (h : History) (t : ℕ) (p : Packet)
+        → s.taken ≡ Some (Data t p) → t < id h
         → calls cs (s ∷ h) ≡ Credited (credit cs (id h) s.choice t p) ∷ calls cs h }
-    ensures stays { (cs : List ℕ) (s : Step) (h : History) → id (s ∷ h) ≤ id h → is_old_data (id h) s.taken ≡ false
+    ensures stays { (cs : List ℕ) (s : Step) (h : History) → id (s ∷ h) ≤ id h
+        → is_old_data (id h) s.taken ≡ false
         → calls cs (s ∷ h) ≡ calls cs h }
 {}
 
@@ -46,13 +50,15 @@ pub fn entries_are_values()
 
 /// What the calls of a history saved for a number up to its id is the row of this number.
 pub fn saved_is_row()
-    ensures { (n : ℕ) (cs : List ℕ) (h : History) (k : ℕ) → 1 ≤ n → 1 ≤ k → k ≤ id h → saved k (saves n (calls cs h)) ≡ row n cs k h }
+    ensures { (n : ℕ) (cs : List ℕ) (h : History) (k : ℕ) → 1 ≤ n
+        → 1 ≤ k → k ≤ id h → saved k (saves n (calls cs h)) ≡ row n cs k h }
 {}
 
 /// The row of a number up to the id stays what it is where no data packet with a stamp below it is
 /// taken.
 pub fn row_stays()
-    ensures { (n : ℕ) (cs : List ℕ) (k : ℕ) (s : Step) (h : History) → k ≤ id h → is_old_data k s.taken ≡ false
+    ensures { (n : ℕ) (cs : List ℕ) (k : ℕ) (s : Step) (h : History)
+        → k ≤ id h → is_old_data k s.taken ≡ false
         → row n cs k (s ∷ h) ≡ row n cs k h }
 {}
 
@@ -65,17 +71,21 @@ pub fn one_credit_is_the_id()
 /// Where a number was neither skipped nor miscredited, what was credited to it on a data channel is
 /// what came there outside its cut with stamps below it.
 pub fn late_is_credited()
-    ensures { (n : ℕ) (cs : List ℕ) (k : ℕ) (h : History) → 1 ≤ n → skipped_to k h ≡ None → miscredits n k h ≡ []
+    ensures { (n : ℕ) (cs : List ℕ) (k : ℕ) (h : History) → 1 ≤ n
+        → skipped_to k h ≡ None → miscredits n k h ≡ []
         → Each (λ c. total_on (place_in 0 c cs) (credits_at n cs k h) ≡ late_total k c h) cs }
 {}
 
 /// A view that shows the calls of a history is read as its rows, for each number up to its id that
 /// lies less than the view's size below it.
 pub fn read_is_row()
-    ensures held { (n : ℕ) (cs : List ℕ) (h : History) (view : View) (k : ℕ) → 1 ≤ n → IsShown n view (calls cs h) → 1 ≤ k → k ≤ id h
+    ensures held { (n : ℕ) (cs : List ℕ) (h : History) (view : View) (k : ℕ)
+        → 1 ≤ n → IsShown n view (calls cs h) → 1 ≤ k → k ≤ id h
         → id h < k + length view.slots → read view (id h) k ≡ held_saved (row n cs k h) }
-    ensures fitting { (n : ℕ) (cs : List ℕ) (h : History) (view : View) (k : ℕ) → 1 ≤ n → IsShown n view (calls cs h) → 1 ≤ k → k ≤ id h
-        → id h < k + length view.slots → IsFitting (row n cs k h) → read view (id h) k ≡ row n cs k h }
+    ensures fitting { (n : ℕ) (cs : List ℕ) (h : History) (view : View) (k : ℕ)
+        → 1 ≤ n → IsShown n view (calls cs h) → 1 ≤ k → k ≤ id h
+        → id h < k + length view.slots → IsFitting (row n cs k h)
+        → read view (id h) k ≡ row n cs k h }
 {
     shown_is_read()
 }
@@ -85,5 +95,6 @@ pub fn read_is_row()
 pub fn counts_fit()
     ensures packets { (h : History) → packets h ≤ length h }
     ensures bytes { (h : History) → TakesShort h → bytes h ≤ 65535 * length h }
-    ensures rows { (n : ℕ) (cs : List ℕ) (k : ℕ) (h : History) → TakesShort h → length h < 2 ^ 40 → IsFitting (row n cs k h) }
+    ensures rows { (n : ℕ) (cs : List ℕ) (k : ℕ) (h : History) → TakesShort h
+        → length h < 2 ^ 40 → IsFitting (row n cs k h) }
 {}

@@ -1,3 +1,4 @@
+// Trusted types: Cause, Lag, Verdict.
 // Verdicts on snapshots. Units are named by their places among the units, from 0.
 
 /// Why a snapshot is inconsistent.

@@ -25,10 +25,14 @@ pub fn last_seen_numbers_are_below()
 /// lags behind k exactly where one of its last-seen numbers does: those of its data channels, or
 /// that of its initiations where it has none.
 pub fn last_seen_numbers_tell_lags()
-    ensures own { (s : Setup) (lost : Losses) (es : List Entry) (u : ℕ) (i : UnitId) → IsNet s.net → actor_of s.net u ≡ OfUnit i
-        → data_channels s.net u ≡ [] → cpu_last s.net u (history (world s lost es) u) ≡ id (history (world s lost es) u) }
-    ensures lags { (s : Setup) (lost : Losses) (es : List Entry) (u k : ℕ) (i : UnitId) → IsNet s.net → actor_of s.net u ≡ OfUnit i
-        → lag s.net k u (history (world s lost es) u) ≡ None ↔ Each (λ m. k ≤ m) (last_seen s.net u (history (world s lost es) u)) }
+    ensures own { (s : Setup) (lost : Losses) (es : List Entry) (u : ℕ) (i : UnitId)
+        → IsNet s.net → actor_of s.net u ≡ OfUnit i
+        → data_channels s.net u ≡ [] → cpu_last s.net u (history (world s lost es) u)
+        ≡ id (history (world s lost es) u) }
+    ensures lags { (s : Setup) (lost : Losses) (es : List Entry) (u k : ℕ) (i : UnitId)
+        → IsNet s.net → actor_of s.net u ≡ OfUnit i
+        → lag s.net k u (history (world s lost es) u) ≡ None
+        ↔ Each (λ m. k ≤ m) (last_seen s.net u (history (world s lost es) u)) }
 {
     nets_are_wired()
 }
@@ -36,8 +40,10 @@ pub fn last_seen_numbers_tell_lags()
 /// A snapshot that was issued is consistent exactly where no unit skipped or miscredited it and no
 /// last-seen number lags behind it.
 pub fn consistent_snapshots_are_whole()
-    ensures { (s : Setup) (lost : Losses) (es : List Entry) (k : ℕ) → IsNet s.net → k ≤ issued s.net (observer (world s lost es))
-        → verdict s.credits s.net (world s lost es) k ≡ Consistent ↔ Each (λ u. IsClean s.credits s.net u k (history (world s lost es) u)) (units s.net) }
+    ensures { (s : Setup) (lost : Losses) (es : List Entry) (k : ℕ)
+        → IsNet s.net → k ≤ issued s.net (observer (world s lost es))
+        → verdict s.credits s.net (world s lost es) k ≡ Consistent
+        ↔ Each (λ u. IsClean s.credits s.net u k (history (world s lost es) u)) (units s.net) }
 {
     nets_are_wired()
 }

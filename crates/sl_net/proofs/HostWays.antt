@@ -27,6 +27,7 @@ use Rattle.sl_net.proofs.NetWired.{into-links}
 use Rattle.sl_layout.proofs.Senders.{IsLink, each-link}
 use Rattle.std.proofs.lemmas.List.{length-map}
 use Rattle.sl_parts.proofs.Tables.{has_guest-is}
+use Rattle.sl_parts.proofs.Checked.{none-under}
 
 -- Hosts by their ports.
 
@@ -70,10 +71,6 @@ host-found parts h u l = found-after 0 parts.hosts h p l (not-some (host_from 0 
   where
     p : PortRef
     p = (get_or parts.hosts h no_host).at
-
-    none-under : {A B : Type 0} (f : A → B) (o : Option A) → option_map f o ≡ None → o ≡ None
-    none-under f None q = refl
-    none-under f (Some x) q = absurd cc
 
     free : has_guest (take h parts.hosts) (get_or parts.hosts h no_host).at ≡ false
     free = (or_parts (has_cable parts (get_or parts.hosts h no_host).at) (has_guest (take h parts.hosts) (get_or parts.hosts h no_host).at)

@@ -18,8 +18,8 @@ use Rattle.sl_layout.specs.Net.{net_of, link_of, actor_of, nobody, no_link, ingr
 use Rattle.sl_parts.specs.Valid.{IsValid}
 use Rattle.sl_layout.specs.Roster.{IsActor}
 use Rattle.sl_net.specs.Wired.{home, is_inner, sends, receives}
-use Rattle.sl_parts.specs.Lists.{Each, Member, Distinct}
-use Rattle.sl_parts.proofs.Lists.{each-append, each-map, each-imp, each-flat, each-of, each-at, each-index, member-flat, member-map, distinct-append, distinct-filter, distinct-from, member-of-map, place-of-member, distinct-map, distinct-joined, one-place}
+use Rattle.sl_parts.specs.Lists.{Each, Member}
+use Rattle.sl_parts.proofs.Lists.{each-append, each-map, each-imp, each-flat, each-of, each-at, each-index, member-flat, member-map, distinct-append, distinct-filter, distinct-from, member-of-map, place-of-member, distinct-map, distinct-joined, one-place, Distinct}
 use Rattle.sl_layout.proofs.Actors.{actor-member, each-actor, actor-at, actors-distinct, place-at, units-distinct, each-unit-of}
 use Rattle.sl_layout.proofs.Senders.{IsSender, IsLink, each-sender, each-link}
 

@@ -19,8 +19,8 @@ use Rattle.sl_parts.specs.declared.fault.NetFault.{NetFault}
 use Rattle.sl_parts.specs.Fault.{first_of, fault_of, no_device, too_many_devices, wrong_ports, stray_cable, stray_host, reused_port, too_many_hosts, used_host_port, device_namesake, host_namesake}
 use Rattle.sl_net.specs.Wired.{home, sends, receives, Reports}
 use Rattle.sl_parts.proofs.Checked.{valid_from}
-use Rattle.sl_parts.specs.Lists.{Each, Member, Distinct}
-use Rattle.sl_parts.proofs.Lists.{each-map, each-imp, each-of, each-at, member-right, member-flat, member-from, member-map, member-filter, distinct-filter, distinct-from, only-one}
+use Rattle.sl_parts.specs.Lists.{Each, Member}
+use Rattle.sl_parts.proofs.Lists.{each-map, each-imp, each-of, each-at, member-right, member-flat, member-from, member-map, member-filter, distinct-filter, distinct-from, only-one, Distinct}
 use Rattle.sl_layout.proofs.Actors.{actor-member, each-actor, actor-at, actors-distinct}
 use Rattle.sl_net.specs.Ways.{IsOut}
 use Rattle.std.proofs.lemmas.List.Elements.{filter-append}

@@ -22,7 +22,7 @@ use Rattle.sl_net.proofs.Sorts.{at-numbers, out-low, same-sort-is, each-out, out
 
 -- Places.
 
-place-ge : (n x : ℕ) (ys : List ℕ) → n ≤ place_in n x ys
+pub place-ge : (n x : ℕ) (ys : List ℕ) → n ≤ place_in n x ys
 place-ge n x [] = omega arith
 place-ge n x (y ∷ ys) = by_bool (y == x) (place-ge (suc n) x ys)
   where

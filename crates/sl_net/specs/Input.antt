@@ -1,3 +1,4 @@
+-- Trusted text.
 -- An accepted input, and its losses.
 use Rattle.std.specs.Prelude.{ℕ, List}
 use Rattle.sl_net.specs.declared.input.Snapshot.{Snapshot}

@@ -4,3 +4,4 @@ pub mod Ways
 pub mod Wired
 pub mod Spelling
 pub mod Spelled
+pub mod Names

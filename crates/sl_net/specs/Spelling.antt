@@ -1,3 +1,4 @@
+-- Trusted text, but for skip.
 -- The spelling of actors and of their choices.
 use Rattle.std.specs.Prelude.{◌<◌, ◌+◌, ◌-◌, ℕ, codes, decimal, ◌++◌, ◌&&◌, ◌==◌, nat_lt, if◌then◌else◌, List, [], ◌∷◌, length, map, slice_index, slice_index_or, Option, Some, None}
 use Rattle.sl_layout.specs.declared.actor.Side.{Side}

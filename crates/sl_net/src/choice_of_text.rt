@@ -26,8 +26,10 @@ fn find_word(text: &[u8], net: &Net, actor: u32, at: usize) -> Option<u32>
     requires actor { actor < length net.now.actors }
     requires at { at ≤ length text.now }
     ensures { MatchOption result
-        ((c : ℕ) → c < choice_count net.now actor → ¬ (skip text.now (choice_word net.now actor c) at ≡ Some (length text.now)))
-        (λ c. (c < choice_count net.now actor) × (skip text.now (choice_word net.now actor c) at ≡ Some (length text.now))) }
+        ((c : ℕ) → c < choice_count net.now actor
+        → ¬ (skip text.now (choice_word net.now actor c) at ≡ Some (length text.now)))
+        (λ c. (c < choice_count net.now actor)
+        × (skip text.now (choice_word net.now actor c) at ≡ Some (length text.now))) }
 {
     for choice in 0..net.choice_count(actor) {
         if skip_word(text, net, actor, choice, at) == Some(text.len()) {
@@ -42,8 +44,10 @@ fn find_word(text: &[u8], net: &Net, actor: u32, at: usize) -> Option<u32>
 fn find_at(text: &[u8], net: &Net, actor: u32) -> Option<u32>
     requires { actor < length net.now.actors }
     ensures { MatchOption result
-        ((c : ℕ) → c < choice_count net.now actor → ¬ (skip text.now (choice_text net.now actor c) 0 ≡ Some (length text.now)))
-        (λ c. (c < choice_count net.now actor) × (skip text.now (choice_text net.now actor c) 0 ≡ Some (length text.now))) }
+        ((c : ℕ) → c < choice_count net.now actor
+        → ¬ (skip text.now (choice_text net.now actor c) 0 ≡ Some (length text.now)))
+        (λ c. (c < choice_count net.now actor)
+        × (skip text.now (choice_text net.now actor c) 0 ≡ Some (length text.now))) }
 {
     let at = skip_actor(text, net.parts(), net.actor(actor), 0)?;
     let at = skip(text, b" ", at)?;
@@ -54,7 +58,8 @@ fn find_at(text: &[u8], net: &Net, actor: u32) -> Option<u32>
 pub fn find_choice(net: &Net, text: &str) -> Option<(u32, u32)>
     ensures found { IfSome result (λ p. HasChoice net.now p.0 p.1) }
     ensures spelled { IfSome result (λ p. choice_text net.now p.0 p.1 ≡ text.now) }
-    ensures none { IfNone result ((a c : ℕ) → HasChoice net.now a c → ¬ (choice_text net.now a c ≡ text.now)) }
+    ensures none { IfNone result ((a c : ℕ) → HasChoice net.now a c
+        → ¬ (choice_text net.now a c ≡ text.now)) }
 {
     for actor in 0..net.actors().len() as u32 {
         if let Some(choice) = find_at(text.as_bytes(), net, actor) {

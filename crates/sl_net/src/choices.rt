@@ -13,7 +13,8 @@ use std::alloc::{AllocError, Global};
 pub fn choices_of(alloc: Global, net: &Net, actor: u32, sort: Sort) -> Result<Vec<u32>, AllocError>
     requires { actor < length net.now.actors }
     ensures choices { IfOk result (λ choices. choices.items ≡ choices_of net.now actor sort) }
-    ensures each { IfOk result (λ choices. All (λ c. c < length (links_into net.now actor)) choices.items) }
+    ensures each { IfOk result
+        (λ choices. All (λ c. c < length (links_into net.now actor)) choices.items) }
     ensures few { IfOk result (λ choices. length choices.items ≤ 77888) }
 {
     let links = net.links_into(actor);

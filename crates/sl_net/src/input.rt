@@ -1,3 +1,4 @@
+// Trusted types: Snapshot, Drop1, LossSpec, Flow, RawPart, Packet, Script1.
 // The plain types of an accepted input.
 use crate::net::Net;
 use sl_layout::LinkKind;
@@ -43,7 +44,15 @@ impl Model for LossSpec {
 
     ghost Value = { LossSpec };
 
-    ghost view = { λ l. record { seed = l.seed; cable = l.cable; crossbar = l.crossbar; init = l.init; notice = l.notice; drops = l.drops.items } };
+    ghost view = { λ l.
+        record {
+          seed = l.seed;
+          cable = l.cable;
+          crossbar = l.crossbar;
+          init = l.init;
+          notice = l.notice;
+          drops = l.drops.items;
+        } };
 }
 
 impl LossSpec {
@@ -116,5 +125,13 @@ impl Model for Input {
 
     ghost Value = { Input };
 
-    ghost view = { λ i. record { net = i.net; snapshot = i.snapshot; loss = i.loss; flows = i.flows.items; raws = i.raws.items; script = i.script.items } };
+    ghost view = { λ i.
+        record {
+          net = i.net;
+          snapshot = i.snapshot;
+          loss = i.loss;
+          flows = i.flows.items;
+          raws = i.raws.items;
+          script = i.script.items;
+        } };
 }

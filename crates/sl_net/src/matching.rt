@@ -1,6 +1,9 @@
 // Whether the pieces of a spelling stand in a text, one after another.
-ghost use Rattle.std.specs.Prelude.{◌≡◌, ◌<◌, ◌≤◌, ◌+◌, ◌++◌, codes, decimal, length, IfSome, ◌&&◌, ◌==◌, nat_lt, slice_index, Option, Some};
-ghost use Rattle.sl_net.specs.Spelling.{skip, link_word, port_of, side_text, actor_text, sender_text, link_text, action_text, device_name, host_name};
+ghost use Rattle.std.specs.Prelude.{◌≡◌, ◌<◌, ◌≤◌, ◌+◌, ◌++◌, codes, decimal, length, IfSome};
+ghost use Rattle.std.specs.Prelude.{◌&&◌, ◌==◌, nat_lt, slice_index, Option, Some};
+ghost use Rattle.sl_net.specs.Spelling.{skip, link_word, port_of, side_text, actor_text};
+ghost use Rattle.sl_net.specs.Spelling.{sender_text, link_text, action_text, device_name};
+ghost use Rattle.sl_net.specs.Spelling.{host_name};
 ghost use Rattle.sl_parts.specs.Valid.{IsValid};
 ghost use Rattle.sl_layout.specs.Roster.{IsActor};
 
@@ -135,7 +138,8 @@ pub fn skip_actor(text: &[u8], parts: &Parts, actor: ActorId, at: usize) -> Opti
 fn skip_port(text: &[u8], unit: UnitId, at: usize) -> Option<usize>
     requires port { unit.port < 8 }
     requires at { at ≤ length text.now }
-    ensures next { result ≡ skip text.now (side_text unit.side ++ (codes "." ++ decimal unit.port)) at }
+    ensures next { result ≡ skip text.now (side_text unit.side ++ (codes "." ++ decimal unit.port))
+        at }
     ensures within { IfSome result (λ next. next ≤ length text.now) }
 {
     let at = skip_side(text, unit.side, at)?;

@@ -1,10 +1,12 @@
 // A net: its parts with the actors and links that they give.
-ghost use Rattle.std.specs.Prelude.{◌≡◌, ◌≢◌, ◌<◌, ◌≤◌, None, Some, IfOk, IfErr, OnOk, length, slice_index};
+ghost use Rattle.std.specs.Prelude.{◌≡◌, ◌≢◌, ◌<◌, ◌≤◌, None, Some, IfOk, IfErr, OnOk, length};
+ghost use Rattle.std.specs.Prelude.{slice_index};
 ghost use Rattle.std.specs.List.{All};
 ghost use Rattle.sl_machine.specs.Plan.{IsSound};
 ghost use Rattle.sl_parts.specs.Fault.{fault_of};
 ghost use Rattle.sl_parts.specs.Valid.{AreVersioned, IsValid};
-ghost use Rattle.sl_layout.specs.Net.{net_of, actor_of, link_of, links_into, links_from, units, unit_place};
+ghost use Rattle.sl_layout.specs.Net.{net_of, actor_of, link_of, links_into, links_from, units};
+ghost use Rattle.sl_layout.specs.Net.{unit_place};
 ghost use Rattle.sl_layout.specs.Roster.{IsActor};
 ghost use Rattle.sl_layout.specs.Wires.{HasEnds};
 ghost use Rattle.sl_net.specs.Spelling.{choice_count};

@@ -2,7 +2,9 @@
 ghost use Rattle.std.specs.Prelude.{◌≡◌, ◌<◌, ◌++◌, decimal, codes, OnOk, IfOk, length};
 ghost use Rattle.sl_parts.specs.Valid.{IsValid};
 ghost use Rattle.sl_layout.specs.Roster.{IsActor};
-ghost use Rattle.sl_net.specs.Spelling.{port_of, side_text, actor_text, sender_text, link_text, action_text, device_name, host_name, choice_word, choice_text, HasChoice};
+ghost use Rattle.sl_net.specs.Spelling.{port_of, side_text, actor_text, sender_text, link_text};
+ghost use Rattle.sl_net.specs.Spelling.{action_text, device_name, host_name, choice_word};
+ghost use Rattle.sl_net.specs.Spelling.{choice_text, HasChoice};
 
 use crate::matching::{link_word, side_word};
 use crate::net::Net;
@@ -39,7 +41,8 @@ fn add_host(line: &mut Vec<u8>, parts: &Parts, host: u32) -> Result<(), AllocErr
 fn add_unit(line: &mut Vec<u8>, parts: &Parts, unit: UnitId) -> Result<(), AllocError>
     requires valid { IsValid parts.now }
     requires unit { IsActor parts.now (ActorId.Unit unit) }
-    ensures { OnOk result (line.new.items ≡ line.old.items ++ actor_text parts.now (ActorId.Unit unit)) }
+    ensures { OnOk result
+        (line.new.items ≡ line.old.items ++ actor_text parts.now (ActorId.Unit unit)) }
 {
     line.extend_from_slice(side_word(unit.side))?;
     line.extend_from_slice(b" ")?;
@@ -50,7 +53,8 @@ fn add_unit(line: &mut Vec<u8>, parts: &Parts, unit: UnitId) -> Result<(), Alloc
 
 fn add_control(line: &mut Vec<u8>, parts: &Parts, device: u32) -> Result<(), AllocError>
     requires { device < length parts.now.devices }
-    ensures { OnOk result (line.new.items ≡ line.old.items ++ actor_text parts.now (ActorId.Control device)) }
+    ensures { OnOk result
+        (line.new.items ≡ line.old.items ++ actor_text parts.now (ActorId.Control device)) }
 {
     line.extend_from_slice(b"control ")?;
     add_device(line, parts, device)
@@ -58,7 +62,8 @@ fn add_control(line: &mut Vec<u8>, parts: &Parts, device: u32) -> Result<(), All
 
 fn add_named_host(line: &mut Vec<u8>, parts: &Parts, host: u32) -> Result<(), AllocError>
     requires { host < length parts.now.hosts }
-    ensures { OnOk result (line.new.items ≡ line.old.items ++ actor_text parts.now (ActorId.Host host)) }
+    ensures { OnOk result
+        (line.new.items ≡ line.old.items ++ actor_text parts.now (ActorId.Host host)) }
 {
     line.extend_from_slice(b"host ")?;
     add_host(line, parts, host)
@@ -79,7 +84,9 @@ fn add_actor(line: &mut Vec<u8>, parts: &Parts, actor: ActorId) -> Result<(), Al
 
 fn add_port(line: &mut Vec<u8>, unit: UnitId) -> Result<(), AllocError>
     requires { unit.port < 8 }
-    ensures { OnOk result (line.new.items ≡ line.old.items ++ (side_text unit.side ++ (codes "." ++ decimal unit.port))) }
+    ensures { OnOk result
+        (line.new.items ≡ line.old.items
+        ++ (side_text unit.side ++ (codes "." ++ decimal unit.port))) }
 {
     line.extend_from_slice(side_word(unit.side))?;
     line.extend_from_slice(b".")?;

@@ -8,7 +8,7 @@ use Rattle.sl_saves.specs.declared.entry.Saved.{Saved}
 use Rattle.sl_wire.specs.declared.message.Done.{Done as Report}
 use Rattle.sl_wire.specs.declared.message.Msg.{Msg}
 use Rattle.sl_wire.specs.declared.message.Msg.TheVariants.{Frame, Wire, Poll, Notice, Dump, Begin, Done}
-use Rattle.sl_observe.specs.Observer.{UnitState, ObserverState, new_unit, unit_at, saved_of, reached, is_after, is_next, told, after_done, units_after, observer_act, observer_rules}
+use Rattle.sl_observe.specs.Observer.{UnitState, ObserverState, new_unit, unit_at, saved_of, is_after, is_next, told, after_done, units_after, observer_act, observer_rules}
 use Rattle.sl_observe.specs.Turns.{Reports, IsReported}
 use Rattle.sl_observe.proofs.Runs.{units_stay}
 
@@ -54,8 +54,7 @@ heard_from ring link d v k r e = by_test ((v.device == link) && is_next ring v d
     by_test : (b : Bool) → ((v.device == link) && is_next ring v d) ≡ b → saved_of (cond b (told d v) v) k ≡ Some r → (saved_of v k ≡ Some r) ⊎ Has d k r
     by_test true t e =
         let next = (and_parts (v.device == link) (is_next ring v d) t).1 in
-        let rest = (and_parts (nat_le (length d.rows) ring) ((length v.rows + length d.rows == reached v d) && is_after (length v.rows) d.rows) next).1 in
-        told_from d v k r (and_parts (length v.rows + length d.rows == reached v d) (is_after (length v.rows) d.rows) rest).1 e
+        told_from d v k r (and_parts (nat_le (length d.rows) ring) (is_after (length v.rows) d.rows) next).1 e
     by_test false t e = inl e
 
 units_from : (ring link : ℕ) (d : Report) (us : List UnitState) (u k : ℕ) (r : Saved) → saved_of (unit_at (units_after ring link d us) u) k ≡ Some r

@@ -1,3 +1,4 @@
+-- Trusted text for nodes, in part.
 -- The observer: what it stands for, and what its turns do. It issues snapshots by number, and collects what the units saved for each
 -- (Yaseen, Sonchack and Liu 2018).
 --     observer_take     it takes a report on a unit
@@ -14,7 +15,6 @@ use Rattle.sl_saves.specs.declared.entry.Saved.{Saved}
 use Rattle.sl_wire.specs.declared.message.Done.{Done}
 use Rattle.sl_wire.specs.declared.message.Msg.{Msg}
 use Rattle.sl_wire.specs.declared.message.Msg.TheVariants.{Begin, Done as DoneMsg}
-use Rattle.sl_wire.specs.Reach.{reached as reached_by}
 use Rattle.sl_route.specs.Least.{least}
 use Rattle.sl_observe.specs.declared.unit.Seen.{Seen}
 
@@ -63,18 +63,14 @@ register_floor s = unwrap_or (least (floors_of s.units)) s.issued
 
 -- Reports.
 
--- the number that the unit and its data channels have reached
-abbrev pub reached : UnitState → Done → ℕ
-reached u d = reached_by u.channels d.id d.last
-
 -- rows of the numbers after n, ascending without a gap
 abbrev pub is_after : ℕ → List (ℕ × Saved) → Bool
 is_after n [] = true
 is_after n (r ∷ rs) = (r.0 == suc n) && is_after (suc n) rs
 
--- the rows are those of the unit's next numbers, up to the one reached, and at most as many as a ring holds
+-- the rows are those of the unit's next numbers, ascending without a gap, and at most as many as a ring holds
 abbrev pub is_next : ℕ → UnitState → Done → Bool
-is_next ring u d = nat_le (length d.rows) ring && ((length u.rows + length d.rows == reached u d) && is_after (length u.rows) d.rows)
+is_next ring u d = nat_le (length d.rows) ring && is_after (length u.rows) d.rows
 
 abbrev pub told : Done → UnitState → UnitState
 told d u = record { device = u.device; channels = u.channels; id = d.id; last = d.last; floor = d.floor; rows = u.rows ++ map (λ r. r.1) d.rows }

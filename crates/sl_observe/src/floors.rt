@@ -41,7 +41,8 @@ fn write(tree: &mut Vec<u64>, count: usize, place: usize, number: u64)
     requires tree { IsTree count tree.old.items }
     requires place { place < count }
     ensures tree { IsTree count tree.new.items }
-    ensures leaves { drop count tree.new.items ≡ slice_set (drop count tree.old.items) place number }
+    ensures leaves { drop count tree.new.items ≡ slice_set
+        (drop count tree.old.items) place number }
 {
     let mut node = count + place;
     tree[node] = number;

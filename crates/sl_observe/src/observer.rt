@@ -3,7 +3,9 @@ ghost use Rattle.std.specs.Prelude.{◌≡◌, ◌≤◌, ◌<◌, [], Option, N
 ghost use Rattle.std.specs.Bool.{OnTrue, OnFalse};
 ghost use Rattle.std.specs.Option.{option_copied};
 ghost use Rattle.sl_machine.specs.Machine.{is_fitting};
-ghost use Rattle.sl_observe.specs.Observer.{ObserverState, unit_at, seen_of, saved_of, register_floor, begins_out, issue, resend, observer_rules, observer_counts, first_state};
+ghost use Rattle.sl_observe.specs.Observer.{ObserverState, unit_at, seen_of, saved_of};
+ghost use Rattle.sl_observe.specs.Observer.{register_floor, begins_out, issue, resend};
+ghost use Rattle.sl_observe.specs.Observer.{observer_rules, observer_counts, first_state};
 
 use crate::floors::Floors;
 use crate::spans::Span;
@@ -36,9 +38,14 @@ impl Model for Observer {
 
     ghost Value = { kept.Observer };
 
-    ghost view = { λ o. record { state = kept.state_of o.ins o.outs o.snapshot o.issued o.resent o.units.items; ready = o.prepared } };
+    ghost view = { λ o.
+        record {
+          state = kept.state_of o.ins o.outs o.snapshot o.issued o.resent o.units.items;
+          ready = o.prepared;
+        } };
 
-    ghost invariant = { λ o. kept.IsKept o.ins o.snapshot.ring o.units.items o.floors o.spans.items o.shorts.items o.prepared };
+    ghost invariant = { λ o. kept.IsKept o.ins o.snapshot.ring o.units.items
+        o.floors o.spans.items o.shorts.items o.prepared };
 }
 
 /// Puts the begin of a snapshot on each outgoing link.
@@ -130,7 +137,9 @@ impl Observer {
     fn issue(&mut self, out: &mut Outputs<Msg>) -> bool
         requires empty { out.old.items ≡ [] }
         requires room { self.old.state.outs ≤ out.old.room }
-        ensures did { OnTrue result (issue self.old.state ≡ Some (record { state = self.new.state; puts = out.new.items })) }
+        ensures did { OnTrue result
+            (issue self.old.state
+            ≡ Some (record { state = self.new.state; puts = out.new.items })) }
         ensures idle { OnFalse result (issue self.old.state ≡ None) }
         ensures same { OnFalse result (self.new.state ≡ self.old.state) }
         ensures nothing { OnFalse result (out.new.items ≡ []) }
@@ -153,7 +162,9 @@ impl Observer {
     fn resend(&mut self, out: &mut Outputs<Msg>) -> bool
         requires empty { out.old.items ≡ [] }
         requires room { self.old.state.outs ≤ out.old.room }
-        ensures did { OnTrue result (resend self.old.state ≡ Some (record { state = self.new.state; puts = out.new.items })) }
+        ensures did { OnTrue result
+            (resend self.old.state
+            ≡ Some (record { state = self.new.state; puts = out.new.items })) }
         ensures idle { OnFalse result (resend self.old.state ≡ None) }
         ensures same { OnFalse result (self.new.state ≡ self.old.state) }
         ensures nothing { OnFalse result (out.new.items ≡ []) }

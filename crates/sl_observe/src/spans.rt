@@ -23,7 +23,8 @@ impl Span {
         requires place { place < 2 ^ 63 }
         ensures before { result.end ≤ place + 1 }
         ensures ordered { result.first ≤ result.end }
-        ensures keeps { (k : ℕ) → self.first ≤ k → k < self.end → (result.first ≤ k) × (k < result.end) }
+        ensures keeps { (k : ℕ) → self.first ≤ k → k < self.end
+            → (result.first ≤ k) × (k < result.end) }
         ensures adds { IsTrue belongs → (result.first ≤ place) × (place < result.end) }
     {
         if !belongs {

@@ -1,10 +1,11 @@
 // What the observer knows of a unit.
-ghost use Rattle.std.specs.Prelude.{◌≡◌, ◌+◌, ◌≤◌, ◌++◌, OnOk, length, map, replicate, vec_len, vec_capacity};
+ghost use Rattle.std.specs.Prelude.{◌≡◌, ◌+◌, ◌≤◌, ◌++◌, OnOk, length, map, replicate, vec_len};
+ghost use Rattle.std.specs.Prelude.{vec_capacity};
 ghost use Rattle.std.specs.Option.{option_copied};
 ghost use Rattle.sl_observe.specs.Observer.{is_after};
 
 use sl_saves::Saved;
-use sl_wire::{Done, reached};
+use sl_wire::Done;
 use std::alloc::{AllocError, Global};
 use std::marker::Model;
 
@@ -41,7 +42,14 @@ impl Model for Collected {
     ghost Value = { kept.Collected };
 
     ghost view = { λ u. record {
-      state = record { device = u.device; channels = u.channels; id = u.seen.id; last = u.seen.last; floor = u.seen.floor; rows = u.rows.items };
+      state = record {
+        device = u.device;
+        channels = u.channels;
+        id = u.seen.id;
+        last = u.seen.last;
+        floor = u.seen.floor;
+        rows = u.rows.items;
+      };
       room = vec_capacity u.rows - vec_len u.rows;
     } };
 }
@@ -86,7 +94,7 @@ fn append(rows: &mut Vec<Saved>, more: &[(u64, Saved)])
 }
 
 impl Collected {
-    ghost use Rattle.sl_observe.specs.Observer.{new_unit, seen_of, saved_of, is_next, reached, after_done};
+    ghost use Rattle.sl_observe.specs.Observer.{new_unit, seen_of, saved_of, is_next, after_done};
 
     /// A unit of a device with so many data channels, before the first report on it.
     pub fn new(alloc: Global, device: u32, channels: usize) -> Collected
@@ -142,22 +150,13 @@ impl Collected {
         self.rows.reserve_exact(ring.max(wanted))
     }
 
-    /// The number that a report says that the unit and its data channels have reached.
-    fn reached(&self, done: &Done) -> u64
-        ensures { result ≡ reached self.now.state done.now }
-    {
-        reached(self.channels, done.id, &done.last)
-    }
-
-    /// Whether the rows of a report are the unit's next ones.
+    /// Whether the rows of a report are the unit's next ones, at most as many as a ring holds. Which
+    /// number the report says that the unit has reached isn't asked.
     fn is_next(&self, ring: u16, done: &Done) -> bool
         ensures { result ≡ is_next ring self.now.state done.now }
     {
         let rows = done.rows.items.as_slice();
-        let held = self.rows.len() as u64;
-        rows.len() <= ring as usize
-            && held + rows.len() as u64 == self.reached(done)
-            && is_after(held, rows)
+        rows.len() <= ring as usize && is_after(self.rows.len() as u64, rows)
     }
 
     /// Takes a report that came from a device.

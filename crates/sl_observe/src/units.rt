@@ -1,8 +1,11 @@
 // The units that the observer knows, in order.
-ghost use Rattle.std.specs.Prelude.{◌≡◌, ◌<◌, ◌≤◌, ℕ, None, length, map, replicate, slice_set, IfOk, OnOk};
+ghost use Rattle.std.specs.Prelude.{◌≡◌, ◌<◌, ◌≤◌, ℕ, None, length, map, replicate, slice_set};
+ghost use Rattle.std.specs.Prelude.{IfOk, OnOk};
 ghost use Rattle.sl_layout.specs.Net.{units};
-ghost use Rattle.sl_observe.specs.Observer.{first_unit, floors_of, unit_at, after_done, units_after};
-ghost use Rattle.sl_observe.specs.Kept.{states, collected_at, HasRoom, HasRoomBut, HaveRoomBut, HasSpan, HaveSpans};
+ghost use Rattle.sl_observe.specs.Observer.{first_unit, floors_of, unit_at, after_done};
+ghost use Rattle.sl_observe.specs.Observer.{units_after};
+ghost use Rattle.sl_observe.specs.Kept.{states, collected_at, HasRoom, HasRoomBut, HaveRoomBut};
+ghost use Rattle.sl_observe.specs.Kept.{HasSpan, HaveSpans};
 
 use crate::floors::Floors;
 use crate::spans::Span;
@@ -14,7 +17,8 @@ use std::alloc::{AllocError, Global};
 /// The units of a net, before the first report.
 #[tactic(auto, using(crate::proofs::UnitLists::units_few))]
 pub fn list_units(alloc: Global, net: &Net) -> Result<Vec<Collected>, AllocError>
-    ensures { IfOk result (λ listed. states listed.items ≡ map (first_unit net.now) (units net.now)) }
+    ensures { IfOk result
+        (λ listed. states listed.items ≡ map (first_unit net.now) (units net.now)) }
 {
     // A net has few actors, so the places of its units fit 32 bits.
     let _ = net.actors();
@@ -45,8 +49,10 @@ fn make_rooms(
 ) -> Result<(), AllocError>
     requires { end ≤ length units.old.items }
     ensures states { states units.new.items ≡ states units.old.items }
-    ensures more { (k : ℕ) → (collected_at units.old.items k).room ≤ (collected_at units.new.items k).room }
-    ensures room { OnOk result ((k : ℕ) → first ≤ k → k < end → ring ≤ (collected_at units.new.items k).room) }
+    ensures more { (k : ℕ) → (collected_at units.old.items k).room
+        ≤ (collected_at units.new.items k).room }
+    ensures room { OnOk result ((k : ℕ) → first ≤ k → k < end
+        → ring ≤ (collected_at units.new.items k).room) }
 {
     for place in first..end {
         make_room_at(units, place, ring, count)?;
@@ -65,8 +71,10 @@ fn make_room_at(
     ensures states { states units.new.items ≡ states units.old.items }
     ensures size { length units.new.items ≡ length units.old.items }
     ensures room { OnOk result (ring ≤ (collected_at units.new.items place).room) }
-    ensures others { (k : ℕ) → (k ≡ place → ⊥) → collected_at units.new.items k ≡ collected_at units.old.items k }
-    ensures more { (k : ℕ) → (collected_at units.old.items k).room ≤ (collected_at units.new.items k).room }
+    ensures others { (k : ℕ) → (k ≡ place → ⊥) → collected_at units.new.items k
+        ≡ collected_at units.old.items k }
+    ensures more { (k : ℕ) → (collected_at units.old.items k).room
+        ≤ (collected_at units.new.items k).room }
 {
     let unit = &mut units[place];
     unit.make_room(ring, count)
@@ -82,8 +90,10 @@ fn prepare_at(
     count: u64,
 ) -> Result<(), AllocError>
     ensures states { states units.new.items ≡ states units.old.items }
-    ensures room { OnOk result ((device : ℕ) → HasRoomBut ring device place units.old.items → HasRoom ring device units.new.items) }
-    ensures more { (k : ℕ) → (collected_at units.old.items k).room ≤ (collected_at units.new.items k).room }
+    ensures room { OnOk result ((device : ℕ) → HasRoomBut ring device place units.old.items
+        → HasRoom ring device units.new.items) }
+    ensures more { (k : ℕ) → (collected_at units.old.items k).room
+        ≤ (collected_at units.new.items k).room }
 {
     if place < units.len() {
         make_room_at(units, place, ring, count)?;
@@ -147,10 +157,13 @@ pub fn prepare(
 fn hear_at(units: &mut Vec<Collected>, place: usize, ring: u16, link: u32, done: &Done)
     requires place { place < length units.old.items }
     requires room { HasRoom ring link units.old.items }
-    ensures set { states units.new.items ≡ slice_set (states units.old.items) place (after_done ring link done.now (unit_at (states units.old.items) place)) }
+    ensures set { states units.new.items ≡ slice_set (states units.old.items) place
+        (after_done ring link done.now (unit_at (states units.old.items) place)) }
     ensures size { length units.new.items ≡ length units.old.items }
-    ensures others { (k : ℕ) → (k ≡ place → ⊥) → collected_at units.new.items k ≡ collected_at units.old.items k }
-    ensures same { (k : ℕ) → ((collected_at units.new.items k).state.device ≡ link → ⊥) → collected_at units.new.items k ≡ collected_at units.old.items k }
+    ensures others { (k : ℕ) → (k ≡ place → ⊥) → collected_at units.new.items k
+        ≡ collected_at units.old.items k }
+    ensures same { (k : ℕ) → ((collected_at units.new.items k).state.device ≡ link → ⊥)
+        → collected_at units.new.items k ≡ collected_at units.old.items k }
 {
     let unit = &mut units[place];
     unit.hear(ring, link, done);
@@ -178,7 +191,8 @@ pub fn hear(
     requires room { HasRoom ring link units.old.items }
     requires link { link < length shorts.old.items }
     requires shorts { HaveRoomBut ring shorts.old.items units.old.items }
-    ensures states { states units.new.items ≡ units_after ring link done.now (states units.old.items) }
+    ensures states { states units.new.items ≡ units_after ring link done.now
+        (states units.old.items) }
     ensures floors { floors.new ≡ floors_of (states units.new.items) }
     ensures size { length shorts.new.items ≡ length shorts.old.items }
     ensures shorts { HaveRoomBut ring shorts.new.items units.new.items }

@@ -13,7 +13,7 @@ use Rattle.sl_parts.specs.Ports.{IsNear}
 use Rattle.sl_parts.proofs.Tables.{near}
 use Rattle.sl_parts.specs.Valid.{IsPort, IsValid}
 
-none-under : {A B : Type 0} (f : A → B) (o : Option A) → option_map f o ≡ None → o ≡ None
+pub none-under : {A B : Type 0} (f : A → B) (o : Option A) → option_map f o ≡ None → o ≡ None
 none-under f None q = refl
 none-under f (Some x) q = absurd cc
 

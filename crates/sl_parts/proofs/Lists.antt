@@ -7,7 +7,11 @@ use Rattle.std.proofs.lemmas.Bool.{cases_lt}
 use Rattle.std.proofs.lemmas.List.{flat_map_more}
 use Rattle.std.proofs.lemmas.List.Elements.{filter-append}
 use Rattle.sl_parts.specs.Parts.{below}
-use Rattle.sl_parts.specs.Lists.{Each, Member, Distinct}
+use Rattle.sl_parts.specs.Lists.{Each, Member}
+
+abbrev pub Distinct : {A : Type 0} → List A → Type 0
+Distinct [] = Unit {0}
+Distinct (x ∷ xs) = (Member x xs → ⊥) × Distinct xs
 
 pub each-from_all : {A : Type 0} (P : A → Type 0) (xs : List A) → All P xs → Each P xs
 each-from_all P [] h = tt

@@ -1,3 +1,4 @@
+-- Trusted text.
 -- Why parts are no net: the first of these reasons that applies.
 use Rattle.std.specs.Prelude.{ℕ, Bool, not, ◌&&◌, ◌||◌, ◌==◌, nat_lt, if◌then◌else◌, List, [], ◌∷◌, ◌++◌, length, Option, Some, None, option_map, bytes_eq}
 use Rattle.std.specs.List.{list_any, position}

@@ -1,7 +1,7 @@
+-- Trusted text, but for Member.
 -- Words on lists.
 --     Each P xs        P holds of each element
 --     Member x xs      x is one of the elements
---     Distinct xs      no element is there twice
 use Rattle.std.specs.Prelude.{◌≡◌, ◌⊎◌, List, [], ◌∷◌}
 
 abbrev pub Each : {A : Type 0} → (A → Type 0) → List A → Type 0
@@ -11,7 +11,3 @@ Each P (x ∷ xs) = P x × Each P xs
 abbrev pub Member : {A : Type 0} → A → List A → Type 0
 Member x [] = ⊥
 Member x (y ∷ ys) = (x ≡ y) ⊎ Member x ys
-
-abbrev pub Distinct : {A : Type 0} → List A → Type 0
-Distinct [] = Unit {0}
-Distinct (x ∷ xs) = (Member x xs → ⊥) × Distinct xs

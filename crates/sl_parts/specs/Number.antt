@@ -1,3 +1,4 @@
+-- Trusted text, but for IsPlainNumber.
 -- Plain decimal numbers: digits with no sign and no leading zero.
 use Rattle.std.specs.Prelude.{◌≡◌, ℕ, ◌≤◌, Bool, true, false, not, ◌&&◌, ◌==◌, nat_le, if◌then◌else◌, List, [], ◌∷◌, Option, Some, None, decimal}
 use Rattle.std.specs.Char.{is_ascii_digit}

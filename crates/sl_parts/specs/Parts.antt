@@ -1,3 +1,4 @@
+-- Trusted text; version_at for nodes.
 -- The parts of a net, and which of a device's ports are used.
 use Rattle.std.specs.Prelude.{ℕ, suc, Bool, ◌&&◌, ◌||◌, List, [], ◌∷◌, map, filter, ◌==◌, if◌then◌else◌, Option, Some, None, slice_index_or}
 use Rattle.std.specs.List.{list_any, range_with_len}

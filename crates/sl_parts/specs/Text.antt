@@ -1,3 +1,4 @@
+-- Trusted text, but for IsName.
 -- Names.
 use Rattle.std.specs.Prelude.{ℕ, ◌≤◌, Bool, ◌&&◌, ◌||◌, nat_le, ◌==◌, List, length, IsTrue}
 use Rattle.std.specs.List.{list_all}

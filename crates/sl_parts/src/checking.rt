@@ -1,9 +1,14 @@
 // What is wrong with parts: the reasons that need no table.
-ghost use Rattle.std.specs.Prelude.{◌≡◌, ◌<◌, ◌≤◌, None, Some, ◌≢◌, OnOk, IfOk, IfErr, length, bytes_eq, []};
+ghost use Rattle.std.specs.Prelude.{◌≡◌, ◌<◌, ◌≤◌, None, Some, ◌≢◌, OnOk, IfOk, IfErr, length};
+ghost use Rattle.std.specs.Prelude.{bytes_eq, []};
 ghost use Rattle.std.specs.List.{position};
 ghost use Rattle.sl_parts.specs.Valid.{IsValid};
 ghost use Rattle.sl_parts.specs.Ports.{ShowsPorts};
-ghost use Rattle.sl_parts.specs.Fault.{fault_of, is_port, no_device, too_many_devices, wrong_ports, stray_cable, stray_host, too_many_hosts, is_stray_cable, is_stray_host, has_wrong_ports, first_clash, device_named, host_named, device_namesake, host_namesake};
+ghost use Rattle.sl_parts.specs.Fault.{fault_of, is_port, no_device, too_many_devices};
+ghost use Rattle.sl_parts.specs.Fault.{wrong_ports, stray_cable, stray_host, too_many_hosts};
+ghost use Rattle.sl_parts.specs.Fault.{is_stray_cable, is_stray_host, has_wrong_ports};
+ghost use Rattle.sl_parts.specs.Fault.{first_clash, device_named, host_named, device_namesake};
+ghost use Rattle.sl_parts.specs.Fault.{host_namesake};
 
 use crate::fault::{NetFault, Place};
 use crate::parts::{CablePart, DevicePart, HostPart, Parts, PortRef};

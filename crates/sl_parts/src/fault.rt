@@ -1,3 +1,4 @@
+// Trusted types: Place, NetFault.
 // Why parts are refused as a net.
 ghost use Rattle.std.specs.Prelude.{◌≡◌};
 ghost use Rattle.sl_parts.specs.declared.fault.NetFault.TheVariants.{Memory};

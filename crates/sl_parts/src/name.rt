@@ -46,7 +46,8 @@ fn text_of(bytes: &[u8]) -> &str
 impl Name {
     /// The name that a text is, where it is one.
     pub fn new(alloc: Global, text: &str) -> Result<Option<Name>, Memory>
-        ensures { IfOk result (λ made. MatchOption made (IsName text.now → ⊥) (λ name. name ≡ text.now)) }
+        ensures { IfOk result
+            (λ made. MatchOption made (IsName text.now → ⊥) (λ name. name ≡ text.now)) }
     {
         if !is_name(text.as_bytes()) {
             return Ok(None);

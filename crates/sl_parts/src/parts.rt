@@ -1,3 +1,4 @@
+// Trusted types: PortRef, DevicePart, CablePart, HostPart.
 // The parts that a net is built from.
 use crate::text::Name;
 use std::marker::Model;
@@ -44,5 +45,6 @@ impl Model for Parts {
 
     ghost Value = { Parts };
 
-    ghost view = { λ p. record { devices = p.devices.items; cables = p.cables.items; hosts = p.hosts.items } };
+    ghost view = { λ p.
+        record { devices = p.devices.items; cables = p.cables.items; hosts = p.hosts.items } };
 }

@@ -1,5 +1,7 @@
 // What each port leads to: the other end of its cable, or a host.
-ghost use Rattle.std.specs.Prelude.{◌≡◌, ◌≢◌, ◌+◌, ◌*◌, ◌<◌, ◌≤◌, ◌&&◌, None, Some, OnOk, IfOk, IfErr, [], length, slice_index_or, slice_set, is_none, option_map};
+ghost use Rattle.std.specs.Prelude.{◌≡◌, ◌≢◌, ◌+◌, ◌*◌, ◌<◌, ◌≤◌, ◌&&◌, None, Some, OnOk, IfOk};
+ghost use Rattle.std.specs.Prelude.{IfErr, [], length, slice_index_or, slice_set, is_none};
+ghost use Rattle.std.specs.Prelude.{option_map};
 ghost use Rattle.std.specs.List.{All};
 ghost use Rattle.sl_parts.specs.Fault.{first_clash, reuses_port, used_host_port};
 ghost use Rattle.sl_parts.specs.Valid.{IsValid};
@@ -72,7 +74,10 @@ fn add_cable(ends: &mut Vec<Option<PortRef>>, cable: CablePart) -> bool
     requires device_b { cable.b.device < 64 }
     requires port_b { cable.b.port < 8 }
     requires within_b { slot_of cable.b < length ends.old.items }
-    ensures free { result ≡ (is_none (slice_index_or ends.old.items (slot_of cable.a) None) && is_none (slice_index_or (slice_set ends.old.items (slot_of cable.a) (Some cable.b)) (slot_of cable.b) None)) }
+    ensures free { result
+        ≡ (is_none (slice_index_or ends.old.items (slot_of cable.a) None)
+        && is_none (slice_index_or (slice_set ends.old.items (slot_of cable.a) (Some cable.b))
+        (slot_of cable.b) None)) }
     ensures joined { ends.new.items ≡ with_cable ends.old.items cable }
 {
     let free_a = join(ends, cable.a, cable.b);
@@ -91,7 +96,9 @@ pub fn join_cables(
     requires near { All (λ c. IsNear devices c.a × IsNear devices c.b) cables.now }
     ensures ok { OnOk result (first_clash reuses_port [] cables.now ≡ None) }
     ensures ends { IfOk result (λ ends. HasEnds devices cables.now ends.items) }
-    ensures err { IfErr result (λ e. e ≢ NetFault.Memory → option_map NetFault.N5 (first_clash reuses_port [] cables.now) ≡ Some e) }
+    ensures err { IfErr result
+        (λ e. e ≢ NetFault.Memory → option_map NetFault.N5 (first_clash reuses_port [] cables.now)
+        ≡ Some e) }
 {
     let mut ends = no_ends(alloc, devices)?;
     for i in 0..cables.len() {
@@ -108,7 +115,9 @@ fn add_host(guests: &mut Vec<Option<u32>>, ends: &[Option<PortRef>], at: PortRef
     requires port { at.port < 8 }
     requires within { slot_of at < length guests.old.items }
     requires within_ends { slot_of at < length ends.now }
-    ensures free { result ≡ (is_none (slice_index_or ends.now (slot_of at) None) && is_none (slice_index_or guests.old.items (slot_of at) None)) }
+    ensures free { result
+        ≡ (is_none (slice_index_or ends.now (slot_of at) None)
+        && is_none (slice_index_or guests.old.items (slot_of at) None)) }
     ensures seated { guests.new.items ≡ slice_set guests.old.items (slot_of at) (Some host) }
 {
     let slot = slot_of(at);
@@ -127,7 +136,8 @@ pub fn seat_hosts(
     requires few { length parts.now.hosts ≤ 128 }
     requires ends { HasEnds (length parts.now.devices) parts.now.cables ends.now }
     ensures ok { OnOk result (used_host_port parts.now ≡ None) }
-    ensures guests { IfOk result (λ guests. HasGuests (length parts.now.devices) parts.now.hosts guests.items) }
+    ensures guests { IfOk result
+        (λ guests. HasGuests (length parts.now.devices) parts.now.hosts guests.items) }
     ensures err { IfErr result (λ e. e ≢ NetFault.Memory → used_host_port parts.now ≡ Some e) }
 {
     let mut guests = no_guests(alloc, parts.devices.len())?;

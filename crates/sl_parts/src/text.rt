@@ -1,3 +1,4 @@
+// Trusted types: Name, Bytes.
 // Texts and names as bytes.
 use std::marker::Model;
 

@@ -11,7 +11,7 @@ use Rattle.sl_model.specs.History.{Losses, history, first, taken, carried_by}
 use Rattle.sl_model.specs.Setup.{Setup}
 use Rattle.sl_model.specs.World.{Entry, start, world}
 use Rattle.sl_model.specs.Turns.{TakesTurns}
-use Rattle.sl_model.proofs.Prefixes.{first-all}
+use Rattle.sl_model.proofs.Cuts.Prefixes.{first-all}
 use Rattle.sl_poll.specs.declared.trail.Pair.{Pair}
 use Rattle.sl_model.specs.Putting.{no_putters}
 use Rattle.sl_poll.specs.Trail.{packet_in, pairs}

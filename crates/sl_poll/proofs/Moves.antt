@@ -15,8 +15,8 @@ use Rattle.sl_model.specs.Setup.{Setup}
 use Rattle.sl_model.specs.Puts.{puts_of, action}
 use Rattle.sl_model.specs.World.{Entry, start, carried, front, taking, acting, floor_for, step_by, next_step, after, turn, run}
 use Rattle.sl_model.specs.Turns.{GrowsAt}
-use Rattle.sl_model.proofs.Turns.{grows-after, next-within, taken-this, taken-other}
-use Rattle.sl_model.proofs.Ran.{carried-more}
+use Rattle.sl_model.proofs.Worlds.Turns.{grows-after, next-within, taken-this, taken-other}
+use Rattle.sl_model.proofs.Worlds.Ran.{carried-more}
 
 abbrev pub Sized : Setup → World → Type 0
 Sized s w = length w ≡ length s.net.actors

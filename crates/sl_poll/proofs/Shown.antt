@@ -29,7 +29,7 @@ use Rattle.sl_model.specs.History.{History, last, on_link, stamp_of, taken}
 use Rattle.sl_model.specs.Knowledge.{is_again, is_swept, issued, can_issue, can_resend}
 use Rattle.sl_model.specs.Puts.{send, send_all, crossbar_to, onward, route_frame, ingress_puts, is_own_port, egress_puts, side_puts, notice_puts, dump_puts, id_after, unit_puts, poll_puts, dump_answer, control_puts, begin_all, guarded, puts_of, action}
 use Rattle.sl_model.specs.Setup.{Setup, frames_of}
-use Rattle.sl_model.proofs.Polls.{on-append, send-off, polls-else, again-else}
+use Rattle.sl_model.proofs.Saved.Polls.{on-append, send-off, polls-else, again-else}
 use Rattle.sl_poll.specs.declared.way.Way.TheVariants.{Along, Across}
 use Rattle.sl_poll.specs.declared.way.Sends.{Sends}
 use Rattle.sl_poll.specs.Ways.{bears, links_by, to_port, routed, from_ingress, from_egress, from_side, sends_of, injected, frames_for}

@@ -2,9 +2,9 @@
 use Rattle.std.proofs.Common.{◌≡◌, ℕ, zero, suc, ◌+◌, ◌<◌, ◌≤◌, ◌⊎◌, List, [], ◌∷◌, length, get_or, take, refl, sym, ap, subst, ◌∙◌, Option, Some, None, arith, inl, inr, eq-eqb}
 use Rattle.std.specs.Prelude.{Bool, true, false, cond, map, nat_eq, nat_le, unwrap_or, option_map, find, ◌==◌, if◌then◌else◌}
 use Rattle.std.proofs.lemmas.Bool.Decides.{eqb_tells, leb_tells}
-use Rattle.sl_parts.specs.Lists.{Member, Distinct}
+use Rattle.sl_parts.specs.Lists.{Member}
 use Rattle.sl_parts.specs.Parts.{below}
-use Rattle.sl_parts.proofs.Lists.{inside, distinct-filter, distinct-from, each-passes, each-index}
+use Rattle.sl_parts.proofs.Lists.{inside, distinct-filter, distinct-from, each-passes, each-index, Distinct}
 use Rattle.sl_layout.proofs.Grouping.{map_same}
 use Rattle.sl_net.specs.declared.input.Packet.{Packet}
 use Rattle.sl_layout.specs.declared.actor.ActorId.{ActorId}

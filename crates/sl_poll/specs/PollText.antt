@@ -1,3 +1,4 @@
+-- Trusted text.
 -- The text of a reading. Each line ends with a newline; numbers are decimal.
 use Rattle.std.specs.Prelude.{ℕ, List, ◌++◌, flat_map, Option, Some, None, codes, decimal}
 use Rattle.sl_layout.specs.Net.{Net, link_of, choice_of}

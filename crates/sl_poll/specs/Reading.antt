@@ -1,3 +1,4 @@
+-- Trusted text.
 -- Polling: the units are read one after the other, the unit at the place i after the first S + i G entries of a schedule, or after all.
 --     reads ..       what each unit counted until it was read
 --     breaks ..      whether a packet was taken before its receiver was read, and put after its sender was

@@ -1,3 +1,4 @@
+-- Trusted text, but for count_of, count_by, counted_from, all_counted.
 -- What a schedule does with data packets, by the numbers of its entries from 1.
 --     pairs s lost es      the data packets taken on data channels, in the order of the taking entries, each with the entries that put and took it
 --     counted s lost es    the steps of units that count a data packet, each with its entry and the bytes

@@ -1,5 +1,6 @@
 // A run followed link by link, as far as data packets go by.
-ghost use Rattle.std.specs.Prelude.{◌≡◌, ◌<◌, ◌∷◌, ◌++◌, [], IfOk, OnOk, Some, cond, map, length, slice_get};
+ghost use Rattle.std.specs.Prelude.{◌≡◌, ◌<◌, ◌∷◌, ◌++◌, [], IfOk, OnOk, Some, cond, map, length};
+ghost use Rattle.std.specs.Prelude.{slice_get};
 ghost use Rattle.std.specs.List.{All};
 ghost use Rattle.sl_parts.specs.Parts.{below};
 ghost use Rattle.sl_flow.specs.Flow.{HasAddresses};
@@ -10,7 +11,8 @@ ghost use Rattle.sl_model.specs.Setup.{setup_of};
 ghost use Rattle.sl_poll.specs.Hearing.{Hears};
 ghost use Rattle.sl_poll.specs.Lanes.{put_each, AreFew};
 ghost use Rattle.sl_poll.specs.Trail.{count_of};
-ghost use Rattle.sl_poll.specs.Ways.{leads, links_by, send_by, first_mark, rest_of, packet_on, paired, counts, injected};
+ghost use Rattle.sl_poll.specs.Ways.{leads, links_by, send_by, first_mark, rest_of, packet_on};
+ghost use Rattle.sl_poll.specs.Ways.{paired, counts, injected};
 ghost use Rattle.sl_poll.specs.Ways.{next_of, first_lane, first_feed, feed_at};
 ghost use Rattle.sl_poll.specs.Ways.{lanes_after, feeds_after, pairs_told, counts_told};
 
@@ -41,7 +43,8 @@ fn first_lane(alloc: Global, input: &Input, link: u32) -> Result<Lane, Memory>
 }
 
 fn list_lanes(alloc: Global, input: &Input) -> Result<Vec<Lane>, Memory>
-    ensures { IfOk result (λ lanes. lanes.items ≡ map (first_lane input.now) (below (length input.now.net.links))) }
+    ensures { IfOk result
+        (λ lanes. lanes.items ≡ map (first_lane input.now) (below (length input.now.net.links))) }
 {
     let mut lanes = Vec::new(alloc);
     for link in 0..input.net.links().len() as u32 {
@@ -53,8 +56,12 @@ fn list_lanes(alloc: Global, input: &Input) -> Result<Vec<Lane>, Memory>
 /// The course of a run in which nothing has happened.
 pub fn first_course(alloc: Global, input: &Input) -> Result<Course, Memory>
     requires { All HasAddresses input.now.flows }
-    ensures lanes { IfOk result (λ course. course.lanes.items ≡ map (first_lane input.now) (below (length input.now.net.links))) }
-    ensures feeds { IfOk result (λ course. course.feeds.items ≡ map (first_feed (setup_of input.now)) (below (length input.now.net.actors))) }
+    ensures lanes { IfOk result
+        (λ course. course.lanes.items ≡ map (first_lane input.now)
+        (below (length input.now.net.links))) }
+    ensures feeds { IfOk result
+        (λ course. course.feeds.items ≡ map (first_feed (setup_of input.now))
+        (below (length input.now.net.actors))) }
 {
     Ok(Course {
         lanes: list_lanes(alloc, input)?,
@@ -65,7 +72,8 @@ pub fn first_course(alloc: Global, input: &Input) -> Result<Course, Memory>
 fn put_if(lanes: &mut Vec<Lane>, passes: bool, link: u32, mark: Mark) -> Result<(), Memory>
     requires link { link < length lanes.old.items }
     requires few { AreFew lanes.old.items }
-    ensures lanes { OnOk result (lanes.new.items ≡ put_each mark (cond passes (link ∷ []) []) lanes.old.items) }
+    ensures lanes { OnOk result
+        (lanes.new.items ≡ put_each mark (cond passes (link ∷ []) []) lanes.old.items) }
     ensures few { OnOk result (AreFew lanes.new.items) }
     ensures each { OnOk result (length lanes.new.items ≡ length lanes.old.items) }
 {
@@ -81,7 +89,8 @@ fn put_all(lanes: &mut Vec<Lane>, net: &Net, actor: u32, way: Way, mark: Mark) -
     requires actor { actor < length net.now.actors }
     requires each { length lanes.old.items ≡ length net.now.links }
     requires few { AreFew lanes.old.items }
-    ensures lanes { OnOk result (lanes.new.items ≡ put_each mark (links_by net.now actor way) lanes.old.items) }
+    ensures lanes { OnOk result
+        (lanes.new.items ≡ put_each mark (links_by net.now actor way) lanes.old.items) }
     ensures few { OnOk result (AreFew lanes.new.items) }
     ensures each { OnOk result (length lanes.new.items ≡ length net.now.links) }
 {
@@ -101,7 +110,8 @@ fn send(
     requires actor { actor < length net.now.actors }
     requires each { length lanes.old.items ≡ length net.now.links }
     requires few { AreFew lanes.old.items }
-    ensures lanes { OnOk result (lanes.new.items ≡ send_by net.now entry actor sends lanes.old.items) }
+    ensures lanes { OnOk result
+        (lanes.new.items ≡ send_by net.now entry actor sends lanes.old.items) }
     ensures few { OnOk result (AreFew lanes.new.items) }
     ensures each { OnOk result (length lanes.new.items ≡ length net.now.links) }
 {
@@ -147,7 +157,8 @@ fn tell_pair<L: Listener>(
     mark: Option<Mark>,
 ) -> Result<(), Memory>
     requires { link < length net.now.links }
-    ensures { OnOk result (Hears L.heard net.now listener.old listener.new (paired data_channel link entry mark) []) }
+    ensures { OnOk result
+        (Hears L.heard net.now listener.old listener.new (paired data_channel link entry mark) []) }
 {
     let Some(mark) = mark else {
         return Ok(());
@@ -175,7 +186,9 @@ fn tell_count<L: Listener>(
     entry: u64,
     packet: Option<Packet>,
 ) -> Result<(), Memory>
-    ensures { (net : NetData) → OnOk result (Hears L.heard net listener.old listener.new [] (count_of unit entry packet)) }
+    ensures { (net : NetData)
+        → OnOk result
+        (Hears L.heard net listener.old listener.new [] (count_of unit entry packet)) }
 {
     if let Some(packet) = packet {
         listener.hear_count(Counted {
@@ -195,7 +208,8 @@ fn tell_counts<L: Listener>(
     packet: Option<Packet>,
 ) -> Result<(), Memory>
     requires { actor < length net.now.actors }
-    ensures { OnOk result (Hears L.heard net.now listener.old listener.new [] (counts net.now actor entry packet)) }
+    ensures { OnOk result
+        (Hears L.heard net.now listener.old listener.new [] (counts net.now actor entry packet)) }
 {
     if is_unit(net.actor(actor)) {
         tell_count(listener, net.unit_place(actor), entry, packet)?;
@@ -218,12 +232,16 @@ fn follow_take<L: Listener>(
     requires link { link < length net.now.links }
     requires each { length course.old.lanes.items ≡ length net.now.links }
     requires few { AreFew course.old.lanes.items }
-    ensures lanes { OnOk result (course.new.lanes.items ≡ lanes_after net.now entry actor (Some link) course.old.lanes.items course.old.feeds.items) }
+    ensures lanes { OnOk result
+        (course.new.lanes.items ≡ lanes_after net.now entry actor
+        (Some link) course.old.lanes.items course.old.feeds.items) }
     ensures feeds { OnOk result (course.new.feeds.items ≡ course.old.feeds.items) }
     ensures few { OnOk result (AreFew course.new.lanes.items) }
     ensures each { OnOk result (length course.new.lanes.items ≡ length net.now.links) }
     ensures heard { let lanes = course.old.lanes.items in
-        OnOk result (Hears L.heard net.now listener.old listener.new (pairs_told net.now entry (Some link) lanes) (counts_told net.now entry actor (Some link) lanes)) }
+        OnOk result (Hears L.heard net.now listener.old listener.new
+        (pairs_told net.now entry (Some link) lanes)
+        (counts_told net.now entry actor (Some link) lanes)) }
 {
     let sort = net.link(link).sort;
     let mark = take_first(&mut course.lanes, link, bears(sort));
@@ -253,8 +271,10 @@ fn follow_action(course: &mut Course, net: &Net, entry: u64, actor: u32) -> Resu
     requires few { AreFew course.old.lanes.items }
     requires feeds { length course.old.feeds.items ≡ length net.now.actors }
     ensures lanes { let frame = next_of (feed_at course.old.feeds.items actor) in
-        OnOk result (course.new.lanes.items ≡ send_by net.now entry actor (injected frame) course.old.lanes.items) }
-    ensures feeds { OnOk result (course.new.feeds.items ≡ feeds_after actor None course.old.feeds.items) }
+        OnOk result (course.new.lanes.items ≡ send_by net.now entry actor
+        (injected frame) course.old.lanes.items) }
+    ensures feeds { OnOk result
+        (course.new.feeds.items ≡ feeds_after actor None course.old.feeds.items) }
     ensures few { OnOk result (AreFew course.new.lanes.items) }
     ensures each { OnOk result (length course.new.lanes.items ≡ length net.now.links) }
 {
@@ -278,14 +298,16 @@ pub fn follow<L: Listener>(
     requires few { AreFew course.old.lanes.items }
     requires feeds { length course.old.feeds.items ≡ length net.now.actors }
     ensures lanes { let link = slice_get (links_into net.now actor) choice in
-        OnOk result (course.new.lanes.items ≡ lanes_after net.now entry actor link course.old.lanes.items course.old.feeds.items) }
+        OnOk result (course.new.lanes.items ≡ lanes_after net.now
+        entry actor link course.old.lanes.items course.old.feeds.items) }
     ensures feeds { let link = slice_get (links_into net.now actor) choice in
         OnOk result (course.new.feeds.items ≡ feeds_after actor link course.old.feeds.items) }
     ensures few { OnOk result (AreFew course.new.lanes.items) }
     ensures each { OnOk result (length course.new.lanes.items ≡ length net.now.links) }
     ensures heard { let lanes = course.old.lanes.items in
         let link = slice_get (links_into net.now actor) choice in
-        OnOk result (Hears L.heard net.now listener.old listener.new (pairs_told net.now entry link lanes) (counts_told net.now entry actor link lanes)) }
+        OnOk result (Hears L.heard net.now listener.old listener.new
+        (pairs_told net.now entry link lanes) (counts_told net.now entry actor link lanes)) }
 {
     match net.links_into(actor).get(choice as usize) {
         Some(link) => follow_take(course, listener, net, routes, entry, actor, *link),

@@ -5,7 +5,8 @@ ghost use Rattle.sl_parts.specs.Parts.{below};
 ghost use Rattle.sl_flow.specs.Flow.{HasAddresses, packets_of};
 ghost use Rattle.sl_model.specs.Frame.{packet_of};
 ghost use Rattle.sl_model.specs.Setup.{setup_of, frames_of};
-ghost use Rattle.sl_poll.specs.Ways.{next_of, after_next, frames_for, packets_in, raws_in, first_feed};
+ghost use Rattle.sl_poll.specs.Ways.{next_of, after_next, frames_for, packets_in, raws_in};
+ghost use Rattle.sl_poll.specs.Ways.{first_feed};
 
 use sl_flow::packets_of;
 use sl_input::packet_of;
@@ -53,7 +54,9 @@ fn add_packets(frames: &mut Vec<Option<Packet>>, packets: &[Packet]) -> Result<(
 }
 
 fn add_raw(frames: &mut Vec<Option<Packet>>, raw: &RawPart, host: u32) -> Result<(), Memory>
-    ensures { OnOk result (frames.new.items ≡ frames.old.items ++ cond (raw.now.from == host) (packet_of raw.now.bytes ∷ []) []) }
+    ensures { OnOk result
+        (frames.new.items ≡ frames.old.items ++ cond (raw.now.from == host)
+        (packet_of raw.now.bytes ∷ []) []) }
 {
     if raw.from == host {
         frames.push(packet_of(&raw.bytes))?;
@@ -75,7 +78,9 @@ fn add_raws(frames: &mut Vec<Option<Packet>>, raws: &[RawPart], host: u32) -> Re
 /// The packets of the frames that a host sends, in order.
 fn frames_of(alloc: Global, input: &Input, host: u32) -> Result<Vec<Option<Packet>>, Memory>
     requires { All HasAddresses input.now.flows }
-    ensures { IfOk result (λ frames. frames.items ≡ packets_in (packets_of input.now.flows host) ++ raws_in input.now.raws host) }
+    ensures { IfOk result
+        (λ frames. frames.items ≡ packets_in (packets_of input.now.flows host)
+        ++ raws_in input.now.raws host) }
 {
     let packets = packets_of(alloc, host, input.flows.as_slice())?;
     let mut frames = Vec::new(alloc);
@@ -87,7 +92,8 @@ fn frames_of(alloc: Global, input: &Input, host: u32) -> Result<Vec<Option<Packe
 #[tactic(auto, using(crate::proofs::Feeds::frames_are))]
 fn frames_for(alloc: Global, input: &Input, actor: ActorId) -> Result<Vec<Option<Packet>>, Memory>
     requires { All HasAddresses input.now.flows }
-    ensures { IfOk result (λ frames. frames.items ≡ map packet_of (frames_for (setup_of input.now) actor)) }
+    ensures { IfOk result
+        (λ frames. frames.items ≡ map packet_of (frames_for (setup_of input.now) actor)) }
 {
     match actor {
         ActorId::Host(host) => Ok(frames_of(alloc, input, host)?),
@@ -107,7 +113,9 @@ fn first_feed(alloc: Global, input: &Input, actor: u32) -> Result<Feed, Memory>
 /// For each actor what it sends that is a host.
 pub fn list_feeds(alloc: Global, input: &Input) -> Result<Vec<Feed>, Memory>
     requires { All HasAddresses input.now.flows }
-    ensures { IfOk result (λ feeds. feeds.items ≡ map (first_feed (setup_of input.now)) (below (length input.now.net.actors))) }
+    ensures { IfOk result
+        (λ feeds. feeds.items ≡ map (first_feed (setup_of input.now))
+        (below (length input.now.net.actors))) }
 {
     let mut feeds = Vec::new(alloc);
     for actor in 0..input.net.actors().len() as u32 {

@@ -34,7 +34,8 @@ impl Model for Lane {
 }
 
 fn push_unless(queue: &mut VecDeque<Mark>, lost: bool, mark: Mark) -> Result<(), Memory>
-    ensures { OnOk result (queue.new.items ≡ (if lost then queue.old.items else queue.old.items ++ mark ∷ [])) }
+    ensures { OnOk result
+        (queue.new.items ≡ (if lost then queue.old.items else queue.old.items ++ mark ∷ [])) }
 {
     if !lost {
         queue.push_back(mark)?;

@@ -13,7 +13,8 @@ use sl_model::{histories_only_grow, worlds_take_turns};
 /// A reading that no packet breaks is a consistent cut of data packets (Chandy, Lamport 1985),
 /// whenever the units were read.
 pub fn whole_readings_are_cuts()
-    ensures { (s : Setup) (lost : Losses) (es : List Entry) (begin gap : ℕ) → broken_by s lost es begin gap ≡ None
+    ensures { (s : Setup) (lost : Losses) (es : List Entry) (begin gap : ℕ)
+        → broken_by s lost es begin gap ≡ None
         → IsDataCut s.net lost (world s lost es) (steps_read s lost es begin gap) }
 {
     worlds_take_turns();
@@ -23,7 +24,8 @@ pub fn whole_readings_are_cuts()
 /// A reading that a packet breaks is none.
 pub fn broken_readings_are_no_cut()
     ensures { (s : Setup) (lost : Losses) (es : List Entry) (begin gap : ℕ) (p : Pair)
-        → broken_by s lost es begin gap ≡ Some p → IsDataCut s.net lost (world s lost es) (steps_read s lost es begin gap) → ⊥ }
+        → broken_by s lost es begin gap ≡ Some p
+        → IsDataCut s.net lost (world s lost es) (steps_read s lost es begin gap) → ⊥ }
 {
     worlds_take_turns();
     histories_only_grow()

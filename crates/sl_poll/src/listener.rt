@@ -21,7 +21,8 @@ pub trait Listener {
 
     /// A step counted a data packet.
     fn hear_count(&mut self, counted: Counted) -> Result<(), Memory>
-        ensures { (net : NetData) → OnOk result (Hears heard net self.old self.new [] (counted ∷ [])) };
+        ensures { (net : NetData)
+            → OnOk result (Hears heard net self.old self.new [] (counted ∷ [])) };
 }
 
 /// A trail keeps all that it is told.

@@ -48,7 +48,8 @@ fn breaks(net: &Net, pace: Pace, pair: Pair) -> bool
 /// The packet that broke the reading before, or else this one where it breaks it.
 fn first_broken(broken: Option<Pair>, net: &Net, pace: Pace, pair: Pair) -> Option<Pair>
     requires { pair.link < length net.now.links }
-    ensures { result ≡ option_or broken (find (breaks net.now pace.count pace.start pace.gap) (pair ∷ [])) }
+    ensures { result ≡ option_or broken
+        (find (breaks net.now pace.count pace.start pace.gap) (pair ∷ [])) }
 {
     if broken.is_none() && breaks(net, pace, pair) {
         return Some(pair);
@@ -72,9 +73,11 @@ impl Polling {
 
     /// What was read of all units.
     pub fn finish(self, alloc: Global, net: &Net) -> Result<Polled, Memory>
-        ensures reads { (first : Polling) (ps : List PairOf) (cs : List CountedStep) → HasRead net.now first self ps cs
+        ensures reads { (first : Polling) (ps : List PairOf) (cs : List CountedStep)
+            → HasRead net.now first self ps cs
             → let at = read_after first.pace.count first.pace.start first.pace.gap in
-            IfOk result (λ polled. polled.reads ≡ map (read_by at cs) (below (length (units net.now)))) }
+            IfOk result (λ polled. polled.reads ≡ map (read_by at cs)
+            (below (length (units net.now)))) }
         ensures broken { IfOk result (λ polled. polled.broken ≡ self.broken) }
     {
         let count = net.unit_count();
@@ -137,11 +140,14 @@ pub fn reading_of(
     gap: u64,
 ) -> Result<Polled, Memory>
     requires { All (λ p. p.link < length net.now.links) trail.now.pairs }
-    ensures reads { IfOk result (λ polled. (s : Setup) (lost : Losses) (es : List Entry) → s.net ≡ net.now → length es ≡ count
+    ensures reads { IfOk result (λ polled. (s : Setup) (lost : Losses) (es : List Entry)
+        → s.net ≡ net.now → length es ≡ count
         → trail.now.counted ≡ all_counted s lost es → polled.reads ≡ reads s lost es start gap) }
-    ensures broken { IfOk result (λ polled. (s : Setup) (lost : Losses) (es : List Entry) → s.net ≡ net.now → length es ≡ count
+    ensures broken { IfOk result (λ polled. (s : Setup) (lost : Losses) (es : List Entry)
+        → s.net ≡ net.now → length es ≡ count
         → trail.now.pairs ≡ pairs s lost es → polled.broken ≡ broken_by s lost es start gap) }
-    ensures link { IfOk result (λ polled. IfSome polled.broken (λ p. p.link < length net.now.links)) }
+    ensures link { IfOk result
+        (λ polled. IfSome polled.broken (λ p. p.link < length net.now.links)) }
 {
     worlds_take_turns();
     nets_have_ways();

@@ -1,3 +1,4 @@
+// Trusted types: Read1.
 // Readings of units.
 use crate::listed::Listed;
 use crate::trail::Pair;

@@ -37,8 +37,10 @@ fn no_trail(alloc: Global) -> Trail
 pub fn trail_of(alloc: Global, input: &Input, schedule: &[(u32, u32)]) -> Result<Trail, Memory>
     requires addresses { All HasAddresses input.now.flows }
     requires legal { IsLegal (setup_of input.now) (losses input.now) schedule.now }
-    ensures pairs { IfOk result (λ t. t.pairs ≡ pairs (setup_of input.now) (losses input.now) schedule.now) }
-    ensures counted { IfOk result (λ t. t.counted ≡ all_counted (setup_of input.now) (losses input.now) schedule.now) }
+    ensures pairs { IfOk result
+        (λ t. t.pairs ≡ pairs (setup_of input.now) (losses input.now) schedule.now) }
+    ensures counted { IfOk result
+        (λ t. t.counted ≡ all_counted (setup_of input.now) (losses input.now) schedule.now) }
 {
     let mut trail = no_trail(alloc);
     walk(alloc, input, schedule, &mut trail)?;
@@ -64,9 +66,14 @@ pub fn poll_of(
 ) -> Result<Polled, Memory>
     requires addresses { All HasAddresses input.now.flows }
     requires legal { IsLegal (setup_of input.now) (losses input.now) schedule.now }
-    ensures reads { IfOk result (λ polled. polled.reads ≡ reads (setup_of input.now) (losses input.now) schedule.now start gap) }
-    ensures broken { IfOk result (λ polled. polled.broken ≡ broken_by (setup_of input.now) (losses input.now) schedule.now start gap) }
-    ensures link { IfOk result (λ polled. IfSome polled.broken (λ p. p.link < length input.now.net.links)) }
+    ensures reads { IfOk result
+        (λ polled. polled.reads ≡ reads (setup_of input.now)
+        (losses input.now) schedule.now start gap) }
+    ensures broken { IfOk result
+        (λ polled. polled.broken ≡ broken_by (setup_of input.now)
+        (losses input.now) schedule.now start gap) }
+    ensures link { IfOk result
+        (λ polled. IfSome polled.broken (λ p. p.link < length input.now.net.links)) }
 {
     worlds_take_turns();
     nets_have_ways();

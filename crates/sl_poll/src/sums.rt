@@ -49,7 +49,9 @@ fn with_one(sum: Sum, counted: Counted) -> Result<Sum, Memory>
 
 /// Adds a step to the sum of its unit, where it comes before this is read.
 pub fn add_one(sums: &mut Vec<Sum>, pace: Pace, counted: Counted) -> Result<(), Memory>
-    ensures { OnOk result (sums.new.items ≡ add_one (read_after pace.count pace.start pace.gap) counted sums.old.items) }
+    ensures { OnOk result
+        (sums.new.items ≡ add_one (read_after pace.count pace.start pace.gap)
+        counted sums.old.items) }
 {
     let place = counted.unit as usize;
     if counted.entry <= read_after(pace, counted.unit) && place < sums.len() {
@@ -96,7 +98,10 @@ pub fn list_reads(
     sums: &[Sum],
     count: u32,
 ) -> Result<Vec<Read1>, AllocError>
-    ensures { IfOk result (λ reads. reads.items ≡ map (read_of_sum (read_after pace.count pace.start pace.gap) sums.now) (below count)) }
+    ensures { IfOk result
+        (λ reads. reads.items
+        ≡ map (read_of_sum (read_after pace.count pace.start pace.gap) sums.now)
+        (below count)) }
 {
     let mut reads = Vec::new(alloc);
     for place in 0..count {

@@ -1,6 +1,8 @@
 // The text of a reading.
-ghost use Rattle.std.specs.Prelude.{◌≡◌, ◌<◌, ◌++◌, Some, IfOk, OnOk, IfSome, length, flat_map, codes, string_bytes};
-ghost use Rattle.sl_poll.specs.PollText.{link_text, counts_text, read_line, times_text, broken_line, poll_text};
+ghost use Rattle.std.specs.Prelude.{◌≡◌, ◌<◌, ◌++◌, Some, IfOk, OnOk, IfSome, length, flat_map};
+ghost use Rattle.std.specs.Prelude.{codes, string_bytes};
+ghost use Rattle.sl_poll.specs.PollText.{link_text, counts_text, read_line, times_text};
+ghost use Rattle.sl_poll.specs.PollText.{broken_line, poll_text};
 
 use crate::reading::{Polled, Read1};
 use crate::trail::Pair;
@@ -12,7 +14,8 @@ use std::alloc::{AllocError, Global};
 /// Writes what was read of a unit.
 #[tactic(auto, unfolding(crate::specs::PollText::counts_text))]
 fn push_read(out: &mut String, net: &Net, read: &Read1) -> Result<(), AllocError>
-    ensures { OnOk result (string_bytes out.new ≡ string_bytes out.old ++ read_line net.now read.now) }
+    ensures { OnOk result
+        (string_bytes out.new ≡ string_bytes out.old ++ read_line net.now read.now) }
 {
     let at = read.at;
     let packets = read.packets;
@@ -24,7 +27,8 @@ fn push_read(out: &mut String, net: &Net, read: &Read1) -> Result<(), AllocError
 
 #[tactic(auto, using(crate::proofs::Texts::reads_more))]
 fn push_reads(out: &mut String, net: &Net, reads: &[Read1]) -> Result<(), AllocError>
-    ensures { OnOk result (string_bytes out.new ≡ string_bytes out.old ++ flat_map (read_line net.now) reads.now) }
+    ensures { OnOk result
+        (string_bytes out.new ≡ string_bytes out.old ++ flat_map (read_line net.now) reads.now) }
 {
     for read in reads {
         push_read(out, net, read)?;
@@ -34,7 +38,8 @@ fn push_reads(out: &mut String, net: &Net, reads: &[Read1]) -> Result<(), AllocE
 
 /// The text of the head and of what was read.
 fn reads_bytes(alloc: Global, net: &Net, reads: &[Read1]) -> Result<Vec<u8>, AllocError>
-    ensures { IfOk result (λ bytes. bytes.items ≡ codes "poll 1\n" ++ flat_map (read_line net.now) reads.now) }
+    ensures { IfOk result
+        (λ bytes. bytes.items ≡ codes "poll 1\n" ++ flat_map (read_line net.now) reads.now) }
 {
     let mut out = String::new(alloc);
     write!(out, "poll 1\n")?;
@@ -92,7 +97,8 @@ fn push_broken(
 /// whole.
 pub fn polled_bytes(alloc: Global, net: &Net, polled: &Polled) -> Result<Vec<u8>, Memory>
     requires { IfSome polled.now.broken (λ p. p.link < length net.now.links) }
-    ensures { IfOk result (λ bytes. bytes.items ≡ poll_text net.now polled.now.reads polled.now.broken) }
+    ensures { IfOk result
+        (λ bytes. bytes.items ≡ poll_text net.now polled.now.reads polled.now.broken) }
 {
     let mut out = reads_bytes(alloc, net, polled.reads.items.as_slice())?;
     push_broken(alloc, &mut out, net, polled.broken)?;

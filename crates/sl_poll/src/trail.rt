@@ -1,3 +1,4 @@
+// Trusted types: Pair.
 // What a run did with data packets.
 use crate::listed::Listed;
 

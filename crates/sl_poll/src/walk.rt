@@ -29,7 +29,8 @@ pub fn walk<L: Listener>(
     requires legal { IsLegal (setup_of input.now) (losses input.now) schedule.now }
     requires first { L.heard input.now.net listener.old listener.old [] [] }
     ensures { let s = setup_of input.now in let lost = losses input.now in
-        OnOk result (L.heard input.now.net listener.old listener.new (pairs s lost schedule.now) (all_counted s lost schedule.now)) }
+        OnOk result (L.heard input.now.net listener.old listener.new (pairs s lost schedule.now)
+        (all_counted s lost schedule.now)) }
 {
     worlds_take_turns();
     losses_answer_in_order();

@@ -5,7 +5,8 @@ ghost use Rattle.sl_route.specs.Routes.{IsRoutesOf};
 ghost use Rattle.sl_model.specs.Matching.{is_data};
 ghost use Rattle.sl_model.specs.Puts.{is_own_port};
 ghost use Rattle.sl_layout.specs.declared.actor.ActorId.{ActorId};
-ghost use Rattle.sl_poll.specs.Ways.{bears, leads, to_port, routed, from_ingress, from_egress, from_side, sends_of};
+ghost use Rattle.sl_poll.specs.Ways.{bears, leads, to_port, routed, from_ingress, from_egress};
+ghost use Rattle.sl_poll.specs.Ways.{from_side, sends_of};
 
 use sl_net::{ActorId, Net, Packet, Side, Sort, UnitId};
 use sl_route::Routes;

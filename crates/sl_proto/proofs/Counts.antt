@@ -22,7 +22,7 @@ use Rattle.sl_net.specs.Ways.{HasWays}
 use Rattle.sl_layout.proofs.Actors.{place-at}
 use Rattle.std.proofs.lemmas.Simd.{map-map}
 use Rattle.std.proofs.lemmas.List.FromFn.{length-range_with_len, map-range_with_len_more}
-use Rattle.sl_model.proofs.SortCounts.{all_at}
+use Rattle.sl_model.proofs.Bounded.SortCounts.{all_at}
 use Rattle.sl_unit.specs.Step.{UnitState, counts_of}
 use Rattle.sl_layout.specs.Devices.{device_of}
 use Rattle.sl_unit.specs.Made.{wires_of, entrance_by, exit_by, ports_of, ingress_state, egress_state}

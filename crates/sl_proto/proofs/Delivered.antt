@@ -11,15 +11,16 @@ use Rattle.sl_wire.specs.Sizes.{Sizes}
 use Rattle.sl_model.specs.declared.message.Message.{Message}
 use Rattle.sl_model.specs.declared.message.Message.TheVariants.{Done as DoneMsg}
 use Rattle.sl_model.specs.declared.message.Put.{Put}
-use Rattle.sl_parts.specs.Lists.{Each, Member, Distinct}
+use Rattle.sl_parts.specs.Lists.{Each, Member}
 use Rattle.sl_model.specs.History.{History, Losses, put, on_link, without_lost}
-use Rattle.sl_image.specs.Messages.{IsMessage}
+use Rattle.sl_simulation.specs.Messages.{IsMessage}
 use Rattle.sl_world.specs.Scene.{Line, line_at, empty_line, line_put, put_at, put_each}
 use Rattle.sl_proto.specs.Image.{tell_all, told_on, ArePut}
 use Rattle.sl_proto.specs.Spread.{ArePutFrom}
 use Rattle.sl_proto.proofs.Spread.{link_in_put}
 use Rattle.sl_proto.proofs.Queues.{retold}
 use Rattle.sl_proto.proofs.Lines.{IsLine, line-put}
+use Rattle.sl_parts.proofs.Lists.{Distinct}
 
 abbrev pub LinesAre : Net → Sizes → (ℕ → History) → Losses → (ℕ → ℕ → ℕ) → (ℕ → ℕ) → (ℕ → List Message) → List (Line Msg) → Type 0
 LinesAre net sizes us lost told n base lines = (k : ℕ) → k < length net.links → IsLine net sizes us (link_of net k).from (lost k) (told k) (n k) (base k) (line_at lines k)

@@ -9,7 +9,7 @@ use Rattle.sl_layout.specs.Net.{Net, actor_of}
 use Rattle.sl_net.specs.Wired.{IsNet}
 use Rattle.sl_wire.specs.declared.message.Msg.{Msg}
 use Rattle.sl_observe.specs.Observer.{ObserverState}
-use Rattle.sl_image.specs.ObserverImage.{IsObserverOf}
+use Rattle.sl_simulation.specs.ObserverImage.{IsObserverOf}
 use Rattle.sl_model.specs.History.{World, Losses}
 use Rattle.sl_model.specs.Setup.{Setup}
 use Rattle.sl_model.specs.Knowledge.{floor, issued, observer}
@@ -17,7 +17,7 @@ use Rattle.sl_model.specs.World.{Entry, IsLossTable, world, run, kept_from}
 use Rattle.sl_model.specs.Schedule.{settling_pass, sweeps, resend_entry}
 use Rattle.sl_model.specs.End.{settle, finish, sweep_round, is_collected, rose, Settled, IsFin, IsFinished}
 use Rattle.sl_model.specs.Books.{schedule_of}
-use Rattle.sl_model.proofs.Finished.{settle-settled}
+use Rattle.sl_model.proofs.Finishing.Finished.{settle-settled}
 use Rattle.sl_world.specs.Scene.{Scene}
 use Rattle.sl_proto.specs.declared.finishing.Round.{Round}
 use Rattle.sl_proto.specs.declared.finishing.Round.TheVariants.{Ended, Again, Short}

@@ -14,8 +14,8 @@ use Rattle.sl_model.specs.Books.{schedule_of}
 use Rattle.sl_model.specs.Schedule.{settling_pass, sweeps, resend_entry, passes_of, expand_one, expand}
 use Rattle.sl_model.specs.End.{settle, finish, then_from, again_from, sweep_round, after_sweeps, is_collected, rose, IsFin}
 use Rattle.sl_parts.proofs.Lists.{flat_map_below_more}
-use Rattle.sl_model.proofs.Trails.{kept-append}
-use Rattle.sl_model.proofs.Finished.{append-splits, then-splits}
+use Rattle.sl_model.proofs.Worlds.Trails.{kept-append}
+use Rattle.sl_model.proofs.Finishing.Finished.{append-splits, then-splits}
 use Rattle.sl_world.specs.Scene.{Scene}
 use Rattle.sl_proto.specs.Nodes.{NodeState}
 use Rattle.sl_proto.specs.Standing.{Case, world_of, run_at, StandsFor}

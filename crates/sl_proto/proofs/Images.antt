@@ -41,6 +41,7 @@ use Rattle.sl_proto.proofs.Queues.{tell_all-append, untold, heard-told, queue-gr
 use Rattle.sl_proto.proofs.Known.{way-there, told-there}
 use Rattle.sl_proto.proofs.Lines.{IsLine}
 use Rattle.sl_proto.proofs.Delivered.{LinesAre, told_last, all-put, to-send}
+use Rattle.sl_model.proofs.Saved.Polls.{lost-none}
 
 -- The links of a world: what was told to the receiver, how many it took, and what was put.
 
@@ -94,10 +95,6 @@ drop-none (suc n) (x ∷ xs) e = drop-none n xs e
 drop-past : {A : Type 0} (xs ys : List A) → drop (length xs) (xs ++ ys) ≡ ys
 drop-past [] ys = refl
 drop-past (x ∷ xs) ys = drop-past xs ys
-
-lost-none : (lost : ℕ → Bool) (n : ℕ) (ms : List Message) → ((k : ℕ) → lost k ≡ false) → without_lost lost n ms ≡ ms
-lost-none lost n [] h = refl
-lost-none lost n (m ∷ ms) h = ap (λ b. if b then without_lost lost (suc n) ms else m ∷ without_lost lost (suc n) ms) (h (suc n)) ∙ ap (λ r. m ∷ r) (lost-none lost (suc n) ms h)
 
 -- Choices.
 

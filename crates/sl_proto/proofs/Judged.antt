@@ -1,10 +1,10 @@
 -- What accounts of units say of a number, unit by unit.
 use Rattle.std.proofs.Common.{◌≡◌, ℕ, zero, suc, ◌+◌, ◌-◌, ◌<◌, ◌≤◌, List, [], ◌∷◌, ◌++◌, length, refl, sym, ap, subst, ◌∙◌, Option, Some, None, arith, inl, inr, take, drop, get_or, eq-eqb}
-use Rattle.std.specs.Prelude.{◌⊎◌, ◌==◌, true, false, nat_lt, nat_le, nat_eq, min, if◌then◌else◌, map, slice_get, unwrap_or, option_and_then, slice_index}
+use Rattle.std.specs.Prelude.{◌⊎◌, true, false, nat_lt, nat_le, min, if◌then◌else◌, map, slice_get, unwrap_or, option_and_then, slice_index}
 use Rattle.std.specs.List.{fold}
 use Rattle.std.proofs.Math.Numerals.{add-one}
 use Rattle.std.proofs.lemmas.Bool.{ne_eqb}
-use Rattle.std.proofs.lemmas.Bool.Decides.{leb_tells, eqb_tells}
+use Rattle.std.proofs.lemmas.Bool.Decides.{leb_tells}
 use Rattle.std.proofs.lemmas.List.{at_drop_more, get_or-map, length-map, take_more, map_push}
 use Rattle.std.proofs.lemmas.Option.{slice_get-get_or}
 use Rattle.sl_layout.specs.Net.{Net, units}
@@ -21,8 +21,9 @@ use Rattle.sl_model.specs.Words.{first_from, first_told, or_later}
 use Rattle.sl_route.specs.Least.{least as least_here}
 use Rattle.sl_model.specs.Verdict.{lag_at, judged, place_or_zero}
 use Rattle.sl_model.specs.Accounts.{Account, row_of, behind, lag_by, cause_in, cause_by, floor_by, holds, verdict_by}
-use Rattle.sl_image.specs.ObserverImage.{account_of}
+use Rattle.sl_simulation.specs.ObserverImage.{account_of}
 use Rattle.sl_proto.specs.Told.{HasRows, HasAllRows, accounts_of, IsValue}
+use Rattle.sl_simulation.proofs.ObserverAccounts.{not-zero}
 
 -- Walks over the units.
 
@@ -53,13 +54,6 @@ silent-each {A} {B} f n (x ∷ xs) h = by_first (f x) refl (silent-each f (suc n
     by_first (Some y) e rest k = absurd (cc)
 
 -- Rows.
-
-not-zero : (k : ℕ) → 1 ≤ k → (k == 0) ≡ false
-not-zero k p = by_tells (eqb_tells k 0)
-  where
-    by_tells : ((nat_eq k 0 ≡ true) × (k ≡ 0)) ⊎ ((nat_eq k 0 ≡ false) × (k ≡ 0 → ⊥)) → (k == 0) ≡ false
-    by_tells (inl q) = absurd (let e : k ≡ 0 = q.1 in omega (arith, p, e))
-    by_tells (inr q) = q.0
 
 pub row_is_saved : (x : UnitState) (k : ℕ) → 1 ≤ k → saved_of x k ≡ row_of k (account_of x)
 row_is_saved x k p = ap (λ b. if b then None else slice_get x.rows (k - 1)) (not-zero k p)

@@ -31,6 +31,7 @@ use Rattle.sl_model.specs.Reported.{AreReported}
 use Rattle.sl_net.specs.Ways.{IsOut, HasWays}
 use Rattle.sl_proto.specs.Image.{told_by}
 use Rattle.sl_proto.proofs.Queues.{Told, IsThere, heard-told, told-all, untold}
+use Rattle.sl_model.proofs.Worlds.Passing.{listed-each}
 
 -- Whom a control plane tells of.
 
@@ -115,14 +116,6 @@ put-of passing s a d l (step ∷ h) z q m = each-append (SaidOf s.net a) (put l 
     (λ k there. each-at (PutOf s.net a) (record { link = l; message = k }) step.puts (step-of s a d h step z q m.0) there) (passing.by_link l step.puts))
 
 -- Numbers of messages.
-
-listed-each : (f : Message → Option ℕ) (b : ℕ) (ms : List Message) → Each (λ n. n ≤ b) (numbers f ms) → Each (λ m. (n : ℕ) → f m ≡ Some n → n ≤ b) ms
-listed-each f b [] e = tt
-listed-each f b (m ∷ ms) e = by_number (f m) (listed-each f b ms) e
-  where
-    by_number : (o : Option ℕ) → (Each (λ n. n ≤ b) (numbers f ms) → Each (λ m. (n : ℕ) → f m ≡ Some n → n ≤ b) ms) → Each (λ n. n ≤ b) (listed o ++ numbers f ms) → ((n : ℕ) → o ≡ Some n → n ≤ b) × Each (λ m. (n : ℕ) → f m ≡ Some n → n ≤ b) ms
-    by_number None ih e = ((λ n q. absurd (cc)), ih e)
-    by_number (Some k) ih e = ((λ n q. let s : k ≡ n = cc in subst (λ j. j ≤ b) s e.0), ih e.1)
 
 each-listed : (f : Message → Option ℕ) (b : ℕ) (ms : List Message) → Each (λ m. (n : ℕ) → f m ≡ Some n → n ≤ b) ms → Each (λ n. n ≤ b) (numbers f ms)
 each-listed f b [] e = tt

@@ -11,7 +11,7 @@ use Rattle.sl_wire.specs.Sizes.{Sizes}
 use Rattle.sl_model.specs.declared.message.Message.{Message}
 use Rattle.sl_model.specs.Words.{tally}
 use Rattle.sl_model.specs.History.{History, without_lost}
-use Rattle.sl_image.specs.Messages.{IsMessage}
+use Rattle.sl_simulation.specs.Messages.{IsMessage}
 use Rattle.sl_world.specs.Scene.{Line, line_put}
 use Rattle.sl_proto.specs.Image.{tell_all, AreQueued, GoesOn}
 use Rattle.sl_proto.proofs.Queues.{queue-push}

@@ -27,9 +27,9 @@ use Rattle.sl_model.specs.World.{next_step}
 use Rattle.sl_model.specs.Turns.{Takes, Acts, TakesTurns}
 use Rattle.sl_model.specs.Passing.{PassesMessages}
 use Rattle.sl_model.specs.Reported.{AreReported}
-use Rattle.sl_image.specs.ControlImage.{told_at}
-use Rattle.sl_image.specs.Simulates.{ActSimulates}
-use Rattle.sl_image.specs.Messages.{AreSent}
+use Rattle.sl_simulation.specs.ControlImage.{told_at}
+use Rattle.sl_simulation.specs.Simulates.{ActSimulates}
+use Rattle.sl_simulation.specs.Messages.{AreSent}
 use Rattle.sl_proto.specs.Image.{told_on, told_by, ArePut}
 use Rattle.sl_proto.proofs.Queues.{untold}
 use Rattle.sl_proto.proofs.Known.{TellsOf, SaidOf, PutOf, step-of, put-of, done-fits, unit-at, done-link}

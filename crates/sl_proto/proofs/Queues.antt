@@ -15,7 +15,7 @@ use Rattle.sl_parts.specs.Lists.{Each}
 use Rattle.sl_model.specs.Words.{listed}
 use Rattle.sl_model.specs.History.{History, World, history, first, done_of, takes}
 use Rattle.sl_model.specs.Turns.{GrowsAt}
-use Rattle.sl_image.specs.Messages.{IsMessage, SaysDump, SaysDone}
+use Rattle.sl_simulation.specs.Messages.{IsMessage, SaysDump, SaysDone}
 use Rattle.sl_proto.specs.Image.{tell, tell_all, told_by, AreQueued}
 
 -- What was told.

@@ -18,7 +18,7 @@ use Rattle.sl_model.specs.Knowledge.{observer, dumped, known}
 use Rattle.sl_model.specs.Made.{Ran}
 use Rattle.sl_model.specs.Passing.{PassesMessages}
 use Rattle.sl_model.specs.Reported.{AreReported}
-use Rattle.sl_image.specs.Messages.{AreSent}
+use Rattle.sl_simulation.specs.Messages.{AreSent}
 use Rattle.sl_proto.specs.Image.{tell, tell_all, told_on, told_by, ArePut}
 use Rattle.sl_proto.proofs.Queues.{retold, untold}
 

@@ -20,8 +20,8 @@ use Rattle.sl_model.specs.declared.message.Message.{Message}
 use Rattle.sl_model.specs.declared.message.Message.TheVariants.{Host as HostMsg, Data, Probe as ProbeMsg, Init as InitMsg, Poll as PollMsg, Notice as NoticeMsg, Dump as DumpMsg, Begin as BeginMsg, Done as DoneMsg}
 use Rattle.sl_model.specs.declared.message.Put.{Put}
 use Rattle.sl_model.specs.declared.message.Step.{Step}
-use Rattle.sl_parts.specs.Lists.{Each, Member, Distinct}
-use Rattle.sl_parts.proofs.Lists.{each-append, each-imp, each-flat, each-at, distinct-append, distinct-filter, distinct-from, each-filter, distinct-joined}
+use Rattle.sl_parts.specs.Lists.{Each, Member}
+use Rattle.sl_parts.proofs.Lists.{each-append, each-imp, each-flat, each-at, distinct-append, distinct-filter, distinct-from, each-filter, distinct-joined, Distinct}
 use Rattle.sl_model.specs.History.{History, World, Losses, history, last, stamp_of, taken, on_link}
 use Rattle.sl_model.specs.Setup.{Setup, frames_of}
 use Rattle.sl_model.specs.Frame.{plain_frame, packet_of}

@@ -32,14 +32,14 @@ use Rattle.sl_model.specs.Setup.{Setup, setup_of}
 use Rattle.sl_model.specs.Knowledge.{observer, issued, resent, floor, collected, upto_of}
 use Rattle.sl_model.specs.World.{Entry, world, sender}
 use Rattle.sl_model.specs.Findings.{is_ingress, ingress_units, drops_of, lost_on, sent_by, delivered_to, findings}
-use Rattle.sl_model.proofs.Weighed.{weigh_more, weigh_take, weigh_below_more}
+use Rattle.sl_model.proofs.Lists.Weighed.{weigh_more, weigh_take, weigh_below_more}
 use Rattle.sl_model.specs.Accounts.{finding_by}
 use Rattle.sl_model.specs.Turns.{TakesTurns}
-use Rattle.sl_image.specs.ObserverImage.{unit_of, observer_of, IsObserverOf}
+use Rattle.sl_simulation.specs.ObserverImage.{unit_of, observer_of, IsObserverOf}
 use Rattle.sl_model.specs.Rows.{row}
-use Rattle.sl_image.specs.UnitImage.{dropped}
-use Rattle.sl_image.proofs.ObserverUnits.{channels-are}
-use Rattle.sl_image.proofs.ObserverWorlds.{unit-at}
+use Rattle.sl_simulation.specs.UnitImage.{dropped}
+use Rattle.sl_simulation.proofs.ObserverUnits.{channels-are}
+use Rattle.sl_simulation.proofs.ObserverWorlds.{unit-at}
 use Rattle.sl_world.specs.Scene.{Scene}
 use Rattle.sl_proto.specs.Image.{IsImage}
 use Rattle.sl_proto.specs.Meaning.{StandsAs, NodeStands}

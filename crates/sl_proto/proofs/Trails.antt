@@ -10,8 +10,8 @@ use Rattle.sl_model.specs.World.{Entry, run, kept_from}
 use Rattle.sl_model.specs.Schedule.{settling_pass, sweeps, resend_entry, passes_of, expand_one, expand}
 use Rattle.sl_model.specs.End.{settle, finish, append_to, then_from, again_from, sweep_round, after_sweeps, is_collected, rose}
 use Rattle.sl_parts.proofs.Lists.{flat_map_below_more}
-use Rattle.sl_model.proofs.Turns.{run-append}
-use Rattle.sl_model.proofs.Trails.{run-kept, kept-append}
+use Rattle.sl_model.proofs.Worlds.Turns.{run-append}
+use Rattle.sl_model.proofs.Worlds.Trails.{run-kept, kept-append}
 use Rattle.sl_proto.specs.declared.finishing.Round.{Round}
 use Rattle.sl_proto.specs.declared.finishing.Round.TheVariants.{Ended, Again, Short}
 use Rattle.sl_world.specs.Scene.{last_number}

@@ -24,7 +24,7 @@ use Rattle.sl_model.specs.Turns.{GrowsAt, Takes, Acts, TakesTurns}
 use Rattle.sl_model.specs.Passing.{PassesMessages}
 use Rattle.sl_model.specs.Reported.{AreReported}
 use Rattle.sl_net.specs.Ways.{HasWays}
-use Rattle.sl_image.specs.Messages.{IsMessage}
+use Rattle.sl_simulation.specs.Messages.{IsMessage}
 use Rattle.sl_world.specs.Scene.{Line, Scene, line_at, empty_line, done, without_first, take_first, take_turn, act_turn, turn_of}
 use Rattle.sl_proto.specs.Image.{tell, tell_all, told_by, AreQueued, IsImage, IsTurned}
 use Rattle.sl_proto.specs.Machines.{MachineSimulates, MachineActSimulates, FollowSteps}

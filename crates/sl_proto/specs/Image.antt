@@ -21,7 +21,7 @@ use Rattle.sl_model.specs.Setup.{Setup}
 use Rattle.sl_model.specs.World.{start, sender, receiver}
 use Rattle.sl_model.specs.Window.{on_way}
 use Rattle.sl_model.specs.Findings.{lost_on}
-use Rattle.sl_image.specs.Messages.{IsMessage}
+use Rattle.sl_simulation.specs.Messages.{IsMessage}
 use Rattle.sl_world.specs.Scene.{Line, Scene, line_at}
 
 -- What was told of each unit, by its place: how many of its steps.

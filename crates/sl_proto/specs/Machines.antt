@@ -16,7 +16,7 @@ use Rattle.sl_model.specs.declared.message.Step.{Step}
 use Rattle.sl_model.specs.History.{World, Losses, history}
 use Rattle.sl_model.specs.Setup.{Setup}
 use Rattle.sl_model.specs.World.{Entry, IsLossTable, next_step, turn, world, kept_from}
-use Rattle.sl_image.specs.Messages.{IsMessage}
+use Rattle.sl_simulation.specs.Messages.{IsMessage}
 use Rattle.sl_loss.specs.Loss.{Loss}
 use Rattle.sl_world.specs.Scene.{Scene, first_scene}
 use Rattle.sl_proto.specs.Image.{told_by, ArePut, IsImage, IsFirst}

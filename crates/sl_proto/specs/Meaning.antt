@@ -1,3 +1,4 @@
+-- Trusted text for nodes, but for IsRunnable.
 -- What the nodes of a net stand for: each machine for histories of a world, by the kind of its actor.
 --     NodeStands s table w a state    in the world w this is the state of the actor a; table is the snapshot table
 --     IsRunnable s table lost         what the laws of nodes ask, as an accepted input has it
@@ -13,11 +14,11 @@ use Rattle.sl_wire.specs.Sizes.{sizes_of}
 use Rattle.sl_model.specs.History.{World, Losses, history}
 use Rattle.sl_model.specs.Setup.{Setup}
 use Rattle.sl_model.specs.World.{IsLossTable}
-use Rattle.sl_image.specs.ControlImage.{IsControlOf}
-use Rattle.sl_image.specs.HostImage.{IsHostOf}
-use Rattle.sl_image.specs.ObserverImage.{IsObserverOf, IsTableOf}
+use Rattle.sl_simulation.specs.ControlImage.{IsControlOf}
+use Rattle.sl_simulation.specs.HostImage.{IsHostOf}
+use Rattle.sl_simulation.specs.ObserverImage.{IsObserverOf, IsTableOf}
 use Rattle.sl_model.specs.Short.{SendsShort}
-use Rattle.sl_image.specs.UnitImage.{IsUnitOf}
+use Rattle.sl_simulation.specs.UnitImage.{IsUnitOf}
 use Rattle.sl_proto.specs.Nodes.{NodeState, ObserverNode, ControlNode, UnitNode, HostNode}
 
 -- where the actor a is this one

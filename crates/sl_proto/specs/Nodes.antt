@@ -1,3 +1,4 @@
+-- Trusted text for nodes, in part.
 -- The nodes of a net: machines of one type, of which each is the observer, a control plane, a unit or a host.
 --     node_take, node_act     a turn of a node is its machine's turn
 use Rattle.std.specs.Prelude.{ℕ, ◌+◌, nat_lt, if◌then◌else◌, Option, None, option_map}

@@ -1,3 +1,4 @@
+-- Trusted text, but for CanRun, IsFirstScene.
 -- The book of the run of an input on its nodes.
 --     CanRun i              what a run asks of its input
 --     IsFirstScene i v      the scene where nothing has happened to the nodes of an input
@@ -13,7 +14,7 @@ use Rattle.sl_net.specs.Input.{Input}
 use Rattle.sl_flow.specs.Flow.{HasAddresses}
 use Rattle.sl_wire.specs.declared.message.Msg.{Msg}
 use Rattle.sl_unit.specs.Made.{IsRanged}
-use Rattle.sl_image.specs.Messages.{CarryIds}
+use Rattle.sl_simulation.specs.Messages.{CarryIds}
 use Rattle.sl_model.specs.History.{Losses}
 use Rattle.sl_model.specs.Losses.{losses}
 use Rattle.sl_model.specs.Setup.{setup_of}

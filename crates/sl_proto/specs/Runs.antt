@@ -1,3 +1,4 @@
+-- Trusted text, but for Run, Follows, Goes, IsBookOfTurns.
 -- Runs: a world beside the book that led to it.
 --     grown book es              the book once these turns came too
 --     Goes, Follows              what a run does by some entries, none of which is idle, or by any entries

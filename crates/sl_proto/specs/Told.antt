@@ -16,7 +16,7 @@ use Rattle.sl_model.specs.declared.findings.Drops.{Drops}
 use Rattle.sl_model.specs.declared.findings.Findings.{Findings}
 use Rattle.sl_model.specs.Words.{numbers, weigh}
 use Rattle.sl_model.specs.Accounts.{Account, finding_by}
-use Rattle.sl_image.specs.ObserverImage.{account_of}
+use Rattle.sl_simulation.specs.ObserverImage.{account_of}
 use Rattle.sl_world.specs.Scene.{Scene, line_at}
 use Rattle.sl_proto.specs.Nodes.{NodeState, UnitNode, HostNode}
 

@@ -1,9 +1,9 @@
 // The nodes of an input, and the world of them.
-ghost use Rattle.std.specs.Prelude.{◌≡◌, ◌<◌, ◌++◌, ◌∷◌, [], IfOk, OnOk, None, Some, length, map, slice_index};
+ghost use Rattle.std.specs.Prelude.{◌≡◌, ◌<◌, ◌++◌, ◌∷◌, [], IfOk, OnOk, None, Some, length, map};
+ghost use Rattle.std.specs.Prelude.{slice_index};
 ghost use Rattle.std.specs.List.{All};
 ghost use Rattle.sl_machine.specs.Fit.{HasCounts};
 ghost use Rattle.sl_layout.specs.Net.{actor_of, units};
-ghost use Rattle.sl_layout.specs.Roster.{IsActor};
 ghost use Rattle.sl_layout.specs.Wiring.{plan_of};
 ghost use Rattle.sl_route.specs.Routes.{IsRoutesOf};
 ghost use Rattle.sl_loss.specs.Loss.{IsFresh};
@@ -11,7 +11,8 @@ ghost use Rattle.sl_unit.specs.Made.{side_of, unit_at};
 ghost use Rattle.sl_world.specs.Scene.{first_scene};
 ghost use Rattle.sl_world.specs.World.{scene};
 ghost use Rattle.sl_proto.specs.Nodes.{node_state, node_counts, node_ready};
-ghost use Rattle.sl_proto.specs.Built.{IsBuildable, first_unit, first_node, first_at, first_states, counts_at, AreNodes};
+ghost use Rattle.sl_proto.specs.Built.{IsBuildable, first_unit, first_node, first_at};
+ghost use Rattle.sl_proto.specs.Built.{first_states, counts_at, AreNodes};
 
 use crate::node::Node;
 use sl_control::Control;
@@ -29,7 +30,8 @@ use std::alloc::Global;
 #[tactic(auto, using(crate::proofs::Counts::observer_at))]
 fn make_observer(alloc: Global, input: &Input, actor: u32) -> Result<Node, Memory>
     requires actor { actor_of input.now.net actor ≡ ActorId.Observer }
-    ensures state { IfOk result (λ node. node_state node ≡ first_node input.now actor ActorId.Observer) }
+    ensures state { IfOk result
+        (λ node. node_state node ≡ first_node input.now actor ActorId.Observer) }
     ensures counts { IfOk result (λ node. node_counts node ≡ counts_at input.now.net actor) }
     ensures ready { IfOk result (λ node. node_ready node ≡ None) }
 {
@@ -47,7 +49,8 @@ fn make_control(alloc: Global, input: &Input, actor: u32, device: u32) -> Result
     requires actor { actor_of input.now.net actor ≡ ActorId.Control device }
     requires device { device < length input.now.net.parts.devices }
     requires input { IsBuildable input.now }
-    ensures state { IfOk result (λ node. node_state node ≡ first_node input.now actor (ActorId.Control device)) }
+    ensures state { IfOk result
+        (λ node. node_state node ≡ first_node input.now actor (ActorId.Control device)) }
     ensures counts { IfOk result (λ node. node_counts node ≡ counts_at input.now.net actor) }
     ensures ready { IfOk result (λ node. node_ready node ≡ None) }
 {
@@ -68,7 +71,9 @@ fn unit_at(
     requires side { side_of (unit_at input.now.net place) ≡ Some side }
     requires routes { IsRoutesOf input.now.net routes.now }
     requires input { IsBuildable input.now }
-    ensures state { IfOk result (λ unit. node_state (Node.Unit unit) ≡ first_unit input.now (slice_index (units input.now.net) place) side) }
+    ensures state { IfOk result
+        (λ unit. node_state (Node.Unit unit) ≡ first_unit input.now
+        (slice_index (units input.now.net) place) side) }
     ensures ready { IfOk result (λ unit. node_ready (Node.Unit unit) ≡ None) }
 {
     match side {
@@ -90,7 +95,8 @@ fn make_unit(
     requires actor { actor_of input.now.net actor ≡ ActorId.Unit unit }
     requires routes { IsRoutesOf input.now.net routes.now }
     requires input { IsBuildable input.now }
-    ensures state { IfOk result (λ node. node_state node ≡ first_node input.now actor (ActorId.Unit unit)) }
+    ensures state { IfOk result
+        (λ node. node_state node ≡ first_node input.now actor (ActorId.Unit unit)) }
     ensures counts { IfOk result (λ node. node_counts node ≡ counts_at input.now.net actor) }
     ensures ready { IfOk result (λ node. node_ready node ≡ None) }
 {
@@ -105,7 +111,8 @@ fn make_host(alloc: Global, input: &Input, actor: u32, host: u32) -> Result<Node
     requires below { actor < length input.now.net.actors }
     requires actor { actor_of input.now.net actor ≡ ActorId.Host host }
     requires input { IsBuildable input.now }
-    ensures state { IfOk result (λ node. node_state node ≡ first_node input.now actor (ActorId.Host host)) }
+    ensures state { IfOk result
+        (λ node. node_state node ≡ first_node input.now actor (ActorId.Host host)) }
     ensures counts { IfOk result (λ node. node_counts node ≡ counts_at input.now.net actor) }
     ensures ready { IfOk result (λ node. node_ready node ≡ None) }
 {
@@ -170,7 +177,9 @@ pub fn build_world(
     requires input { IsBuildable input.now }
     requires losses { length losses.items ≡ length input.now.net.links }
     requires fresh { All IsFresh losses.items }
-    ensures { IfOk result (λ world. scene world ≡ first_scene (plan_of input.now.net) (first_states input.now) losses.items) }
+    ensures { IfOk result
+        (λ world. scene world ≡ first_scene (plan_of input.now.net)
+        (first_states input.now) losses.items) }
 {
     let nodes = build_nodes(alloc, input)?;
     World::new(alloc, nodes, input.net.wiring(), losses)

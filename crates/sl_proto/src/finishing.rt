@@ -9,15 +9,18 @@ ghost use Rattle.sl_model.specs.Schedule.{settling_pass, sweeps, resend_entry};
 ghost use Rattle.sl_model.specs.End.{rose};
 ghost use Rattle.sl_proto.specs.Standing.{Case, world_of, StandsFor, HasObserver};
 ghost use Rattle.sl_proto.specs.Rounds.{HasReached, TellsCollected};
-ghost use Rattle.sl_proto.specs.Calls.{KeepsStanding, Settles, SettlesFront, Finishes, FinishesFront, SettlesIn, IsSettledIf, SettlingLeads};
-ghost use Rattle.sl_proto.specs.Calls.{ResendsRound, ResendingLeads, ResendingGoesOn, SweepsRound, SweepingLeads, SweepingGoesOn, FinishesIn, FinishingLeads};
+ghost use Rattle.sl_proto.specs.Calls.{KeepsStanding, Settles, SettlesFront, Finishes};
+ghost use Rattle.sl_proto.specs.Calls.{FinishesFront, SettlesIn, IsSettledIf, SettlingLeads};
+ghost use Rattle.sl_proto.specs.Calls.{ResendsRound, ResendingLeads, ResendingGoesOn};
+ghost use Rattle.sl_proto.specs.Calls.{SweepsRound, SweepingLeads, SweepingGoesOn, FinishesIn};
+ghost use Rattle.sl_proto.specs.Calls.{FinishingLeads};
 
 use crate::schedule::{all_sweeps, pass_of, passes_are_choices};
 use crate::taker::{Taker, drive_within};
-use sl_image::observers_tell;
 use sl_machine::Memory;
 use sl_model::{finishing_ends, finishing_finishes, idle_passes_settle, issues_are_counted};
 use sl_net::{Net, nets_are_wired};
+use sl_simulation::observers_tell;
 use std::alloc::Global;
 
 /// How a round of finishing ends: with the end, with a further round, or for want of fuel.
@@ -48,7 +51,8 @@ impl Reached {
 
     /// Whether the floor or the number of snapshots issued is above what it was.
     fn rose_since(self, before: Reached) -> bool
-        ensures { (x : Case) (w v : World) → HasReached x w before → HasReached x v self → result ≡ rose x.setup.net w v }
+        ensures { (x : Case) (w v : World) → HasReached x w before
+            → HasReached x v self → result ≡ rose x.setup.net w v }
     {
         before.floor < self.floor || before.issued < self.issued
     }
@@ -56,7 +60,8 @@ impl Reached {
 
 fn tell<T: Taker>(taker: &T) -> Reached
     requires { HasObserver (T.scene taker.now) }
-    ensures { (net : Net) (x : Case) → StandsFor net x (T.scene taker.now) → HasReached x (world_of x (T.scene taker.now)) result }
+    ensures { (net : Net) (x : Case) → StandsFor net x (T.scene taker.now)
+        → HasReached x (world_of x (T.scene taker.now)) result }
 {
     nets_are_wired();
     observers_tell();

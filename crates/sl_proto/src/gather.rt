@@ -1,5 +1,6 @@
 // The findings of a finished world of nodes.
-ghost use Rattle.std.specs.Prelude.{◌≡◌, ◌<◌, ◌^◌, [], ◌∷◌, ◌++◌, length, cond, IfOk, OnOk, Some, slice_get};
+ghost use Rattle.std.specs.Prelude.{◌≡◌, ◌<◌, ◌^◌, [], ◌∷◌, ◌++◌, length, cond, IfOk, OnOk, Some};
+ghost use Rattle.std.specs.Prelude.{slice_get};
 ghost use Rattle.sl_layout.specs.Net.{same_sort, link_of};
 ghost use Rattle.sl_net.specs.Input.{Input};
 ghost use Rattle.sl_wire.specs.declared.message.Msg.{Msg};
@@ -14,16 +15,17 @@ ghost use Rattle.sl_world.specs.Scene.{Scene};
 ghost use Rattle.sl_world.specs.World.{scene};
 ghost use Rattle.sl_proto.specs.Nodes.{NodeState, ObserverNode, node_state};
 ghost use Rattle.sl_proto.specs.Standing.{case_of, world_of, StandsFor};
-ghost use Rattle.sl_proto.specs.Told.{sent_told, delivered_told, drops_told, all_drops, lost_told, all_lost, HasAllRows, CanTell, told};
+ghost use Rattle.sl_proto.specs.Told.{sent_told, delivered_told, drops_told, all_drops};
+ghost use Rattle.sl_proto.specs.Told.{lost_told, all_lost, HasAllRows, CanTell, told};
 
 use crate::node::Node;
 use crate::taker::Taker;
 use crate::verdicts::finding_list;
-use sl_image::{observers_give_findings, observers_tell};
 use sl_machine::Memory;
 use sl_model::{Counts, Drops, FindingList, Findings, Lost, worlds_take_turns};
 use sl_net::{Input, Net, Sort, nets_are_wired};
 use sl_observe::Observer;
+use sl_simulation::{observers_give_findings, observers_tell};
 use sl_world::World;
 use std::alloc::Global;
 
@@ -130,7 +132,8 @@ fn drops(world: &World<Node>, actors: u32) -> Drops
 fn lost_if(net: &Net, world: &World<Node>, link: u32, sort: Sort) -> u64
     requires link { link < length net.now.links }
     requires links { length (scene world.now).plan.links ≡ length net.now.links }
-    ensures { result ≡ weigh (lost_told (scene world.now)) (cond (same_sort (link_of net.now link).sort sort) (link ∷ []) []) }
+    ensures { result ≡ weigh (lost_told (scene world.now))
+        (cond (same_sort (link_of net.now link).sort sort) (link ∷ []) []) }
 {
     if net.link(link).sort.is(sort) {
         world.lost(link)
@@ -184,7 +187,8 @@ fn tell(
 
 /// The observer of a world of nodes of an input. It has every row that was collected.
 pub fn observer_of<'a>(input: &Input, world: &'a World<Node>) -> &'a Observer
-    requires { (lost : Losses) × StandsFor input.now.net (case_of input.now lost) (scene world.now) }
+    requires { (lost : Losses) × StandsFor input.now.net (case_of input.now lost)
+        (scene world.now) }
     ensures observer { slice_get (scene world.now).states 0 ≡ Some (ObserverNode result.now.state) }
     ensures rows { HasAllRows input.now.net result.now.state }
 {
@@ -200,11 +204,14 @@ pub fn findings_but_list(
     input: &Input,
     world: &World<Node>,
 ) -> Result<Findings, Memory>
-    requires stands { (lost : Losses) × StandsFor input.now.net (case_of input.now lost) (scene world.now) }
+    requires stands { (lost : Losses) × StandsFor input.now.net (case_of input.now lost)
+        (scene world.now) }
     requires book { length (scene world.now).book < 2 ^ 40 }
     ensures { (lost : Losses) → StandsFor input.now.net (case_of input.now lost) (scene world.now)
         → IsFinished (setup_of input.now) lost (world_of (case_of input.now lost) (scene world.now))
-        → IfOk result (λ f. f ≡ record (findings (setup_of input.now) lost (schedule_of (scene world.now).book)) { list = [] }) }
+        → IfOk result
+        (λ f. f ≡ record (findings (setup_of input.now) lost (schedule_of (scene world.now).book))
+        { list = [] }) }
 {
     nets_are_wired();
     worlds_take_turns();
@@ -217,11 +224,13 @@ pub fn findings_but_list(
 /// What a finished world of nodes of an input tells: the findings of the world of histories that it
 /// stands for, by what the observer collected, the units counted and the links lost.
 pub fn findings(alloc: Global, input: &Input, world: &World<Node>) -> Result<Findings, Memory>
-    requires stands { (lost : Losses) × StandsFor input.now.net (case_of input.now lost) (scene world.now) }
+    requires stands { (lost : Losses) × StandsFor input.now.net (case_of input.now lost)
+        (scene world.now) }
     requires book { length (scene world.now).book < 2 ^ 40 }
     ensures { (lost : Losses) → StandsFor input.now.net (case_of input.now lost) (scene world.now)
         → IsFinished (setup_of input.now) lost (world_of (case_of input.now lost) (scene world.now))
-        → IfOk result (λ f. f ≡ findings (setup_of input.now) lost (schedule_of (scene world.now).book)) }
+        → IfOk result
+        (λ f. f ≡ findings (setup_of input.now) lost (schedule_of (scene world.now).book)) }
 {
     nodes_tell_findings();
     let observer = observer_of(input, world);
@@ -235,10 +244,13 @@ pub fn findings(alloc: Global, input: &Input, world: &World<Node>) -> Result<Fin
 /// that was collected; and where that world is finished, what the scene tells are the findings of
 /// its book.
 pub fn nodes_tell_findings()
-    ensures rows { (i : Input) (lost : Losses) (v : Scene NodeState Msg) (o : ObserverState) → StandsFor i.net (case_of i lost) v
+    ensures rows { (i : Input) (lost : Losses) (v : Scene NodeState Msg) (o : ObserverState)
+        → StandsFor i.net (case_of i lost) v
         → slice_get v.states 0 ≡ Some (ObserverNode o) → HasAllRows i.net o }
-    ensures told { (i : Input) (lost : Losses) (v : Scene NodeState Msg) (o : ObserverState) → StandsFor i.net (case_of i lost) v
-        → slice_get v.states 0 ≡ Some (ObserverNode o) → length v.book < 2 ^ 40 → IsFinished (setup_of i) lost (world_of (case_of i lost) v)
+    ensures told { (i : Input) (lost : Losses) (v : Scene NodeState Msg) (o : ObserverState)
+        → StandsFor i.net (case_of i lost) v
+        → slice_get v.states 0 ≡ Some (ObserverNode o) → length v.book < 2 ^ 40
+        → IsFinished (setup_of i) lost (world_of (case_of i lost) v)
         → told i.net i.snapshot.count v o ≡ findings (setup_of i) lost (schedule_of v.book) }
 {
     nets_are_wired();

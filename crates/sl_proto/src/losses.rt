@@ -1,11 +1,13 @@
 // The losses of an input's links.
-ghost use Rattle.std.specs.Prelude.{◌≡◌, ℕ, ◌<◌, ◌++◌, ◌∷◌, [], None, length, map, slice_index_or, slice_set, All, IfOk, OnOk};
+ghost use Rattle.std.specs.Prelude.{◌≡◌, ℕ, ◌<◌, ◌++◌, ◌∷◌, [], None, length, map};
+ghost use Rattle.std.specs.Prelude.{slice_index_or, slice_set, All, IfOk, OnOk};
 ghost use Rattle.sl_parts.specs.Parts.{below};
 ghost use Rattle.sl_layout.specs.Net.{link_numbers};
 ghost use Rattle.sl_loss.specs.Loss.{IsFresh};
 ghost use Rattle.sl_model.specs.Losses.{drops_on, loss_on, losses};
 ghost use Rattle.sl_proto.specs.Image.{GoesOn};
 
+use sl_input::loss_with;
 use sl_loss::Loss;
 use sl_machine::Memory;
 use sl_net::{Drop1, Input, LossSpec};
@@ -41,7 +43,9 @@ fn empty_lists(alloc: Global, count: usize) -> Result<Vec<Listed>, Memory>
 
 /// Adds a number to the list of its link; one past the last link is left out.
 fn add_drop(lists: &mut Vec<Listed>, drop: Drop1) -> Result<(), Memory>
-    ensures { OnOk result (lists.new.items ≡ slice_set lists.old.items drop.link (slice_index_or lists.old.items drop.link [] ++ drop.n ∷ [])) }
+    ensures { OnOk result
+        (lists.new.items ≡ slice_set lists.old.items drop.link
+        (slice_index_or lists.old.items drop.link [] ++ drop.n ∷ [])) }
 {
     let link = drop.link as usize;
     if link >= lists.len() {
@@ -70,34 +74,22 @@ fn numbers_of(lists: &[Listed], link: usize) -> &[u64]
     list.numbers.as_slice()
 }
 
-/// The loss of a link with these listed numbers before any put, or none where it is reliable.
-fn loss_on(alloc: Global, input: &Input, link: u32, drops: &[u64]) -> Result<Option<Loss>, Memory>
-    requires link { link < length input.now.net.links }
-    requires drops { drops.now ≡ drops_on input.now.loss link }
-    ensures { IfOk result (λ loss. loss ≡ loss_on input.now link) }
-{
-    let kind = input.net.kind(link);
-    if !kind.is_lossy() {
-        return Ok(None);
-    }
-    let rate = input.loss.rate_of(kind);
-    Ok(Some(Loss::new(alloc, input.loss.seed, link as u64, rate, drops)?))
-}
-
 /// The losses of an input, one for each link that is lossy, before any put. They lose what the
 /// input loses.
 pub fn make_losses(alloc: Global, input: &Input) -> Result<Vec<Option<Loss>>, Memory>
-    ensures losses { IfOk result (λ v. v.items ≡ map (loss_on input.now) (link_numbers input.now.net)) }
+    ensures losses { IfOk result
+        (λ v. v.items ≡ map (loss_on input.now) (link_numbers input.now.net)) }
     ensures each { IfOk result (λ v. length v.items ≡ length input.now.net.links) }
     ensures fresh { IfOk result (λ v. All IsFresh v.items) }
-    ensures go { IfOk result (λ v. (l : ℕ) → l < length input.now.net.links → GoesOn (losses input.now l) 0 (slice_index_or v.items l None)) }
+    ensures go { IfOk result (λ v. (l : ℕ) → l < length input.now.net.links
+        → GoesOn (losses input.now l) 0 (slice_index_or v.items l None)) }
 {
     let count = input.net.links().len();
     let lists = drops_by_link(alloc, &input.loss, count)?;
     let mut made = Vec::new(alloc);
     for link in 0..count {
         let drops = numbers_of(lists.as_slice(), link);
-        let loss = loss_on(alloc, input, link as u32, drops)?;
+        let loss = loss_with(alloc, input, link as u32, drops)?;
         made.push(loss)?;
     }
     Ok(made)

@@ -1,3 +1,4 @@
+// Trusted types: for nodes Node.
 // The machine of any actor.
 ghost use Rattle.std.specs.Prelude.{◌≡◌, ◌<◌, ◌≤◌, [], Some, None, true, OnOk, OnErr};
 ghost use Rattle.sl_machine.specs.Machine.{IsChoice, is_fitting};
@@ -62,7 +63,8 @@ impl Node {
 }
 
 impl Machine for Node {
-    ghost use Rattle.sl_proto.specs.Nodes.{NodeState, node_state, node_rules, node_counts, node_ready};
+    ghost use Rattle.sl_proto.specs.Nodes.{NodeState, node_state, node_rules, node_counts};
+    ghost use Rattle.sl_proto.specs.Nodes.{node_ready};
 
     type Msg = Msg;
 

@@ -29,7 +29,8 @@ use std::alloc::Global;
 /// book.
 fn first_nodes_stand(input: &Input)
     requires { CanRun input.now }
-    ensures { (v : Scene NodeState Msg) → IsFirstScene input.now v → StandsFor input.now.net (case_of input.now (losses input.now)) v }
+    ensures { (v : Scene NodeState Msg) → IsFirstScene input.now v
+        → StandsFor input.now.net (case_of input.now (losses input.now)) v }
 {
     nodes_stand_at_first();
     inputs_spare_reliable_links();
@@ -40,7 +41,8 @@ fn first_nodes_stand(input: &Input)
 pub fn first_world(alloc: Global, input: &Input) -> Result<World<Node>, Memory>
     requires { CanRun input.now }
     ensures first { IfOk result (λ w. IsFirstScene input.now (scene w)) }
-    ensures stands { IfOk result (λ w. StandsFor input.now.net (case_of input.now (losses input.now)) (scene w)) }
+    ensures stands { IfOk result
+        (λ w. StandsFor input.now.net (case_of input.now (losses input.now)) (scene w)) }
     ensures observer { IfOk result (λ w. HasObserver (scene w)) }
     ensures plan { IfOk result (λ w. (scene w).plan ≡ plan_of input.now.net) }
     ensures book { IfOk result (λ w. (scene w).book ≡ []) }
@@ -57,8 +59,10 @@ pub fn first_world(alloc: Global, input: &Input) -> Result<World<Node>, Memory>
 pub fn run_script<T: Taker>(alloc: Global, input: &Input, taker: &mut T) -> Result<u64, Memory>
     requires can { CanRun input.now }
     requires first { IsFirstScene input.now (T.scene taker.old) }
-    ensures book { IfOk result (λ front. IsRunBook input.now (losses input.now) (T.scene taker.new).book front) }
-    ensures stands { StandsFor input.now.net (case_of input.now (losses input.now)) (T.scene taker.new) }
+    ensures book { IfOk result
+        (λ front. IsRunBook input.now (losses input.now) (T.scene taker.new).book front) }
+    ensures stands { StandsFor input.now.net (case_of input.now (losses input.now))
+        (T.scene taker.new) }
     ensures observer { IfOk result (λ front. HasObserver (T.scene taker.new)) }
     ensures few { IfOk result (λ front. length (T.scene taker.new).book < 2 ^ 40) }
     ensures fixed { T.fixed taker.new ≡ T.fixed taker.old }

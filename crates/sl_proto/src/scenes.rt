@@ -7,7 +7,8 @@ ghost use Rattle.sl_wire.specs.declared.message.Msg.{Msg};
 ghost use Rattle.sl_wire.specs.Sizes.{Sizes};
 ghost use Rattle.sl_model.specs.History.{World, Losses};
 ghost use Rattle.sl_model.specs.Setup.{Setup};
-ghost use Rattle.sl_model.specs.World.{Entry, start, next_step, turn, run, world, IsLegalFrom, IsLegal, kept};
+ghost use Rattle.sl_model.specs.World.{Entry, start, next_step, turn, run, world, IsLegalFrom};
+ghost use Rattle.sl_model.specs.World.{IsLegal, kept};
 ghost use Rattle.sl_world.specs.Scene.{Scene, first_scene, turn_of, after_all, run_of, last_number};
 ghost use Rattle.sl_world.specs.Scene.{kept as scene_kept};
 ghost use Rattle.sl_world.specs.Legal.{numbered_from};
@@ -31,8 +32,11 @@ pub trait Meaning {
 
 /// The first scene stands for the world where nothing has happened.
 pub fn first_scenes_stand<I: Meaning>()
-    ensures { (i : I.Index) (s : Setup) (lost : Losses) (sizes : Sizes) (states : List I.State) (losses : List (Option Loss))
-        → IsFirst s lost (I.stands i) states losses → IsImage s lost sizes (I.stands i) (start s.net) (first_scene (plan_of s.net) states losses) }
+    ensures { (i : I.Index) (s : Setup) (lost : Losses) (sizes : Sizes)
+        (states : List I.State) (losses : List (Option Loss))
+        → IsFirst s lost (I.stands i) states losses
+        → IsImage s lost sizes (I.stands i) (start s.net)
+        (first_scene (plan_of s.net) states losses) }
 {
     worlds_take_turns()
 }
@@ -40,8 +44,10 @@ pub fn first_scenes_stand<I: Meaning>()
 /// A turn of a scene that stands for a world is idle where the actor makes no step, and else leads
 /// to a scene that stands for the world after this step.
 pub fn turns_follow_steps<I: Meaning>()
-    ensures { (i : I.Index) (t : Shown (I.stands i)) (a c : ℕ) → length t.turns < 2 ^ 40 → IsTurned t.setup t.lost t.sizes (I.stands i)
-        (turn t.setup t.lost (world_shown t) (a, c)) (next_step t.setup t.lost (world_shown t) (a, c)) (turn_of t.rules t.scene a c) }
+    ensures { (i : I.Index) (t : Shown (I.stands i)) (a c : ℕ) → length t.turns < 2 ^ 40
+        → IsTurned t.setup t.lost t.sizes (I.stands i)
+        (turn t.setup t.lost (world_shown t) (a, c))
+        (next_step t.setup t.lost (world_shown t) (a, c)) (turn_of t.rules t.scene a c) }
 {
     nets_are_wired();
     worlds_take_turns();
@@ -53,15 +59,23 @@ pub fn turns_follow_steps<I: Meaning>()
 /// this schedule. The same entries are idle in both, so it is legal in both or in neither, and the
 /// book gains the others, each with a number one above the last.
 pub fn schedules_follow_histories<I: Meaning>()
-    ensures image { (i : I.Index) (t : Shown (I.stands i)) (fs : List Entry) → length t.turns + length fs < 2 ^ 40
-        → IsImage t.setup t.lost t.sizes (I.stands i) (run t.setup t.lost (world_shown t) fs) (after_all t.rules t.scene fs) }
-    ensures kept { (i : I.Index) (t : Shown (I.stands i)) (fs : List Entry) → length t.turns + length fs < 2 ^ 40
+    ensures image { (i : I.Index) (t : Shown (I.stands i)) (fs : List Entry)
+        → length t.turns + length fs < 2 ^ 40
+        → IsImage t.setup t.lost t.sizes (I.stands i) (run t.setup t.lost (world_shown t) fs)
+        (after_all t.rules t.scene fs) }
+    ensures kept { (i : I.Index) (t : Shown (I.stands i)) (fs : List Entry)
+        → length t.turns + length fs < 2 ^ 40
         → scene_kept t.rules t.scene fs ≡ kept_shown t fs }
-    ensures book { (i : I.Index) (t : Shown (I.stands i)) (fs : List Entry) → length t.turns + length fs < 2 ^ 40
-        → (after_all t.rules t.scene fs).book ≡ t.scene.book ++ numbered_from (last_number t.scene.book) (kept_shown t fs) }
-    ensures legal { (i : I.Index) (t : Shown (I.stands i)) (fs : List Entry) → length t.turns + length fs < 2 ^ 40
-        → IsLegalFrom t.setup t.lost (world_shown t) fs → run_of t.rules t.scene fs ≡ Some (after_all t.rules t.scene fs) }
-    ensures only { (i : I.Index) (t : Shown (I.stands i)) (fs : List Entry) (u : Scene I.State Msg) → length t.turns + length fs < 2 ^ 40
+    ensures book { (i : I.Index) (t : Shown (I.stands i)) (fs : List Entry)
+        → length t.turns + length fs < 2 ^ 40
+        → (after_all t.rules t.scene fs).book ≡ t.scene.book
+        ++ numbered_from (last_number t.scene.book) (kept_shown t fs) }
+    ensures legal { (i : I.Index) (t : Shown (I.stands i)) (fs : List Entry)
+        → length t.turns + length fs < 2 ^ 40
+        → IsLegalFrom t.setup t.lost (world_shown t) fs
+        → run_of t.rules t.scene fs ≡ Some (after_all t.rules t.scene fs) }
+    ensures only { (i : I.Index) (t : Shown (I.stands i)) (fs : List Entry) (u : Scene I.State Msg)
+        → length t.turns + length fs < 2 ^ 40
         → run_of t.rules t.scene fs ≡ Some u → IsLegalFrom t.setup t.lost (world_shown t) fs }
 {
     nets_are_wired();
@@ -75,14 +89,18 @@ pub fn schedules_follow_histories<I: Meaning>()
 /// the same, and the book has these, numbered from 1.
 pub fn machines_stand_for_histories<I: Meaning>()
     ensures image { (i : I.Index) (b : Begun (I.stands i)) (es : List Entry) → length es < 2 ^ 40
-        → IsImage b.setup b.lost b.sizes (I.stands i) (world b.setup b.lost es) (after_all b.rules (scene_begun b) es) }
+        → IsImage b.setup b.lost b.sizes (I.stands i) (world b.setup b.lost es)
+        (after_all b.rules (scene_begun b) es) }
     ensures kept { (i : I.Index) (b : Begun (I.stands i)) (es : List Entry) → length es < 2 ^ 40
         → scene_kept b.rules (scene_begun b) es ≡ kept b.setup b.lost es }
     ensures book { (i : I.Index) (b : Begun (I.stands i)) (es : List Entry) → length es < 2 ^ 40
-        → IsBookOfTurns (record { entries = (after_all b.rules (scene_begun b) es).book }) (kept b.setup b.lost es) }
+        → IsBookOfTurns (record { entries = (after_all b.rules (scene_begun b) es).book })
+        (kept b.setup b.lost es) }
     ensures legal { (i : I.Index) (b : Begun (I.stands i)) (es : List Entry) → length es < 2 ^ 40
-        → IsLegal b.setup b.lost es → run_of b.rules (scene_begun b) es ≡ Some (after_all b.rules (scene_begun b) es) }
-    ensures only { (i : I.Index) (b : Begun (I.stands i)) (es : List Entry) (v : Scene I.State Msg) → length es < 2 ^ 40
+        → IsLegal b.setup b.lost es → run_of b.rules (scene_begun b) es
+        ≡ Some (after_all b.rules (scene_begun b) es) }
+    ensures only { (i : I.Index) (b : Begun (I.stands i)) (es : List Entry) (v : Scene I.State Msg)
+        → length es < 2 ^ 40
         → run_of b.rules (scene_begun b) es ≡ Some v → IsLegal b.setup b.lost es }
 {
     nets_are_wired();

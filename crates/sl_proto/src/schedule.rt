@@ -1,11 +1,14 @@
 // The schedules of scripts and passes.
-ghost use Rattle.std.specs.Prelude.{◌≡◌, ℕ, ◌<◌, [], ◌∷◌, ◌++◌, Bool, length, All, OnOk, IfOk, if◌then◌else◌};
+ghost use Rattle.std.specs.Prelude.{◌≡◌, ℕ, ◌<◌, [], ◌∷◌, ◌++◌, Bool, length, All, OnOk, IfOk};
+ghost use Rattle.std.specs.Prelude.{if◌then◌else◌};
 ghost use Rattle.sl_machine.specs.Plan.{HasChoice};
 ghost use Rattle.sl_layout.specs.Net.{Net, actor_of};
 ghost use Rattle.sl_net.specs.Spelling as spelling;
 ghost use Rattle.sl_net.specs.Wired.{IsNet};
 ghost use Rattle.sl_layout.specs.Wiring.{plan_of};
-ghost use Rattle.sl_model.specs.Schedule.{link_entries, first_action, pass_actions, sweep_of, pass, pass_of, passes_of, sweeps, resend_entry, expand_one, expand};
+ghost use Rattle.sl_model.specs.Schedule.{link_entries, first_action, pass_actions, sweep_of};
+ghost use Rattle.sl_model.specs.Schedule.{pass, pass_of, passes_of, sweeps, resend_entry};
+ghost use Rattle.sl_model.specs.Schedule.{expand_one, expand};
 
 use sl_machine::Memory;
 use sl_net::{ActorId, Net, Script1, nets_are_wired};
@@ -30,7 +33,9 @@ fn add_action(
     passes: bool,
 ) -> Result<(), Memory>
     requires { actor < length net.now.actors }
-    ensures { OnOk result (entries.new.items ≡ entries.old.items ++ (if passes then first_action net.now actor else [])) }
+    ensures { OnOk result
+        (entries.new.items ≡ entries.old.items
+        ++ (if passes then first_action net.now actor else [])) }
 {
     if passes {
         entries.push((actor, net.links_into(actor).len() as u32))?;
@@ -41,7 +46,8 @@ fn add_action(
 /// Whether an actor acts in a pass: the hosts do, and in a settling pass the observer.
 fn acts_in_pass(net: &Net, settling: bool, actor: u32) -> bool
     requires { actor < length net.now.actors }
-    ensures { pass_actions net.now settling actor (actor_of net.now actor) ≡ (if result then first_action net.now actor else []) }
+    ensures { pass_actions net.now settling actor (actor_of net.now actor)
+        ≡ (if result then first_action net.now actor else []) }
 {
     match net.actor(actor) {
         ActorId::Observer => settling,
@@ -54,7 +60,8 @@ fn acts_in_pass(net: &Net, settling: bool, actor: u32) -> bool
 /// Whether an actor is a control plane.
 fn sweeps(net: &Net, actor: u32) -> bool
     requires { actor < length net.now.actors }
-    ensures { sweep_of net.now actor (actor_of net.now actor) ≡ (if result then first_action net.now actor else []) }
+    ensures { sweep_of net.now actor (actor_of net.now actor)
+        ≡ (if result then first_action net.now actor else []) }
 {
     match net.actor(actor) {
         ActorId::Control(_) => true,
@@ -115,10 +122,14 @@ fn add_script(
 /// The entries of a pass, of the sweeps and of resending are choices of the net's actors, and so is
 /// each choice that has a spelling.
 pub fn passes_are_choices()
-    ensures passes { (net : Net) (settling : Bool) → IsNet net → All (λ e. HasChoice (plan_of net) e.0 e.1) (pass_of net settling) }
-    ensures sweeps { (net : Net) → IsNet net → All (λ e. HasChoice (plan_of net) e.0 e.1) (sweeps net) }
-    ensures resend { (net : Net) → IsNet net → All (λ e. HasChoice (plan_of net) e.0 e.1) (resend_entry net ∷ []) }
-    ensures spelled { (net : Net) (a c : ℕ) → spelling.HasChoice net a c → HasChoice (plan_of net) a c }
+    ensures passes { (net : Net) (settling : Bool) → IsNet net
+        → All (λ e. HasChoice (plan_of net) e.0 e.1) (pass_of net settling) }
+    ensures sweeps { (net : Net) → IsNet net
+        → All (λ e. HasChoice (plan_of net) e.0 e.1) (sweeps net) }
+    ensures resend { (net : Net) → IsNet net
+        → All (λ e. HasChoice (plan_of net) e.0 e.1) (resend_entry net ∷ []) }
+    ensures spelled { (net : Net) (a c : ℕ) → spelling.HasChoice net a c
+        → HasChoice (plan_of net) a c }
 {
     nets_are_wired()
 }

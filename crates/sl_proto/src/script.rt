@@ -29,8 +29,10 @@ fn drive_passes<T: Taker>(
     ensures observer { HasObserver (T.scene taker.old) → HasObserver (T.scene taker.new) }
     ensures stands { KeepsStanding net.now (T.scene taker.old) (T.scene taker.new) }
     ensures fixed { T.fixed taker.new ≡ T.fixed taker.old }
-    ensures follows { OnOk result (Drives net.now (T.scene taker.old) (passes_of once.now count) (T.scene taker.new)) }
-    ensures front { DrivesFront net.now (T.scene taker.old) (passes_of once.now count) (T.scene taker.new) }
+    ensures follows { OnOk result
+        (Drives net.now (T.scene taker.old) (passes_of once.now count) (T.scene taker.new)) }
+    ensures front { DrivesFront net.now (T.scene taker.old) (passes_of once.now count)
+        (T.scene taker.new) }
 {
     for _done in 0..count {
         drive_within(net, taker, once, Some(links))?;
@@ -55,8 +57,10 @@ fn drive_entry<T: Taker>(
     ensures observer { HasObserver (T.scene taker.old) → HasObserver (T.scene taker.new) }
     ensures stands { KeepsStanding net.now (T.scene taker.old) (T.scene taker.new) }
     ensures fixed { T.fixed taker.new ≡ T.fixed taker.old }
-    ensures follows { OnOk result (Drives net.now (T.scene taker.old) (expand_one net.now entry) (T.scene taker.new)) }
-    ensures front { DrivesFront net.now (T.scene taker.old) (expand_one net.now entry) (T.scene taker.new) }
+    ensures follows { OnOk result
+        (Drives net.now (T.scene taker.old) (expand_one net.now entry) (T.scene taker.new)) }
+    ensures front { DrivesFront net.now (T.scene taker.old) (expand_one net.now entry)
+        (T.scene taker.new) }
 {
     match entry {
         Script1::Pass(count) => drive_passes(net, taker, once, links, count),
@@ -81,8 +85,10 @@ fn drive_entries<T: Taker>(
     ensures observer { HasObserver (T.scene taker.old) → HasObserver (T.scene taker.new) }
     ensures stands { KeepsStanding net.now (T.scene taker.old) (T.scene taker.new) }
     ensures fixed { T.fixed taker.new ≡ T.fixed taker.old }
-    ensures follows { OnOk result (Drives net.now (T.scene taker.old) (expand net.now script.now) (T.scene taker.new)) }
-    ensures front { DrivesFront net.now (T.scene taker.old) (expand net.now script.now) (T.scene taker.new) }
+    ensures follows { OnOk result
+        (Drives net.now (T.scene taker.old) (expand net.now script.now) (T.scene taker.new)) }
+    ensures front { DrivesFront net.now (T.scene taker.old) (expand net.now script.now)
+        (T.scene taker.new) }
 {
     for entry in script {
         drive_entry(net, taker, once, links, *entry)?;
@@ -106,8 +112,10 @@ pub fn drive_script<T: Taker>(
     ensures observer { HasObserver (T.scene taker.old) → HasObserver (T.scene taker.new) }
     ensures stands { KeepsStanding net.now (T.scene taker.old) (T.scene taker.new) }
     ensures fixed { T.fixed taker.new ≡ T.fixed taker.old }
-    ensures follows { OnOk result (Drives net.now (T.scene taker.old) (expand net.now script.now) (T.scene taker.new)) }
-    ensures front { DrivesFront net.now (T.scene taker.old) (expand net.now script.now) (T.scene taker.new) }
+    ensures follows { OnOk result
+        (Drives net.now (T.scene taker.old) (expand net.now script.now) (T.scene taker.new)) }
+    ensures front { DrivesFront net.now (T.scene taker.old) (expand net.now script.now)
+        (T.scene taker.new) }
 {
     // A net is that of its parts.
     let _parts = net.parts();

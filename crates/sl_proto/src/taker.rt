@@ -1,5 +1,6 @@
 // Whoever takes turns: a world of nodes, as data, and schedules of its turns.
-ghost use Rattle.std.specs.Prelude.{◌≡◌, ◌+◌, ◌<◌, ◌≤◌, ◌^◌, length, All, Ok, Some, None, OnOk, OnErr, IfOk, IfSome, slice_get};
+ghost use Rattle.std.specs.Prelude.{◌≡◌, ◌+◌, ◌<◌, ◌≤◌, ◌^◌, length, All, Ok, Some, None, OnOk};
+ghost use Rattle.std.specs.Prelude.{OnErr, IfOk, IfSome, slice_get};
 ghost use Rattle.sl_machine.specs.Plan.{HasChoice};
 ghost use Rattle.sl_layout.specs.Wiring.{plan_of};
 ghost use Rattle.sl_wire.specs.declared.message.Msg.{Msg};
@@ -30,9 +31,12 @@ pub trait Taker {
     fn turn(&mut self, actor: u32, choice: u32) -> Result<Turn, Memory>
         requires choice { HasChoice (scene self.old).plan actor choice }
         requires book { length (scene self.old).book < 2 ^ 40 }
-        ensures after { OnOk result (scene self.new ≡ after_turn node_rules (scene self.old) (actor, choice)) }
-        ensures did { result ≡ Ok Turn.Did → turn_of node_rules (scene self.old) actor choice ≡ Some (scene self.new) }
-        ensures idle { result ≡ Ok Turn.Idle → turn_of node_rules (scene self.old) actor choice ≡ None }
+        ensures after { OnOk result
+            (scene self.new ≡ after_turn node_rules (scene self.old) (actor, choice)) }
+        ensures did { result ≡ Ok Turn.Did → turn_of node_rules (scene self.old) actor choice
+            ≡ Some (scene self.new) }
+        ensures idle { result ≡ Ok Turn.Idle → turn_of node_rules (scene self.old) actor choice
+            ≡ None }
         ensures err { OnErr result (scene self.new ≡ scene self.old) }
         ensures plan { (scene self.new).plan ≡ (scene self.old).plan }
         ensures book { length (scene self.new).book ≤ length (scene self.old).book + 1 }
@@ -42,7 +46,8 @@ pub trait Taker {
     /// where it is an action.
     fn look_up(&self, alloc: Global, schedule: &[(u32, u32)]) -> Result<Vec<u32>, Memory>
         requires { All (λ e. HasChoice (scene self.now).plan e.0 e.1) schedule.now }
-        ensures { IfOk result (λ links. links.items ≡ links_of (scene self.now).plan schedule.now) };
+        ensures { IfOk result
+            (λ links. links.items ≡ links_of (scene self.now).plan schedule.now) };
 
     /// The turns of a whole schedule; after want of memory, those of a front of it. Where the links
     /// of its entries are given, they are not looked up once more.
@@ -50,10 +55,12 @@ pub trait Taker {
         requires choices { All (λ e. HasChoice (scene self.old).plan e.0 e.1) schedule.now }
         requires links { IfSome links (λ l. l.now ≡ links_of (scene self.old).plan schedule.now) }
         requires book { length (scene self.old).book + length schedule.now < 2 ^ 40 }
-        ensures ok { OnOk result (scene self.new ≡ after_all node_rules (scene self.old) schedule.now) }
+        ensures ok { OnOk result
+            (scene self.new ≡ after_all node_rules (scene self.old) schedule.now) }
         ensures front { IsFront node_rules (scene self.old) schedule.now (scene self.new) }
         ensures plan { (scene self.new).plan ≡ (scene self.old).plan }
-        ensures book { length (scene self.new).book ≤ length (scene self.old).book + length schedule.now }
+        ensures book { length (scene self.new).book ≤ length
+            (scene self.old).book + length schedule.now }
         ensures fixed { fixed self.new ≡ fixed self.old };
 
     /// The observer, where the first node is one.
@@ -114,15 +121,19 @@ pub fn drive<T: Taker>(
     requires links { IfSome links (λ l. l.now ≡ links_of (plan_of net.now) schedule.now) }
     requires choices { All (λ e. HasChoice (plan_of net.now) e.0 e.1) schedule.now }
     requires book { length (T.scene taker.old).book + length schedule.now < 2 ^ 40 }
-    ensures ok { OnOk result (T.scene taker.new ≡ after_all node_rules (T.scene taker.old) schedule.now) }
+    ensures ok { OnOk result
+        (T.scene taker.new ≡ after_all node_rules (T.scene taker.old) schedule.now) }
     ensures front { IsFront node_rules (T.scene taker.old) schedule.now (T.scene taker.new) }
     ensures plan { (T.scene taker.new).plan ≡ plan_of net.now }
-    ensures book { length (T.scene taker.new).book ≤ length (T.scene taker.old).book + length schedule.now }
+    ensures book { length (T.scene taker.new).book ≤ length
+        (T.scene taker.old).book + length schedule.now }
     ensures observer { HasObserver (T.scene taker.old) → HasObserver (T.scene taker.new) }
     ensures stands { KeepsStanding net.now (T.scene taker.old) (T.scene taker.new) }
     ensures fixed { T.fixed taker.new ≡ T.fixed taker.old }
-    ensures follows { OnOk result (Drives net.now (T.scene taker.old) schedule.now (T.scene taker.new)) }
-    ensures follows_front { DrivesFront net.now (T.scene taker.old) schedule.now (T.scene taker.new) }
+    ensures follows { OnOk result
+        (Drives net.now (T.scene taker.old) schedule.now (T.scene taker.new)) }
+    ensures follows_front { DrivesFront net.now (T.scene taker.old) schedule.now
+        (T.scene taker.new) }
 {
     nodes_follow_their_books();
     taker.run(schedule, links)
@@ -141,14 +152,17 @@ pub fn drive_within<T: Taker>(
     requires plan { (T.scene taker.old).plan ≡ plan_of net.now }
     requires links { IfSome links (λ l. l.now ≡ links_of (plan_of net.now) schedule.now) }
     requires choices { All (λ e. HasChoice (plan_of net.now) e.0 e.1) schedule.now }
-    ensures ok { OnOk result (T.scene taker.new ≡ after_all node_rules (T.scene taker.old) schedule.now) }
+    ensures ok { OnOk result
+        (T.scene taker.new ≡ after_all node_rules (T.scene taker.old) schedule.now) }
     ensures front { IsFront node_rules (T.scene taker.old) schedule.now (T.scene taker.new) }
     ensures plan { (T.scene taker.new).plan ≡ plan_of net.now }
     ensures observer { HasObserver (T.scene taker.old) → HasObserver (T.scene taker.new) }
     ensures stands { KeepsStanding net.now (T.scene taker.old) (T.scene taker.new) }
     ensures fixed { T.fixed taker.new ≡ T.fixed taker.old }
-    ensures follows { OnOk result (Drives net.now (T.scene taker.old) schedule.now (T.scene taker.new)) }
-    ensures follows_front { DrivesFront net.now (T.scene taker.old) schedule.now (T.scene taker.new) }
+    ensures follows { OnOk result
+        (Drives net.now (T.scene taker.old) schedule.now (T.scene taker.new)) }
+    ensures follows_front { DrivesFront net.now (T.scene taker.old) schedule.now
+        (T.scene taker.new) }
 {
     let limit: u64 = 1 << 40;
     let entries = taker.entries();

@@ -5,8 +5,9 @@ ghost use Rattle.sl_layout.specs.Net.{units};
 ghost use Rattle.sl_observe.specs.Observer.{unit_at, saved_of};
 ghost use Rattle.sl_model.specs.Words.{first_told};
 ghost use Rattle.sl_model.specs.Verdict.{place_or_zero};
-ghost use Rattle.sl_model.specs.Accounts.{behind, lag_by, cause_by, row_of, value_row, floor_by, holds, verdict_by, rows_by, finding_by};
-ghost use Rattle.sl_image.specs.ObserverImage.{account_of};
+ghost use Rattle.sl_model.specs.Accounts.{behind, lag_by, cause_by, row_of, value_row, floor_by};
+ghost use Rattle.sl_model.specs.Accounts.{holds, verdict_by, rows_by, finding_by};
+ghost use Rattle.sl_simulation.specs.ObserverImage.{account_of};
 ghost use Rattle.sl_proto.specs.Told.{HasAllRows, accounts_of, IsValue};
 
 use sl_machine::Memory;
@@ -99,7 +100,9 @@ fn first_cause(net: &Net, observer: &Observer, k: u64) -> Option<(u32, Cause)>
 /// The first unit that holds the floor, by its place, 0 where there is no unit.
 fn holder(net: &Net, observer: &Observer) -> u32
     requires { HasAllRows net.now observer.now.state }
-    ensures { let o = observer.now.state in result ≡ place_or_zero (first_told (holds (floor_by o.issued (accounts_of o))) (accounts_of o)) }
+    ensures { let o = observer.now.state in
+        result ≡ place_or_zero
+        (first_told (holds (floor_by o.issued (accounts_of o))) (accounts_of o)) }
 {
     let floor = observer.floor();
     for unit in 0..net.unit_count() {
@@ -166,8 +169,10 @@ fn row_at(observer: &Observer, unit: u32, k: u64) -> Row
 fn rows(alloc: Global, net: &Net, observer: &Observer, k: u64) -> Result<Rows1, Memory>
     requires units { length observer.now.state.units ≡ length (units net.now) }
     requires first { 1 ≤ k }
-    requires values { (unit : ℕ) → unit < length (units net.now) → IsValue (saved_of (unit_at observer.now.state.units unit) k) }
-    ensures { IfOk result (λ rows. rows ≡ map (λ a. value_row (row_of k a)) (accounts_of observer.now.state)) }
+    requires values { (unit : ℕ) → unit < length (units net.now)
+        → IsValue (saved_of (unit_at observer.now.state.units unit) k) }
+    ensures { IfOk result
+        (λ rows. rows ≡ map (λ a. value_row (row_of k a)) (accounts_of observer.now.state)) }
 {
     let count = net.unit_count();
     let mut items = Vec::with_capacity(alloc, count as usize)?;
@@ -187,7 +192,8 @@ fn rows_for(
 ) -> Result<Rows1, Memory>
     requires collected { HasAllRows net.now observer.now.state }
     requires first { 1 ≤ k }
-    requires verdict { verdict ≡ verdict_by observer.now.state.issued (accounts_of observer.now.state) k }
+    requires verdict { verdict ≡ verdict_by observer.now.state.issued
+        (accounts_of observer.now.state) k }
     ensures { IfOk result (λ rows. rows ≡ rows_by (accounts_of observer.now.state) k verdict) }
 {
     match verdict {
@@ -202,7 +208,8 @@ fn rows_for(
 pub fn finding(alloc: Global, net: &Net, observer: &Observer, k: u64) -> Result<Finding, Memory>
     requires collected { HasAllRows net.now observer.now.state }
     requires first { 1 ≤ k }
-    ensures { IfOk result (λ one. one ≡ finding_by observer.now.state.issued (accounts_of observer.now.state) k) }
+    ensures { IfOk result
+        (λ one. one ≡ finding_by observer.now.state.issued (accounts_of observer.now.state) k) }
 {
     let verdict = verdict(net, observer, k);
     let rows = rows_for(alloc, net, observer, k, verdict)?;
@@ -217,7 +224,9 @@ pub fn finding_list(
     count: u64,
 ) -> Result<FindingList, Memory>
     requires { HasAllRows net.now observer.now.state }
-    ensures { IfOk result (λ list. list ≡ map (finding_by observer.now.state.issued (accounts_of observer.now.state)) (range_with_len 1 count)) }
+    ensures { IfOk result
+        (λ list. list ≡ map (finding_by observer.now.state.issued (accounts_of observer.now.state))
+        (range_with_len 1 count)) }
 {
     let mut items = Vec::new(alloc);
     for done in 0..count {

@@ -1,3 +1,4 @@
+-- Trusted text, but for NamesChoices.
 -- Spellings of links and of script entries, looked up in the net.
 use Rattle.std.specs.Prelude.{◌≡◌, ℕ, ◌+◌, Bool, ◌&&◌, nat_lt, nat_le, if◌then◌else◌, List, [], ◌∷◌, map, flat_map, length, Option, Some, None, option_map, option_and_then, bytes_eq, Result, Ok, Err}
 use Rattle.sl_net.specs.declared.input.Drop1.{Drop1}

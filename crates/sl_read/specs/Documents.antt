@@ -1,3 +1,4 @@
+-- Trusted text.
 -- The shape of the input: the top table, and then each table in order.
 use Rattle.std.specs.Prelude.{Result, Ok}
 use Rattle.toml.specs.Data.{Members}

@@ -1,3 +1,4 @@
+-- Trusted text.
 -- The input: the bytes as a TOML document, its shape, then its names, its net, its spellings, its
 -- total and its limits. The first refusal in this order is the answer.
 use Rattle.std.specs.Prelude.{ℕ, ◌+◌, nat_lt, if◌then◌else◌, List, length, map, Option, Some, None, option_and_then, Result, Ok, Err}

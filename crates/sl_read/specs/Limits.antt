@@ -1,3 +1,4 @@
+-- Trusted text.
 -- Limits of an input that its numbers keep together.
 use Rattle.std.specs.Prelude.{ℕ, ◌*◌, nat_lt, nat_le, ◌==◌, if◌then◌else◌, List, length, Option, Some, None, Result, Ok, Err}
 use Rattle.std.specs.List.{position}

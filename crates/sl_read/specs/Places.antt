@@ -1,3 +1,4 @@
+-- Trusted text.
 -- Names of devices and hosts, looked up: a name that stands twice is its first holder.
 use Rattle.std.specs.Prelude.{ℕ, ◌+◌, List, [], ◌∷◌, Option, Some, None, unwrap_or, bytes_eq, Result, Ok, Err}
 use Rattle.std.specs.List.{position}

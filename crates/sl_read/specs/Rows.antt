@@ -1,3 +1,4 @@
+-- Trusted text.
 -- Tables in tables, and lists of tables.
 use Rattle.std.specs.Prelude.{ℕ, ◌+◌, List, [], ◌∷◌, Option, Some, None, Result, Ok, Err}
 use Rattle.toml.specs.Data.{Data, array, table, Items, no_items, item, Members}

@@ -1,3 +1,4 @@
+-- Trusted text, but for sections_view.
 -- The top table.
 use Rattle.std.specs.Prelude.{[], ◌∷◌, Option, option_map, Result, Ok}
 use Rattle.toml.specs.Data.{Items, Members}

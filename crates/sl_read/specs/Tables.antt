@@ -1,3 +1,4 @@
+-- Trusted text.
 -- The tables of the input, one after the other: in each the keys that it may have, then each key in
 -- order, with its kind, its form and its range.
 use Rattle.std.specs.Prelude.{ℕ, suc, pos, ◌+◌, ◌-◌, ◌^◌, min, nat_lt, if◌then◌else◌, List, [], ◌∷◌, Option, Some, None, Result, Ok, Err}

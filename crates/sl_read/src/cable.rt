@@ -1,3 +1,4 @@
+// Trusted types: CableRow.
 // Cables, by the names of the devices at their ends.
 ghost use Rattle.std.specs.Prelude.{◌≡◌};
 ghost use Rattle.toml.specs.View.{table_view};

@@ -4,7 +4,8 @@ ghost use Rattle.sl_net.specs.Spelling.{HasChoice};
 ghost use Rattle.sl_form.specs.Refusals.{Answers};
 ghost use Rattle.sl_read.specs.Places.{each};
 ghost use Rattle.sl_net.specs.Spelled.{HasOneSpelling};
-ghost use Rattle.sl_read.specs.Choices.{choice_named, lossy_link, link_named, drop_part, entry_of, fitting, entries_of, passes};
+ghost use Rattle.sl_read.specs.Choices.{choice_named, lossy_link, link_named, drop_part};
+ghost use Rattle.sl_read.specs.Choices.{entry_of, fitting, entries_of, passes};
 
 use crate::loss::DropRow;
 use sl_form::{Key, Listed, Path, ReadError, Refusal, TableName, Text, pass_of};

@@ -1,3 +1,4 @@
+// Trusted types: Document.
 // The tables of the input, one after the other.
 ghost use Rattle.toml.specs.View.{table_view};
 ghost use Rattle.sl_form.specs.Refusals.{Answers};

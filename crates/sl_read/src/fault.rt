@@ -1,3 +1,4 @@
+// Trusted types: InputFault.
 // Why an input is refused, as callers see it.
 ghost use Rattle.std.specs.Prelude.{◌≡◌, ◌≢◌, IfOk};
 ghost use Rattle.sl_read.specs.declared.fault.InputFault.TheVariants.{Memory};

@@ -1,3 +1,4 @@
+// Trusted types: FlowRow.
 // Flows, by the names of their hosts.
 use crate::rows::Row;
 use sl_form::{Key, ReadError, TableName, only, required_name, required_number};

@@ -1,3 +1,4 @@
+// Trusted types: HostRow.
 // Hosts, and the ports that they stand at.
 use crate::rows::Row;
 use sl_form::{Key, PortText, ReadError, TableName, only, required_name, required_port};

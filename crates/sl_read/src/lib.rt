@@ -21,5 +21,5 @@ mod snapshot;
 mod top;
 
 pub use fault::InputFault;
-pub use laws::spellings_name_choices;
+pub use laws::{inputs_are_accepted, spellings_name_choices};
 pub use read::read_input;

@@ -1,3 +1,4 @@
+// Trusted types: LossRow, DropRow.
 // The table of the losses, and the losses listed one by one.
 ghost use Rattle.std.specs.Prelude.{Option, option_map};
 ghost use Rattle.toml.specs.View.{items_view, table_view};

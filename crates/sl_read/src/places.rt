@@ -2,7 +2,8 @@
 ghost use Rattle.std.specs.Prelude.{◌≡◌, Ok, Err, bytes_eq};
 ghost use Rattle.std.specs.List.{position};
 ghost use Rattle.sl_form.specs.Refusals.{Answers};
-ghost use Rattle.sl_read.specs.Places.{device_place, host_place, known, port_place, cable_part, host_part, flow_part, raw_part, each, parts_of};
+ghost use Rattle.sl_read.specs.Places.{device_place, host_place, known, port_place, cable_part};
+ghost use Rattle.sl_read.specs.Places.{host_part, flow_part, raw_part, each, parts_of};
 
 use crate::cable::CableRow;
 use crate::flow::FlowRow;

@@ -1,3 +1,4 @@
+// Trusted types: RawRow.
 // Raw frames, by the names of their hosts.
 use crate::rows::Row;
 use sl_form::{Key, ReadError, TableName, only, required_hex, required_name};

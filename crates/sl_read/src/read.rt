@@ -1,3 +1,4 @@
+// Trusted types: Contents, Traffic.
 // The whole input.
 ghost use Rattle.std.specs.Prelude.{◌≡◌, ◌≢◌, ◌≤◌, Ok, Err, IfOk, IfErr, option_map, map};
 ghost use Rattle.std.specs.List.{sum};
@@ -6,7 +7,9 @@ ghost use Rattle.sl_form.specs.Refusals.{Answers};
 ghost use Rattle.sl_parts.specs.Lists.{Each};
 ghost use Rattle.sl_parts.specs.Valid.{AreVersioned};
 ghost use Rattle.sl_read.specs.Accepted.{HasVersion, IsVersion, IsAccepted};
-ghost use Rattle.sl_read.specs.Inputs.{built, packets, few_packets, losses, net_in, traffic_in, contents_in, settled, tables_of, text_of, reading_of, input_of};
+ghost use Rattle.sl_read.specs.Inputs.{built, packets, few_packets, losses, net_in, traffic_in};
+ghost use Rattle.sl_read.specs.Inputs.{contents_in, settled, tables_of, text_of, reading_of};
+ghost use Rattle.sl_read.specs.Inputs.{input_of};
 
 use crate::choices::{place_drops, read_entries};
 use crate::document::{Document, read_document};

@@ -4,7 +4,8 @@ ghost use Rattle.toml.specs.Data.{Members};
 ghost use Rattle.toml.specs.View.{view, items_view, table_view};
 ghost use Rattle.sl_form.specs.declared.refusal.Refusal.{Refusal};
 ghost use Rattle.sl_form.specs.Refusals.{Answers, Shows};
-ghost use Rattle.sl_read.specs.Rows.{table_at, items_at, all_tables, tables_at, required_tables, optional_tables, required_table, rows, row};
+ghost use Rattle.sl_read.specs.Rows.{table_at, items_at, all_tables, tables_at, required_tables};
+ghost use Rattle.sl_read.specs.Rows.{optional_tables, required_table, rows, row};
 
 use sl_form::{Key, Listed, Path, ReadError, Refusal, TableName, find};
 use std::alloc::Global;
@@ -87,7 +88,8 @@ fn tables_at(at: TableName, key: Key, value: &Value) -> Result<&[Value], Refusal
 
 /// The tables of the list at a key that has to be there.
 pub fn required_tables(table: &Table, at: TableName, key: Key) -> Result<&[Value], Refusal>
-    ensures { Shows (λ vs. items_view vs.now) result (required_tables at key (table_view table.now)) }
+    ensures { Shows (λ vs. items_view vs.now) result
+        (required_tables at key (table_view table.now)) }
 {
     match find(table, key) {
         Some(value) => tables_at(at, key, value),
@@ -97,7 +99,8 @@ pub fn required_tables(table: &Table, at: TableName, key: Key) -> Result<&[Value
 
 /// The tables of the list at a key, or none where the key is absent.
 pub fn optional_tables(table: &Table, at: TableName, key: Key) -> Result<&[Value], Refusal>
-    ensures { Shows (λ vs. items_view vs.now) result (optional_tables at key (table_view table.now)) }
+    ensures { Shows (λ vs. items_view vs.now) result
+        (optional_tables at key (table_view table.now)) }
 {
     match find(table, key) {
         Some(value) => tables_at(at, key, value),

@@ -23,7 +23,8 @@ pub struct Sections<'a> {
 }
 
 fn optional_table(table: &Table, at: TableName, key: Key) -> Result<Option<&Table>, Refusal>
-    ensures { Shows (λ o. option_map (λ t. table_view t.now) o) result (optional_table at key (table_view table.now)) }
+    ensures { Shows (λ o. option_map (λ t. table_view t.now) o) result
+        (optional_table at key (table_view table.now)) }
 {
     match find(table, key) {
         Some(value) => match table_at(Path::at(at, key), value) {

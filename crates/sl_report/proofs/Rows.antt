@@ -11,8 +11,7 @@ use Rattle.sl_model.specs.Setup.{Setup}
 use Rattle.sl_model.specs.World.{Entry}
 use Rattle.sl_model.specs.Schedule.{expand}
 use Rattle.sl_model.specs.Findings.{findings}
-use Rattle.sl_model.specs.Losses.{no_loss}
-use Rattle.sl_model.proofs.Nets.{net_a, net_b, net_c, net_d, flow, setup, form, drop_one, book_of}
+use Rattle.sl_model.proofs.Worked.Nets.{net_a, net_b, net_c, net_d, flow, setup, form, drop_one, book_of, no_loss}
 use Rattle.sl_report.specs.Report.{port_text, verdict_line, row_line, network_line, observer_line, host_line, drops_line, lost_line, report_text}
 
 -- lines, each ended by a newline

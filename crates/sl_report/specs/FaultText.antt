@@ -1,3 +1,4 @@
+-- Trusted text.
 -- The text of a refused input: one line with the number of the refusal and what it keeps.
 use Rattle.std.specs.Prelude.{ℕ, List, [], ◌++◌, codes, decimal}
 use Rattle.std.specs.Fmt.{signed_decimal}

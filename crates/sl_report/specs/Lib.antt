@@ -3,4 +3,5 @@ pub mod RoutesText
 pub mod FaultText
 pub mod TraceText
 pub mod SummaryText
-pub mod Names
+pub mod Sayable
+pub mod ShortRun

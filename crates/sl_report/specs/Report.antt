@@ -1,3 +1,4 @@
+-- Trusted text, but for report_front, report_back.
 -- The text of the report. Each line ends with a newline; numbers are decimal.
 use Rattle.std.specs.Prelude.{ℕ, List, [], ◌∷◌, ◌++◌, map, flat_map, length, slice_index_or, codes, decimal}
 use Rattle.sl_layout.specs.declared.actor.Sort.{Sort}

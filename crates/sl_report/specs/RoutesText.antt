@@ -1,3 +1,4 @@
+-- Trusted text.
 -- The text of the routes of a net. Each line ends with a newline; numbers are decimal.
 use Rattle.std.specs.Prelude.{ℕ, List, ◌++◌, flat_map, length, Option, Some, codes, decimal}
 use Rattle.sl_parts.specs.Parts.{Parts, below}

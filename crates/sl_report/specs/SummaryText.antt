@@ -1,3 +1,4 @@
+-- Trusted text.
 -- The text of the summary of a sample: the sizes of its net, and sums over its hosts, snapshots and links. Each line ends with a newline; numbers are decimal.
 use Rattle.std.specs.Prelude.{ℕ, ◌+◌, Bool, true, false, List, ◌++◌, filter, length, sum, codes, decimal}
 use Rattle.sl_layout.specs.Net.{Net, units}

@@ -1,3 +1,4 @@
+-- Trusted text, but for IsEntryOf, in_script, ReadsBack.
 -- The text of a trace: how many entries the book has, then the spelling of each. Each line ends with a newline.
 use Rattle.std.specs.Prelude.{◌≡◌, ℕ, List, ◌++◌, map, flat_map, length, Ok, codes, decimal}
 use Rattle.sl_machine.specs.declared.wiring.Entry.{Entry}

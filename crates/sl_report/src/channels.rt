@@ -12,7 +12,9 @@ use std::alloc::{AllocError, Global};
 #[tactic(auto, using(crate::proofs::TextLemmas::filter_more))]
 fn add_of_sort(links: &mut Vec<u32>, net: &Net, from: &[u32], sort: Sort) -> Result<(), AllocError>
     requires { All (λ l. l < length net.now.links) from.now }
-    ensures { OnOk result (links.new.items ≡ links.old.items ++ filter (λ l. same_sort (link_of net.now l).sort sort) from.now) }
+    ensures { OnOk result
+        (links.new.items ≡ links.old.items ++ filter (λ l. same_sort (link_of net.now l).sort sort)
+        from.now) }
 {
     for link in from {
         push_if(links, net.link(*link).sort.is(sort), *link)?;

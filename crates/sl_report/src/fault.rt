@@ -64,7 +64,8 @@ fn with_path(alloc: Global, number: &str, path: &Line) -> Result<Vec<u8>, AllocE
 
 /// A path and the value that it has.
 fn with_value(alloc: Global, path: &Line, value: i64) -> Result<Vec<u8>, AllocError>
-    ensures { IfOk result (λ bytes. bytes.items ≡ codes "I6 " ++ (path.now ++ (codes " " ++ signed_decimal value))) }
+    ensures { IfOk result
+        (λ bytes. bytes.items ≡ codes "I6 " ++ (path.now ++ (codes " " ++ signed_decimal value))) }
 {
     let mut bytes = with_path(alloc, "I6", path)?;
     let text = format!(in alloc; " {value}")?;

@@ -1,9 +1,12 @@
 // The findings of each snapshot as text.
-ghost use Rattle.std.specs.Prelude.{◌≡◌, ◌++◌, OnOk, string_bytes, flat_map, codes, decimal, length, map, ◌<◌};
+ghost use Rattle.std.specs.Prelude.{◌≡◌, ◌++◌, OnOk, string_bytes, flat_map, codes, decimal};
+ghost use Rattle.std.specs.Prelude.{length, map, ◌<◌};
 ghost use Rattle.sl_layout.specs.Net.{units};
 ghost use Rattle.sl_model.specs.Findings.{channel_links};
-ghost use Rattle.sl_report.specs.Report.{unit_text, unit_at, channel_text, channel_at, cause_text, lag_text};
-ghost use Rattle.sl_report.specs.Report.{verdict_text, verdict_line, totals_text, row_line, rows_text, finding_text};
+ghost use Rattle.sl_report.specs.Report.{unit_text, unit_at, channel_text, channel_at};
+ghost use Rattle.sl_report.specs.Report.{cause_text, lag_text};
+ghost use Rattle.sl_report.specs.Report.{verdict_text, verdict_line, totals_text, row_line};
+ghost use Rattle.sl_report.specs.Report.{rows_text, finding_text};
 
 use crate::channels::{channel_links, list_channels};
 use crate::numbers::push_spaced;
@@ -32,7 +35,8 @@ fn push_channel_at(
     place: u32,
 ) -> Result<(), AllocError>
     requires { unit < length net.now.actors }
-    ensures { OnOk result (string_bytes out.new ≡ string_bytes out.old ++ channel_at net.now unit place) }
+    ensures { OnOk result
+        (string_bytes out.new ≡ string_bytes out.old ++ channel_at net.now unit place) }
 {
     let links = channel_links(alloc, net, unit)?;
     let link = links.get(place as usize).copied().unwrap_or(0);
@@ -47,7 +51,8 @@ fn push_lag(
     lag: Lag,
 ) -> Result<(), AllocError>
     requires { unit < length net.now.actors }
-    ensures { OnOk result (string_bytes out.new ≡ string_bytes out.old ++ lag_text net.now unit lag) }
+    ensures { OnOk result
+        (string_bytes out.new ≡ string_bytes out.old ++ lag_text net.now unit lag) }
 {
     match lag {
         Lag::Id(number) => write!(out, "id {number}"),
@@ -77,7 +82,8 @@ fn push_pending(
 ) -> Result<(), AllocError>
     requires { unit < length net.now.actors }
     ensures { OnOk result (string_bytes out.new ≡ string_bytes out.old
-        ++ (codes "pending " ++ (unit_text net.now unit ++ (codes " " ++ lag_text net.now unit lag)))) }
+        ++ (codes "pending "
+        ++ (unit_text net.now unit ++ (codes " " ++ lag_text net.now unit lag)))) }
 {
     write!(out, "pending ")?;
     push_unit(out, net, unit)?;
@@ -86,7 +92,9 @@ fn push_pending(
 }
 
 fn push_not_issued(out: &mut String, net: &Net, unit: u32, floor: u64) -> Result<(), AllocError>
-    ensures { OnOk result (string_bytes out.new ≡ string_bytes out.old ++ (codes "not issued " ++ (unit_text net.now unit ++ (codes " " ++ decimal floor)))) }
+    ensures { OnOk result
+        (string_bytes out.new ≡ string_bytes out.old
+        ++ (codes "not issued " ++ (unit_text net.now unit ++ (codes " " ++ decimal floor)))) }
 {
     write!(out, "not issued ")?;
     push_unit(out, net, unit)?;
@@ -112,7 +120,8 @@ fn push_verdict(
     net: &Net,
     verdict: Verdict,
 ) -> Result<(), AllocError>
-    ensures { OnOk result (string_bytes out.new ≡ string_bytes out.old ++ verdict_text net.now verdict) }
+    ensures { OnOk result
+        (string_bytes out.new ≡ string_bytes out.old ++ verdict_text net.now verdict) }
 {
     match verdict {
         Verdict::Consistent => write!(out, "consistent"),
@@ -136,7 +145,8 @@ pub fn push_verdict_line(
     k: u64,
     verdict: Verdict,
 ) -> Result<(), AllocError>
-    ensures { OnOk result (string_bytes out.new ≡ string_bytes out.old ++ verdict_line net.now k verdict) }
+    ensures { OnOk result
+        (string_bytes out.new ≡ string_bytes out.old ++ verdict_line net.now k verdict) }
 {
     write!(out, "snapshot {k} ")?;
     push_verdict(alloc, out, net, verdict)?;
@@ -145,7 +155,10 @@ pub fn push_verdict_line(
 
 fn push_total(out: &mut String, net: &Net, link: u32, total: Total) -> Result<(), AllocError>
     ensures { OnOk result (string_bytes out.new ≡ string_bytes out.old
-        ++ (codes " " ++ (channel_text net.now link ++ (codes " " ++ (decimal total.packets ++ (codes " " ++ decimal total.bytes)))))) }
+        ++ (codes " "
+        ++ (channel_text net.now link
+        ++ (codes " "
+        ++ (decimal total.packets ++ (codes " " ++ decimal total.bytes)))))) }
 {
     out.push(' ')?;
     push_channel(out, net, link)?;
@@ -161,7 +174,8 @@ fn push_totals(
     links: &[u32],
     totals: &[Total],
 ) -> Result<(), AllocError>
-    ensures { OnOk result (string_bytes out.new ≡ string_bytes out.old ++ totals_text net.now links.now totals.now) }
+    ensures { OnOk result
+        (string_bytes out.new ≡ string_bytes out.old ++ totals_text net.now links.now totals.now) }
 {
     for i in 0..links.len().min(totals.len()) {
         push_total(out, net, links[i], totals[i])?;
@@ -178,7 +192,8 @@ fn push_row(
     row: &Row,
 ) -> Result<(), AllocError>
     requires { links.now ≡ channel_links net.now unit }
-    ensures { OnOk result (string_bytes out.new ≡ string_bytes out.old ++ row_line net.now unit row.now) }
+    ensures { OnOk result
+        (string_bytes out.new ≡ string_bytes out.old ++ row_line net.now unit row.now) }
 {
     push_unit(out, net, unit)?;
     push_spaced(out, row.packets)?;
@@ -197,7 +212,8 @@ fn push_rows(
     rows: &[Row],
 ) -> Result<(), AllocError>
     requires { channels.now ≡ map (channel_links net.now) actors.now }
-    ensures { OnOk result (string_bytes out.new ≡ string_bytes out.old ++ rows_text net.now actors.now rows.now) }
+    ensures { OnOk result
+        (string_bytes out.new ≡ string_bytes out.old ++ rows_text net.now actors.now rows.now) }
 {
     for i in 0..actors.len().min(rows.len()) {
         let links = &channels[i];
@@ -215,7 +231,8 @@ pub fn push_finding(
     finding: &Finding,
 ) -> Result<(), AllocError>
     requires { channels.now ≡ map (channel_links net.now) (units net.now) }
-    ensures { OnOk result (string_bytes out.new ≡ string_bytes out.old ++ finding_text net.now finding.now) }
+    ensures { OnOk result
+        (string_bytes out.new ≡ string_bytes out.old ++ finding_text net.now finding.now) }
 {
     push_verdict_line(alloc, out, net, finding.k, finding.verdict)?;
     push_rows(
@@ -235,7 +252,9 @@ pub fn push_findings(
     net: &Net,
     findings: &[Finding],
 ) -> Result<(), AllocError>
-    ensures { OnOk result (string_bytes out.new ≡ string_bytes out.old ++ flat_map (finding_text net.now) findings.now) }
+    ensures { OnOk result
+        (string_bytes out.new ≡ string_bytes out.old ++ flat_map
+        (finding_text net.now) findings.now) }
 {
     let channels = list_channels(alloc, net)?;
     for finding in findings {

@@ -4,24 +4,24 @@
 mod channels;
 mod fault;
 mod findings;
-mod laws;
 mod lines;
-mod names;
 mod numbers;
 mod report;
+mod report_laws;
 mod routes;
 mod summary;
 mod trace;
+mod trace_laws;
 mod units;
 
 pub use channels::list_channels;
 pub use fault::fault_bytes;
 pub use findings::{push_finding, push_verdict_line, unit_at};
-pub use laws::{legal_books_are_choices, traces_are_scripts};
 pub use lines::push_hosts;
-pub use names::nets_have_names;
 pub use report::{push_back, report_bytes, report_front};
+pub use report_laws::{findings_are_sayable, reports_of_runs_tell_findings, reports_tell_findings};
 pub use routes::routes_bytes;
 pub use summary::summary_bytes;
 pub use trace::{add_trace, trace_bytes};
+pub use trace_laws::{legal_books_are_choices, traces_are_scripts};
 pub use units::push_unit;

@@ -1,7 +1,8 @@
 // The single lines of a report.
 ghost use Rattle.std.specs.Prelude.{◌≡◌, ◌++◌, OnOk, length, map, string_bytes};
 ghost use Rattle.sl_layout.specs.Net.{units};
-ghost use Rattle.sl_report.specs.Report.{network_line, observer_line, host_line, hosts_text, drops_line, lost_line};
+ghost use Rattle.sl_report.specs.Report.{network_line, observer_line, host_line, hosts_text};
+ghost use Rattle.sl_report.specs.Report.{drops_line, lost_line};
 
 use sl_model::{Drops, Findings, Lost};
 use sl_net::{HostPart, Name, Net, Parts};
@@ -24,7 +25,8 @@ pub fn push_network(out: &mut String, net: &Net, count: usize) -> Result<(), All
 /// Adds the observer's line.
 #[tactic(auto, unfolding(crate::specs::Report::observer_line))]
 pub fn push_observer(out: &mut String, count: u64, findings: &Findings) -> Result<(), AllocError>
-    ensures { OnOk result (string_bytes out.new ≡ string_bytes out.old ++ observer_line count findings.now) }
+    ensures { OnOk result
+        (string_bytes out.new ≡ string_bytes out.old ++ observer_line count findings.now) }
 {
     let issued = findings.issued;
     let floor = findings.floor;
@@ -38,7 +40,8 @@ pub fn push_observer(out: &mut String, count: u64, findings: &Findings) -> Resul
 /// Adds the line of a host.
 #[tactic(auto, unfolding(crate::specs::Report::host_line))]
 pub fn push_host(out: &mut String, name: &Name, sent: u64, delivered: u64) -> Result<(), AllocError>
-    ensures { OnOk result (string_bytes out.new ≡ string_bytes out.old ++ host_line name.now sent delivered) }
+    ensures { OnOk result
+        (string_bytes out.new ≡ string_bytes out.old ++ host_line name.now sent delivered) }
 {
     write!(out, "host {name} sent {sent} delivered {delivered}\n")
 }
@@ -77,7 +80,9 @@ pub fn push_hosts(
     sent: &[u64],
     delivered: &[u64],
 ) -> Result<(), AllocError>
-    ensures { OnOk result (string_bytes out.new ≡ string_bytes out.old ++ hosts_text (map (λ host. host.name) parts.now.hosts) sent.now delivered.now) }
+    ensures { OnOk result
+        (string_bytes out.new ≡ string_bytes out.old ++ hosts_text
+        (map (λ host. host.name) parts.now.hosts) sent.now delivered.now) }
 {
     push_host_lines(out, parts.hosts.as_slice(), sent, delivered)
 }
@@ -89,7 +94,9 @@ fn push_host_lines(
     sent: &[u64],
     delivered: &[u64],
 ) -> Result<(), AllocError>
-    ensures { OnOk result (string_bytes out.new ≡ string_bytes out.old ++ hosts_text (map (λ host. host.name) hosts.now) sent.now delivered.now) }
+    ensures { OnOk result
+        (string_bytes out.new ≡ string_bytes out.old ++ hosts_text
+        (map (λ host. host.name) hosts.now) sent.now delivered.now) }
 {
     let count = hosts.len().min(sent.len()).min(delivered.len());
     for i in 0..count {

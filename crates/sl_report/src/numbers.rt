@@ -26,7 +26,8 @@ pub fn push_number(out: &mut String, number: u64) -> Result<(), AllocError>
 
 /// Writes a number after a space.
 pub fn push_spaced(out: &mut String, number: u64) -> Result<(), AllocError>
-    ensures { OnOk result (string_bytes out.new ≡ string_bytes out.old ++ (codes " " ++ decimal number)) }
+    ensures { OnOk result
+        (string_bytes out.new ≡ string_bytes out.old ++ (codes " " ++ decimal number)) }
 {
     out.push(' ')?;
     push_number(out, number)

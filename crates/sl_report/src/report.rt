@@ -11,7 +11,9 @@ use std::alloc::Global;
 
 /// The text of a report up to that of its snapshots. The list of findings isn't looked at.
 pub fn report_front(alloc: Global, input: &Input, findings: &Findings) -> Result<String, Memory>
-    ensures { IfOk result (λ out. string_bytes out ≡ report_front input.now.net input.now.snapshot.count findings.now) }
+    ensures { IfOk result
+        (λ out. string_bytes out ≡ report_front input.now.net input.now.snapshot.count
+        findings.now) }
 {
     let net = &input.net;
     let mut out = String::new(alloc);
@@ -23,7 +25,8 @@ pub fn report_front(alloc: Global, input: &Input, findings: &Findings) -> Result
 
 /// Writes what comes after the snapshots of a report. The list of findings isn't looked at.
 pub fn push_back(out: &mut String, net: &Net, findings: &Findings) -> Result<(), Memory>
-    ensures { OnOk result (string_bytes out.new ≡ string_bytes out.old ++ report_back net.now findings.now) }
+    ensures { OnOk result
+        (string_bytes out.new ≡ string_bytes out.old ++ report_back net.now findings.now) }
 {
     push_hosts(
         out,
@@ -39,7 +42,8 @@ pub fn push_back(out: &mut String, net: &Net, findings: &Findings) -> Result<(),
 
 /// The text of the report of a run's findings.
 pub fn report_bytes(alloc: Global, input: &Input, findings: &Findings) -> Result<Vec<u8>, Memory>
-    ensures { IfOk result (λ bytes. bytes.items ≡ report_text input.now.net input.now.snapshot.count findings.now) }
+    ensures { IfOk result
+        (λ bytes. bytes.items ≡ report_text input.now.net input.now.snapshot.count findings.now) }
 {
     let mut out = report_front(alloc, input, findings)?;
     push_findings(alloc, &mut out, &input.net, findings.list.items.as_slice())?;

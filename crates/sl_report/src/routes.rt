@@ -2,7 +2,8 @@
 ghost use Rattle.std.specs.Prelude.{◌≡◌, ◌<◌, ◌++◌, IfOk, OnOk, length, string_bytes, flat_map};
 ghost use Rattle.sl_parts.specs.Parts.{below};
 ghost use Rattle.sl_route.specs.Routes.{IsRoutesOf};
-ghost use Rattle.sl_report.specs.RoutesText.{way_text, route_line, route_text, device_routes, routes_text};
+ghost use Rattle.sl_report.specs.RoutesText.{way_text, route_line, route_text, device_routes};
+ghost use Rattle.sl_report.specs.RoutesText.{routes_text};
 
 use sl_machine::Memory;
 use sl_net::{Name, Net};
@@ -26,7 +27,8 @@ fn push_line(
     port: Option<u8>,
     hops: Option<u32>,
 ) -> Result<(), AllocError>
-    ensures { OnOk result (string_bytes out.new ≡ string_bytes out.old ++ route_line device.now host.now port hops) }
+    ensures { OnOk result
+        (string_bytes out.new ≡ string_bytes out.old ++ route_line device.now host.now port hops) }
 {
     write!(out, "route {device} {host} ")?;
     push_way(out, port, hops)?;
@@ -44,7 +46,8 @@ fn push_route(
     requires routes { IsRoutesOf net.now routes.now }
     requires device { device < length net.now.parts.devices }
     requires host { host < length net.now.parts.hosts }
-    ensures { OnOk result (string_bytes out.new ≡ string_bytes out.old ++ route_text net.now.parts device host) }
+    ensures { OnOk result
+        (string_bytes out.new ≡ string_bytes out.old ++ route_text net.now.parts device host) }
 {
     let port = routes.next_port(device, host);
     let hops = routes.hops(device, host);
@@ -62,7 +65,8 @@ fn push_route(
 fn push_device(out: &mut String, net: &Net, routes: &Routes, device: u32) -> Result<(), AllocError>
     requires routes { IsRoutesOf net.now routes.now }
     requires device { device < length net.now.parts.devices }
-    ensures { OnOk result (string_bytes out.new ≡ string_bytes out.old ++ device_routes net.now.parts device) }
+    ensures { OnOk result
+        (string_bytes out.new ≡ string_bytes out.old ++ device_routes net.now.parts device) }
 {
     for host in 0..net.host_count() {
         push_route(out, net, routes, device, host)?;
@@ -72,7 +76,9 @@ fn push_device(out: &mut String, net: &Net, routes: &Routes, device: u32) -> Res
 
 fn push_devices(out: &mut String, net: &Net, routes: &Routes) -> Result<(), AllocError>
     requires { IsRoutesOf net.now routes.now }
-    ensures { OnOk result (string_bytes out.new ≡ string_bytes out.old ++ flat_map (device_routes net.now.parts) (below (length net.now.parts.devices))) }
+    ensures { OnOk result
+        (string_bytes out.new ≡ string_bytes out.old ++ flat_map (device_routes net.now.parts)
+        (below (length net.now.parts.devices))) }
 {
     for device in 0..net.device_count() {
         push_device(out, net, routes, device)?;

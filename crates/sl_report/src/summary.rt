@@ -1,8 +1,11 @@
 // The summary of a sample.
 ghost use Rattle.std.specs.Prelude.{◌≡◌, ◌++◌, IfOk, OnOk, length, sum, string_bytes};
 ghost use Rattle.sl_layout.specs.Net.{units};
-ghost use Rattle.sl_report.specs.SummaryText.{is_consistent, is_inconsistent, is_pending, is_not_issued, count_verdicts};
-ghost use Rattle.sl_report.specs.SummaryText.{sample_line, sizes_line, traffic_line, verdicts_line, verdicts_text, lost_in_all, total_lost_line, summary_text};
+ghost use Rattle.sl_report.specs.SummaryText.{is_consistent, is_inconsistent, is_pending};
+ghost use Rattle.sl_report.specs.SummaryText.{is_not_issued, count_verdicts};
+ghost use Rattle.sl_report.specs.SummaryText.{sample_line, sizes_line, traffic_line};
+ghost use Rattle.sl_report.specs.SummaryText.{verdicts_line, verdicts_text, lost_in_all};
+ghost use Rattle.sl_report.specs.SummaryText.{total_lost_line, summary_text};
 
 use sl_machine::Memory;
 use sl_model::{Finding, Findings, Lost, Verdict};
@@ -101,14 +104,16 @@ fn push_sample(out: &mut String, n: u64) -> Result<(), AllocError>
 
 #[tactic(auto, unfolding(crate::specs::SummaryText::sizes_line))]
 fn push_sizes(out: &mut String, devices: u32, units: u32, hosts: u32) -> Result<(), AllocError>
-    ensures { OnOk result (string_bytes out.new ≡ string_bytes out.old ++ sizes_line devices units hosts) }
+    ensures { OnOk result
+        (string_bytes out.new ≡ string_bytes out.old ++ sizes_line devices units hosts) }
 {
     write!(out, "devices {devices} units {units} hosts {hosts}\n")
 }
 
 #[tactic(auto, unfolding(crate::specs::SummaryText::traffic_line))]
 fn push_traffic(out: &mut String, sent: u128, delivered: u128) -> Result<(), AllocError>
-    ensures { OnOk result (string_bytes out.new ≡ string_bytes out.old ++ traffic_line sent delivered) }
+    ensures { OnOk result
+        (string_bytes out.new ≡ string_bytes out.old ++ traffic_line sent delivered) }
 {
     write!(out, "sent {sent} delivered {delivered}\n")
 }
@@ -121,7 +126,9 @@ fn push_counts(
     pending: usize,
     not_issued: usize,
 ) -> Result<(), AllocError>
-    ensures { OnOk result (string_bytes out.new ≡ string_bytes out.old ++ verdicts_line consistent inconsistent pending not_issued) }
+    ensures { OnOk result
+        (string_bytes out.new ≡ string_bytes out.old
+        ++ verdicts_line consistent inconsistent pending not_issued) }
 {
     write!(
         out,
@@ -132,7 +139,8 @@ fn push_counts(
 
 /// Writes how many snapshots have each verdict.
 fn push_verdicts(out: &mut String, findings: &[Finding]) -> Result<(), AllocError>
-    ensures { OnOk result (string_bytes out.new ≡ string_bytes out.old ++ verdicts_text findings.now) }
+    ensures { OnOk result
+        (string_bytes out.new ≡ string_bytes out.old ++ verdicts_text findings.now) }
 {
     push_counts(
         out,
@@ -152,7 +160,8 @@ fn push_total_lost(out: &mut String, lost: u128) -> Result<(), AllocError>
 
 fn push_net(out: &mut String, net: &Net) -> Result<(), AllocError>
     ensures { OnOk result (string_bytes out.new ≡ string_bytes out.old
-        ++ sizes_line (length net.now.parts.devices) (length (units net.now)) (length net.now.parts.hosts)) }
+        ++ sizes_line (length net.now.parts.devices) (length (units net.now))
+        (length net.now.parts.hosts)) }
 {
     push_sizes(out, net.device_count(), net.unit_count(), net.host_count())
 }

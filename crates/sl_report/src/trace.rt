@@ -34,7 +34,8 @@ fn push_entries(
     entries: &[Entry],
 ) -> Result<(), AllocError>
     requires { All (IsEntryOf net.now) entries.now }
-    ensures { OnOk result (out.new.items ≡ out.old.items ++ flat_map (entry_line net.now) entries.now) }
+    ensures { OnOk result
+        (out.new.items ≡ out.old.items ++ flat_map (entry_line net.now) entries.now) }
 {
     for entry in entries {
         push_entry(alloc, out, net, *entry)?;

@@ -19,7 +19,8 @@ fn side_text(side: Side) -> &'static str
 
 #[tactic(auto, unfolding(crate::specs::Report::port_text))]
 fn push_port(out: &mut String, parts: &Parts, unit: UnitId) -> Result<(), AllocError>
-    ensures { OnOk result (string_bytes out.new ≡ string_bytes out.old ++ port_text parts.now unit) }
+    ensures { OnOk result
+        (string_bytes out.new ≡ string_bytes out.old ++ port_text parts.now unit) }
 {
     let side = side_text(unit.side);
     let port = unit.port;
@@ -71,7 +72,8 @@ fn link_of(net: &Net, link: u32) -> LinkPart
 
 /// Writes the name of a data channel, by its link's number.
 pub fn push_channel(out: &mut String, net: &Net, link: u32) -> Result<(), AllocError>
-    ensures { OnOk result (string_bytes out.new ≡ string_bytes out.old ++ channel_text net.now link) }
+    ensures { OnOk result
+        (string_bytes out.new ≡ string_bytes out.old ++ channel_text net.now link) }
 {
     let link = link_of(net, link);
     let port = port_of(net, link.from);

@@ -6,8 +6,15 @@ use Rattle.std.proofs.lemmas.Bool.{eq-eqb, eqb-true, ne_eqb}
 use Rattle.std.proofs.lemmas.Bool.Decides.{eqb_tells}
 use Rattle.std.proofs.lemmas.List.{length-set, length-replicate, get_or-replicate, get_or-set_same, get_or-set_other}
 use Rattle.std.proofs.lemmas.List.Elements.{All-cons, All-nil, recursion_from_All}
-use Rattle.sl_route.specs.Graph.{Graph, neighbours_at, leads, reaches, first_to_pass, within, IsGraph, is_at, lists, Finds, IsSearched}
+use Rattle.sl_route.specs.Graph.{Graph, neighbours_at, leads, reaches, first_to_pass, within, IsGraph, is_at, lists, Finds}
 use Rattle.sl_route.proofs.First.{bool_same, is_false, none-passes, IsFirst, first-is, first-at}
+
+-- how far each device is from e, up to n cables, and which devices are just so far
+pub record IsSearched (g : Graph) (e n : ℕ) (far : List (Option ℕ)) (last : List ℕ) : Type 0 where
+  pub size : length far ≡ length g
+  pub each : (d : ℕ) → d < length g → get_or far d None ≡ within g e n d
+  pub listed : (d : ℕ) → d < length g → lists last d ≡ is_at n (within g e n d)
+  pub near : All (λ x. x < length g) last
 
 -- an element that passes, with what holds of each; any test that it passes finds it
 pub record Found {A : Type 0} (P : A → Type 0) (test : A → Bool) (xs : List A) : Type 0 where

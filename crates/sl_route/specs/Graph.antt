@@ -1,3 +1,4 @@
+-- Trusted text, in part.
 -- How far devices are from one of them, by the neighbours of each.
 --     leads g x d        one cable leads from x to d
 --     reaches g e n d    n cables lead from d to e
@@ -58,13 +59,6 @@ pub record Finds (hops : ℕ) (found : ℕ → Bool) (old new : List (Option ℕ
   pub each : (d : ℕ) → d < length old → slice_index_or new d None ≡ (if is_none (slice_index_or old d None) && found d then Some hops else slice_index_or old d None)
   pub listed : (d : ℕ) → d < length old → lists after d ≡ (lists before d || (is_none (slice_index_or old d None) && found d))
   pub near : All (λ x. x < length old) before → All (λ x. x < length old) after
-
--- how far each device is from e, up to n cables, and which devices are just so far
-pub record IsSearched (g : Graph) (e n : ℕ) (far : List (Option ℕ)) (last : List ℕ) : Type 0 where
-  pub size : length far ≡ length g
-  pub each : (d : ℕ) → d < length g → slice_index_or far d None ≡ within g e n d
-  pub listed : (d : ℕ) → d < length g → lists last d ≡ is_at n (within g e n d)
-  pub near : All (λ x. x < length g) last
 
 -- how far each device is from e
 pub record IsFar (g : Graph) (e : ℕ) (far : List (Option ℕ)) : Type 0 where

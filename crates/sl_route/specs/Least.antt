@@ -1,3 +1,4 @@
+-- Trusted text.
 -- The least of some numbers.
 use Rattle.std.specs.Prelude.{ℕ, min, List, [], ◌∷◌, Option, Some, None, unwrap_or}
 

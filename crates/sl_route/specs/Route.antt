@@ -1,3 +1,4 @@
+-- Trusted text.
 -- Routes by walks. A walk is a list of cables, each beginning at the device where the one before ends.
 --     hops parts d h         the least length of a walk from the device d to the device of the host h
 --     next_port parts d h    the lowest port whose cable begins such a walk, or the host's own port on its own device

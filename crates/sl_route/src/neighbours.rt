@@ -1,5 +1,6 @@
 // The neighbours of each device.
-ghost use Rattle.std.specs.Prelude.{ℕ, ◌≡◌, ◌<◌, ◌++◌, ◌∷◌, [], OnOk, IfOk, length, map, slice_index_or, slice_set};
+ghost use Rattle.std.specs.Prelude.{ℕ, ◌≡◌, ◌<◌, ◌++◌, ◌∷◌, [], OnOk, IfOk, length, map};
+ghost use Rattle.std.specs.Prelude.{slice_index_or, slice_set};
 ghost use Rattle.sl_parts.specs.Parts.{below};
 ghost use Rattle.sl_parts.specs.Valid.{IsValid};
 ghost use Rattle.sl_route.specs.Route.{turned};
@@ -84,7 +85,9 @@ fn add_neighbour(
     neighbour: Neighbour,
 ) -> Result<(), AllocError>
     requires { device < length table.old.items }
-    ensures { OnOk result (table.new.items ≡ slice_set table.old.items device (slice_index_or table.old.items device [] ++ neighbour ∷ [])) }
+    ensures { OnOk result
+        (table.new.items ≡ slice_set table.old.items device
+        (slice_index_or table.old.items device [] ++ neighbour ∷ [])) }
 {
     let list = &mut table[device as usize];
     list.items.push(neighbour)?;
@@ -94,7 +97,8 @@ fn add_neighbour(
 /// The neighbours of each device, in order.
 pub fn list_neighbours(alloc: Global, parts: &Parts) -> Result<Vec<Neighbours>, AllocError>
     requires { IsValid parts.now }
-    ensures { IfOk result (λ table. table.items ≡ map (neighbours_of parts.now) (below (length parts.now.devices))) }
+    ensures { IfOk result
+        (λ table. table.items ≡ map (neighbours_of parts.now) (below (length parts.now.devices))) }
 {
     let cables = both_ways(alloc, &parts.cables)?;
     let mut table = no_neighbours(alloc, parts.devices.len())?;

@@ -31,7 +31,8 @@ impl Model for Routes {
 /// The ways to each host, in order.
 fn all_ways(alloc: Global, parts: &Parts) -> Result<Vec<Ways>, AllocError>
     requires { IsValid parts.now }
-    ensures { IfOk result (λ ways. ways.items ≡ map (ways_of parts.now) (below (length parts.now.hosts))) }
+    ensures { IfOk result
+        (λ ways. ways.items ≡ map (ways_of parts.now) (below (length parts.now.hosts))) }
 {
     let table = list_neighbours(alloc, parts)?;
     let mut ways = Vec::new(alloc);
@@ -53,7 +54,8 @@ impl Routes {
     /// The lowest port of a device by which a way with the fewest cables to a host begins, or the
     /// host's own port on its own device. None where no way leads there or there is no such host.
     pub fn next_port(&self, device: u32, host: u32) -> Option<u8>
-        ensures { (net : Net) → IsRoutesOf net self.now → device < length net.parts.devices → result ≡ next_port net.parts device host }
+        ensures { (net : Net) → IsRoutesOf net self.now → device < length net.parts.devices
+            → result ≡ next_port net.parts device host }
     {
         let ways = self.ways.get(host as usize)?;
         *ways.ports.get(device as usize)?
@@ -62,7 +64,8 @@ impl Routes {
     /// The fewest cables of a way from a device to a host's device. None where no way leads there
     /// or there is no such host.
     pub fn hops(&self, device: u32, host: u32) -> Option<u32>
-        ensures { (net : Net) → IsRoutesOf net self.now → device < length net.parts.devices → result ≡ hops net.parts device host }
+        ensures { (net : Net) → IsRoutesOf net self.now → device < length net.parts.devices
+            → result ≡ hops net.parts device host }
     {
         let ways = self.ways.get(host as usize)?;
         *ways.hops.get(device as usize)?

@@ -1,5 +1,6 @@
 // How far each device is from one of them, searched breadth first.
-ghost use Rattle.std.specs.Prelude.{◌≡◌, ◌<◌, ◌==◌, [], OnOk, IfOk, Some, None, length, slice_set, replicate};
+ghost use Rattle.std.specs.Prelude.{◌≡◌, ◌<◌, ◌==◌, [], OnOk, IfOk, Some, None, length};
+ghost use Rattle.std.specs.Prelude.{slice_set, replicate};
 ghost use Rattle.std.specs.List.{All, list_any};
 ghost use Rattle.sl_route.specs.Graph.{leads, IsGraph, Finds, IsFar};
 
@@ -14,7 +15,9 @@ fn find(
     hops: u32,
 ) -> Result<(), AllocError>
     requires { device < length far.old.items }
-    ensures { OnOk result (Finds hops (λ d. device == d) far.old.items far.new.items found.old.items found.new.items) }
+    ensures { OnOk result
+        (Finds hops (λ d. device == d) far.old.items far.new.items
+        found.old.items found.new.items) }
 {
     if far[device as usize].is_none() {
         far[device as usize] = Some(hops);
@@ -31,7 +34,9 @@ fn find_neighbours(
     hops: u32,
 ) -> Result<(), AllocError>
     requires { All (λ k. k.device < length far.old.items) neighbours.now }
-    ensures { OnOk result (Finds hops (λ d. list_any (λ k. k.device == d) neighbours.now) far.old.items far.new.items found.old.items found.new.items) }
+    ensures { OnOk result
+        (Finds hops (λ d. list_any (λ k. k.device == d) neighbours.now)
+        far.old.items far.new.items found.old.items found.new.items) }
 {
     for neighbour in neighbours {
         find(far, found, neighbour.device, hops)?;
@@ -50,7 +55,9 @@ fn advance(
     requires graph { IsGraph table.now }
     requires size { length far.old.items ≡ length table.now }
     requires near { All (λ x. x < length table.now) last.now }
-    ensures { IfOk result (λ found. Finds hops (λ d. list_any (λ x. leads table.now x d) last.now) far.old.items far.new.items [] found.items) }
+    ensures { IfOk result
+        (λ found. Finds hops (λ d. list_any (λ x. leads table.now x d) last.now)
+        far.old.items far.new.items [] found.items) }
 {
     let mut found = Vec::new(alloc);
     for device in last {

@@ -1,5 +1,6 @@
 // The ways to one host.
-ghost use Rattle.std.specs.Prelude.{◌≡◌, ◌<◌, IfOk, Some, None, length, map, cond, min, unwrap_or, slice_index_or};
+ghost use Rattle.std.specs.Prelude.{◌≡◌, ◌<◌, IfOk, Some, None, length, map, cond, min};
+ghost use Rattle.std.specs.Prelude.{unwrap_or, slice_index_or};
 ghost use Rattle.std.specs.List.{All};
 ghost use Rattle.sl_parts.specs.Parts.{below};
 ghost use Rattle.sl_route.specs.Least.{least};
@@ -89,7 +90,10 @@ fn ports_toward(
 ) -> Result<Vec<Option<u8>>, AllocError>
     requires graph { IsGraph table.now }
     requires size { length far.now ≡ length table.now }
-    ensures { IfOk result (λ ports. ports.items ≡ map (λ d. port_toward own far.now (neighbours_at table.now d) (slice_index_or far.now d None)) (below (length table.now))) }
+    ensures { IfOk result
+        (λ ports. ports.items
+        ≡ map (λ d. port_toward own far.now (neighbours_at table.now d)
+        (slice_index_or far.now d None)) (below (length table.now))) }
 {
     let mut ports = Vec::new(alloc);
     for device in 0..table.len() {
@@ -105,7 +109,10 @@ pub fn ways_to(alloc: Global, table: &[Neighbours], at: PortRef) -> Result<Ways,
     requires device { at.device < length table.now }
     requires port { at.port < 8 }
     ensures hops { IfOk result (λ ways. IsFar table.now at.device ways.hops) }
-    ensures ports { IfOk result (λ ways. ways.ports ≡ map (λ d. port_toward at.port ways.hops (neighbours_at table.now d) (slice_index_or ways.hops d None)) (below (length table.now))) }
+    ensures ports { IfOk result
+        (λ ways. ways.ports
+        ≡ map (λ d. port_toward at.port ways.hops (neighbours_at table.now d)
+        (slice_index_or ways.hops d None)) (below (length table.now))) }
 {
     let hops = distances(alloc, table, at.device)?;
     let ports = ports_toward(alloc, table, &hops, at.port as u8)?;

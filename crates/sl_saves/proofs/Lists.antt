@@ -11,9 +11,12 @@ use Rattle.sl_saves.specs.declared.entry.Slot.{Slot}
 use Rattle.sl_saves.specs.declared.entries.Entry.{Entry}
 use Rattle.sl_saves.specs.Calls.{Save, Call, Adopt, Credited, Credit, saves, number, with_credit, saved_credit, written_to, lower, is_empty, IsRising}
 use Rattle.sl_saves.specs.Views.{slot_of, free_slot, no_slot, IsShown}
-use Rattle.sl_saves.specs.Keeping.{entry_of, entry_credited, entries_credited, written, Listed, IsListed, list_adopted, list_credited, list_view, no_entry, new_slot}
+use Rattle.sl_saves.specs.Keeping.{entry_of, entry_credited, entries_credited, written, Listed, IsListed, list_adopted, list_credited, list_view, new_slot}
 use Rattle.sl_saves.proofs.Chains.{top, IsChain, all-weaken, chain-below, chain-older, chain-saves, saves-below, top-number}
 use Rattle.sl_saves.proofs.Rings.{IsKept, kept-set, slot-credited}
+
+abbrev pub no_entry : Entry
+no_entry = record { number = 0; slot = no_slot }
 
 -- what is written
 

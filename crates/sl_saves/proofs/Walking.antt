@@ -67,7 +67,7 @@ path-on n slot k number s g q = rw (le-ltb number k (omega (arith, q)), ne_eqb n
 path-at : (n : ℕ) (slot : ℕ → Slot) (k number : ℕ) (s : Slot) → slot number ≡ s → number ≡ k → path (suc n) slot number k ≡ record { number = number; slot = s } ∷ []
 path-at n slot k number s g q = rw (le-ltb number k (omega (arith, q)), eq-eqb number k q) (ap (λ x. record { number = number; slot = x } ∷ []) g)
 
-path-below : (n : ℕ) (slot : ℕ → Slot) (k number : ℕ) → number < k → path n slot number k ≡ []
+pub path-below : (n : ℕ) (slot : ℕ → Slot) (k number : ℕ) → number < k → path n slot number k ≡ []
 path-below zero slot k number q = refl
 path-below (suc n) slot k number q = rw (lt-ltb number k q) refl
 

@@ -1,3 +1,4 @@
+-- Trusted text for nodes, in part.
 -- What a unit saved, as the calls that made it say. A unit saves its counters when it adopts a number, and credits the
 -- data packets that were in flight for it to the last numbers that it saved, to so many of them at most (Yaseen, Sonchack
 -- and Liu 2018). Calls and entries stand newest first.

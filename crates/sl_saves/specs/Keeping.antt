@@ -1,3 +1,4 @@
+-- Trusted text, in part.
 -- What an adoption and a credit make of the view of a ring, and of a list of all entries.
 use Rattle.std.specs.Prelude.{◌≡◌, ℕ, zero, suc, ◌+◌, ◌-◌, ◌%◌, ◌≤◌, min, max, Bool, true, false, ◌||◌, List, [], ◌∷◌, ◌++◌, length, map, reverse, replicate, drop, nat_lt, nat_le, ◌==◌, if◌then◌else◌, slice_index_or, slice_set}
 use Rattle.sl_saves.specs.declared.entry.Total.{Total}
@@ -58,9 +59,6 @@ pub record Listed : Type 0 where
 abbrev pub list_adopted : ℕ → ℕ → ℕ → Listed → Listed
 list_adopted by packets bytes l =
     record l { last = l.last + by; entries = l.entries ++ record { number = l.last + by; slot = new_slot by packets bytes } ∷ [] }
-
-abbrev pub no_entry : Entry
-no_entry = record { number = 0; slot = no_slot }
 
 abbrev pub entry_credited : Bool → Credit → Entry → Entry
 entry_credited is_foot c e = record e { slot = slot_credited is_foot c e.slot }

@@ -1,3 +1,4 @@
+-- Trusted text for nodes, but for ring_size.
 -- What saved entries in a ring of slots are.
 use Rattle.std.specs.Prelude.{ℕ, length}
 use Rattle.sl_saves.specs.declared.entry.View.{View}

@@ -1,3 +1,4 @@
+-- Trusted text for nodes, in part.
 -- A view of a ring of slots: what it shows of saved entries, and what the walk back over it reads.
 use Rattle.std.specs.Prelude.{◌≡◌, ℕ, suc, zero, ◌+◌, ◌-◌, ◌%◌, ◌<◌, ◌≤◌, ◌^◌, min, Bool, ◌&&◌, List, [], ◌∷◌, length, map, filter, nat_lt, nat_le, ◌==◌, if◌then◌else◌, Option, Some, None, unwrap_or, slice_index_or}
 use Rattle.std.specs.List.{AllByRecursion}

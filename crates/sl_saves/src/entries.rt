@@ -22,7 +22,8 @@ fn is_last(left: u8, before: usize, age: u16, back: u16) -> bool
 /// Credits a data packet to the last entries above its stamp, to so many at most.
 pub fn credit_entries(entries: &mut [Entry], credits: u8, channel: u32, age: u16, bytes: u64)
     requires { channel < 8 }
-    ensures { entries.new ≡ entries_credited credits (record { channel = channel; age = age; bytes = bytes }) entries.old }
+    ensures { entries.new ≡ entries_credited credits
+        (record { channel = channel; age = age; bytes = bytes }) entries.old }
 {
     let mut age = age;
     let mut left = credits;

@@ -1,3 +1,4 @@
+// Trusted types: Total; for nodes Slot, Saved, View.
 // Totals, saved slots, views and answers.
 ghost use Rattle.std.specs.Prelude.{◌≡◌, ◌<◌, ◌≤◌, ◌^◌, length};
 
@@ -95,7 +96,8 @@ impl Slot {
     /// Adds a data packet in flight, whose foot it is or not.
     pub(crate) fn credit(&mut self, is_foot: bool, channel: u32, age: u16, bytes: u64)
         requires { channel < 8 }
-        ensures { self.new ≡ slot_credited is_foot (record { channel = channel; age = age; bytes = bytes }) self.old }
+        ensures { self.new ≡ slot_credited is_foot
+            (record { channel = channel; age = age; bytes = bytes }) self.old }
     {
         let total = &mut self.inflight[channel as usize];
         total.packets = total.packets.saturating_add(1);
@@ -129,7 +131,8 @@ impl View {
         requires at { self.old.at < length self.old.slots }
         requires channel { channel < 8 }
         requires age { age ≤ length self.old.slots }
-        ensures value { self.new ≡ view_credited credits (record { channel = channel; age = age; bytes = bytes }) self.old }
+        ensures value { self.new ≡ view_credited credits
+            (record { channel = channel; age = age; bytes = bytes }) self.old }
         ensures size { length self.new.slots ≡ length self.old.slots }
     {
         self.slots

@@ -65,9 +65,11 @@ pub trait Saves: Drop {
         requires channel { channel < 8 }
         requires least { 1 ≤ age }
         requires most { age ≤ window self.old }
-        ensures kept { kept self.new ≡ credited (credits self.old) (record { channel = channel; age = age; bytes = bytes }) (kept self.old) }
+        ensures kept { kept self.new ≡ credited (credits self.old)
+            (record { channel = channel; age = age; bytes = bytes }) (kept self.old) }
         ensures shows { (calls : List Call) → shows (credits self.old) (kept self.old) calls
-            → shows (credits self.old) (kept self.new) (Credited (record { channel = channel; age = age; bytes = bytes }) ∷ calls) }
+            → shows (credits self.old) (kept self.new)
+            (Credited (record { channel = channel; age = age; bytes = bytes }) ∷ calls) }
         ensures room { has_room self.old → has_room self.new }
         ensures window { window self.new ≡ window self.old }
         ensures size { size self.new ≡ size self.old }

@@ -1,5 +1,6 @@
 // Saved entries in a list.
-ghost use Rattle.std.specs.Prelude.{◌≡◌, ◌+◌, ◌-◌, ◌*◌, ◌%◌, ◌^◌, ◌<◌, ◌≤◌, length, replicate, drop, [], IfOk};
+ghost use Rattle.std.specs.Prelude.{◌≡◌, ◌+◌, ◌-◌, ◌*◌, ◌%◌, ◌^◌, ◌<◌, ◌≤◌, length, replicate};
+ghost use Rattle.std.specs.Prelude.{drop, [], IfOk};
 ghost use Rattle.sl_saves.specs.Views.{free_slot};
 
 use crate::entries::{Entry, credit_entries};
@@ -40,7 +41,8 @@ impl ListSaves {
         requires most { window ≤ ring }
         requires some { 1 ≤ credits }
         requires few { credits ≤ 4 }
-        ensures kept { IfOk result (λ saves. list_kept saves ≡ record { size = ring; last = 0; entries = [] }) }
+        ensures kept { IfOk result
+            (λ saves. list_kept saves ≡ record { size = ring; last = 0; entries = [] }) }
         ensures shows { IfOk result (λ saves. IsListed credits (list_kept saves) []) }
         ensures window { IfOk result (λ saves. list_window saves ≡ window) }
         ensures size { IfOk result (λ saves. list_size saves ≡ ring) }
@@ -101,8 +103,10 @@ fn write_entries(slots: &mut Slots, entries: &[Entry], from: usize)
 }
 
 impl Saves for ListSaves {
-    ghost use Rattle.sl_saves.specs.Keeping.{Listed, IsListed, list_adopted, list_credited, list_view};
-    ghost use Rattle.sl_saves.specs.Lists.{list_kept, list_window, list_size, list_credits, ListHasRoom};
+    ghost use Rattle.sl_saves.specs.Keeping.{Listed, IsListed, list_adopted, list_credited};
+    ghost use Rattle.sl_saves.specs.Keeping.{list_view};
+    ghost use Rattle.sl_saves.specs.Lists.{list_kept, list_window, list_size, list_credits};
+    ghost use Rattle.sl_saves.specs.Lists.{ListHasRoom};
 
     ghost Kept = { Listed };
 

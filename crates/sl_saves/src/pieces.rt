@@ -1,5 +1,6 @@
 // A list of slots in pieces that several lists share.
-ghost use Rattle.std.specs.Prelude.{◌≡◌, ◌<◌, length, map, replicate, slice_index_or, slice_set, IfOk, OnOk};
+ghost use Rattle.std.specs.Prelude.{◌≡◌, ◌<◌, length, map, replicate, slice_index_or, slice_set};
+ghost use Rattle.std.specs.Prelude.{IfOk, OnOk};
 ghost use Rattle.std.specs.Arc.{arc_value};
 ghost use Rattle.sl_saves.specs.Views.{free_slot, no_slot};
 
@@ -72,7 +73,8 @@ fn write_piece(alloc: Global, piece: &mut Arc<Piece>, at: usize, slot: Slot) -> 
 
 /// So many pieces of slots in which nothing is saved. They are one piece until they are written.
 fn free_pieces(alloc: Global, count: usize) -> Result<Vec<Arc<Piece>>, Memory>
-    ensures { IfOk result (λ pieces. map arc_value pieces.items ≡ replicate count (replicate 16 free_slot)) }
+    ensures { IfOk result
+        (λ pieces. map arc_value pieces.items ≡ replicate count (replicate 16 free_slot)) }
 {
     let free = Piece::free(alloc)?;
     let mut pieces = Vec::with_capacity(alloc, count)?;

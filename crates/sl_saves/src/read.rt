@@ -1,5 +1,6 @@
 // The walk back over a view.
-ghost use Rattle.std.specs.Prelude.{◌≡◌, ℕ, List, ◌+◌, ◌-◌, ◌<◌, ◌≤◌, ◌↔◌, length, IsSome, IfSome, Some, None, nat_lt, if◌then◌else◌};
+ghost use Rattle.std.specs.Prelude.{◌≡◌, ℕ, List, ◌+◌, ◌-◌, ◌<◌, ◌≤◌, ◌↔◌, length, IsSome};
+ghost use Rattle.std.specs.Prelude.{IfSome, Some, None, nat_lt, if◌then◌else◌};
 ghost use Rattle.sl_saves.specs.Calls.{Call, number, saves, saved};
 ghost use Rattle.sl_saves.specs.Walks.{stopped};
 ghost use Rattle.sl_saves.specs.Views.{place_below, IsLive, IsShown, IsFitting, held_saved, read};

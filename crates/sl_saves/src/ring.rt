@@ -1,3 +1,4 @@
+// Trusted types: for nodes RingSaves.
 // Saved entries in a ring of slots.
 ghost use Rattle.std.specs.Prelude.{◌≡◌, ◌<◌, ◌≤◌, ◌^◌, length, replicate, [], IfOk, OnOk};
 
@@ -32,7 +33,8 @@ impl RingSaves {
         requires most { window ≤ ring }
         requires some { 1 ≤ credits }
         requires few { credits ≤ 4 }
-        ensures view { IfOk result (λ saves. ring_view saves ≡ record { at = 0; slots = replicate ring free_slot }) }
+        ensures view { IfOk result
+            (λ saves. ring_view saves ≡ record { at = 0; slots = replicate ring free_slot }) }
         ensures shows { IfOk result (λ saves. IsShown credits (ring_view saves) []) }
         ensures window { IfOk result (λ saves. ring_window saves ≡ window) }
         ensures size { IfOk result (λ saves. ring_size saves ≡ ring) }

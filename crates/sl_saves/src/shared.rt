@@ -1,5 +1,6 @@
 // Shared slots, and recent writes over them.
-ghost use Rattle.std.specs.Prelude.{◌≡◌, ◌<◌, ◌≤◌, length, replicate, slice_index_or, slice_set, vec_capacity, IfOk, OnOk, IfSome, if◌then◌else◌};
+ghost use Rattle.std.specs.Prelude.{◌≡◌, ◌<◌, ◌≤◌, length, replicate, slice_index_or, slice_set};
+ghost use Rattle.std.specs.Prelude.{vec_capacity, IfOk, OnOk, IfSome, if◌then◌else◌};
 ghost use Rattle.std.specs.Option.{IfNone};
 ghost use Rattle.sl_saves.specs.Views.{free_slot, no_slot};
 ghost use Rattle.sl_saves.specs.Shares.{IsLastAt, IsNoneAt};

@@ -1,5 +1,7 @@
+// Trusted types: for nodes Slots.
 // A list of slots: few are copied, and many are shared.
-ghost use Rattle.std.specs.Prelude.{◌≡◌, ◌<◌, ◌≤◌, ℕ, length, replicate, slice_index_or, slice_set, vec_capacity, unwrap_or, IfOk, OnOk, IfSome, None};
+ghost use Rattle.std.specs.Prelude.{◌≡◌, ◌<◌, ◌≤◌, ℕ, length, replicate, slice_index_or};
+ghost use Rattle.std.specs.Prelude.{slice_set, vec_capacity, unwrap_or, IfOk, OnOk, IfSome, None};
 ghost use Rattle.sl_saves.specs.Views.{free_slot, no_slot};
 ghost use Rattle.sl_saves.specs.Keeping.{slot_credited, slots_credited, is_last};
 
@@ -178,7 +180,8 @@ impl Slots {
         requires place { place < length self.old }
         requires channel { channel < 8 }
         ensures { self.new ≡ slice_set self.old place
-            (slot_credited is_foot (record { channel = channel; age = age; bytes = bytes }) (slice_index_or self.old place no_slot)) }
+            (slot_credited is_foot (record { channel = channel; age = age; bytes = bytes })
+            (slice_index_or self.old place no_slot)) }
     {
         if self.shared.is_none() {
             self.items[place].credit(is_foot, channel, age, bytes);
@@ -193,7 +196,9 @@ impl Slots {
     fn is_last(&self, place: usize, left: u8, age: u16) -> bool
         requires place { place < length self.now }
         requires age { age ≤ length self.now }
-        ensures { (channel bytes : ℕ) → result ≡ is_last left (record { channel = channel; age = age; bytes = bytes }) place self.now }
+        ensures { (channel bytes : ℕ)
+            → result ≡ is_last left (record { channel = channel; age = age; bytes = bytes })
+            place self.now }
     {
         let back = self.get(place).back;
         left == 0
@@ -213,7 +218,8 @@ impl Slots {
         requires place { place < length self.old }
         requires channel { channel < 8 }
         requires age { age ≤ length self.old }
-        ensures value { self.new ≡ slots_credited credits (record { channel = channel; age = age; bytes = bytes }) place self.old }
+        ensures value { self.new ≡ slots_credited credits
+            (record { channel = channel; age = age; bytes = bytes }) place self.old }
         ensures size { length self.new ≡ length self.old }
     {
         let size = self.len();

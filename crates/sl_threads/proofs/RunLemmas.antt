@@ -14,7 +14,7 @@ use Rattle.sl_machine.specs.Fit.{HasCounts}
 use Rattle.sl_loss.specs.Loss.{Loss}
 use Rattle.sl_actor.specs.Follows.{ActorView}
 use Rattle.sl_actor.specs.Runs.{Settled}
-use Rattle.sl_actor.specs.Made.{EachFollows}
+use Rattle.sl_actor.specs.Made.{EachFollows, ArePlaced}
 use Rattle.sl_actor.specs.declared.run.Rest.{Rest}
 use Rattle.sl_actor.specs.declared.run.Rest.TheVariants.{Rested, Spent}
 use Rattle.sl_world.specs.Scene.{Scene, schedule_of}
@@ -108,6 +108,32 @@ module _ {S M : Type 0} (rules : Rules S M) (steps : ℕ) where
         let none : length (get_or olds i d).log ≡ 0 = ap length (new i d (below low)) in
         rests r.answer (length (get_or news i d).log ≡ length (get_or olds i d).log + steps) (All (λ choice. Settled rules choice (get_or news i d)) (get_or plans i [])) r.ok r.run.spent r.run.rested (λ all. omega arith)
 
+-- where no log is so long, each actor whose place is its number has passed the gate before each of its first rounds
+pub all_passed : {S M J R : Type 0} (rules : Rules S M) (steps quiet : ℕ) (passes : ℕ → ℕ → Type 0) (plan : J → List ℕ) (old : J → ActorView S M) (new : R → ActorView S M) (answer : R → Result Rest Memory) (jobs : List J) (ran : List R) (olds news : List (ActorView S M))
+    → map old jobs ≡ olds → news ≡ map new ran → length ran ≡ length jobs → All (λ r. IsOk (answer r)) ran
+    → ((i : ℕ) (d : J) (e : R) → i < length jobs → HasRun rules (plan (get_or jobs i d)) steps (old (get_or jobs i d)) (new (get_or ran i e)) (answer (get_or ran i e)))
+    → ((i : ℕ) (d : J) (e : R) → i < length jobs → answer (get_or ran i e) ≡ Ok Rested → (k : ℕ) → k < quiet → passes (old (get_or jobs i d)).place k)
+    → ArePlaced olds → ((i : ℕ) (a : ActorView S M) → i < length news → length (get_or news i a).log < steps)
+    → (i : ℕ) → i < length olds → (k : ℕ) → k < quiet → passes i k
+all_passed {S} {M} rules steps quiet passes plan old new answer jobs ran olds news olds_are news_are each ok runs passed placed short i low k below =
+    let here : i < length jobs = omega (arith, low, ap length olds_are, length-map jobs old) in
+    let there : i < length ran = omega (arith, here, each) in
+    let d = (some_at jobs i here).0 in
+    let e = (some_at ran i there).0 in
+    let is_old : get_or olds i (old d) ≡ old (get_or jobs i d) = ap (λ l. get_or l i (old d)) (sym olds_are) ∙ get_or-map old jobs i d (old d) here in
+    let is_new : get_or news i (new e) ≡ new (get_or ran i e) = ap (λ l. get_or l i (new e)) news_are ∙ get_or-map new ran i e (new e) there in
+    let many : i < length news = omega (arith, there, ap length news_are, length-map ran new) in
+    let brief : length (new (get_or ran i e)).log < steps = subst (λ (v : ActorView S M). length v.log < steps) is_new (short i (new e) many) in
+    let place : (old (get_or jobs i d)).place ≡ i = ap (λ (v : ActorView S M). v.place) (sym is_old) ∙ placed i (old d) low in
+    let run = runs i d e here in
+    let rested : answer (get_or ran i e) ≡ Ok Rested = only_rest (answer (get_or ran i e)) (length (new (get_or ran i e)).log ≡ length (old (get_or jobs i d)).log + steps) (ok i e there) run.spent (λ is. omega (arith, is, brief)) in
+    subst (λ (n : ℕ). passes n k) place (passed i d e here rested k below)
+  where
+    only_rest : (a : Result Rest Memory) (P : Type 0) → IsOk a → (a ≡ Ok Spent → P) → (P → ⊥) → a ≡ Ok Rested
+    only_rest (Ok Rested) P ok spent short = refl
+    only_rest (Ok Spent) P ok spent short = absurd (short (spent refl))
+    only_rest (Err e) P ok spent short = absurd (cc)
+
 -- what holds of each log holds of the entries of all
 pub joined_all : (P : Entry → Type 0) (n : ℕ) (logs : ℕ → List (ℕ × ℕ)) → ((a : ℕ) → a < n → All (λ (p : ℕ × ℕ). P (record { number = p.0; actor = a; choice = p.1 })) (logs a)) → All P (joined n logs)
 joined_all P zero logs h = All-nil P
@@ -149,14 +175,19 @@ module _ {S M : Type 0} (rules : Rules S M) (plan : Plan) where
         All-permutation (λ (e : Entry). Contains (get_or plans e.actor []) e.choice) (log_entries news) book m.same_entries
         (joined_all (λ (e : Entry). Contains (get_or plans e.actor []) e.choice) (length news) (λ a. get_or (map (λ (x : ActorView S M). x.log) news) a []) (λ a low. log_is_chosen rules steps plans olds news h new a low))
 
+    -- no log is as long as the book is
+    pub logs_within : length book < steps → (i : ℕ) (v : ActorView S M) → i < length news → length (get_or news i v).log < steps
+    logs_within short i v here =
+        let log : get_or (map (λ (x : ActorView S M). x.log) news) i [] ≡ (get_or news i v).log = get_or-map (λ (x : ActorView S M). x.log) news i v [] here in
+        let all : length (get_or (map (λ (x : ActorView S M). x.log) news) i []) ≤ length (log_entries news) = within_joined (length news) (λ a. get_or (map (λ (x : ActorView S M). x.log) news) a []) i here in
+        let long : length book ≡ length (log_entries news) = length_permutation (log_entries news) book m.same_entries in
+        omega (arith, ap length log, all, long, short)
+
     pub at_rest : (states : List S) → AreWired plan news → states ≡ map (λ a. a.state) news → length book < steps → AreAtRest rules plan.ins plans states
     at_rest states wired same short i s low k d within high =
         let here : i < length news = omega (arith, ap length same, length-map news (λ a. a.state)) in
         let v = (some_at news i here).0 in
-        let log : get_or (map (λ (x : ActorView S M). x.log) news) i [] ≡ (get_or news i v).log = get_or-map (λ (x : ActorView S M). x.log) news i v [] here in
-        let all : length (get_or (map (λ (x : ActorView S M). x.log) news) i []) ≤ length (log_entries news) = within_joined (length news) (λ a. get_or (map (λ (x : ActorView S M). x.log) news) a []) i here in
-        let long : length book ≡ length (log_entries news) = length_permutation (log_entries news) book m.same_entries in
-        let brief : length (get_or news i v).log < steps = omega (arith, ap length log, all, long, short) in
+        let brief = logs_within short i v here in
         let ins : length (get_or news i v).takes ≡ slice_index plan.ins i = (wired.ends i v here).takes ∙ sym (get_or-map (λ a. a.counts.ins) news i v 0 here) ∙ ap (λ l. get_or l i 0) wired.counts.ins_are in
         let state : get_or states i s ≡ (get_or news i v).state = ap (λ l. get_or l i s) same ∙ get_or-map (λ a. a.state) news i v s here in
         ap (λ (t : S). rules.act t (get_or (get_or plans i []) k d)) state

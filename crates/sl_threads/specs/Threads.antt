@@ -6,7 +6,7 @@ use Rattle.sl_machine.specs.Machine.{Rules, Counts, IsChoice}
 use Rattle.sl_machine.specs.declared.wiring.Entry.{Entry}
 use Rattle.sl_actor.specs.Follows.{ActorView, Follows}
 use Rattle.sl_actor.specs.Turns.{KeepsEnds}
-use Rattle.sl_actor.specs.Runs.{LogGoesOn, Settled}
+use Rattle.sl_actor.specs.Runs.{LogGoesOn, Settled, HasPassed}
 use Rattle.sl_actor.specs.declared.run.Rest.{Rest}
 use Rattle.sl_actor.specs.declared.run.Rest.TheVariants.{Rested, Spent}
 
@@ -19,6 +19,14 @@ pub record HasRun {S M : Type 0} (rules : Rules S M) (plan : List ℕ) (steps : 
   pub most : OnOk answer (length new.log ≤ length old.log + steps)
   pub spent : answer ≡ Ok Spent → length new.log ≡ length old.log + steps
   pub rested : answer ≡ Ok Rested → All (λ choice. Settled rules choice new) plan
+
+-- an actor whose run rested has passed the gate before each of its first rounds, as many as are to be quiet
+abbrev pub PassedAtRest : {G : Type 0} → (G → ℕ → ℕ → Type 0) → G → ℕ → ℕ → Result Rest Memory → Type 0
+PassedAtRest passed gate place quiet answer = answer ≡ Ok Rested → HasPassed passed gate place quiet
+
+-- each of the first n actors has passed the gate before each of its first rounds, so many
+abbrev pub HavePassed : {G : Type 0} → (G → ℕ → ℕ → Type 0) → G → ℕ → ℕ → Type 0
+HavePassed passed gate n rounds = (actor : ℕ) → actor < n → HasPassed passed gate actor rounds
 
 -- there is a plan for each, of choices that each has
 pub record ArePlans (counts : List Counts) (plans : List (List ℕ)) : Type 0 where

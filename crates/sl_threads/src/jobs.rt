@@ -3,7 +3,7 @@ ghost use Rattle.std.specs.Prelude.{◌≡◌, ◌+◌, ◌<◌, ℕ, length, ma
 ghost use Rattle.std.specs.List.{All};
 ghost use Rattle.sl_machine.specs.Machine.{IsChoice};
 ghost use Rattle.sl_actor.specs.Held.{held};
-ghost use Rattle.sl_threads.specs.Threads.{HasRun, ArePlans};
+ghost use Rattle.sl_threads.specs.Threads.{HasRun, PassedAtRest, ArePlans};
 
 use sl_actor::{Actor, Gate, Rest};
 use sl_machine::{Machine, Memory};
@@ -24,7 +24,9 @@ pub const QUIET: u64 = 200;
 pub struct Job<A: Machine> {
     pub actor: Actor<A>,
     pub plan: Vec<u32>,
-    ghost in_range: { (i : ℕ) → i < length plan.items → slice_index_or plan.items i 0 < (A.counts actor.machine).ins + (A.counts actor.machine).actions },
+    ghost in_range: { (i : ℕ) → i < length plan.items
+        → slice_index_or plan.items i 0 < (A.counts actor.machine).ins +
+        (A.counts actor.machine).actions },
 }
 
 /// Runs an actor, and gives it back with the answer of its run.
@@ -33,7 +35,8 @@ fn run_job<R: Wait, A: Machine, G: Gate>(
     job: Job<A>,
     gate: &G,
 ) -> (Actor<A>, Result<Rest, Memory>)
-    ensures { HasRun A.rules job.plan.items STEPS (held job.actor) (held result.0) result.1 }
+    ensures run { HasRun A.rules job.plan.items STEPS (held job.actor) (held result.0) result.1 }
+    ensures passed { PassedAtRest G.passed gate.now (held job.actor).place QUIET result.1 }
 {
     let Job { mut actor, plan } = job;
     let answer = actor.run(rt, plan.as_slice(), STEPS, QUIET, gate);
@@ -50,13 +53,19 @@ where
     A::Msg: Send,
     ensures len { IfOk result (λ v. length v.items ≡ length jobs.items) }
     ensures each { IfOk result (λ v. (i : ℕ) (d : _) (e : _) → i < length jobs.items
-        → HasRun A.rules (slice_index_or jobs.items i d).plan.items STEPS (held (slice_index_or jobs.items i d).actor) (held (slice_index_or v.items i e).0) (slice_index_or v.items i e).1) }
+        → HasRun A.rules (slice_index_or jobs.items i d).plan.items STEPS
+        (held (slice_index_or jobs.items i d).actor) (held (slice_index_or v.items i e).0)
+        (slice_index_or v.items i e).1) }
+    ensures passed { IfOk result (λ v. (i : ℕ) (d : _) (e : _) → i < length jobs.items
+        → PassedAtRest G.passed gate.now (held (slice_index_or jobs.items i d).actor).place QUIET
+        (slice_index_or v.items i e).1) }
 {
     let ran = thread::map_vec(
         rt,
         jobs,
         &|job: Job<A>| -> (Actor<A>, Result<Rest, Memory>)
-            ensures { HasRun A.rules job.plan.items STEPS (held job.actor) (held result.0) result.1 }
+            ensures { HasRun A.rules job.plan.items STEPS (held job.actor) (held result.0) result.1
+                × PassedAtRest G.passed gate.entry.now (held job.actor).place QUIET result.1 }
         { run_job(rt, job, gate) },
     )?;
     Ok(ran)
@@ -77,9 +86,11 @@ pub fn jobs_of<A: Machine>(
     actors: Vec<Actor<A>>,
     plans: Vec<Vec<u32>>,
 ) -> Result<Vec<Job<A>>, Memory>
-    requires { ArePlans (map (λ a. a.counts) (map held actors.items)) (map (λ p. p.items) plans.items) }
+    requires { ArePlans (map (λ a. a.counts) (map held actors.items))
+        (map (λ p. p.items) plans.items) }
     ensures actors { IfOk result (λ v. map (λ j. held j.actor) v.items ≡ map held actors.items) }
-    ensures plans { IfOk result (λ v. map (λ j. j.plan.items) v.items ≡ map (λ p. p.items) plans.items) }
+    ensures plans { IfOk result
+        (λ v. map (λ j. j.plan.items) v.items ≡ map (λ p. p.items) plans.items) }
 {
     let mut rest = VecDeque::from(actors);
     let mut plans_left = VecDeque::from(plans);

@@ -8,7 +8,7 @@ ghost use Rattle.sl_world.specs.World.{scene};
 ghost use Rattle.sl_merge.specs.Lamport.{lamport_numbers};
 ghost use Rattle.sl_merge.specs.Merging.{IsAscending};
 ghost use Rattle.sl_merge.specs.Ended.{StandsAsRun};
-ghost use Rattle.sl_threads.specs.Threads.{ArePlans, ArePlanned, AreAtRest};
+ghost use Rattle.sl_threads.specs.Threads.{ArePlans, ArePlanned, HavePassed, AreAtRest};
 
 use crate::jobs::{actors_of, jobs_of, run_each};
 use sl_actor::{Gate, make_actors};
@@ -25,7 +25,8 @@ const CAPACITY: u32 = 16;
 
 /// Runs machines, each in a thread of its own by the choices of its plan, until none moves any
 /// more. The world that they come to is one to which a single thread comes by the schedule of its
-/// book. `first` are machines like these.
+/// book. Each has passed the gate before each of its rounds, 200 at least where the book is short.
+/// `first` are machines like these.
 pub fn run_machines<R: Threads + Wait + Sync, A: Machine + Send, G: Gate + Sync>(
     rt: &R,
     alloc: Global,
@@ -43,14 +44,20 @@ where
     requires first { map A.state first.now ≡ map A.state machines.items }
     requires plans { ArePlans (map A.counts machines.items) (map (λ p. p.items) plans.items) }
     requires few { length machines.items ≤ 2 ^ 11 }
-    ensures run { IfOk result (λ w. StandsAsRun A.rules wiring.now (map A.state machines.items) losses.items (scene w)) }
-    ensures numbers { IfOk result (λ w. lamport_numbers A.rules wiring.now (map A.state machines.items) losses.items (schedule_of (scene w).book)
+    ensures run { IfOk result
+        (λ w. StandsAsRun A.rules wiring.now (map A.state machines.items) losses.items (scene w)) }
+    ensures numbers { IfOk result
+        (λ w. lamport_numbers A.rules wiring.now (map A.state machines.items) losses.items
+        (schedule_of (scene w).book)
         ≡ map (λ e. e.number) (scene w).book) }
     ensures order { IfOk result (λ w. IsAscending (scene w).book) }
     ensures plan { IfOk result (λ w. (scene w).plan ≡ wiring.now) }
     ensures short { IfOk result (λ w. length (scene w).book < 2 ^ 39) }
     ensures chosen { IfOk result (λ w. ArePlanned (map (λ p. p.items) plans.items) (scene w).book) }
-    ensures rest { IfOk result (λ w. length (scene w).book < 2 ^ 27 → AreAtRest A.rules wiring.now.ins (map (λ p. p.items) plans.items) (scene w).states) }
+    ensures passed { IfOk result (λ w. length (scene w).book < 2 ^ 27
+        → HavePassed G.passed gate.now (length machines.items) 200) }
+    ensures rest { IfOk result (λ w. length (scene w).book < 2 ^ 27
+        → AreAtRest A.rules wiring.now.ins (map (λ p. p.items) plans.items) (scene w).states) }
 {
     made_actors_are_wired::<A>();
     let actors = make_actors(alloc, machines, wiring, losses, CAPACITY)?;

@@ -8,8 +8,8 @@ use Rattle.sl_layout.specs.declared.actor.Sort.TheVariants.{Crossbar}
 use Rattle.sl_parts.specs.Parts.{below}
 use Rattle.sl_layout.specs.Net.{Net, actor_of, egress, link_of, link_numbers, links_from, links_into, links_out, place_in, same_actor, same_sort}
 use Rattle.sl_layout.specs.Wires.{out_of}
-use Rattle.sl_parts.specs.Lists.{Distinct, Each, Member}
-use Rattle.sl_parts.proofs.Lists.{filter-map, numbers-suc, each-passes, distinct-filter, distinct-from, each-at, each-of, kept-member}
+use Rattle.sl_parts.specs.Lists.{Each, Member}
+use Rattle.sl_parts.proofs.Lists.{filter-map, numbers-suc, each-passes, distinct-filter, distinct-from, each-at, each-of, kept-member, Distinct}
 use Rattle.std.proofs.lemmas.Simd.{map-map}
 use Rattle.std.proofs.lemmas.List.FromFn.{get_or-map-range_with_len}
 use Rattle.sl_unit.specs.declared.wires.Way.{Way}

@@ -1,3 +1,4 @@
+-- Trusted text for nodes, but for side_of, unit_at, IsRanged.
 -- A unit of a net. a is its actor's number.
 use Rattle.std.specs.Prelude.{ℕ, ◌<◌, ◌≤◌, Bool, false, List, [], length, map, Option, Some, None, slice_index}
 use Rattle.sl_layout.specs.declared.actor.Side.{Side}

@@ -1,3 +1,4 @@
+-- Trusted text for nodes, in part.
 -- The registers of a unit, with wrapped ids, and what a stamped message makes of them (Yaseen, Sonchack and Liu 2018).
 use Rattle.std.specs.Prelude.{ℕ, ◌+◌, ◌-◌, ◌<◌, Bool, ◌&&◌, List, min, nat_lt, nat_le, if◌then◌else◌, replicate, slice_index_or, slice_set}
 use Rattle.sl_ids.specs.declared.wid.Wid.{Wid}

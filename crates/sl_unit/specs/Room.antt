@@ -1,3 +1,4 @@
+-- Trusted text for nodes.
 -- What the registers of a unit stand for, and the room that a turn needs.
 use Rattle.std.specs.Prelude.{◌≡◌, ℕ, true, List, length}
 use Rattle.std.specs.List.{All}

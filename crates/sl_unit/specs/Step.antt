@@ -1,3 +1,4 @@
+-- Trusted text for nodes, in part.
 -- A unit's step.
 --     unit_take s c m    what a unit makes of the message m that it takes by the choice c
 -- Bytes on a stamped link that are no frame of its kinds, a stamp outside the window, and a message that its link doesn't carry, are

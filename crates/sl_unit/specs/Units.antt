@@ -1,3 +1,4 @@
+-- Trusted text for nodes, but for unit_counts, unit_ready, shown_counts.
 -- What a unit stands for.
 use Rattle.std.specs.Prelude.{ℕ, Option}
 use Rattle.sl_machine.specs.Machine.{Counts}

@@ -1,3 +1,4 @@
+-- Trusted text for nodes, but for port_to, IsSmall, IsUsable, AreEarly.
 -- What a unit knows of its links. It never changes.
 --     outs way exits     the numbers of the outgoing links on which a message goes, ascending
 use Rattle.std.specs.Prelude.{◌≡◌, ℕ, ◌<◌, ◌^◌, Bool, true, false, ◌&&◌, List, length, filter, Option, slice_index_or, slice_get, option_and_then}

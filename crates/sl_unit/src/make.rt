@@ -1,5 +1,6 @@
 // The links of a unit in a net.
-ghost use Rattle.std.specs.Prelude.{◌≡◌, ◌<◌, ◌≤◌, ◌^◌, ◌++◌, OnOk, IfOk, IsSome, length, slice_index_or};
+ghost use Rattle.std.specs.Prelude.{◌≡◌, ◌<◌, ◌≤◌, ◌^◌, ◌++◌, OnOk, IfOk, IsSome, length};
+ghost use Rattle.std.specs.Prelude.{slice_index_or};
 ghost use Rattle.std.specs.List.{All};
 ghost use Rattle.sl_layout.specs.Net.{actor_of, choices_of, data_channels, place_in};
 ghost use Rattle.sl_ids.specs.Ids.{most_bits};
@@ -7,9 +8,10 @@ ghost use Rattle.sl_parts.specs.Parts.{version_at};
 ghost use Rattle.sl_route.specs.Routes.{IsRoutesOf};
 ghost use Rattle.sl_unit.specs.declared.wires.Entrance.TheVariants.{Other};
 ghost use Rattle.sl_unit.specs.Wires.{IsSmall, AreEarly};
-ghost use Rattle.sl_unit.specs.Spans.{IsSpanOf, AreByPort, AreSpans};
+ghost use Rattle.sl_unit.specs.Spans.{AreByPort, AreSpans};
 ghost use Rattle.sl_layout.specs.Devices.{device_of};
-ghost use Rattle.sl_unit.specs.Made.{side_of, port_of, is_own, entrance, entrances_of, exits_of, ports_of, version_of, wires_of};
+ghost use Rattle.sl_unit.specs.Made.{side_of, port_of, is_own, entrance, entrances_of, exits_of};
+ghost use Rattle.sl_unit.specs.Made.{ports_of, version_of, wires_of};
 
 use crate::wires::{Entrance, Exit, Span, Spans, Way, Wires, entrance_in, span_of};
 use sl_ids::Width;

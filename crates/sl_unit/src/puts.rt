@@ -35,7 +35,8 @@ impl Note {
 /// Puts the message on an outgoing link where it goes there.
 fn put_if(out: &mut Outputs<Msg>, goes: bool, link: u32, note: &Note)
     requires room { goes ≡ true → length out.old.items < out.old.room }
-    ensures items { out.new.items ≡ out.old.items ++ cond goes ((link, message_of note.now) ∷ []) [] }
+    ensures items { out.new.items ≡ out.old.items ++ cond goes
+        ((link, message_of note.now) ∷ []) [] }
     ensures room { out.new.room ≡ out.old.room }
 {
     if goes {
@@ -47,7 +48,8 @@ fn put_if(out: &mut Outputs<Msg>, goes: bool, link: u32, note: &Note)
 #[inline(always)]
 pub fn put_on(wires: &Wires, way: Way, note: &Note, out: &mut Outputs<Msg>)
     requires room { length out.old.items + length (outs way wires.now.exits) ≤ out.old.room }
-    ensures items { out.new.items ≡ out.old.items ++ send_all (message_of note.now) (outs way wires.now.exits) }
+    ensures items { out.new.items ≡ out.old.items ++ send_all (message_of note.now)
+        (outs way wires.now.exits) }
     ensures room { out.new.room ≡ out.old.room }
 {
     let span = wires.span(way);
@@ -60,11 +62,13 @@ pub fn put_on(wires: &Wires, way: Way, note: &Note, out: &mut Outputs<Msg>)
 fn put_dump_if(out: &mut Outputs<Msg>, goes: bool, link: u32, dumps: &mut Vec<Boxed<Dump>>)
     requires room { goes ≡ true → length out.old.items < out.old.room }
     requires some { goes ≡ true → 0 < length dumps.old.items }
-    ensures items { (dump : Dump) → All (λ d. d ≡ dump) dumps.old.items → out.new.items ≡ out.old.items ++ cond goes ((link, DumpMsg dump) ∷ []) [] }
+    ensures items { (dump : Dump) → All (λ d. d ≡ dump) dumps.old.items
+        → out.new.items ≡ out.old.items ++ cond goes ((link, DumpMsg dump) ∷ []) [] }
     ensures room { out.new.room ≡ out.old.room }
     ensures many { length out.new.items ≡ length out.old.items + cond goes 1 0 }
     ensures left { length dumps.new.items + cond goes 1 0 ≡ length dumps.old.items }
-    ensures still { (dump : Dump) → All (λ d. d ≡ dump) dumps.old.items → All (λ d. d ≡ dump) dumps.new.items }
+    ensures still { (dump : Dump) → All (λ d. d ≡ dump) dumps.old.items
+        → All (λ d. d ≡ dump) dumps.new.items }
 {
     if goes {
         if let Some(dump) = dumps.pop() {
@@ -75,9 +79,12 @@ fn put_dump_if(out: &mut Outputs<Msg>, goes: bool, link: u32, dumps: &mut Vec<Bo
 
 /// Puts a dump, of some that are the same, on each link of dumps.
 pub fn put_dumps(wires: &Wires, dumps: &mut Vec<Boxed<Dump>>, out: &mut Outputs<Msg>)
-    requires room { length out.old.items + length (outs (Way.All Sort.Dump) wires.now.exits) ≤ out.old.room }
+    requires room { length out.old.items + length (outs (Way.All Sort.Dump) wires.now.exits)
+        ≤ out.old.room }
     requires dumps { length dumps.old.items ≡ length (outs (Way.All Sort.Dump) wires.now.exits) }
-    ensures items { (dump : Dump) → All (λ d. d ≡ dump) dumps.old.items → out.new.items ≡ out.old.items ++ send_all (DumpMsg dump) (outs (Way.All Sort.Dump) wires.now.exits) }
+    ensures items { (dump : Dump) → All (λ d. d ≡ dump) dumps.old.items
+        → out.new.items ≡ out.old.items ++ send_all (DumpMsg dump)
+        (outs (Way.All Sort.Dump) wires.now.exits) }
     ensures room { out.new.room ≡ out.old.room }
 {
     let way = Way::All(Sort::Dump);

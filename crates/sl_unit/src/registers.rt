@@ -1,8 +1,11 @@
+// Trusted types: for nodes Registers.
 // The registers of a unit.
 ghost use Rattle.std.specs.Prelude.{◌≡◌, ◌<◌, ◌≤◌, ◌-◌, ◌^◌, length, IfOk, OnOk};
 ghost use Rattle.sl_ids.specs.Ids.{distance};
 ghost use Rattle.sl_saves.specs.Rings.{ring_window};
-ghost use Rattle.sl_unit.specs.Registers.{IsChannel, first_registers, last_on, read_on, rise, age, is_near, adopted, credited, seen, counted, after_stamp, after_bytes, more, dump_of};
+ghost use Rattle.sl_unit.specs.Registers.{IsChannel, first_registers, last_on, read_on, rise};
+ghost use Rattle.sl_unit.specs.Registers.{age, is_near, adopted, credited, seen, counted};
+ghost use Rattle.sl_unit.specs.Registers.{after_stamp, after_bytes, more, dump_of};
 
 use sl_ids::{Wid, Width, wrap};
 use sl_machine::Memory;
@@ -167,7 +170,8 @@ impl Registers {
     fn credit(&mut self, channel: u32, reading: Reading, bytes: u16)
         requires channel { channel < 8 }
         requires near { age reading ≤ self.old.window }
-        ensures registers { registers_of self.new ≡ credited (credits_of self.old) channel reading bytes (registers_of self.old) }
+        ensures registers { registers_of self.new
+            ≡ credited (credits_of self.old) channel reading bytes (registers_of self.old) }
         ensures window { self.new.window ≡ self.old.window }
         ensures credits { credits_of self.new ≡ credits_of self.old }
     {
@@ -204,7 +208,8 @@ impl Registers {
     pub fn take_stamp(&mut self, channel: Channel, reading: Reading)
         requires channel { IsChannel channel }
         requires near { rise reading ≤ self.old.window }
-        ensures registers { registers_of self.new ≡ after_stamp channel reading (registers_of self.old) }
+        ensures registers { registers_of self.new ≡ after_stamp channel reading
+            (registers_of self.old) }
         ensures window { self.new.window ≡ self.old.window }
         ensures credits { credits_of self.new ≡ credits_of self.old }
     {
@@ -218,7 +223,8 @@ impl Registers {
         requires channel { channel < 8 }
         requires above { rise reading ≤ self.old.window }
         requires below { age reading ≤ self.old.window }
-        ensures registers { registers_of self.new ≡ after_bytes (credits_of self.old) channel reading bytes (registers_of self.old) }
+        ensures registers { registers_of self.new ≡ after_bytes
+            (credits_of self.old) channel reading bytes (registers_of self.old) }
         ensures window { self.new.window ≡ self.old.window }
         ensures credits { credits_of self.new ≡ credits_of self.old }
     {
@@ -230,7 +236,8 @@ impl Registers {
 
     /// Counts a frame that is no plain frame.
     pub fn count_bad(&mut self)
-        ensures registers { registers_of self.new ≡ record (registers_of self.old) { bad = more self.old.bad 1 } }
+        ensures registers { registers_of self.new
+            ≡ record (registers_of self.old) { bad = more self.old.bad 1 } }
         ensures window { self.new.window ≡ self.old.window }
         ensures credits { credits_of self.new ≡ credits_of self.old }
     {
@@ -239,7 +246,8 @@ impl Registers {
 
     /// Counts a packet with no hop left.
     pub fn count_expired(&mut self)
-        ensures registers { registers_of self.new ≡ record (registers_of self.old) { expired = more self.old.expired 1 } }
+        ensures registers { registers_of self.new
+            ≡ record (registers_of self.old) { expired = more self.old.expired 1 } }
         ensures window { self.new.window ≡ self.old.window }
         ensures credits { credits_of self.new ≡ credits_of self.old }
     {
@@ -248,7 +256,8 @@ impl Registers {
 
     /// Counts a packet for which there is no route.
     pub fn count_noroute(&mut self)
-        ensures registers { registers_of self.new ≡ record (registers_of self.old) { noroute = more self.old.noroute 1 } }
+        ensures registers { registers_of self.new
+            ≡ record (registers_of self.old) { noroute = more self.old.noroute 1 } }
         ensures window { self.new.window ≡ self.old.window }
         ensures credits { credits_of self.new ≡ credits_of self.old }
     {

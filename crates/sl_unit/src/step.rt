@@ -1,10 +1,13 @@
 // What a unit makes of the messages that it takes.
 ghost use Rattle.std.specs.Prelude.{◌≡◌, ◌+◌, ◌≤◌, ◌<◌, ◌++◌, ◌==◌, [], if◌then◌else◌, length};
 ghost use Rattle.sl_wire.specs.declared.message.Msg.TheVariants.{Notice};
-ghost use Rattle.sl_wire.specs.Carried.{bytes_on, frame_on, framed, poll};
+ghost use Rattle.sl_wire.specs.Carried.{framed, poll};
 ghost use Rattle.sl_wire.specs.Frames.{plain_header};
 ghost use Rattle.sl_unit.specs.Wires.{outs};
-ghost use Rattle.sl_unit.specs.Step.{data_frame, probe_frame, routed, passed, probed, initiated, plain_of, send, take_at, from_host, cable_data, cable_probe, by_cable, crossbar_data, crossbar_probe, by_crossbar, initiation, by_init};
+ghost use Rattle.sl_unit.specs.Step.{data_frame, probe_frame, routed, passed, probed, initiated};
+ghost use Rattle.sl_unit.specs.Step.{plain_of, send, take_at, from_host, cable_data, cable_probe};
+ghost use Rattle.sl_unit.specs.Step.{by_cable, crossbar_data, crossbar_probe, by_crossbar};
+ghost use Rattle.sl_unit.specs.Step.{initiation};
 ghost use Rattle.sl_unit.specs.Room.{registers_of, credits_of, state_of, HasDumps};
 ghost use Rattle.sl_unit.specs.Notes.{message_of};
 
@@ -18,7 +21,8 @@ use sl_wire::{Boxed, Dump, Framed, Header, Kind, Msg, WireFault};
 
 /// The header of a frame that a unit sends to another, with its id and port.
 fn header_of(wires: &Wires, registers: &Registers, kind: Kind) -> Header
-    ensures { result ≡ record { kind = kind; id = (registers_of registers.now).id; channel = wires.now.port } }
+    ensures { result
+        ≡ record { kind = kind; id = (registers_of registers.now).id; channel = wires.now.port } }
 {
     Header {
         kind,
@@ -52,8 +56,10 @@ fn probe_note(wires: &Wires, registers: &Registers) -> Note
 
 /// Puts a notice where the last-seen id of a channel changes.
 fn put_notice(wires: &Wires, ahead: u16, out: &mut Outputs<Msg>)
-    requires room { length out.old.items + length (outs (Way.All Sort.Notice) wires.now.exits) ≤ out.old.room }
-    ensures puts { out.new.items ≡ out.old.items ++ (if ahead == 0 then [] else send wires.now (Way.All Sort.Notice) Notice) }
+    requires room { length out.old.items + length (outs (Way.All Sort.Notice) wires.now.exits)
+        ≤ out.old.room }
+    ensures puts { out.new.items ≡ out.old.items
+        ++ (if ahead == 0 then [] else send wires.now (Way.All Sort.Notice) Notice) }
     ensures room { out.new.room ≡ out.old.room }
 {
     if ahead != 0 {
@@ -67,7 +73,8 @@ fn put_notice(wires: &Wires, ahead: u16, out: &mut Outputs<Msg>)
 fn route(wires: &Wires, registers: &mut Registers, packet: Packet, out: &mut Outputs<Msg>)
     requires empty { out.old.items ≡ [] }
     requires room { length wires.now.exits ≤ out.old.room }
-    ensures registers { registers_of registers.new ≡ (routed wires.now packet (registers_of registers.old)).state }
+    ensures registers { registers_of registers.new
+        ≡ (routed wires.now packet (registers_of registers.old)).state }
     ensures puts { out.new.items ≡ (routed wires.now packet (registers_of registers.old)).puts }
     ensures window { registers.new.window ≡ registers.old.window }
     ensures credits { credits_of registers.new ≡ credits_of registers.old }
@@ -95,8 +102,10 @@ fn route(wires: &Wires, registers: &mut Registers, packet: Packet, out: &mut Out
 
 /// Sends a data packet on over the cable.
 fn pass_to_cable(wires: &Wires, registers: &Registers, packet: &Packet, out: &mut Outputs<Msg>)
-    requires room { length out.old.items + length (outs (Way.All Sort.Cable) wires.now.exits) ≤ out.old.room }
-    ensures puts { out.new.items ≡ out.old.items ++ send wires.now (Way.All Sort.Cable) (data_frame wires.now (registers_of registers.now) packet.now) }
+    requires room { length out.old.items + length (outs (Way.All Sort.Cable) wires.now.exits)
+        ≤ out.old.room }
+    ensures puts { out.new.items ≡ out.old.items ++ send wires.now (Way.All Sort.Cable)
+        (data_frame wires.now (registers_of registers.now) packet.now) }
     ensures room { out.new.room ≡ out.old.room }
 {
     let way = Way::All(Sort::Cable);
@@ -107,8 +116,10 @@ fn pass_to_cable(wires: &Wires, registers: &Registers, packet: &Packet, out: &mu
 
 /// Sends a data packet on to the host.
 fn pass_to_host(wires: &Wires, packet: &Packet, out: &mut Outputs<Msg>)
-    requires room { length out.old.items + length (outs (Way.All Sort.ToHost) wires.now.exits) ≤ out.old.room }
-    ensures puts { out.new.items ≡ out.old.items ++ send wires.now (Way.All Sort.ToHost) (framed 1 plain_header packet.now) }
+    requires room { length out.old.items + length (outs (Way.All Sort.ToHost) wires.now.exits)
+        ≤ out.old.room }
+    ensures puts { out.new.items ≡ out.old.items ++ send wires.now (Way.All Sort.ToHost)
+        (framed 1 plain_header packet.now) }
     ensures room { out.new.room ≡ out.old.room }
 {
     let way = Way::All(Sort::ToHost);
@@ -152,7 +163,8 @@ fn take_packet(
 )
     requires empty { out.old.items ≡ [] }
     requires room { length wires.now.exits ≤ out.old.room }
-    ensures state { state_of wires.now registers.new ≡ (from_host (state_of wires.now registers.old) packet).state }
+    ensures state { state_of wires.now registers.new
+        ≡ (from_host (state_of wires.now registers.old) packet).state }
     ensures puts { out.new.items ≡ (from_host (state_of wires.now registers.old) packet).puts }
     ensures room { out.new.room ≡ out.old.room }
 {
@@ -169,8 +181,10 @@ fn take_packet(
 pub fn take_host(wires: &Wires, registers: &mut Registers, m: &Msg, out: &mut Outputs<Msg>)
     requires empty { out.old.items ≡ [] }
     requires room { length wires.now.exits ≤ out.old.room }
-    ensures state { state_of wires.now registers.new ≡ (take_at Entrance.Host (state_of wires.now registers.old) m.now).state }
-    ensures puts { out.new.items ≡ (take_at Entrance.Host (state_of wires.now registers.old) m.now).puts }
+    ensures state { state_of wires.now registers.new
+        ≡ (take_at Entrance.Host (state_of wires.now registers.old) m.now).state }
+    ensures puts { out.new.items
+        ≡ (take_at Entrance.Host (state_of wires.now registers.old) m.now).puts }
     ensures room { out.new.room ≡ out.old.room }
 {
     if let Some(read) = m.read(wires.width()) {
@@ -191,8 +205,10 @@ fn take_cable_data(
     requires empty { out.old.items ≡ [] }
     requires room { length wires.now.exits ≤ out.old.room }
     requires channel { place < 8 }
-    ensures state { state_of wires.now registers.new ≡ (cable_data (state_of wires.now registers.old) place packet reading).state }
-    ensures puts { out.new.items ≡ (cable_data (state_of wires.now registers.old) place packet reading).puts }
+    ensures state { state_of wires.now registers.new
+        ≡ (cable_data (state_of wires.now registers.old) place packet reading).state }
+    ensures puts { out.new.items
+        ≡ (cable_data (state_of wires.now registers.old) place packet reading).puts }
     ensures room { out.new.room ≡ out.old.room }
 {
     if reading.is_near(registers.window) {
@@ -214,8 +230,10 @@ fn take_cable_probe(
     requires empty { out.old.items ≡ [] }
     requires room { length wires.now.exits ≤ out.old.room }
     requires channel { place < 8 }
-    ensures state { state_of wires.now registers.new ≡ (cable_probe (state_of wires.now registers.old) place reading).state }
-    ensures puts { out.new.items ≡ (cable_probe (state_of wires.now registers.old) place reading).puts }
+    ensures state { state_of wires.now registers.new
+        ≡ (cable_probe (state_of wires.now registers.old) place reading).state }
+    ensures puts { out.new.items
+        ≡ (cable_probe (state_of wires.now registers.old) place reading).puts }
     ensures room { out.new.room ≡ out.old.room }
 {
     if reading.is_near(registers.window) {
@@ -236,8 +254,12 @@ fn take_cable_frame(
     requires empty { out.old.items ≡ [] }
     requires room { length wires.now.exits ≤ out.old.room }
     requires channel { place < 8 }
-    ensures state { state_of wires.now registers.new ≡ (by_cable place (state_of wires.now registers.old) header.now.kind header.now.id packet).state }
-    ensures puts { out.new.items ≡ (by_cable place (state_of wires.now registers.old) header.now.kind header.now.id packet).puts }
+    ensures state { state_of wires.now registers.new
+        ≡ (by_cable place (state_of wires.now registers.old) header.now.kind
+        header.now.id packet).state }
+    ensures puts { out.new.items
+        ≡ (by_cable place (state_of wires.now registers.old) header.now.kind
+        header.now.id packet).puts }
     ensures room { out.new.room ≡ out.old.room }
 {
     let reading = registers.read(wires.width(), Channel::Upstream(place), header.id);
@@ -259,8 +281,10 @@ pub fn take_cable(
     requires empty { out.old.items ≡ [] }
     requires room { length wires.now.exits ≤ out.old.room }
     requires channel { place < 8 }
-    ensures state { state_of wires.now registers.new ≡ (take_at (Entrance.Cable place) (state_of wires.now registers.old) m.now).state }
-    ensures puts { out.new.items ≡ (take_at (Entrance.Cable place) (state_of wires.now registers.old) m.now).puts }
+    ensures state { state_of wires.now registers.new
+        ≡ (take_at (Entrance.Cable place) (state_of wires.now registers.old) m.now).state }
+    ensures puts { out.new.items
+        ≡ (take_at (Entrance.Cable place) (state_of wires.now registers.old) m.now).puts }
     ensures room { out.new.room ≡ out.old.room }
 {
     if let Some((header, packet)) = m.frame(wires.width()) {
@@ -281,8 +305,10 @@ fn take_crossbar_data(
     requires empty { out.old.items ≡ [] }
     requires room { length wires.now.exits ≤ out.old.room }
     requires channel { place < 8 }
-    ensures state { state_of wires.now registers.new ≡ (crossbar_data (state_of wires.now registers.old) place packet.now reading).state }
-    ensures puts { out.new.items ≡ (crossbar_data (state_of wires.now registers.old) place packet.now reading).puts }
+    ensures state { state_of wires.now registers.new
+        ≡ (crossbar_data (state_of wires.now registers.old) place packet.now reading).state }
+    ensures puts { out.new.items
+        ≡ (crossbar_data (state_of wires.now registers.old) place packet.now reading).puts }
     ensures room { out.new.room ≡ out.old.room }
 {
     if reading.is_near(registers.window) {
@@ -319,8 +345,10 @@ fn take_crossbar_probe(
     requires empty { out.old.items ≡ [] }
     requires room { length wires.now.exits ≤ out.old.room }
     requires channel { place < 8 }
-    ensures state { state_of wires.now registers.new ≡ (crossbar_probe (state_of wires.now registers.old) place own reading).state }
-    ensures puts { out.new.items ≡ (crossbar_probe (state_of wires.now registers.old) place own reading).puts }
+    ensures state { state_of wires.now registers.new
+        ≡ (crossbar_probe (state_of wires.now registers.old) place own reading).state }
+    ensures puts { out.new.items
+        ≡ (crossbar_probe (state_of wires.now registers.old) place own reading).puts }
     ensures room { out.new.room ≡ out.old.room }
 {
     if reading.is_near(registers.window) {
@@ -343,8 +371,12 @@ fn take_crossbar_frame(
     requires empty { out.old.items ≡ [] }
     requires room { length wires.now.exits ≤ out.old.room }
     requires channel { place < 8 }
-    ensures state { state_of wires.now registers.new ≡ (by_crossbar place own (state_of wires.now registers.old) header.now.kind header.now.id packet.now).state }
-    ensures puts { out.new.items ≡ (by_crossbar place own (state_of wires.now registers.old) header.now.kind header.now.id packet.now).puts }
+    ensures state { state_of wires.now registers.new
+        ≡ (by_crossbar place own (state_of wires.now registers.old)
+        header.now.kind header.now.id packet.now).state }
+    ensures puts { out.new.items
+        ≡ (by_crossbar place own (state_of wires.now registers.old)
+        header.now.kind header.now.id packet.now).puts }
     ensures room { out.new.room ≡ out.old.room }
 {
     let reading = registers.read(wires.width(), Channel::Upstream(place), header.id);
@@ -367,8 +399,10 @@ pub fn take_crossbar(
     requires empty { out.old.items ≡ [] }
     requires room { length wires.now.exits ≤ out.old.room }
     requires channel { place < 8 }
-    ensures state { state_of wires.now registers.new ≡ (take_at (Entrance.Crossbar place own) (state_of wires.now registers.old) m.now).state }
-    ensures puts { out.new.items ≡ (take_at (Entrance.Crossbar place own) (state_of wires.now registers.old) m.now).puts }
+    ensures state { state_of wires.now registers.new
+        ≡ (take_at (Entrance.Crossbar place own) (state_of wires.now registers.old) m.now).state }
+    ensures puts { out.new.items
+        ≡ (take_at (Entrance.Crossbar place own) (state_of wires.now registers.old) m.now).puts }
     ensures room { out.new.room ≡ out.old.room }
 {
     if let Some((header, packet)) = m.frame(wires.width()) {
@@ -398,7 +432,8 @@ fn take_initiation(
 )
     requires empty { out.old.items ≡ [] }
     requires room { length wires.now.exits ≤ out.old.room }
-    ensures state { state_of wires.now registers.new ≡ (initiation (state_of wires.now registers.old) reading).state }
+    ensures state { state_of wires.now registers.new
+        ≡ (initiation (state_of wires.now registers.old) reading).state }
     ensures puts { out.new.items ≡ (initiation (state_of wires.now registers.old) reading).puts }
     ensures room { out.new.room ≡ out.old.room }
 {
@@ -413,8 +448,10 @@ fn take_initiation(
 pub fn take_init(wires: &Wires, registers: &mut Registers, m: &Msg, out: &mut Outputs<Msg>)
     requires empty { out.old.items ≡ [] }
     requires room { length wires.now.exits ≤ out.old.room }
-    ensures state { state_of wires.now registers.new ≡ (take_at Entrance.Init (state_of wires.now registers.old) m.now).state }
-    ensures puts { out.new.items ≡ (take_at Entrance.Init (state_of wires.now registers.old) m.now).puts }
+    ensures state { state_of wires.now registers.new
+        ≡ (take_at Entrance.Init (state_of wires.now registers.old) m.now).state }
+    ensures puts { out.new.items
+        ≡ (take_at Entrance.Init (state_of wires.now registers.old) m.now).puts }
     ensures room { out.new.room ≡ out.old.room }
 {
     if let Some((header, _packet)) = m.frame(wires.width()) {
@@ -436,7 +473,8 @@ fn take_poll(
     requires empty { out.old.items ≡ [] }
     requires room { length wires.now.exits ≤ out.old.room }
     requires dumps { HasDumps wires.now (registers_of registers.now) dumps.old.items }
-    ensures puts { out.new.items ≡ (take_at Entrance.Poll (state_of wires.now registers.now) poll).puts }
+    ensures puts { out.new.items
+        ≡ (take_at Entrance.Poll (state_of wires.now registers.now) poll).puts }
     ensures room { out.new.room ≡ out.old.room }
 {
     put_dumps(wires, dumps, out);
@@ -455,8 +493,10 @@ pub fn take_polled(
     requires empty { out.old.items ≡ [] }
     requires room { length wires.now.exits ≤ out.old.room }
     requires dumps { HasDumps wires.now (registers_of registers.now) dumps.old.items }
-    ensures state { (take_at Entrance.Poll (state_of wires.now registers.now) m).state ≡ state_of wires.now registers.now }
-    ensures puts { out.new.items ≡ (take_at Entrance.Poll (state_of wires.now registers.now) m).puts }
+    ensures state { (take_at Entrance.Poll (state_of wires.now registers.now) m).state
+        ≡ state_of wires.now registers.now }
+    ensures puts { out.new.items
+        ≡ (take_at Entrance.Poll (state_of wires.now registers.now) m).puts }
     ensures room { out.new.room ≡ out.old.room }
 {
     if let Msg::Poll(back) = m {

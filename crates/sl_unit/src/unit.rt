@@ -1,3 +1,4 @@
+// Trusted types: for nodes Unit.
 // Units as machines.
 ghost use Rattle.std.specs.Prelude.{◌≡◌, ◌<◌, ℕ, Some, None, IfOk, length, slice_index};
 ghost use Rattle.sl_unit.specs.Room.{HasRoom};
@@ -46,7 +47,8 @@ impl Unit {
     ghost use Rattle.sl_layout.specs.Net.{units};
     ghost use Rattle.sl_route.specs.Routes.{IsRoutesOf};
     ghost use Rattle.sl_unit.specs.Registers.{dump_of};
-    ghost use Rattle.sl_unit.specs.Made.{IsRanged, side_of, unit_at, first_state, ingress_state, egress_state};
+    ghost use Rattle.sl_unit.specs.Made.{IsRanged, side_of, unit_at, first_state, ingress_state};
+    ghost use Rattle.sl_unit.specs.Made.{egress_state};
     ghost use Rattle.sl_unit.specs.Units.{unit_state, unit_ready, shown_counts};
 
     /// A new unit with these links.
@@ -77,7 +79,9 @@ impl Unit {
         requires side { side_of (unit_at net.now unit) ≡ Some Side.Ingress }
         requires routes { IsRoutesOf net.now routes.now }
         requires snapshot { IsRanged snapshot.now }
-        ensures state { IfOk result (λ made. unit_state made ≡ ingress_state net.now (slice_index (units net.now) unit) snapshot.now) }
+        ensures state { IfOk result
+            (λ made. unit_state made ≡ ingress_state net.now
+            (slice_index (units net.now) unit) snapshot.now) }
         ensures ready { IfOk result (λ made. unit_ready made ≡ None) }
     {
         let actor = net.unit_actor(unit);
@@ -92,7 +96,9 @@ impl Unit {
         requires unit { unit < length (units net.now) }
         requires side { side_of (unit_at net.now unit) ≡ Some Side.Egress }
         requires snapshot { IsRanged snapshot.now }
-        ensures state { IfOk result (λ made. unit_state made ≡ egress_state net.now (slice_index (units net.now) unit) snapshot.now) }
+        ensures state { IfOk result
+            (λ made. unit_state made ≡ egress_state net.now
+            (slice_index (units net.now) unit) snapshot.now) }
         ensures ready { IfOk result (λ made. unit_ready made ≡ None) }
     {
         let actor = net.unit_actor(unit);

@@ -1,5 +1,7 @@
+// Trusted types: for nodes Entrance, Exit, Way, Wires.
 // What a unit knows of its links.
-ghost use Rattle.std.specs.Prelude.{◌≡◌, ◌+◌, ◌<◌, ◌≤◌, ◌^◌, ℕ, Bool, true, [], length, slice_index_or};
+ghost use Rattle.std.specs.Prelude.{◌≡◌, ◌+◌, ◌<◌, ◌≤◌, ◌^◌, ℕ, Bool, true, [], length};
+ghost use Rattle.std.specs.Prelude.{slice_index_or};
 ghost use Rattle.sl_layout.specs.Net.{same_actor, egress};
 ghost use Rattle.sl_unit.specs.Wires.{IsSmall, entrance_at, leads, is_out, outs, port_to};
 ghost use Rattle.sl_unit.specs.Spans.{IsSpan, IsSpanOf};
@@ -86,7 +88,8 @@ impl Span {
     /// The span with one link more, which lies after it and goes the way.
     pub fn with(self, link: u32) -> Span
         requires { link + 1 < 2 ^ 32 }
-        ensures { (passes : ℕ → Bool) → passes link ≡ true → IsSpan passes link self → IsSpan passes (link + 1) result }
+        ensures { (passes : ℕ → Bool) → passes link ≡ true → IsSpan passes link self
+            → IsSpan passes (link + 1) result }
     {
         let from = if self.from < self.end {
             self.from
@@ -173,9 +176,29 @@ impl Model for Wires {
 
     ghost Value = { Wires };
 
-    ghost view = { λ w. record { device = w.device; port = w.port; entrances = w.entrances.items; exits = w.exits.items; ports = w.ports.items; bits = w.width.bits; version = w.version; actions = w.actions } };
+    ghost view = { λ w.
+        record {
+          device = w.device;
+          port = w.port;
+          entrances = w.entrances.items;
+          exits = w.exits.items;
+          ports = w.ports.items;
+          bits = w.width.bits;
+          version = w.version;
+          actions = w.actions;
+        } };
 
-    ghost invariant = { λ w. IsUsable (record { device = w.device; port = w.port; entrances = w.entrances.items; exits = w.exits.items; ports = w.ports.items; bits = w.width.bits; version = w.version; actions = w.actions })
+    ghost invariant = { λ w.
+        IsUsable (record {
+          device = w.device;
+          port = w.port;
+          entrances = w.entrances.items;
+          exits = w.exits.items;
+          ports = w.ports.items;
+          bits = w.width.bits;
+          version = w.version;
+          actions = w.actions;
+        })
         × AreSpans w.device w.exits.items w.spans × AreEarly w.entrances.items w.early };
 }
 

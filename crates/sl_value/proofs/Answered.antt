@@ -16,9 +16,9 @@ use Rattle.sl_value.specs.declared.whole.Whole.{Whole}
 use Rattle.sl_value.specs.Reading.{counted}
 use Rattle.sl_value.specs.Valued.{UnitValues, value_of, value_in}
 use Rattle.sl_value.specs.Standing.{kept_told, AreKept, IsToldOf, AnswersAsTold}
-use Rattle.sl_value.proofs.Lists.{each-of, each-map}
 use Rattle.sl_value.proofs.Takes.{IsJoined, joined}
 use Rattle.sl_value.proofs.Collected.{value-number, entry-of}
+use Rattle.sl_parts.proofs.Lists.{each-of, each-map}
 
 value-above : (f : ℕ → Whole) (m k : ℕ) → m < k → value_of (map f (range_with_len 1 m)) k ≡ None
 value-above f m k h = let size = length-map-range_with_len f 1 m in

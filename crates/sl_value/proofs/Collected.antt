@@ -34,9 +34,9 @@ use Rattle.sl_value.specs.Reading.{counted}
 use Rattle.sl_value.specs.Valued.{UnitValues, value_of, value_in}
 use Rattle.sl_value.specs.Standing.{values_told, kept_told, AreKept}
 use Rattle.sl_value.specs.Verdicts.{lagging, value_verdict, valued}
-use Rattle.sl_value.proofs.Lists.{each-of, each-at, member-parts}
 use Rattle.sl_value.proofs.Told.{counted-first}
 use Rattle.sl_value.proofs.Takes.{IsJoined, joined}
+use Rattle.sl_parts.proofs.Lists.{member-parts, each-of, each-at}
 
 -- What is known grows on its way.
 

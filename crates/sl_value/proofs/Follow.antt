@@ -25,8 +25,8 @@ use Rattle.sl_model.specs.World.{Entry, next_step, turn, world}
 use Rattle.sl_model.specs.Turns.{Takes, Acts, TakesTurns}
 use Rattle.sl_model.specs.Reported.{AreReported}
 use Rattle.sl_model.specs.Brought.{IsBrought}
-use Rattle.sl_image.specs.Messages.{HoldWindow, IsMessage, IsDumpOf, numbers_after}
-use Rattle.sl_image.specs.ControlImage.{known_of, IsControlOf}
+use Rattle.sl_simulation.specs.Messages.{HoldWindow, IsMessage, IsDumpOf, numbers_after}
+use Rattle.sl_simulation.specs.ControlImage.{known_of, IsControlOf}
 use Rattle.sl_proto.specs.Nodes.{ControlNode, as_node, node_rules}
 use Rattle.sl_proto.specs.Meaning.{StandsAs, NodeStands, IsRunnable}
 use Rattle.sl_proto.specs.Image.{told_by}
@@ -34,8 +34,8 @@ use Rattle.sl_proto.specs.Machines.{MachineSimulates, MachineActSimulates, Follo
 use Rattle.sl_value.specs.Valued.{UnitValues, ValueState, kept_after, kept_by, first_done, with_kept}
 use Rattle.sl_value.specs.Nodes.{ValueNodeState, Other, Valued, value_node_take, value_node_act, value_node_rules}
 use Rattle.sl_value.specs.Standing.{values_told, kept_told, AreKept, ValueStands}
-use Rattle.sl_value.proofs.Lists.{each-of}
 use Rattle.sl_value.proofs.Takes.{Counts, joined, of_some, kept-same, kept-dump}
+use Rattle.sl_parts.proofs.Lists.{each-of}
 
 -- What laws of lower crates say.
 

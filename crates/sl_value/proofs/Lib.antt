@@ -13,6 +13,7 @@ mod Stand
 mod Collected
 mod Listed
 mod Answered
+mod Held
 mod ControlList
 mod Outcomes
 pub mod Texts

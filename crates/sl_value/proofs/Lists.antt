@@ -1,40 +1,10 @@
 -- Elements of lists, lists whose elements are changed one after the other, and numbers that pass a test.
-use Rattle.std.proofs.Common.{◌≡◌, ℕ, zero, suc, ◌+◌, ◌<◌, ◌≤◌, List, [], ◌∷◌, ◌++◌, length, map, take, drop, get_or, refl, sym, ap, subst, ◌∙◌, arith, inl, inr, Bool, true, false}
-use Rattle.std.specs.Prelude.{◌⊎◌, cond, filter, if◌then◌else◌, slice_set}
+use Rattle.std.proofs.Common.{◌≡◌, ℕ, zero, suc, ◌+◌, ◌<◌, ◌≤◌, List, [], ◌∷◌, length, map, take, drop, get_or, refl, sym, ap, ◌∙◌, arith, Bool, true, false}
+use Rattle.std.specs.Prelude.{cond, filter, if◌then◌else◌, slice_set}
 use Rattle.std.specs.List.{AllByRecursion, range_with_len}
 use Rattle.std.proofs.lemmas.List.{map-set, set-get_or, get_or-map}
 use Rattle.std.proofs.lemmas.Bool.{eq-eqb, ne_eqb}
-use Rattle.sl_parts.specs.Lists.{Each, Member}
 use Rattle.sl_layout.specs.Net.{place_in}
-
-pub each-of : {A : Type 0} (P : A → Type 0) (xs : List A) → ((x : A) → Member x xs → P x) → Each P xs
-each-of P [] f = tt
-each-of P (x ∷ xs) f = (f x (inl refl), each-of P xs (λ y m. f y (inr m)))
-
-pub each-at : {A : Type 0} (P : A → Type 0) (x : A) (xs : List A) → Each P xs → Member x xs → P x
-each-at P x [] e m = absurd m
-each-at P x (y ∷ ys) e (inl q) = subst P (sym q) e.0
-each-at P x (y ∷ ys) e (inr m) = each-at P x ys e.1 m
-
-pub each-map : {A B : Type 0} (P : B → Type 0) (f : A → B) (xs : List A) → Each (λ x. P (f x)) xs → Each P (map f xs)
-each-map P f [] h = tt
-each-map P f (x ∷ xs) h = (h.0, each-map P f xs h.1)
-
-pub member-parts : {A : Type 0} (x : A) (xs ys : List A) → Member x (xs ++ ys) → Member x xs ⊎ Member x ys
-member-parts x [] ys m = inr m
-member-parts x (y ∷ xs) ys (inl q) = inl (inl q)
-member-parts x (y ∷ xs) ys (inr m) = by_parts (member-parts x xs ys m)
-  where
-    by_parts : Member x xs ⊎ Member x ys → ((x ≡ y) ⊎ Member x xs) ⊎ Member x ys
-    by_parts (inl k) = inl (inr k)
-    by_parts (inr k) = inr k
-
--- the elements up to a place are changed by f, and so is the next
-pub next-changed : {A : Type 0} (f : A → A) (xs : List A) (i : ℕ) (x y : A) → i < length xs → x ≡ get_or (map f (take i xs) ++ drop i xs) i x → y ≡ f x
-    → slice_set (map f (take i xs) ++ drop i xs) i y ≡ map f (take (suc i) xs) ++ drop (suc i) xs
-next-changed f [] i x y h e q = absurd (omega arith)
-next-changed f (z ∷ zs) zero x y h e q = ap (λ w. w ∷ zs) (q ∙ ap f e)
-next-changed f (z ∷ zs) (suc i) x y h e q = ap (λ r. f z ∷ r) (next-changed f zs i x y (omega arith) e q)
 
 -- an element is put in place of one that looks the same
 pub one-viewed : {A B : Type 0} (g : A → B) (xs : List A) (i : ℕ) (x y : A) → i < length xs → x ≡ get_or xs i x → g y ≡ g x

@@ -2,12 +2,13 @@
 use Rattle.std.proofs.Common.{◌≡◌, ℕ, zero, suc, ◌+◌, ◌-◌, ◌<◌, ◌≤◌, List, [], ◌∷◌, length, refl, sym, ap, subst, ◌∙◌, Some, arith, inl, inr}
 use Rattle.std.specs.Prelude.{cond, ◌==◌, slice_index_or, ◌⊎◌}
 use Rattle.std.specs.List.{AllByRecursion}
-use Rattle.std.proofs.lemmas.Bool.{lt-ltb, le-ltb, le-leb, lt-leb, eq-eqb, ne_eqb, cases_lt}
+use Rattle.std.proofs.lemmas.Bool.{le-ltb, le-leb, lt-leb, eq-eqb, ne_eqb, cases_lt}
 use Rattle.sl_saves.specs.declared.entry.Slot.{Slot}
 use Rattle.sl_saves.specs.declared.entry.View.{View}
 use Rattle.sl_saves.specs.Views.{Place, path, slot_in, place_below, no_slot, IsLive, last_place}
 use Rattle.sl_value.specs.declared.whole.Whole.{Whole}
 use Rattle.sl_value.specs.Reading.{counters, value_read}
+use Rattle.sl_saves.proofs.Walking.{path-below}
 
 -- Places.
 
@@ -43,10 +44,6 @@ path-on n slot k number s g q = rw (le-ltb number k (omega (arith, q)), ne_eqb n
 
 path-at : (n : ℕ) (slot : ℕ → Slot) (k number : ℕ) (s : Slot) → slot number ≡ s → number ≡ k → path (suc n) slot number k ≡ record { number = number; slot = s } ∷ []
 path-at n slot k number s g q = rw (le-ltb number k (omega (arith, q)), eq-eqb number k q) (ap (λ x. record { number = number; slot = x } ∷ []) g)
-
-path-below : (n : ℕ) (slot : ℕ → Slot) (k number : ℕ) → number < k → path n slot number k ≡ []
-path-below zero slot k number q = refl
-path-below (suc n) slot k number q = rw (lt-ltb number k q) refl
 
 path-head : (n : ℕ) (slot : ℕ → Slot) (k number : ℕ) → k ≤ number
     → path (suc n) slot number k ≡ record { number = number; slot = slot number } ∷ cond (number == k) [] (path n slot (number - (slot number).back) k)

@@ -30,21 +30,18 @@ use Rattle.sl_model.specs.History.{History, id, first, dump_of}
 use Rattle.sl_model.specs.Knowledge.{upto_of, dumped}
 use Rattle.sl_model.specs.Calls.{calls}
 use Rattle.sl_model.specs.Brought.{IsBrought}
-use Rattle.sl_image.specs.Messages.{IsDumpOf, numbers_after}
-use Rattle.sl_image.specs.ControlImage.{known_of}
+use Rattle.sl_simulation.specs.Messages.{IsDumpOf, numbers_after}
+use Rattle.sl_simulation.specs.ControlImage.{known_of}
 use Rattle.sl_value.specs.declared.whole.Whole.{Whole}
 use Rattle.sl_value.specs.Reading.{value_read, counted}
 use Rattle.sl_value.specs.Valued.{UnitValues, first_done, or_done, values_by, kept_of, kept_by}
 use Rattle.sl_value.specs.Standing.{values_told, kept_told}
-use Rattle.sl_value.proofs.Lists.{each-of, each-at}
 use Rattle.sl_value.proofs.Reports.{first-append, each-in-span, both}
 use Rattle.sl_value.proofs.Told.{heard-nothing, heard-other, heard-here, upto-id, values-grow, values-same}
+use Rattle.sl_parts.proofs.Lists.{each-of, each-at}
+use Rattle.sl_simulation.proofs.ControlSteps.{each-unmap}
 
 -- Lists.
-
-pub each-unmap : {A B : Type 0} (P : B → Type 0) (f : A → B) (xs : List A) → Each P (map f xs) → Each (λ x. P (f x)) xs
-each-unmap P f [] h = tt
-each-unmap P f (x ∷ xs) h = (h.0, each-unmap P f xs h.1)
 
 same-map : {A B C : Type 0} (g h : B → C) (f : A → B) (xs : List A) → Each (λ x. g (f x) ≡ h (f x)) xs → map g (map f xs) ≡ map h (map f xs)
 same-map g h f [] e = refl
@@ -93,7 +90,7 @@ dump-from net a k c l j i e =
     let into : slice_get (links_into net a) c ≡ Some j.reports.dump = ap (slice_get (links_into net a)) (e ∙ j.dump) ∙ ap (λ b. slice_get (links_into net b) (choice_of net j.reports.dump)) (sym j.control) ∙ j.reports.dump_taken in
     subst (λ x. (link_of net x).from ≡ (link_of net k).to) (of_some (sym into ∙ i)) j.reports.dump_out.from
 
-one-link : (net : Net) (a k x : ℕ) → IsJoined net a k → IsJoined net a x → (link_of net k).to ≡ (link_of net x).to → k ≡ x
+pub one-link : (net : Net) (a k x : ℕ) → IsJoined net a k → IsJoined net a x → (link_of net k).to ≡ (link_of net x).to → k ≡ x
 one-link net a k x j i e = j.poll ∙ sym (j.reports.polled x (sym e) i.out.sort)
 
 -- A step of a control plane that takes no dump.

@@ -1,5 +1,6 @@
 pub mod Reading
 pub mod Valued
+pub mod Held
 pub mod Prepared
 pub mod Nodes
 pub mod Standing

@@ -1,3 +1,4 @@
+-- Trusted text, but for counters, value_read.
 -- The value of a number by a view, in the variant without channel state (Yaseen, Sonchack and Liu 2018; that a skipped number takes the next saved
 -- value is this project's form of it).
 --     value_read view id k    what a view of the number id gives for the number k

@@ -1,3 +1,4 @@
+-- Trusted text.
 -- The text of a run's values. Each line ends with a newline; numbers are decimal.
 --     values_text net list sent delivered    for each snapshot its verdict, and where it is whole a line for each unit; then a line for each host
 use Rattle.std.specs.Prelude.{ℕ, List, [], ◌∷◌, ◌++◌, map, flat_map, codes, decimal}

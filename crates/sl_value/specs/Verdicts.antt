@@ -1,3 +1,4 @@
+-- Trusted text, but for valued.
 -- The verdicts on snapshots in the variant without channel state (Yaseen, Sonchack and Liu 2018), where a skipped number has the next saved value.
 --     value_verdict net w k    the verdict on the snapshot k in a world: pending, or not issued, as the snapshot is, or else whole
 --     value_finding net w k    the verdict, with what each unit counted before its id reached k where it is whole

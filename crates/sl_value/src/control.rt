@@ -1,11 +1,13 @@
 // The machine of a control plane that keeps values.
-ghost use Rattle.std.specs.Prelude.{◌≡◌, ◌<◌, ◌≤◌, ◌++◌, ◌∷◌, [], None, Some, true, IfOk, OnOk, cond, length, map};
+ghost use Rattle.std.specs.Prelude.{◌≡◌, ◌<◌, ◌≤◌, ◌++◌, ◌∷◌, [], None, Some, true, IfOk, OnOk};
+ghost use Rattle.std.specs.Prelude.{cond, length, map};
 ghost use Rattle.sl_ids.specs.Ids.{most_bits};
 ghost use Rattle.sl_machine.specs.Machine.{is_fitting};
 ghost use Rattle.sl_layout.specs.Net.{link_of, unit_place};
 ghost use Rattle.sl_wire.specs.Sizes.{sizes_of};
 ghost use Rattle.sl_control.specs.Wires.{control_of, control_counts};
-ghost use Rattle.sl_value.specs.Valued.{kept_view, no_values, first_kept, first_value, value_take, value_in};
+ghost use Rattle.sl_value.specs.Valued.{kept_view, no_values, first_kept, first_value};
+ghost use Rattle.sl_value.specs.Valued.{value_take, value_in};
 
 use crate::kept::{Kept, first_done, keep, make_room, value_in};
 use crate::whole::Whole;
@@ -50,7 +52,9 @@ fn add_unit(
     passes: bool,
 ) -> Result<(), Memory>
     requires { link < length net.now.links }
-    ensures { OnOk result (map kept_view kept.new.items ≡ map kept_view kept.old.items ++ cond passes (no_values (unit_place net.now (link_of net.now link).to) ∷ []) []) }
+    ensures { OnOk result
+        (map kept_view kept.new.items ≡ map kept_view kept.old.items
+        ++ cond passes (no_values (unit_place net.now (link_of net.now link).to) ∷ []) []) }
 {
     if passes {
         let unit = net.unit_place(net.link(link).to);
@@ -91,8 +95,11 @@ impl ValueControl {
         requires device { device < length net.now.parts.devices }
         requires some_bits { 1 ≤ snapshot.now.width }
         requires few_bits { snapshot.now.width ≤ most_bits }
-        ensures state { IfOk result (λ c. c.state ≡ first_value net.now (control_of net.now device) (sizes_of snapshot.now)) }
-        ensures counts { IfOk result (λ c. c.counts ≡ control_counts net.now (control_of net.now device)) }
+        ensures state { IfOk result
+            (λ c. c.state ≡ first_value net.now (control_of net.now device)
+            (sizes_of snapshot.now)) }
+        ensures counts { IfOk result
+            (λ c. c.counts ≡ control_counts net.now (control_of net.now device)) }
         ensures ready { IfOk result (λ c. c.ready ≡ None) }
     {
         let control = Control::new(alloc, net, device, snapshot)?;
@@ -107,7 +114,8 @@ impl ValueControl {
         control: Control,
     ) -> Result<ValueControl, Memory>
         requires { actor < length net.now.actors }
-        ensures state { IfOk result (λ c. c.state ≡ record { control = control.state; kept = first_kept net.now actor }) }
+        ensures state { IfOk result
+            (λ c. c.state ≡ record { control = control.state; kept = first_kept net.now actor }) }
         ensures counts { IfOk result (λ c. c.counts ≡ control.counts) }
         ensures ready { IfOk result (λ c. c.ready ≡ None) }
     {
@@ -121,8 +129,9 @@ impl ValueControl {
 
     /// The value that is kept of a unit, by its place among the units, for a number. None where the
     /// number is 0, where the unit is not of this device, and where the number is above the one up
-    /// to which the unit's rows are collected: `values_are_those_collected` says so of each control
-    /// plane that stands for its history.
+    /// to which the unit's rows are collected: `values_are_none_exactly` says so of each control plane
+    /// from its first state on, whatever turns it took, and `values_are_those_collected` which value
+    /// there is of one that stands for its history.
     pub fn value(&self, unit: u32, k: u64) -> Option<Whole>
         ensures { result ≡ value_in self.now.state.kept unit k }
     {
@@ -134,7 +143,8 @@ impl ValueControl {
         requires ready { self.old.ready ≡ Some link }
         requires empty { out.old.items ≡ [] }
         requires room { self.old.counts.outs ≤ out.old.room }
-        ensures state { self.new.state ≡ (value_take self.old.state link (Msg.Dump dump.now)).state }
+        ensures state { self.new.state
+            ≡ (value_take self.old.state link (Msg.Dump dump.now)).state }
         ensures puts { out.new.items ≡ (value_take self.old.state link (Msg.Dump dump.now)).puts }
         ensures fitting { is_fitting self.old.counts.outs out.new.items ≡ true }
         ensures room { out.new.room ≡ out.old.room }

@@ -1,7 +1,8 @@
 // The values that a control plane keeps of its units.
 ghost use Rattle.std.specs.Prelude.{◌≡◌, ◌<◌, ◌++◌, length, map, option_map, OnOk};
 ghost use Rattle.std.specs.List.{AllByRecursion};
-ghost use Rattle.sl_value.specs.Valued.{done_in, first_done, values_by, kept_of, value_of, value_in, kept_view, HasRoom, CanRead, CanReadAll};
+ghost use Rattle.sl_value.specs.Valued.{done_in, first_done, values_by, kept_of, value_of};
+ghost use Rattle.sl_value.specs.Valued.{value_in, kept_view, HasRoom, CanRead, CanReadAll};
 
 use crate::read::read_value;
 use crate::whole::Whole;
@@ -31,7 +32,8 @@ impl Kept {
         requires at { view.now.at < length view.now.slots }
         requires rows { AllByRecursion (λ r. CanRead view.now done.now.id r.0) done.now.rows }
         ensures unit { self.new.unit ≡ self.old.unit }
-        ensures values { self.new.values.items ≡ self.old.values.items ++ values_by view.now done.now }
+        ensures values { self.new.values.items ≡ self.old.values.items
+            ++ values_by view.now done.now }
     {
         for row in done.rows.items.as_slice() {
             self.values.push_reserved(read_value(view, done.id, row.0));
@@ -98,7 +100,8 @@ pub fn make_room(kept: &mut Vec<Kept>, room: u16) -> Result<(), Memory>
 pub fn keep(kept: &mut Vec<Kept>, ring: u16, view: &View, done: &Done)
     requires room { AllByRecursion (HasRoom ring) kept.old.items }
     requires read { CanReadAll ring view.now done.now }
-    ensures { map kept_view kept.new.items ≡ map (kept_of view.now done.now) (map kept_view kept.old.items) }
+    ensures { map kept_view kept.new.items ≡ map (kept_of view.now done.now)
+        (map kept_view kept.old.items) }
 {
     for i in 0..kept.len() {
         kept[i].hear(view, done);

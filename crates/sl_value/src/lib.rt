@@ -16,7 +16,7 @@ mod whole;
 mod world;
 
 pub use control::ValueControl;
-pub use laws::values_are_counts;
+pub use laws::{values_are_counts, values_are_none_exactly};
 pub use meaning::{
     ValueMeaning, values_are_those_collected, values_change_no_turn, values_follow,
     values_stand_for_histories,

@@ -24,10 +24,10 @@ ghost use Rattle.sl_value.specs.Run.{IsValueRun};
 ghost use Rattle.sl_value.specs.Standing.{ValueStands, AnswersAsTold};
 
 use crate::laws::values_are_counts;
-use sl_image::dumps_are_unwrapped;
 use sl_model::{dumps_bring_rows, known_steps_are_made, worlds_take_turns};
 use sl_net::nets_are_wired;
 use sl_proto::{Meaning, machines_stand_for_histories, nodes_follow, nodes_start};
+use sl_simulation::dumps_are_unwrapped;
 
 /// The meaning of nodes that keep values, by the setup of a run.
 pub struct ValueMeaning;
@@ -45,15 +45,18 @@ impl Meaning for ValueMeaning {
 /// A control plane that keeps values takes the turns of the one inside: without the values, what a
 /// turn leaves is what that one's turn leaves.
 pub fn values_change_no_turn()
-    ensures take { (s : ValueState) (c : ℕ) (m : Msg) → forget (value_take s c m) ≡ control_take s.control c m }
-    ensures act { (s : ValueState) (c : ℕ) → option_map forget (value_act s c) ≡ control_act s.control c }
+    ensures take { (s : ValueState) (c : ℕ) (m : Msg)
+        → forget (value_take s c m) ≡ control_take s.control c m }
+    ensures act { (s : ValueState) (c : ℕ) → option_map forget (value_act s c)
+        ≡ control_act s.control c }
 {}
 
 /// Each turn of a node that keeps values does the step of its actor, and is idle where this has
 /// none; and what control planes keep goes on to be the values of the histories that they were told.
 pub fn values_follow()
     ensures { (x : Case) → IsRunnable x.setup x.table x.lost
-        → FollowHistories x.setup x.lost (sizes_of x.table) (ValueStands x.setup x.table) value_node_rules }
+        → FollowHistories x.setup x.lost (sizes_of x.table)
+        (ValueStands x.setup x.table) value_node_rules }
 {
     nets_are_wired();
     nodes_follow();
@@ -67,9 +70,12 @@ pub fn values_follow()
 /// In the world of an input's nodes that keep values, whatever turns it took, each node stands for
 /// the history of its actor, and what each control plane keeps are the values that it was told.
 pub fn values_stand_for_histories()
-    ensures { (i : Input) (v : Scene ValueNodeState Msg) → IsValueRun i v → StandsFor i.net (case_of i (losses i)) (plain_scene v) → IsRanged i.snapshot
-        → length v.book < 2 ^ 40 → (a : ℕ) (state : ValueNodeState) → slice_get v.states a ≡ Some state
-        → ValueStands (setup_of i) i.snapshot (world (setup_of i) (losses i) (schedule_of v.book)) a state }
+    ensures { (i : Input) (v : Scene ValueNodeState Msg) → IsValueRun i v
+        → StandsFor i.net (case_of i (losses i)) (plain_scene v) → IsRanged i.snapshot
+        → length v.book < 2 ^ 40 → (a : ℕ) (state : ValueNodeState)
+        → slice_get v.states a ≡ Some state
+        → ValueStands (setup_of i) i.snapshot (world (setup_of i) (losses i) (schedule_of v.book))
+        a state }
 {
     values_follow();
     machines_stand_for_histories::<ValueMeaning>();
@@ -82,7 +88,8 @@ pub fn values_stand_for_histories()
 /// counted before its id reached the number. It has none for 0, for a number above that, and for a
 /// unit that it does not serve.
 pub fn values_are_those_collected()
-    ensures { (s : Setup) (table : Snapshot) (w : World) (a : ℕ) (state : ValueState) → IsNet s.net → ValueStands s table w a (Valued state)
+    ensures { (s : Setup) (table : Snapshot) (w : World) (a : ℕ) (state : ValueState)
+        → IsNet s.net → ValueStands s table w a (Valued state)
         → AnswersAsTold s.net (history w) a state.kept }
 {
     nets_are_wired()

@@ -13,7 +13,8 @@ pub enum ValueNode {
 }
 
 impl Machine for ValueNode {
-    ghost use Rattle.sl_value.specs.Nodes.{ValueNodeState, value_node_state, value_node_rules, value_node_counts, value_node_ready};
+    ghost use Rattle.sl_value.specs.Nodes.{ValueNodeState, value_node_state, value_node_rules};
+    ghost use Rattle.sl_value.specs.Nodes.{value_node_counts, value_node_ready};
 
     type Msg = Msg;
 

@@ -43,7 +43,9 @@ pub struct ValueRun {
 fn finished_world(alloc: Global, input: &Input) -> Result<(ValueWorld<'_>, u64), Memory>
     requires { CanRun input.now }
     ensures book { IfOk result (λ r. IsRunBook input.now (losses input.now) r.0.scene.book r.1) }
-    ensures stands { IfOk result (λ r. StandsFor input.now.net (case_of input.now (losses input.now)) (plain_scene r.0.scene)) }
+    ensures stands { IfOk result
+        (λ r. StandsFor input.now.net (case_of input.now (losses input.now))
+        (plain_scene r.0.scene)) }
     ensures observer { IfOk result (λ r. HasObserver (plain_scene r.0.scene)) }
     ensures few { IfOk result (λ r. length r.0.scene.book < 2 ^ 40) }
     ensures input { IfOk result (λ r. r.0.input ≡ input.now) }
@@ -86,7 +88,8 @@ fn add_told(counts: &mut Vec<u64>, told: Option<u64>) -> Result<(), Memory>
 /// What the hosts sent, one count for each in order.
 fn sent(alloc: Global, world: &ValueWorld, actors: u32) -> Result<Counts, Memory>
     requires { actors ≡ length world.now.scene.states }
-    ensures { IfOk result (λ counts. counts ≡ numbers (λ s. sent_told (plain s)) world.now.scene.states) }
+    ensures { IfOk result
+        (λ counts. counts ≡ numbers (λ s. sent_told (plain s)) world.now.scene.states) }
 {
     let mut items = Vec::new(alloc);
     for actor in 0..actors {
@@ -98,7 +101,8 @@ fn sent(alloc: Global, world: &ValueWorld, actors: u32) -> Result<Counts, Memory
 /// What the hosts took, one count for each in order.
 fn delivered(alloc: Global, world: &ValueWorld, actors: u32) -> Result<Counts, Memory>
     requires { actors ≡ length world.now.scene.states }
-    ensures { IfOk result (λ counts. counts ≡ numbers (λ s. delivered_told (plain s)) world.now.scene.states) }
+    ensures { IfOk result
+        (λ counts. counts ≡ numbers (λ s. delivered_told (plain s)) world.now.scene.states) }
 {
     let mut items = Vec::new(alloc);
     for actor in 0..actors {
@@ -109,7 +113,9 @@ fn delivered(alloc: Global, world: &ValueWorld, actors: u32) -> Result<Counts, M
 
 /// Adds a node that is a control plane.
 fn add_control(controls: &mut Vec<ValueControl>, node: ValueNode) -> Result<(), Memory>
-    ensures { OnOk result (map (λ c. c.state) controls.new.items ≡ map (λ c. c.state) controls.old.items ++ controls_in (value_node_state node ∷ [])) }
+    ensures { OnOk result
+        (map (λ c. c.state) controls.new.items ≡ map (λ c. c.state) controls.old.items
+        ++ controls_in (value_node_state node ∷ [])) }
 {
     match node {
         ValueNode::Control(control) => Ok(controls.push(control)?),
@@ -119,7 +125,9 @@ fn add_control(controls: &mut Vec<ValueControl>, node: ValueNode) -> Result<(), 
 
 /// The control planes among the nodes, in order.
 fn controls(alloc: Global, mut nodes: Vec<ValueNode>) -> Result<Vec<ValueControl>, Memory>
-    ensures { IfOk result (λ controls. map (λ c. c.state) controls.items ≡ controls_in (map value_node_state nodes.items)) }
+    ensures { IfOk result
+        (λ controls. map (λ c. c.state) controls.items
+        ≡ controls_in (map value_node_state nodes.items)) }
 {
     nodes.reverse();
     let mut made = Vec::new(alloc);
@@ -135,12 +143,22 @@ fn controls(alloc: Global, mut nodes: Vec<ValueNode>) -> Result<Vec<ValueControl
 /// these are the units' counts at a consistent cut.
 pub fn run_values(alloc: Global, input: &Input) -> Result<ValueRun, Memory>
     requires { CanRun input.now }
-    ensures book { IfOk result (λ r. IsRunBook input.now (losses input.now) r.book.entries r.front) }
-    ensures list { IfOk result (λ r. r.list ≡ value_list input.now (losses input.now) r.book.entries) }
-    ensures sent { IfOk result (λ r. r.sent ≡ (findings (setup_of input.now) (losses input.now) (schedule_of r.book.entries)).sent) }
-    ensures delivered { IfOk result (λ r. r.delivered ≡ (findings (setup_of input.now) (losses input.now) (schedule_of r.book.entries)).delivered) }
-    ensures answered { IfOk result (λ r. All (IsAnswered input.now.net (map (λ c. c.state) r.controls.items)) r.list) }
-    ensures controls { IfOk result (λ r. AreControls input.now r.book.entries (map (λ c. c.state) r.controls.items)) }
+    ensures book { IfOk result
+        (λ r. IsRunBook input.now (losses input.now) r.book.entries r.front) }
+    ensures list { IfOk result
+        (λ r. r.list ≡ value_list input.now (losses input.now) r.book.entries) }
+    ensures sent { IfOk result
+        (λ r. r.sent
+        ≡ (findings (setup_of input.now) (losses input.now)
+        (schedule_of r.book.entries)).sent) }
+    ensures delivered { IfOk result
+        (λ r. r.delivered
+        ≡ (findings (setup_of input.now) (losses input.now)
+        (schedule_of r.book.entries)).delivered) }
+    ensures answered { IfOk result
+        (λ r. All (IsAnswered input.now.net (map (λ c. c.state) r.controls.items)) r.list) }
+    ensures controls { IfOk result
+        (λ r. AreControls input.now r.book.entries (map (λ c. c.state) r.controls.items)) }
 {
     nets_are_wired();
     nodes_tell_findings();

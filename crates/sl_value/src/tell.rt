@@ -5,8 +5,8 @@ ghost use Rattle.sl_layout.specs.Net.{actor_of, units};
 ghost use Rattle.sl_model.specs.History.{history};
 ghost use Rattle.sl_value.specs.declared.verdict.ValueVerdict.{ValueVerdict};
 ghost use Rattle.sl_value.specs.Reading.{counted};
-ghost use Rattle.sl_value.specs.Verdicts.{value_verdict, values_for, value_finding};
-ghost use Rattle.sl_value.specs.Outcome.{control_for, value_told, world_after, HasValues, CanList};
+ghost use Rattle.sl_value.specs.Verdicts.{values_for, value_finding};
+ghost use Rattle.sl_value.specs.Outcome.{control_for, world_after, HasValues, CanList};
 
 use crate::node::ValueNode;
 use crate::verdict::{ValueFinding, ValueList, ValueVerdict, Values};
@@ -22,7 +22,8 @@ use std::alloc::Global;
 /// The number of the control plane of a unit.
 pub fn control_for(net: &Net, unit: u32) -> u32
     requires { unit < length (units net.now) }
-    ensures number { result ≡ control_for net.now (actor_of net.now (slice_index (units net.now) unit)) }
+    ensures number { result ≡ control_for net.now
+        (actor_of net.now (slice_index (units net.now) unit)) }
     ensures within { result < length net.now.actors }
 {
     match net.actor(net.unit_actor(unit)) {
@@ -35,7 +36,9 @@ pub fn control_for(net: &Net, unit: u32) -> u32
 fn values(alloc: Global, world: &ValueWorld, k: u64) -> Result<Values, Memory>
     requires each { length world.now.scene.states ≡ length world.now.input.net.actors }
     requires told { HasValues world.now k }
-    ensures { IfOk result (λ v. v ≡ map (λ u. counted k (history (world_after world.now) u)) (units world.now.input.net)) }
+    ensures { IfOk result
+        (λ v. v ≡ map (λ u. counted k (history (world_after world.now) u))
+        (units world.now.input.net)) }
 {
     let mut items = Vec::new(alloc);
     for unit in 0..world.net().unit_count() {
@@ -56,7 +59,8 @@ fn values_for(
 ) -> Result<Values, Memory>
     requires each { length world.now.scene.states ≡ length world.now.input.net.actors }
     requires told { verdict ≡ ValueVerdict.Whole → HasValues world.now k }
-    ensures { IfOk result (λ v. v ≡ values_for world.now.input.net (world_after world.now) k verdict) }
+    ensures { IfOk result
+        (λ v. v ≡ values_for world.now.input.net (world_after world.now) k verdict) }
 {
     match verdict {
         ValueVerdict::Whole => values(alloc, world, k),
@@ -92,7 +96,9 @@ pub fn list(
     count: u64,
 ) -> Result<ValueList, Memory>
     requires { CanList world.now observer.now.state count }
-    ensures { IfOk result (λ l. l ≡ map (value_finding world.now.input.net (world_after world.now)) (range_with_len 1 count)) }
+    ensures { IfOk result
+        (λ l. l ≡ map (value_finding world.now.input.net (world_after world.now))
+        (range_with_len 1 count)) }
 {
     let mut items = Vec::new(alloc);
     for done in 0..count {

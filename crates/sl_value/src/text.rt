@@ -1,6 +1,7 @@
 // The text of a run's values.
 ghost use Rattle.std.specs.Prelude.{◌≡◌, ◌++◌, IfOk, OnOk, flat_map, string_bytes};
-ghost use Rattle.sl_value.specs.ValuesText.{value_verdict_line, value_line, value_lines, value_finding_text, values_text};
+ghost use Rattle.sl_value.specs.ValuesText.{value_verdict_line, value_line, value_lines};
+ghost use Rattle.sl_value.specs.ValuesText.{value_finding_text, values_text};
 
 use crate::run::ValueRun;
 use crate::verdict::{ValueFinding, ValueVerdict};
@@ -20,7 +21,8 @@ fn push_verdict(
     k: u64,
     verdict: ValueVerdict,
 ) -> Result<(), AllocError>
-    ensures { OnOk result (string_bytes out.new ≡ string_bytes out.old ++ value_verdict_line net.now k verdict) }
+    ensures { OnOk result
+        (string_bytes out.new ≡ string_bytes out.old ++ value_verdict_line net.now k verdict) }
 {
     match verdict {
         ValueVerdict::Whole => write!(out, "snapshot {k} whole\n"),
@@ -36,7 +38,8 @@ fn push_verdict(
 /// Writes the value of the unit with this actor's number.
 #[tactic(auto, unfolding(crate::specs::ValuesText::value_line))]
 fn push_value(out: &mut String, net: &Net, unit: u32, value: Whole) -> Result<(), AllocError>
-    ensures { OnOk result (string_bytes out.new ≡ string_bytes out.old ++ value_line net.now unit value) }
+    ensures { OnOk result
+        (string_bytes out.new ≡ string_bytes out.old ++ value_line net.now unit value) }
 {
     let packets = value.packets;
     let bytes = value.bytes;
@@ -52,7 +55,8 @@ fn push_values(
     units: &[u32],
     values: &[Whole],
 ) -> Result<(), AllocError>
-    ensures { OnOk result (string_bytes out.new ≡ string_bytes out.old ++ value_lines net.now units.now values.now) }
+    ensures { OnOk result
+        (string_bytes out.new ≡ string_bytes out.old ++ value_lines net.now units.now values.now) }
 {
     for i in 0..units.len().min(values.len()) {
         push_value(out, net, units[i], values[i])?;
@@ -66,7 +70,8 @@ fn push_finding(
     net: &Net,
     finding: &ValueFinding,
 ) -> Result<(), AllocError>
-    ensures { OnOk result (string_bytes out.new ≡ string_bytes out.old ++ value_finding_text net.now finding.now) }
+    ensures { OnOk result
+        (string_bytes out.new ≡ string_bytes out.old ++ value_finding_text net.now finding.now) }
 {
     push_verdict(alloc, out, net, finding.k, finding.verdict)?;
     push_values(out, net, net.unit_actors(), finding.values.items.as_slice())
@@ -80,7 +85,9 @@ fn push_findings(
     net: &Net,
     findings: &[ValueFinding],
 ) -> Result<(), AllocError>
-    ensures { OnOk result (string_bytes out.new ≡ string_bytes out.old ++ flat_map (value_finding_text net.now) findings.now) }
+    ensures { OnOk result
+        (string_bytes out.new ≡ string_bytes out.old ++ flat_map
+        (value_finding_text net.now) findings.now) }
 {
     for finding in findings {
         push_finding(alloc, out, net, finding)?;
@@ -90,7 +97,9 @@ fn push_findings(
 
 /// The text of the values of a run.
 pub fn values_bytes(alloc: Global, input: &Input, run: &ValueRun) -> Result<Vec<u8>, Memory>
-    ensures { IfOk result (λ bytes. bytes.items ≡ values_text input.now.net run.now.list run.now.sent run.now.delivered) }
+    ensures { IfOk result
+        (λ bytes. bytes.items ≡ values_text input.now.net run.now.list
+        run.now.sent run.now.delivered) }
 {
     let net = &input.net;
     let mut out = String::new(alloc);

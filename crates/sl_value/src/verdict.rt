@@ -1,3 +1,4 @@
+// Trusted types: ValueVerdict, Values, ValueFinding.
 // The values of a run, and the verdicts on its snapshots.
 use crate::whole::Whole;
 use sl_model::{Lag, Verdict};

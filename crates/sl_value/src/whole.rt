@@ -1,3 +1,4 @@
+// Trusted types: Whole.
 // What a unit counted.
 
 /// The data packets that a unit counted before its id reached a number, and their bytes.

@@ -4,7 +4,8 @@ ghost use Rattle.sl_machine.specs.Fit.{HasCounts};
 ghost use Rattle.sl_layout.specs.Wiring.{plan_of};
 ghost use Rattle.sl_proto.specs.Nodes.{node_state, node_counts};
 ghost use Rattle.sl_proto.specs.Built.{IsBuildable};
-ghost use Rattle.sl_value.specs.Nodes.{with_values, first_values, value_node_state, value_node_counts};
+ghost use Rattle.sl_value.specs.Nodes.{with_values, first_values, value_node_state};
+ghost use Rattle.sl_value.specs.Nodes.{value_node_counts};
 
 use crate::control::ValueControl;
 use crate::node::ValueNode;
@@ -40,7 +41,8 @@ impl<'a> Model for ValueWorld<'a> {
 /// The node of an actor, with no values yet.
 fn value_node(alloc: Global, net: &Net, actor: u32, node: Node) -> Result<ValueNode, Memory>
     requires { actor < length net.now.actors }
-    ensures state { IfOk result (λ made. value_node_state made ≡ with_values net.now actor (node_state node)) }
+    ensures state { IfOk result
+        (λ made. value_node_state made ≡ with_values net.now actor (node_state node)) }
     ensures counts { IfOk result (λ made. value_node_counts made ≡ node_counts node) }
 {
     match node {
@@ -57,8 +59,10 @@ fn value_node(alloc: Global, net: &Net, actor: u32, node: Node) -> Result<ValueN
 /// The nodes of an input before their first turn, one per actor in order.
 fn value_nodes(alloc: Global, input: &Input) -> Result<Vec<ValueNode>, Memory>
     requires { IsBuildable input.now }
-    ensures states { IfOk result (λ nodes. map value_node_state nodes.items ≡ first_values input.now) }
-    ensures fit { IfOk result (λ nodes. HasCounts value_node_counts (plan_of input.now.net) nodes.items) }
+    ensures states { IfOk result
+        (λ nodes. map value_node_state nodes.items ≡ first_values input.now) }
+    ensures fit { IfOk result
+        (λ nodes. HasCounts value_node_counts (plan_of input.now.net) nodes.items) }
 {
     nodes_start();
     // A net has few actors, so their numbers fit 32 bits.

@@ -1,3 +1,4 @@
+-- Trusted text for nodes, but for bytes_on, if_read, frame_on, framed, carrying.
 -- The bytes that messages carry. A message has a frame of 24 bytes in place, and other bytes in a list.
 --     bytes_on x           the bytes that a message carries, None where it carries none
 --     frame_on bits x      the header and the packet of which these are the frame in either version, where there are such

@@ -1,3 +1,4 @@
+-- Trusted text for nodes, in part.
 -- Frames of 24 bytes, by their columns. Numbers are big-endian.
 --     bytes      plain   carried       probe         initiation
 --     0          0       1             2             3

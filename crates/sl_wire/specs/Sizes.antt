@@ -1,3 +1,4 @@
+-- Trusted text for nodes.
 -- The sizes of what dumps hold, as a snapshot table sets them.
 use Rattle.std.specs.Prelude.{ℕ}
 use Rattle.sl_net.specs.declared.input.Snapshot.{Snapshot}

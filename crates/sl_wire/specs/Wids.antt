@@ -1,3 +1,4 @@
+-- Trusted text for nodes, but for is_wid, has_room, unwrapped_each.
 -- Several wrapped ids at once.
 --     is_wid, has_room         what unwrapping asks of a wrapped id, and of the number that is known
 --     unwrapped_each bits ns ws    the numbers that wrapped ids stand for, each relative to one that is known

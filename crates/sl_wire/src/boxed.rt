@@ -1,3 +1,4 @@
+// Trusted types: for nodes Boxed.
 // Values behind pointers.
 ghost use Rattle.std.specs.Prelude.{◌≡◌, IfOk};
 

@@ -1,6 +1,8 @@
+// Trusted types: for nodes Kind, Header, Frame.
 // Frames as bytes, and bytes as frames.
 ghost use Rattle.std.specs.Prelude.{◌≡◌, ℕ, IfOk, Ok};
-ghost use Rattle.sl_wire.specs.Frames.{frame, plain_header, plain_frame, decoded, IsCanonical, IsFrame};
+ghost use Rattle.sl_wire.specs.Frames.{frame, plain_header, plain_frame, decoded, IsCanonical};
+ghost use Rattle.sl_wire.specs.Frames.{IsFrame};
 
 use crate::framed::Framed;
 use sl_ids::{Wid, Width};

@@ -1,6 +1,10 @@
+// Trusted types: for nodes Framed.
 // A frame in a message.
-ghost use Rattle.std.specs.Prelude.{◌≡◌, ◌≢◌, ◌+◌, ◌≤◌, ◌/◌, ◌%◌, ℕ, length, slice_index, slice_range, Some};
-ghost use Rattle.sl_wire.specs.Frames.{kind_of, id_in, check_in, packet_fits, packet_of, reserved_in, all_zero, kind_decoded, frame, plain_frame, decoded, word};
+ghost use Rattle.std.specs.Prelude.{◌≡◌, ◌≢◌, ◌+◌, ◌≤◌, ◌/◌, ◌%◌, ℕ, length, slice_index};
+ghost use Rattle.std.specs.Prelude.{slice_range, Some};
+ghost use Rattle.sl_wire.specs.Frames.{kind_of, id_in, check_in, packet_fits, packet_of};
+ghost use Rattle.sl_wire.specs.Frames.{reserved_in, all_zero, kind_decoded, frame, plain_frame};
+ghost use Rattle.sl_wire.specs.Frames.{decoded, word};
 ghost use Rattle.sl_wire.specs.Framed.{first, second, third, fourth};
 
 use crate::columns::{channel_fits, check_of, kind_byte, kind_of, stamp_fits};

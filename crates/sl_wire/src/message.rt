@@ -1,3 +1,4 @@
+// Trusted types: for nodes Rows, Done, Dump, Msg.
 // Messages between actors.
 ghost use Rattle.std.specs.Prelude.{◌≡◌, option_map};
 ghost use Rattle.sl_wire.specs.Carried.{bytes_on, carrying, frame_on};

@@ -1,3 +1,4 @@
+// Trusted types: for nodes Spare.
 // Dumps that were read.
 ghost use Rattle.std.specs.Prelude.{◌≡◌, OnOk};
 ghost use Rattle.sl_saves.specs.Rings.{ring_view};
@@ -43,7 +44,8 @@ impl Boxed<Dump> {
         last: [Wid; 8],
         saves: &RingSaves,
     ) -> Result<(), Memory>
-        ensures { OnOk result (self.new ≡ record { id = id; cpu = cpu; last = last; view = ring_view saves.now }) }
+        ensures { OnOk result
+            (self.new ≡ record { id = id; cpu = cpu; last = last; view = ring_view saves.now }) }
     {
         let dump = &mut *self.inner;
         saves.show(&mut dump.view)?;

@@ -1,3 +1,4 @@
+-- Trusted text, but for flag_rule, flag_app, HasNumber.
 -- Which lists of words ask for something, and for what.
 --     words_of ws         the command of the words with its option, or None where they are no spelling of one
 -- One word -- may stand among the words after the first, and after it no option.

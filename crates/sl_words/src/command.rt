@@ -1,6 +1,9 @@
+// Trusted types: Command.
 // The command that words ask for.
 ghost use Rattle.std.specs.Prelude.{◌≡◌, IfOk, IfSome, map, string_bytes, is_some, false};
-ghost use Rattle.sl_words.specs.Words.{ends, step_of, run_of, routes_of, sample_of, check_of, balance_of, poll_of, values_of, command_of, words_of, HasNumber};
+ghost use Rattle.sl_words.specs.Words.{ends, step_of, run_of, routes_of, sample_of, check_of};
+ghost use Rattle.sl_words.specs.Words.{balance_of, poll_of, values_of, command_of, words_of};
+ghost use Rattle.sl_words.specs.Words.{HasNumber};
 
 use crate::flags::{Flag, flag_words};
 use crate::poll::poll_words;

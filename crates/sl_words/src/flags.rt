@@ -1,3 +1,4 @@
+// Trusted types: Flag.
 // The words after a command that has one option.
 ghost use Rattle.std.specs.Prelude.{◌≡◌, IfOk, map};
 ghost use Rattle.clap.specs.Words.{app_of};

@@ -23,7 +23,9 @@ fn sample_number(word: &str) -> Option<u8>
 /// The first word that is such a number, and the words without it.
 #[tactic(auto, using(crate::proofs::NumberLemmas::number_steps))]
 fn take_number<'a>(alloc: Global, words: &'a [String]) -> Result<Option<(u8, Vec<&'a str>)>, Memory>
-    ensures taken { IfOk result (λ t. option_map (λ p. (p.0, map (λ w. w.now) p.1.items)) t ≡ take_number (map string_bytes words.now)) }
+    ensures taken { IfOk result
+        (λ t. option_map (λ p. (p.0, map (λ w. w.now) p.1.items)) t
+        ≡ take_number (map string_bytes words.now)) }
     ensures some { IfOk result (λ t. IfSome t (λ p. 1 ≤ p.0)) }
     ensures few { IfOk result (λ t. IfSome t (λ p. p.0 ≤ 64)) }
 {

@@ -1,3 +1,4 @@
+-- Trusted text.
 -- The entries that a legal schedule adds to a book.
 use Rattle.std.specs.Prelude.{◌+◌, ℕ, List, [], ◌∷◌}
 use Rattle.sl_machine.specs.declared.wiring.Entry.{Entry}

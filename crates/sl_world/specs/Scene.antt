@@ -1,3 +1,4 @@
+-- Trusted text, in part.
 -- The world of any machines, as data: what a turn does, and what a schedule does. The processes, channels and events
 -- are those of Chandy and Lamport, "Distributed Snapshots: Determining Global States of Distributed Systems", 1985.
 use Rattle.std.specs.Prelude.{◌≡◌, ◌+◌, ◌-◌, ◌<◌, ◌≤◌, take, map, nat_lt, ℕ, List, [], ◌∷◌, ◌++◌, length, Option, Some, None, if◌then◌else◌, slice_get, slice_set, slice_index_or, option_map, unwrap_or, is_some}

@@ -27,7 +27,8 @@ pub fn make_room(entries: &mut Vec<Entry>) -> Result<(), Memory>
 pub fn note(entries: &mut Vec<Entry>, actor: u32, choice: u32)
     requires room { vec_len entries.old < vec_capacity entries.old }
     requires number { last_number entries.old.items < 2 ^ 63 }
-    ensures { entries.new.items ≡ entries.old.items ++ entry_after entries.old.items actor choice ∷ [] }
+    ensures { entries.new.items ≡ entries.old.items
+        ++ entry_after entries.old.items actor choice ∷ [] }
 {
     let number = last_number(entries.as_slice()) + 1;
     entries.push_reserved(Entry {

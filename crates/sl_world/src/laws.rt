@@ -10,8 +10,13 @@ use sl_machine::Machine;
 /// world; so does a schedule that is legal itself. The book gains just these, in order, each with a number one above the last. The wiring
 /// stays, and so do the numbers of machines and links.
 pub fn every_schedule<A: Machine>()
-    ensures legal { (w : Scene A.State A.Msg) (es : List (ℕ × ℕ)) → run_of A.rules w (kept A.rules w es) ≡ Some (after_all A.rules w es) }
-    ensures book { (w : Scene A.State A.Msg) (es : List (ℕ × ℕ)) → (after_all A.rules w es).book ≡ w.book ++ numbered_from (last_number w.book) (kept A.rules w es) }
-    ensures only { (w v : Scene A.State A.Msg) (es : List (ℕ × ℕ)) → run_of A.rules w es ≡ Some v → after_all A.rules w es ≡ v }
-    ensures shape { (w : Scene A.State A.Msg) (es : List (ℕ × ℕ)) → SameShape w (after_all A.rules w es) }
+    ensures legal { (w : Scene A.State A.Msg) (es : List (ℕ × ℕ))
+        → run_of A.rules w (kept A.rules w es) ≡ Some (after_all A.rules w es) }
+    ensures book { (w : Scene A.State A.Msg) (es : List (ℕ × ℕ))
+        → (after_all A.rules w es).book ≡ w.book ++ numbered_from (last_number w.book)
+        (kept A.rules w es) }
+    ensures only { (w v : Scene A.State A.Msg) (es : List (ℕ × ℕ))
+        → run_of A.rules w es ≡ Some v → after_all A.rules w es ≡ v }
+    ensures shape { (w : Scene A.State A.Msg) (es : List (ℕ × ℕ))
+        → SameShape w (after_all A.rules w es) }
 {}

@@ -1,5 +1,6 @@
 // One link: the messages on it and its losses.
-ghost use Rattle.std.specs.Prelude.{◌≡◌, ◌<◌, ◌≤◌, ◌↔◌, ◌≢◌, ◌∷◌, ◌++◌, [], IsTrue, OnOk, IfNone, IfSome, option_to_list};
+ghost use Rattle.std.specs.Prelude.{◌≡◌, ◌<◌, ◌≤◌, ◌↔◌, ◌≢◌, ◌∷◌, ◌++◌, [], IsTrue, OnOk, IfNone};
+ghost use Rattle.std.specs.Prelude.{IfSome, option_to_list};
 ghost use Rattle.std.specs.VecDeque.{deque_len, deque_capacity};
 ghost use Rattle.sl_world.specs.Scene.{line_put, without_first, new_line};
 
@@ -30,7 +31,15 @@ impl<M> Model for Line<M> {
 
     ghost Value = { LineView M };
 
-    ghost view = { λ a. record { line = record { queue = option_to_list a.first ++ a.rest.items; loss = a.loss; lost = a.lost }; room = room_behind a.first (deque_capacity a.rest - deque_len a.rest) } };
+    ghost view = { λ a.
+        record {
+          line = record {
+            queue = option_to_list a.first ++ a.rest.items;
+            loss = a.loss;
+            lost = a.lost;
+          };
+          room = room_behind a.first (deque_capacity a.rest - deque_len a.rest);
+        } };
 
     ghost invariant = { λ a. a.first ≡ None → a.rest.items ≡ [] };
 }

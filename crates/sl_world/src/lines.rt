@@ -1,5 +1,6 @@
 // All links by their numbers, and which of them have a message.
-ghost use Rattle.std.specs.Prelude.{◌≡◌, ◌≢◌, ◌<◌, ◌↔◌, ◌∷◌, ℕ, [], IsTrue, IfOk, OnOk, length, drop, slice_set};
+ghost use Rattle.std.specs.Prelude.{◌≡◌, ◌≢◌, ◌<◌, ◌↔◌, ◌∷◌, ℕ, [], IsTrue, IfOk, OnOk, length};
+ghost use Rattle.std.specs.Prelude.{drop, slice_set};
 ghost use Rattle.sl_world.specs.Scene.{line_at, put_at, without_first};
 ghost use Rattle.sl_world.specs.Mesh.{lines_of, room_at, KeepsSomeRoom};
 ghost use Rattle.sl_world.specs.Marks.{IsMarked};
@@ -90,8 +91,11 @@ impl<M: Drop> Lines<M> {
     pub fn take(&mut self, link: usize) -> M
         requires link { link < length self.old }
         requires some { (line_at (lines_of self.old) link).queue ≢ [] }
-        ensures first { (line_at (lines_of self.old) link).queue ≡ result ∷ drop 1 (line_at (lines_of self.old) link).queue }
-        ensures rest { let line = line_at (lines_of self.old) link in lines_of self.new ≡ slice_set (lines_of self.old) link (without_first line (drop 1 line.queue)) }
+        ensures first { (line_at (lines_of self.old) link).queue
+            ≡ result ∷ drop 1 (line_at (lines_of self.old) link).queue }
+        ensures rest { let line = line_at (lines_of self.old) link in
+            lines_of self.new ≡ slice_set (lines_of self.old) link
+            (without_first line (drop 1 line.queue)) }
         ensures keeps { KeepsSomeRoom self.old self.new }
     {
         let m = self.lines[link].take();

@@ -1,9 +1,12 @@
 // All links of a net: where each goes, and what is on it.
-ghost use Rattle.std.specs.Prelude.{◌≡◌, ◌≢◌, ◌+◌, ◌<◌, ◌≤◌, ◌↔◌, ◌∷◌, [], ℕ, true, false, length, drop, slice_index, slice_set, slice_index_or, IsTrue, IfOk, OnOk, Some, All};
+ghost use Rattle.std.specs.Prelude.{◌≡◌, ◌≢◌, ◌+◌, ◌<◌, ◌≤◌, ◌↔◌, ◌∷◌, [], ℕ, true, false};
+ghost use Rattle.std.specs.Prelude.{length, drop, slice_index, slice_set, slice_index_or, IsTrue};
+ghost use Rattle.std.specs.Prelude.{IfOk, OnOk, Some, All};
 ghost use Rattle.sl_machine.specs.Machine.{is_fitting};
 ghost use Rattle.sl_machine.specs.Plan.{IsSound, link_in};
 ghost use Rattle.sl_world.specs.Scene.{line_at, without_first, put_all, put_each, links_of};
-ghost use Rattle.sl_world.specs.Mesh.{lines_of, room_at, KeepsSomeRoom, HasRoomFor, IsElsewhere, IsIncoming};
+ghost use Rattle.sl_world.specs.Mesh.{lines_of, room_at, KeepsSomeRoom, HasRoomFor, IsElsewhere};
+ghost use Rattle.sl_world.specs.Mesh.{IsIncoming};
 ghost use Rattle.sl_world.specs.Places.{place_of};
 
 use crate::line::Line;
@@ -30,7 +33,8 @@ impl<M> Model for Links<M> {
 
     ghost Value = { Mesh M };
 
-    ghost view = { λ a. record { plan = a.wiring; lines = lines_of a.lines; roomy = a.roomy.items } };
+    ghost view = { λ a.
+        record { plan = a.wiring; lines = lines_of a.lines; roomy = a.roomy.items } };
 
     ghost invariant = { λ a. IsMesh a.wiring a.ins a.outs a.lines a.roomy.items };
 }
@@ -131,7 +135,9 @@ impl<M: Drop> Links<M> {
         requires within { from ≤ length links.now }
         ensures from { from ≤ result }
         ensures within { result ≤ length links.now }
-        ensures nothing { (k : ℕ) → from ≤ k → k < result → let link = slice_index_or links.now k 0 in (link < length self.now.plan.links) × ((line_at self.now.lines link).queue ≡ []) }
+        ensures nothing { (k : ℕ) → from ≤ k → k < result
+            → let link = slice_index_or links.now k 0 in (link < length self.now.plan.links)
+            × ((line_at self.now.lines link).queue ≡ []) }
     {
         let filled = self.lines.filled();
         let mut at = from;
@@ -175,8 +181,11 @@ impl<M: Drop> Links<M> {
     pub fn take(&mut self, link: usize) -> M
         requires link { link < length self.old.plan.links }
         requires some { (line_at self.old.lines link).queue ≢ [] }
-        ensures first { (line_at self.old.lines link).queue ≡ result ∷ drop 1 (line_at self.old.lines link).queue }
-        ensures rest { let line = line_at self.old.lines link in self.new.lines ≡ slice_set self.old.lines link (without_first line (drop 1 line.queue)) }
+        ensures first { (line_at self.old.lines link).queue
+            ≡ result ∷ drop 1 (line_at self.old.lines link).queue }
+        ensures rest { let line = line_at self.old.lines link in
+            self.new.lines ≡ slice_set self.old.lines link
+            (without_first line (drop 1 line.queue)) }
         ensures plan { self.new.plan ≡ self.old.plan }
         ensures roomy { self.new.roomy ≡ self.old.roomy }
     {
@@ -189,7 +198,8 @@ impl<M: Drop> Links<M> {
         requires actor { actor < length self.old.plan.ins }
         requires roomy { slice_index_or self.old.roomy actor false ≡ true }
         requires fitting { is_fitting (slice_index self.old.plan.outs actor) out.old.items ≡ true }
-        ensures lines { self.new.lines ≡ put_all self.old.plan.links actor out.old.items self.old.lines }
+        ensures lines { self.new.lines ≡ put_all self.old.plan.links
+            actor out.old.items self.old.lines }
         ensures plan { self.new.plan ≡ self.old.plan }
         ensures items { out.new.items ≡ [] }
         ensures room { out.new.room ≡ out.old.room }
@@ -213,11 +223,13 @@ fn make_room_at<M: Drop>(
     count: u32,
 ) -> Result<(), Memory>
     requires actor { actor < length outs.now.starts.items }
-    requires within { (o : ℕ) → o < count → slice_index outs.now.starts.items actor + o < length outs.now.places.items }
+    requires within { (o : ℕ) → o < count → slice_index outs.now.starts.items actor + o
+        < length outs.now.places.items }
     requires places { (o : ℕ) → o < count → place_of outs.now actor o < length lines.old }
     ensures lines { lines_of lines.new ≡ lines_of lines.old }
     ensures keeps { KeepsSomeRoom lines.old lines.new }
-    ensures room { OnOk result ((o : ℕ) → o < count → 0 < room_at lines.new (place_of outs.now actor o)) }
+    ensures room { OnOk result
+        ((o : ℕ) → o < count → 0 < room_at lines.new (place_of outs.now actor o)) }
 {
     for number in 0..count {
         let place = outs.place(actor, number);
@@ -236,10 +248,14 @@ fn put_at_places<M: Drop>(
     out: &mut Outputs<M>,
 ) -> bool
     requires actor { actor < length outs.now.starts.items }
-    requires within { All (λ p. slice_index outs.now.starts.items actor + p.0 < length outs.now.places.items) out.old.items }
+    requires within { All
+        (λ p. slice_index outs.now.starts.items actor + p.0 < length outs.now.places.items)
+        out.old.items }
     requires room { HasRoomFor (place_of outs.now actor) lines.old out.old.items }
-    ensures lines { lines_of lines.new ≡ put_each (place_of outs.now actor) out.old.items (lines_of lines.old) }
-    ensures others { (k : ℕ) → IsElsewhere (place_of outs.now actor) out.old.items k → room_at lines.new k ≡ room_at lines.old k }
+    ensures lines { lines_of lines.new ≡ put_each (place_of outs.now actor) out.old.items
+        (lines_of lines.old) }
+    ensures others { (k : ℕ) → IsElsewhere (place_of outs.now actor) out.old.items k
+        → room_at lines.new k ≡ room_at lines.old k }
     ensures roomy { IsTrue result → KeepsSomeRoom lines.old lines.new }
     ensures items { out.new.items ≡ [] }
     ensures room { out.new.room ≡ out.old.room }

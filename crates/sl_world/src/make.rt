@@ -32,7 +32,9 @@ pub fn lines_with<M: Drop>(
 ) -> Result<Vec<Line<M>>, Memory>
     requires lost { length lost.now ≡ length losses.items }
     requires rests { length rests.items ≡ length losses.items }
-    ensures { IfOk result (λ lines. lines_of lines.items ≡ lines_with losses.items lost.now (map (λ v. v.items) rests.items)) }
+    ensures { IfOk result
+        (λ lines. lines_of lines.items ≡ lines_with losses.items lost.now
+        (map (λ v. v.items) rests.items)) }
 {
     let mut lines = Vec::new(alloc);
     for link in 0..lost.len() {

@@ -31,7 +31,8 @@ impl Places {
     /// The place of an actor's link.
     pub fn place(&self, actor: usize, number: u32) -> usize
         requires actor { actor < length self.now.starts.items }
-        requires number { slice_index self.now.starts.items actor + number < length self.now.places.items }
+        requires number { slice_index self.now.starts.items actor + number
+            < length self.now.places.items }
         ensures { result ≡ place_of self.now actor number }
     {
         place_in(
@@ -58,9 +59,11 @@ impl Places {
 
     fn set(&mut self, actor: usize, number: u32, place: u32)
         requires actor { actor < length self.old.starts.items }
-        requires number { slice_index self.old.starts.items actor + number < length self.old.places.items }
+        requires number { slice_index self.old.starts.items actor + number
+            < length self.old.places.items }
         ensures starts { self.new.starts.items ≡ self.old.starts.items }
-        ensures places { self.new.places.items ≡ slice_set self.old.places.items (slice_index self.old.starts.items actor + number) place }
+        ensures places { self.new.places.items ≡ slice_set self.old.places.items
+            (slice_index self.old.starts.items actor + number) place }
     {
         let at = self.starts[actor] + number as usize;
         self.places[at] = place;

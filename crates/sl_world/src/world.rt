@@ -1,5 +1,7 @@
 // The world: machines, the links between them, and the book of the turns that did something.
-ghost use Rattle.std.specs.Prelude.{◌≡◌, ◌≢◌, ◌+◌, ◌<◌, ◌≤◌, ◌^◌, ℕ, [], Some, None, Ok, length, map, slice_get, slice_index, slice_index_or, IsTrue, IfOk, IfSome, OnOk, OnErr, All, true, false};
+ghost use Rattle.std.specs.Prelude.{◌≡◌, ◌≢◌, ◌+◌, ◌<◌, ◌≤◌, ◌^◌, ℕ, [], Some, None, Ok, length};
+ghost use Rattle.std.specs.Prelude.{map, slice_get, slice_index, slice_index_or, IsTrue, IfOk};
+ghost use Rattle.std.specs.Prelude.{IfSome, OnOk, OnErr, All, true, false};
 ghost use Rattle.sl_machine.specs.Plan.{HasChoice, IsSound, link_in};
 ghost use Rattle.sl_machine.specs.Fit.{ins_of, actions_of, counts_at, HasCounts, Fits};
 ghost use Rattle.sl_loss.specs.Loss.{IsFresh};
@@ -41,7 +43,8 @@ pub struct World<A: Machine> {
 
 impl<A: Machine> World<A> {
     ghost use Rattle.sl_world.specs.World.{scene};
-    ghost use Rattle.sl_world.specs.Scene.{turn_of, after_turn, after_all, IsFront, FindsNothing, first_scene};
+    ghost use Rattle.sl_world.specs.Scene.{turn_of, after_turn, after_all, IsFront, FindsNothing};
+    ghost use Rattle.sl_world.specs.Scene.{first_scene};
 
     /// A world where nothing has happened: nothing is on the links, and the book is empty. After
     /// want of memory the machines and losses are given up.
@@ -53,7 +56,8 @@ impl<A: Machine> World<A> {
     ) -> Result<World<A>, Memory>
         requires fit { Fits A.counts wiring.now machines.items losses.items }
         requires fresh { All IsFresh losses.items }
-        ensures { IfOk result (λ w. scene w ≡ first_scene wiring.now (map A.state machines.items) losses.items) }
+        ensures { IfOk result
+            (λ w. scene w ≡ first_scene wiring.now (map A.state machines.items) losses.items) }
     {
         let lines = make_lines(alloc, losses)?;
         let book = Book {
@@ -78,7 +82,14 @@ impl<A: Machine> World<A> {
         requires rests { length rests.items ≡ length wiring.now.links }
         requires book { length book.entries < 2 ^ 40 }
         requires numbers { All (λ e. e.number ≤ length book.entries) book.entries }
-        ensures { IfOk result (λ w. scene w ≡ record { plan = wiring.now; states = map A.state machines.items; lines = lines_with losses.items lost.items (map (λ v. v.items) rests.items); book = book.entries }) }
+        ensures { IfOk result
+            (λ w. scene w
+            ≡ record {
+              plan = wiring.now;
+              states = map A.state machines.items;
+              lines = lines_with losses.items lost.items (map (λ v. v.items) rests.items);
+              book = book.entries;
+            }) }
     {
         let lines = lines_with(alloc, losses, lost.as_slice(), rests)?;
         World::with_lines(alloc, machines, wiring, lines, book)
@@ -95,7 +106,14 @@ impl<A: Machine> World<A> {
         requires machines { HasCounts A.counts wiring.now machines.items }
         requires lines { length lines.items ≡ length wiring.now.links }
         requires numbers { All (λ e. e.number ≤ length book.entries) book.entries }
-        ensures { IfOk result (λ w. scene w ≡ record { plan = wiring.now; states = map A.state machines.items; lines = lines_of lines.items; book = book.entries }) }
+        ensures { IfOk result
+            (λ w. scene w
+            ≡ record {
+              plan = wiring.now;
+              states = map A.state machines.items;
+              lines = lines_of lines.items;
+              book = book.entries;
+            }) }
     {
         let out = Outputs::with_room(alloc, greatest(wiring.out_counts.as_slice()))?;
         let links = Links::join(alloc, wiring, lines)?;
@@ -147,9 +165,12 @@ impl<A: Machine> World<A> {
     pub fn turn(&mut self, actor: u32, choice: u32) -> Result<Turn, Memory>
         requires choice { HasChoice (scene self.old).plan actor choice }
         requires book { length (scene self.old).book < 2 ^ 40 }
-        ensures after { OnOk result (scene self.new ≡ after_turn A.rules (scene self.old) (actor, choice)) }
-        ensures did { result ≡ Ok Turn.Did → turn_of A.rules (scene self.old) actor choice ≡ Some (scene self.new) }
-        ensures idle { result ≡ Ok Turn.Idle → turn_of A.rules (scene self.old) actor choice ≡ None }
+        ensures after { OnOk result
+            (scene self.new ≡ after_turn A.rules (scene self.old) (actor, choice)) }
+        ensures did { result ≡ Ok Turn.Did → turn_of A.rules (scene self.old) actor choice
+            ≡ Some (scene self.new) }
+        ensures idle { result ≡ Ok Turn.Idle → turn_of A.rules (scene self.old) actor choice
+            ≡ None }
         ensures same { result ≡ Ok Turn.Idle → scene self.new ≡ scene self.old }
         ensures empty { FindsNothing (scene self.old) actor choice → result ≡ Ok Turn.Idle }
         ensures err { OnErr result (scene self.new ≡ scene self.old) }
@@ -179,10 +200,12 @@ impl<A: Machine> World<A> {
         requires choices { All (λ e. HasChoice (scene self.old).plan e.0 e.1) schedule.now }
         requires links { IfSome links (λ l. l.now ≡ links_of (scene self.old).plan schedule.now) }
         requires book { length (scene self.old).book + length schedule.now < 2 ^ 40 }
-        ensures ok { OnOk result (scene self.new ≡ after_all A.rules (scene self.old) schedule.now) }
+        ensures ok { OnOk result
+            (scene self.new ≡ after_all A.rules (scene self.old) schedule.now) }
         ensures front { IsFront A.rules (scene self.old) schedule.now (scene self.new) }
         ensures plan { (scene self.new).plan ≡ (scene self.old).plan }
-        ensures book { length (scene self.new).book ≤ length (scene self.old).book + length schedule.now }
+        ensures book { length (scene self.new).book ≤ length
+            (scene self.old).book + length schedule.now }
     {
         match links {
             Some(links) => self.run_by(schedule, links),
@@ -195,10 +218,12 @@ impl<A: Machine> World<A> {
         requires choices { All (λ e. HasChoice (scene self.old).plan e.0 e.1) schedule.now }
         requires links { links.now ≡ links_of (scene self.old).plan schedule.now }
         requires book { length (scene self.old).book + length schedule.now < 2 ^ 40 }
-        ensures ok { OnOk result (scene self.new ≡ after_all A.rules (scene self.old) schedule.now) }
+        ensures ok { OnOk result
+            (scene self.new ≡ after_all A.rules (scene self.old) schedule.now) }
         ensures front { IsFront A.rules (scene self.old) schedule.now (scene self.new) }
         ensures plan { (scene self.new).plan ≡ (scene self.old).plan }
-        ensures book { length (scene self.new).book ≤ length (scene self.old).book + length schedule.now }
+        ensures book { length (scene self.new).book ≤ length
+            (scene self.old).book + length schedule.now }
     {
         let mut at = self.links.next_by(links, 0);
         while at < schedule.len() {
@@ -214,7 +239,8 @@ impl<A: Machine> World<A> {
         requires choice { HasChoice (scene self.old).plan actor choice }
         requires link { link ≡ link_in (scene self.old).plan.links actor choice }
         requires book { length (scene self.old).book < 2 ^ 40 }
-        ensures after { OnOk result (scene self.new ≡ after_turn A.rules (scene self.old) (actor, choice)) }
+        ensures after { OnOk result
+            (scene self.new ≡ after_turn A.rules (scene self.old) (actor, choice)) }
         ensures err { OnErr result (scene self.new ≡ scene self.old) }
     {
         if let Some(link) = self.links.incoming_by(actor, choice, link) {
@@ -227,10 +253,12 @@ impl<A: Machine> World<A> {
     fn run_each(&mut self, schedule: &[(u32, u32)]) -> Result<(), Memory>
         requires choices { All (λ e. HasChoice (scene self.old).plan e.0 e.1) schedule.now }
         requires book { length (scene self.old).book + length schedule.now < 2 ^ 40 }
-        ensures ok { OnOk result (scene self.new ≡ after_all A.rules (scene self.old) schedule.now) }
+        ensures ok { OnOk result
+            (scene self.new ≡ after_all A.rules (scene self.old) schedule.now) }
         ensures front { IsFront A.rules (scene self.old) schedule.now (scene self.new) }
         ensures plan { (scene self.new).plan ≡ (scene self.old).plan }
-        ensures book { length (scene self.new).book ≤ length (scene self.old).book + length schedule.now }
+        ensures book { length (scene self.new).book ≤ length
+            (scene self.old).book + length schedule.now }
     {
         for at in 0..schedule.len() {
             let (actor, choice) = schedule[at];
@@ -246,9 +274,12 @@ impl<A: Machine> World<A> {
         requires book { length (scene self.old).book < 2 ^ 40 }
         requires link { link ≡ link_in (scene self.old).plan.links actor choice }
         requires below { link < length (scene self.old).plan.links }
-        ensures after { OnOk result (scene self.new ≡ after_turn A.rules (scene self.old) (actor, choice)) }
-        ensures did { result ≡ Ok Turn.Did → turn_of A.rules (scene self.old) actor choice ≡ Some (scene self.new) }
-        ensures idle { result ≡ Ok Turn.Idle → turn_of A.rules (scene self.old) actor choice ≡ None }
+        ensures after { OnOk result
+            (scene self.new ≡ after_turn A.rules (scene self.old) (actor, choice)) }
+        ensures did { result ≡ Ok Turn.Did → turn_of A.rules (scene self.old) actor choice
+            ≡ Some (scene self.new) }
+        ensures idle { result ≡ Ok Turn.Idle → turn_of A.rules (scene self.old) actor choice
+            ≡ None }
         ensures same { result ≡ Ok Turn.Idle → scene self.new ≡ scene self.old }
         ensures empty { (line_at (scene self.old).lines link).queue ≡ [] → result ≡ Ok Turn.Idle }
         ensures err { OnErr result (scene self.new ≡ scene self.old) }
@@ -269,7 +300,8 @@ impl<A: Machine> World<A> {
         requires link { link ≡ link_in (scene self.old).plan.links actor choice }
         requires below { link < length (scene self.old).plan.links }
         requires some { (line_at (scene self.old).lines link).queue ≢ [] }
-        ensures did { OnOk result (turn_of A.rules (scene self.old) actor choice ≡ Some (scene self.new)) }
+        ensures did { OnOk result
+            (turn_of A.rules (scene self.old) actor choice ≡ Some (scene self.new)) }
         ensures err { OnErr result (scene self.new ≡ scene self.old) }
     {
         prepare(&mut self.machines, &mut self.links, actor, choice)?;
@@ -286,10 +318,14 @@ impl<A: Machine> World<A> {
         requires choice { HasChoice (scene self.old).plan actor choice }
         requires action { slice_index (scene self.old).plan.ins actor ≤ choice }
         requires book { length (scene self.old).book < 2 ^ 40 }
-        requires none { length (scene self.old).plan.links ≤ link_in (scene self.old).plan.links actor choice }
-        ensures after { OnOk result (scene self.new ≡ after_turn A.rules (scene self.old) (actor, choice)) }
-        ensures did { result ≡ Ok Turn.Did → turn_of A.rules (scene self.old) actor choice ≡ Some (scene self.new) }
-        ensures idle { result ≡ Ok Turn.Idle → turn_of A.rules (scene self.old) actor choice ≡ None }
+        requires none { length (scene self.old).plan.links ≤ link_in
+            (scene self.old).plan.links actor choice }
+        ensures after { OnOk result
+            (scene self.new ≡ after_turn A.rules (scene self.old) (actor, choice)) }
+        ensures did { result ≡ Ok Turn.Did → turn_of A.rules (scene self.old) actor choice
+            ≡ Some (scene self.new) }
+        ensures idle { result ≡ Ok Turn.Idle → turn_of A.rules (scene self.old) actor choice
+            ≡ None }
         ensures same { result ≡ Ok Turn.Idle → scene self.new ≡ scene self.old }
         ensures err { OnErr result (scene self.new ≡ scene self.old) }
     {
@@ -313,14 +349,16 @@ fn prepare<A: Machine>(
     choice: u32,
 ) -> Result<(), Memory>
     requires actor { actor < length machines.old.items }
-    requires choice { choice < slice_index (ins_of A.counts machines.old.items) actor + slice_index (actions_of A.counts machines.old.items) actor }
+    requires choice { choice < slice_index (ins_of A.counts machines.old.items) actor + slice_index
+        (actions_of A.counts machines.old.items) actor }
     requires linked { actor < length links.old.plan.ins }
     ensures states { map A.state machines.new.items ≡ map A.state machines.old.items }
     ensures counts { SameCounts A.counts machines.old.items machines.new.items }
     ensures plan { links.new.plan ≡ links.old.plan }
     ensures lines { links.new.lines ≡ links.old.lines }
     ensures roomy { OnOk result (slice_index_or links.new.roomy actor false ≡ true) }
-    ensures ready { OnOk result (slice_get (map A.ready_for machines.new.items) actor ≡ Some (Some choice)) }
+    ensures ready { OnOk result
+        (slice_get (map A.ready_for machines.new.items) actor ≡ Some (Some choice)) }
 {
     links.make_room(actor)?;
     ready_at(machines, actor as usize, choice)

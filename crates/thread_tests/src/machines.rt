@@ -7,7 +7,7 @@ ghost use Rattle.thread_tests.specs.Ring.{IsRing};
 
 use crate::passer::Passer;
 use crate::ring::{losses, machines, ring_wiring};
-use sl_actor::FreeGate;
+use sl_actor::{FreeGate, Gate};
 use sl_machine::{Book, Memory, Wiring};
 use sl_threads::run_machines;
 use sl_world::{Turn, World};
@@ -44,13 +44,14 @@ fn plans(alloc: Global, count: u32) -> Result<Vec<Vec<u32>>, AllocError>
 }
 
 /// The world to which the machines of a ring come.
-fn run_ring<R: Threads + Wait + Sync>(
+pub fn run_ring<R: Threads + Wait + Sync, G: Gate + Sync>(
     rt: &R,
     alloc: Global,
     wiring: &Wiring,
     count: u32,
     tokens: u32,
     drops: &[u64],
+    gate: &G,
 ) -> Result<World<Passer>, Memory>
     requires ring { IsRing count wiring.now }
     requires few { count ≤ 100 }
@@ -67,7 +68,7 @@ fn run_ring<R: Threads + Wait + Sync>(
         wiring,
         losses,
         plans,
-        &FreeGate,
+        gate,
     )
 }
 
@@ -164,7 +165,7 @@ fn adds_up<R: Threads + Wait + Sync>(
         return Err("too many machines".into());
     }
     let wiring = ring_wiring(alloc, count)?;
-    let mut world = run_ring(rt, alloc, &wiring, count, tokens, drops)?;
+    let mut world = run_ring(rt, alloc, &wiring, count, tokens, drops, &FreeGate)?;
     let sent = sends(world.book());
     settle(&mut world, &wiring, count)?;
     let lost = lost_first(&world, &wiring);

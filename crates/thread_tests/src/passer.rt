@@ -1,5 +1,6 @@
 // A machine that sends tokens and passes them on.
-ghost use Rattle.std.specs.Prelude.{◌≡◌, ◌+◌, ◌-◌, ◌≤◌, ◌^◌, ◌==◌, ◌∷◌, [], ℕ, min, Option, Some, None, if◌then◌else◌};
+ghost use Rattle.std.specs.Prelude.{◌≡◌, ◌+◌, ◌-◌, ◌≤◌, ◌^◌, ◌==◌, ◌∷◌, [], ℕ, min, Option, Some};
+ghost use Rattle.std.specs.Prelude.{None, if◌then◌else◌};
 
 use sl_machine::{Machine, Memory, Outputs};
 
@@ -38,8 +39,13 @@ impl Machine for Passer {
     ghost state = { passer_state };
 
     ghost rules = { record {
-      take = λ s link m. record { state = (s.0, s.1, min (s.2 + 1) (2 ^ 32 - 1)); puts = if m == 0 then [] else (0, m - 1) ∷ [] };
-      act = λ s action. if s.1 == 0 then None else Some (record { state = (s.0, s.1 - 1, s.2); puts = (0, s.0) ∷ [] });
+      take = λ s link m.
+          record {
+            state = (s.0, s.1, min (s.2 + 1) (2 ^ 32 - 1));
+            puts = if m == 0 then [] else (0, m - 1) ∷ [];
+          };
+      act = λ s action. if s.1 == 0 then None else Some
+          (record { state = (s.0, s.1 - 1, s.2); puts = (0, s.0) ∷ [] });
     } };
 
     ghost counts = { λ _. record { ins = 1; outs = 1; actions = 1 } };

@@ -1,9 +1,7 @@
 // Actors in a ring, each with a link to the next.
 ghost use Rattle.std.specs.Prelude.{◌≡◌, ◌<◌, ◌^◌, length, map, replicate, IfOk, ◌∷◌, []};
 ghost use Rattle.std.specs.List.{All};
-ghost use Rattle.sl_machine.specs.Machine.{Counts};
 ghost use Rattle.sl_loss.specs.Loss.{IsFresh};
-ghost use Rattle.sl_actor.specs.Held.{held};
 ghost use Rattle.thread_tests.specs.Ring.{next, AreInRing, IsRing, passer_state};
 
 use crate::passer::Passer;

@@ -1,7 +1,7 @@
 // One link, from one thread and from two.
-ghost use Rattle.std.specs.Prelude.{◌≡◌};
+ghost use Rattle.std.specs.Prelude.{◌≡◌, ◌≤◌, length};
 
-use sl_link::{Met, Offer, PutEnd, Stamped, TakeEnd, make_link, meet};
+use sl_link::{Met, Offer, PutEnd, Stamped, TakeEnd, make_link, meet, tell_each_other};
 use std::sync::Wait;
 use std::test::Fail;
 use std::thread;
@@ -134,5 +134,42 @@ fn a_thousand_messages(rt: HostRuntime) -> Result<(), Fail> {
     );
     let rest = leaves(&rt, meet(put, take), &[997, 998, 999]);
     assert_eq!(rt; (right, rest), (997, true));
+    Ok(())
+}
+
+/// Puts a message on a link that holds none, and takes one from it. Neither call finds it otherwise: each
+/// end was told what the other did.
+fn through<R: Wait>(
+    rt: &R,
+    put: &mut PutEnd<u32>,
+    take: &mut TakeEnd<u32>,
+    s: Stamped<u32>,
+) -> Stamped<u32>
+    requires channel { take.old.channel ≡ put.old.channel }
+    requires none { length put.old.put ≡ length take.old.taken }
+    requires room { 1 ≤ put.old.capacity }
+    ensures channel { take.new.channel ≡ put.new.channel }
+    ensures none { length put.new.put ≡ length take.new.taken }
+    ensures room { put.new.capacity ≡ put.old.capacity }
+{
+    tell_each_other(put, take);
+    match put.offer(rt, s) {
+        Offer::Put => {}
+        Offer::Full(_) => unreachable!(),
+    }
+    tell_each_other(put, take);
+    match take.take(rt) {
+        None => unreachable!(),
+        Some(s) => s,
+    }
+}
+
+/// A message is found where its put was told of, and there is room where its take was.
+#[test]
+fn what_is_told_is_found(rt: HostRuntime) -> Result<(), Fail> {
+    let (mut put, mut take) = make_link::<u32>(rt.alloc(), 1)?;
+    let first = through(&rt, &mut put, &mut take, message(5));
+    let second = through(&rt, &mut put, &mut take, message(6));
+    assert_eq!(rt; (first.number, second.number), (5, 6));
     Ok(())
 }

@@ -38,6 +38,10 @@ impl Counter {
 }
 
 impl Gate for Counter {
+    ghost use Rattle.std.specs.Prelude.{⊤};
+
+    ghost passed = { λ gate actor round. ⊤ };
+
     fn pass(&self, actor: u32, round: u64) {
         if actor == self.actor && self.rounds.fetch_add(1, Ordering::SeqCst) != round {
             self.wrong.fetch_add(1, Ordering::SeqCst);

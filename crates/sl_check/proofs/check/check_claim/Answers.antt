@@ -4,8 +4,8 @@ use Rattle.sl_model.specs.Losses.{losses}
 use Rattle.sl_model.specs.Setup.{setup_of}
 use Rattle.sl_model.specs.Books.{schedule_of}
 use Rattle.sl_world.specs.World.{scene}
-use Rattle.sl_ending.specs.Ending.{HasEnding}
-use Rattle.sl_ending.specs.declared.ending.Ending.TheVariants.{Idle, Unfinished, Finished}
+use Rattle.sl_model.specs.Ending.{HasEnding}
+use Rattle.sl_model.specs.declared.ending.Ending.TheVariants.{Idle, Unfinished, Finished}
 use Rattle.sl_check.proofs.Checking.{choices-of, answers-no-trace, answers-idle, answers-unfinished, answers-yes, answers-no-report, no-other}
 use Rattle.sl_check.proofs.check.check_claim.Goals as goal
 

@@ -2,7 +2,7 @@ use Rattle.std.proofs.Common.{subst}
 use Rattle.sl_net.specs.Input.{Input}
 use Rattle.sl_model.specs.Losses.{losses}
 use Rattle.sl_model.specs.Setup.{setup_of}
-use Rattle.sl_report.specs.Names.{HasNames}
+use Rattle.sl_net.specs.Names.{HasNames}
 use Rattle.sl_check.proofs.Answers.{printed-right}
 use Rattle.sl_check.proofs.laws.printed_runs_are_right.Goals as goal
 

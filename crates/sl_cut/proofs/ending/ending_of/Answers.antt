@@ -1,6 +1,6 @@
 use Rattle.sl_model.specs.Losses.{losses}
 use Rattle.sl_model.specs.Setup.{setup_of}
-use Rattle.sl_ending.proofs.Endings.{first_idle}
+use Rattle.sl_model.proofs.Finishing.Endings.{first_idle}
 use Rattle.sl_cut.proofs.ending.ending_of.Goals as goal
 
 pub returns-then-front-schedule : goal.returns-then-front-schedule

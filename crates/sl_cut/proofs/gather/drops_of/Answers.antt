@@ -2,8 +2,8 @@ use Rattle.std.proofs.Common.{◌≡◌, ◌+◌, ◌<◌, ℕ, List, refl, ap, 
 use Rattle.std.specs.Prelude.{cond, ◌^◌}
 use Rattle.std.proofs.lemmas.List.{take_all}
 use Rattle.sl_layout.specs.Net.{Net, actor_of, units}
-use Rattle.sl_model.proofs.Sizes.{ingress_size}
-use Rattle.sl_model.proofs.Weighed.{weigh_more, weigh_take}
+use Rattle.sl_model.proofs.Lists.Sizes.{ingress_size}
+use Rattle.sl_model.proofs.Lists.Weighed.{weigh_more, weigh_take}
 use Rattle.sl_model.specs.Counting.{bad, expired, noroute}
 use Rattle.sl_model.specs.Findings.{ingress_units, is_ingress}
 use Rattle.sl_layout.specs.Devices.{device_of}

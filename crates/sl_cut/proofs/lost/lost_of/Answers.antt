@@ -3,7 +3,7 @@ use Rattle.std.proofs.lemmas.Grind.{common_steps}
 use Rattle.sl_layout.specs.Net.{link_of, same_sort}
 use Rattle.sl_model.specs.Findings.{lost_on}
 use Rattle.sl_model.specs.Losses.{losses}
-use Rattle.sl_model.proofs.Weighed.{weigh_below_more}
+use Rattle.sl_model.proofs.Lists.Weighed.{weigh_below_more}
 use Rattle.sl_cut.proofs.lost.lost_of.Goals as goal
 
 pub loop-link-preserved : goal.loop-link-preserved

@@ -1,4 +1,4 @@
-use Rattle.sl_model.proofs.Weighed.{weigh_more}
+use Rattle.sl_model.proofs.Lists.Weighed.{weigh_more}
 use Rattle.sl_model.specs.Cut.{data_bytes, data_count}
 use Rattle.sl_model.specs.Words.{weigh}
 use Rattle.std.proofs.Common.{ap, arith, sym, take, ◌+◌, ◌∙◌, ◌≡◌}

@@ -1,5 +1,6 @@
-use Rattle.sl_merge.specs.Parted.{AreRestsOf, AreAsBefore}
+use Rattle.sl_merge.specs.Parted.{AreRestsOf}
 use Rattle.sl_merge.proofs.rests.meet_all.Given as goal
+use Rattle.sl_merge.proofs.RestLemmas.{AreAsBefore}
 
 abbrev pub invariant-loop-link : goal.invariant-loop-link
 invariant-loop-link g l =

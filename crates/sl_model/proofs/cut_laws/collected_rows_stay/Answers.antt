@@ -3,9 +3,9 @@ use Rattle.sl_model.specs.History.{history, first}
 use Rattle.sl_model.specs.World.{start, world}
 use Rattle.sl_model.specs.Collected.{IsKept}
 use Rattle.sl_model.proofs.cut_laws.collected_rows_stay.Goals as goal
-use Rattle.sl_model.proofs.Turns.{run-append}
-use Rattle.sl_model.proofs.Ran.{ran}
-use Rattle.sl_model.proofs.Collected.{kept-ahead}
+use Rattle.sl_model.proofs.Worlds.Turns.{run-append}
+use Rattle.sl_model.proofs.Worlds.Ran.{ran}
+use Rattle.sl_model.proofs.Cuts.Collected.{kept-ahead}
 
 pub returns : goal.returns
 returns c s lost es fs u k n t p q =

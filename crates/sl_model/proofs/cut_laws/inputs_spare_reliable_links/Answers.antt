@@ -1,4 +1,4 @@
-use Rattle.sl_model.proofs.Spared.{spared}
+use Rattle.sl_model.proofs.Worlds.Spared.{spared}
 use Rattle.sl_model.proofs.cut_laws.inputs_spare_reliable_links.Goals as goal
 
 pub returns : goal.returns

@@ -5,8 +5,8 @@ use Rattle.sl_model.specs.Knowledge.{told_of, upto_of}
 use Rattle.sl_model.specs.World.{world}
 use Rattle.sl_parts.proofs.Lists.{each-imp}
 use Rattle.sl_model.proofs.cut_laws.uncollected_numbers_are_near.Goals as goal
-use Rattle.sl_model.proofs.Ran.{ran}
-use Rattle.sl_model.proofs.Near.{in-window, uncollected-near}
+use Rattle.sl_model.proofs.Worlds.Ran.{ran}
+use Rattle.sl_model.proofs.Cuts.Near.{in-window, uncollected-near}
 
 pub returns : goal.returns
 returns c s lost es a ring n r =

@@ -1,4 +1,4 @@
-use Rattle.sl_model.proofs.Legal.{fin_legal}
+use Rattle.sl_model.proofs.Worlds.Legal.{fin_legal}
 use Rattle.sl_model.proofs.end_laws.finishing_is_legal.Goals as goal
 
 pub returns : goal.returns

@@ -1,7 +1,7 @@
 use Rattle.std.proofs.Common.{refl}
 use Rattle.sl_model.specs.World.{world}
-use Rattle.sl_model.proofs.Idle.{issued-within}
-use Rattle.sl_model.proofs.NetWiring.{wiring}
+use Rattle.sl_model.proofs.Finishing.Idle.{issued-within}
+use Rattle.sl_model.proofs.Finishing.NetWiring.{wiring}
 use Rattle.sl_model.proofs.finish_laws.issues_are_counted.Goals as goal
 
 pub returns : goal.returns

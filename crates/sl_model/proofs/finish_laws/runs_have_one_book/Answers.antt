@@ -1,4 +1,4 @@
-use Rattle.sl_model.proofs.OneBook.{one-book}
+use Rattle.sl_model.proofs.Finishing.OneBook.{one-book}
 use Rattle.sl_model.proofs.finish_laws.runs_have_one_book.Goals as goal
 
 pub returns : goal.returns

@@ -4,10 +4,10 @@ use Rattle.sl_layout.specs.Net.{data_channels}
 use Rattle.sl_saves.specs.Calls.{saves, saved}
 use Rattle.sl_saves.specs.Views.{IsLive, held_saved, read}
 use Rattle.sl_model.specs.History.{id, last, first}
-use Rattle.sl_model.proofs.Near.{least-start}
+use Rattle.sl_model.proofs.Cuts.Near.{least-start}
 use Rattle.sl_model.specs.Calls.{calls}
-use Rattle.sl_model.proofs.Entries.{number-calls}
-use Rattle.sl_model.proofs.Rows.{saved-is-row}
+use Rattle.sl_model.proofs.Saved.Entries.{number-calls}
+use Rattle.sl_model.proofs.Saved.Rows.{saved-is-row}
 use Rattle.sl_model.proofs.report_laws.brought_rows_are_read.Goals as goal
 
 pub returns-clause-live : goal.returns-clause-live

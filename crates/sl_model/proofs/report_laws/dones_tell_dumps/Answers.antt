@@ -1,7 +1,7 @@
 use Rattle.sl_model.specs.History.{history}
 use Rattle.sl_model.specs.World.{world}
-use Rattle.sl_model.proofs.Ran.{ran}
-use Rattle.sl_model.proofs.Polls.{dones-are, dones-taken}
+use Rattle.sl_model.proofs.Worlds.Ran.{ran}
+use Rattle.sl_model.proofs.Saved.Polls.{dones-are, dones-taken}
 use Rattle.sl_model.proofs.report_laws.dones_tell_dumps.Goals as goal
 
 pub returns-clause-put : goal.returns-clause-put

@@ -1,6 +1,6 @@
 use Rattle.sl_model.specs.World.{world}
-use Rattle.sl_model.proofs.Ran.{ran, next-view}
-use Rattle.sl_model.proofs.Polls.{all-asked, next-asked}
+use Rattle.sl_model.proofs.Worlds.Ran.{ran, next-view}
+use Rattle.sl_model.proofs.Saved.Polls.{all-asked, next-asked}
 use Rattle.sl_model.proofs.report_laws.dumps_answer_polls.Goals as goal
 
 pub returns-clause-polls : goal.returns-clause-polls

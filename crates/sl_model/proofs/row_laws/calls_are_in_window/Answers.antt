@@ -1,4 +1,4 @@
-use Rattle.sl_model.proofs.Windows.{next-within, all-within}
+use Rattle.sl_model.proofs.Saved.Windows.{next-within, all-within}
 use Rattle.sl_model.proofs.row_laws.calls_are_in_window.Goals as goal
 
 pub returns-clause-next : goal.returns-clause-next

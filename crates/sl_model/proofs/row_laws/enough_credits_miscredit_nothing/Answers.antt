@@ -1,4 +1,4 @@
-use Rattle.sl_model.proofs.Windows.{none-miscredited}
+use Rattle.sl_model.proofs.Saved.Windows.{none-miscredited}
 use Rattle.sl_model.proofs.row_laws.enough_credits_miscredit_nothing.Goals as goal
 
 pub returns : goal.returns

@@ -1,11 +1,11 @@
 use Rattle.std.proofs.Common.{◌≡◌, sym, subst}
 use Rattle.sl_model.specs.History.{history, first}
 use Rattle.sl_model.specs.World.{start, world}
-use Rattle.sl_model.proofs.Turns.{run-append}
-use Rattle.sl_model.proofs.Ran.{ran}
+use Rattle.sl_model.proofs.Worlds.Turns.{run-append}
+use Rattle.sl_model.proofs.Worlds.Ran.{ran}
 use Rattle.sl_model.specs.Rows.{row}
-use Rattle.sl_model.proofs.Brought.{row-collected}
-use Rattle.sl_model.proofs.Settled.{row-later, row-ahead}
+use Rattle.sl_model.proofs.Saved.Brought.{row-collected}
+use Rattle.sl_model.proofs.Saved.Settled.{row-later, row-ahead}
 use Rattle.sl_model.proofs.row_laws.rows_are_final.Goals as goal
 
 pub returns-clause-later : goal.returns-clause-later

@@ -2,12 +2,12 @@ use Rattle.std.proofs.Common.{arith}
 use Rattle.sl_saves.proofs.Held.{held-fitting}
 use Rattle.sl_model.specs.History.{history, first}
 use Rattle.sl_model.specs.World.{world}
-use Rattle.sl_model.proofs.Steps.{history_size}
-use Rattle.sl_model.proofs.Sizes.{world_size}
+use Rattle.sl_model.proofs.Worlds.Steps.{history_size}
+use Rattle.sl_model.proofs.Lists.Sizes.{world_size}
 use Rattle.std.proofs.Common.{refl}
 use Rattle.sl_model.specs.Rows.{row}
-use Rattle.sl_model.proofs.Fits.{fits-row, first-le, first-short}
-use Rattle.sl_model.proofs.Shorts.{all-short}
+use Rattle.sl_model.proofs.Saved.Fits.{fits-row, first-le, first-short}
+use Rattle.sl_model.proofs.Saved.Shorts.{all-short}
 use Rattle.sl_model.proofs.row_laws.rows_are_held.Goals as goal
 
 pub returns : goal.returns

@@ -1,7 +1,7 @@
 use Rattle.sl_model.specs.World.{world}
-use Rattle.sl_model.proofs.Ran.{ran, next-view}
-use Rattle.sl_model.proofs.Near.{in-window}
-use Rattle.sl_model.proofs.Windows.{next-takeable}
+use Rattle.sl_model.proofs.Worlds.Ran.{ran, next-view}
+use Rattle.sl_model.proofs.Cuts.Near.{in-window}
+use Rattle.sl_model.proofs.Saved.Windows.{next-takeable}
 use Rattle.sl_model.proofs.row_laws.stamps_are_in_window.Goals as goal
 
 pub returns : goal.returns

@@ -6,7 +6,7 @@ use Rattle.sl_model.specs.History.{id}
 use Rattle.sl_model.specs.Counting.{packets, bytes}
 use Rattle.sl_model.specs.Fit.{stamp}
 use Rattle.sl_model.specs.Calls.{calls, credits_in, credit}
-use Rattle.sl_model.proofs.Entries.{stamp_in, calls-rise, calls-stay, credit-clear}
+use Rattle.sl_model.proofs.Saved.Entries.{stamp_in, calls-rise, calls-stay, credit-clear}
 use Rattle.sl_model.proofs.saved_laws.calls_follow_steps.Goals as goal
 
 pub returns-clause-adopts : goal.returns-clause-adopts

@@ -1,4 +1,4 @@
-use Rattle.sl_model.proofs.Entries.{number-calls, rising-calls}
+use Rattle.sl_model.proofs.Saved.Entries.{number-calls, rising-calls}
 use Rattle.sl_model.proofs.saved_laws.calls_lead_to_id.Goals as goal
 
 pub returns-clause-number : goal.returns-clause-number

@@ -1,4 +1,4 @@
-use Rattle.sl_model.proofs.Fits.{few-packets, few-bytes, fits-row}
+use Rattle.sl_model.proofs.Saved.Fits.{few-packets, few-bytes, fits-row}
 use Rattle.sl_model.proofs.saved_laws.counts_fit.Goals as goal
 
 pub returns-clause-packets : goal.returns-clause-packets

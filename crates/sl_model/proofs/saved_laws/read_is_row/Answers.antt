@@ -2,8 +2,8 @@ use Rattle.std.proofs.Common.{◌≡◌, ◌+◌, ◌<◌, ◌≤◌, length, sy
 use Rattle.sl_saves.specs.Calls.{saves, saved}
 use Rattle.sl_saves.specs.Views.{IsFitting, held_saved, read}
 use Rattle.sl_model.specs.Calls.{calls}
-use Rattle.sl_model.proofs.Entries.{number-calls}
-use Rattle.sl_model.proofs.Rows.{saved-is-row}
+use Rattle.sl_model.proofs.Saved.Entries.{number-calls}
+use Rattle.sl_model.proofs.Saved.Rows.{saved-is-row}
 use Rattle.sl_model.proofs.saved_laws.read_is_row.Goals as goal
 
 pub returns-clause-held : goal.returns-clause-held

@@ -1,6 +1,6 @@
 use Rattle.std.proofs.Common.{◌+◌, ◌≤◌, ap, arith, length}
 use Rattle.sl_layout.specs.Net.{link_of, same_sort}
-use Rattle.sl_model.proofs.Weighed.{weigh_below_more}
+use Rattle.sl_model.proofs.Lists.Weighed.{weigh_below_more}
 use Rattle.sl_world.specs.World.{scene}
 use Rattle.sl_proto.specs.Told.{lost_told}
 use Rattle.sl_proto.proofs.Told.{weigh_below_all}

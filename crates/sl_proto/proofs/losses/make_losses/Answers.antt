@@ -8,8 +8,8 @@ use Rattle.sl_proto.proofs.losses.make_losses.Goals as goal
 pub numbers_of-drops-requires : goal.numbers_of-drops-requires
 numbers_of-drops-requires c = let a = ap length c.as_slice.ensures.value in let b = ap length c.in_ok-lists.ensures in let k = length-map-range_with_len (drops_on c.input.inside.loss) 0 (length c.links-count.result.now) in let t = c.loop-link-test.true in omega (arith, a, b, k, t)
 
-pub loss_on-requires-clause-drops : goal.loss_on-requires-clause-drops
-loss_on-requires-clause-drops c = c.numbers_of-drops.ensures ∙ ap (λ xs. get_or xs c.loop-link.link []) (c.as_slice.ensures.value ∙ c.in_ok-lists.ensures)
+pub loss_with-requires-clause-drops : goal.loss_with-requires-clause-drops
+loss_with-requires-clause-drops c = c.numbers_of-drops.ensures ∙ ap (λ xs. get_or xs c.loop-link.link []) (c.as_slice.ensures.value ∙ c.in_ok-lists.ensures)
     ∙ get_or-map-range_with_len (drops_on c.input.inside.loss) 0 (length c.links-count.result.now) c.loop-link.link _ [] c.loop-link-test.true (zero-add c.loop-link.link) ∙ ap (λ i. drops_on i.loss c.loop-link.link) c.input.view_is
 
 pub loop-link-preserved : goal.loop-link-preserved

@@ -18,10 +18,10 @@ use Rattle.sl_model.specs.History.{history}
 use Rattle.sl_model.specs.World.{Entry, next_step, turn, world}
 use Rattle.sl_model.specs.Turns.{TakesTurns}
 use Rattle.sl_model.specs.Reported.{AreReported}
-use Rattle.sl_image.specs.ControlImage.{told_at}
-use Rattle.sl_image.specs.HostImage.{IsHostOf}
-use Rattle.sl_image.specs.Messages.{IsMessage}
-use Rattle.sl_image.specs.ObserverImage.{IsObserverOf, known_at}
+use Rattle.sl_simulation.specs.ControlImage.{told_at}
+use Rattle.sl_simulation.specs.HostImage.{IsHostOf}
+use Rattle.sl_simulation.specs.Messages.{IsMessage}
+use Rattle.sl_simulation.specs.ObserverImage.{IsObserverOf, known_at}
 use Rattle.sl_proto.specs.Image.{told_by}
 use Rattle.sl_proto.specs.Machines.{MachineSimulates, MachineActSimulates}
 use Rattle.sl_proto.specs.Meaning.{StandsAs, NodeStands}

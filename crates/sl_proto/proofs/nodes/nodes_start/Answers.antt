@@ -11,7 +11,7 @@ use Rattle.sl_layout.specs.Net.{actor_of}
 use Rattle.sl_wire.specs.Sizes.{sizes_of}
 use Rattle.sl_model.specs.Setup.{setup_of}
 use Rattle.sl_model.specs.World.{start}
-use Rattle.sl_image.specs.UnitImage.{IsUnitOf}
+use Rattle.sl_simulation.specs.UnitImage.{IsUnitOf}
 use Rattle.sl_unit.specs.Made.{ingress_state, egress_state}
 use Rattle.sl_proto.specs.Built.{first_unit, first_node, first_at, first_states}
 use Rattle.sl_proto.specs.Meaning.{StandsAs, NodeStands}

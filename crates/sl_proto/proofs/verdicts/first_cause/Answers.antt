@@ -1,7 +1,7 @@
 use Rattle.std.proofs.Common.{◌+◌, ◌<◌, drop, length, map, sym, ap, ◌∙◌, arith}
 use Rattle.sl_model.specs.Words.{first_from, or_later}
 use Rattle.sl_model.specs.Accounts.{cause_by}
-use Rattle.sl_image.specs.ObserverImage.{account_of}
+use Rattle.sl_simulation.specs.ObserverImage.{account_of}
 use Rattle.sl_proto.proofs.Judged.{walk_on}
 use Rattle.sl_proto.proofs.verdicts.first_cause.Goals as goal
 

@@ -3,7 +3,7 @@ use Rattle.sl_observe.specs.Observer.{unit_at}
 use Rattle.sl_model.specs.Words.{first_from, or_later}
 use Rattle.sl_model.specs.Verdict.{place_or_zero}
 use Rattle.sl_model.specs.Accounts.{floor_by, holds}
-use Rattle.sl_image.specs.ObserverImage.{account_of}
+use Rattle.sl_simulation.specs.ObserverImage.{account_of}
 use Rattle.sl_proto.specs.Told.{accounts_of}
 use Rattle.sl_proto.proofs.Judged.{walk_on, floor_is_by, holds_it, holds_not}
 use Rattle.sl_proto.proofs.verdicts.holder.Goals as goal

@@ -1,7 +1,7 @@
 use Rattle.std.proofs.Common.{◌≡◌, suc, ◌+◌, ◌-◌, [], length, sym, subst, arith}
 use Rattle.std.specs.List.{list_any}
-use Rattle.sl_route.specs.Graph.{leads, Finds, IsSearched}
-use Rattle.sl_route.proofs.Finding.{begun, searched-none, searched-more}
+use Rattle.sl_route.specs.Graph.{leads, Finds}
+use Rattle.sl_route.proofs.Finding.{begun, searched-none, searched-more, IsSearched}
 use Rattle.sl_route.proofs.search.distances.Goals as goal
 
 pub loop-hops-init : goal.loop-hops-init

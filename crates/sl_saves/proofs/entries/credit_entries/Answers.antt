@@ -3,8 +3,8 @@ use Rattle.std.proofs.lemmas.List.{length-set}
 use Rattle.sl_saves.specs.declared.entry.Slot.{Slot}
 use Rattle.sl_saves.specs.declared.entries.Entry.{Entry}
 use Rattle.sl_saves.specs.Calls.{Credit}
-use Rattle.sl_saves.specs.Keeping.{no_entry, slot_credited}
-use Rattle.sl_saves.proofs.Lists.{first_credited, first-all, first-on}
+use Rattle.sl_saves.specs.Keeping.{slot_credited}
+use Rattle.sl_saves.proofs.Lists.{first_credited, first-all, first-on, no_entry}
 use Rattle.sl_saves.proofs.entries.credit_entries.Goals as goal
 
 pub loop-left-init : goal.loop-left-init

@@ -12,8 +12,8 @@ run-answer-requires-clause-plan g c =
     subst (λ (l : List ℕ). All (λ choice. IsChoice (g.A.Machine.counts c.args.job.actor.machine) choice) l) (sym c.as_slice.ensures.value)
     (λ k d low. omega (arith, get_or_default c.args.job.plan.items k d 0 low, c.args.job.in_range k low))
 
-pub returns : goal.returns
-returns g c =
+pub returns-clause-run : goal.returns-clause-run
+returns-clause-run g c =
     let e = c.run-answer.ensures in
     let plan = c.as_slice.ensures.value in
     record {

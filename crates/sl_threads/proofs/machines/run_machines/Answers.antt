@@ -13,7 +13,7 @@ use Rattle.sl_world.specs.World.{scene}
 use Rattle.sl_merge.specs.Ended.{log_entries}
 use Rattle.sl_threads.specs.declared.jobs.Job.{Job}
 use Rattle.sl_threads.specs.Threads.{ArePlans}
-use Rattle.sl_threads.proofs.RunLemmas.{have_run, kept, all_follow, logs_are_short, if_both, as_many, few_all, stands_by, numbers_by, all_chosen, at_rest}
+use Rattle.sl_threads.proofs.RunLemmas.{have_run, kept, all_follow, logs_are_short, if_both, as_many, few_all, stands_by, numbers_by, all_chosen, all_passed, logs_within, at_rest}
 use Rattle.sl_threads.proofs.machines.run_machines.Goals as goal
 
 pub jobs_of-requires : goal.jobs_of-requires
@@ -92,5 +92,8 @@ returns g c =
       plan = e.plan;
       short = IfOk-weaker c.merge.result _ _ (λ w m. subst (λ (n : ℕ). n < 549755813888) (sym (length_permutation (log_entries news) (scene w).book m.same_entries)) few) e.book;
       chosen = IfOk-weaker c.merge.result _ _ (λ w m. all_chosen rules plan 134217728 plans olds news h made.logs (scene w).book m) e.book;
+      passed = IfOk-weaker c.merge.result _ _ (λ w m short i low. all_passed rules 134217728 200 (λ a k. g.G.Gate.passed c.args.gate.now a k) (λ (j : Job g.row.A.Denot g.row.A-Msg.Denot g.A.Machine). j.plan.items) (λ (j : Job g.row.A.Denot g.row.A-Msg.Denot g.A.Machine). held j.actor) (λ (r : Actor g.row.A.Denot g.row.A-Msg.Denot g.A.Machine × Result Rest Memory). held r.0) (λ (r : Actor g.row.A.Denot g.row.A-Msg.Denot g.A.Machine × Result Rest Memory). r.1)
+          c.in_ok-jobs.jobs.items c.in_ok-ran.ran.items olds news c.in_ok-jobs.ensures.actors c.in_ok-actors-2.ensures.actors c.in_ok-ran.ensures.len c.in_ok-actors-2.ensures.answers c.in_ok-ran.ensures.each c.in_ok-ran.ensures.passed made.places
+          (logs_within rules plan 134217728 plans olds news h made.logs (scene w).book m short) i (subst (λ (n : ℕ). i < n) (sym (sym (length-map olds (λ (v : ActorView g.A.Machine.State g.row.A-Msg.Denot). v.counts)) ∙ ap length made.counts ∙ length-map c.args.machines.items g.A.Machine.counts)) low)) e.book;
       rest = IfOk-weaker c.merge.result _ _ (λ w both short. at_rest rules plan 134217728 plans olds news h made.logs (scene w).book both.0 (scene w).states wired_news both.1 short) (if_both c.merge.result _ _ e.book e.machines);
     }

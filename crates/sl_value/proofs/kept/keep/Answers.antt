@@ -3,8 +3,9 @@ use Rattle.std.specs.Prelude.{slice_set}
 use Rattle.std.specs.List.{AllByRecursion}
 use Rattle.std.proofs.lemmas.List.{length-set, length-map, get_or-map, map-set}
 use Rattle.sl_value.specs.Valued.{UnitValues, kept_view, kept_of, HasRoom}
-use Rattle.sl_value.proofs.Lists.{next-changed, all-after}
+use Rattle.sl_value.proofs.Lists.{all-after}
 use Rattle.sl_value.proofs.kept.keep.Goals as goal
+use Rattle.sl_control.proofs.EachUnit.{next-changed}
 
 pub loop-i-preserved : goal.loop-i-preserved
 loop-i-preserved c =

@@ -1,0 +1,114 @@
+// Two packets in flight, by one call of the world of nodes.
+ghost use Rattle.std.specs.Prelude.{IfOk};
+ghost use Rattle.std.specs.List.{All};
+ghost use Rattle.sl_machine.specs.Plan.{HasChoice};
+ghost use Rattle.sl_layout.specs.Wiring.{plan_of};
+ghost use Rattle.sl_proto.specs.RunBook.{CanRun};
+
+use crate::calls::runnable;
+use crate::threads::{THREE_PACKETS, has_choice};
+use sl_net::{Input, Net, find_choice};
+use sl_proto::{Node, first_world};
+use std::alloc::Global;
+use std::test::Fail;
+
+/// The script of `examples/two_in_flight.toml`: two packets are on their way across the crossbar when
+/// the snapshot is issued, and the egress unit hears of it from the other port first.
+const ENTRIES: &str = "host h0 inject
+host h0 inject
+in a.0 host
+in a.0 host
+observer issue
+control a begin
+in a.1 init
+out a.1 x1
+out a.1 x0
+out a.1 x0";
+
+/// Of the actors in order: what the observer issued and collected; of each unit the packets and bytes
+/// in flight on its first channel, as its newest saved entry has them; and what each host sent and
+/// took.
+static TOLD: [(u64, u64); 7] = [(1, 0), (0, 0), (0, 0), (0, 0), (2, 200), (2, 0), (0, 0)];
+
+fn expected() -> &'static [(u64, u64)] {
+    &TOLD
+}
+
+fn schedule(alloc: Global, net: &Net) -> Result<Vec<(u32, u32)>, Fail>
+    ensures { IfOk result (λ v. All (λ e. HasChoice (plan_of net.now) e.0 e.1) v.items) }
+{
+    let mut entries = Vec::new(alloc);
+    for line in ENTRIES.lines() {
+        let Some((actor, choice)) = find_choice(net, line) else {
+            return Err("no choice".into());
+        };
+        if !has_choice(net, actor, choice) {
+            return Err("no such choice".into());
+        }
+        entries.push((actor, choice))?;
+    }
+    Ok(entries)
+}
+
+fn told(node: &Node) -> Result<Option<(u64, u64)>, Fail> {
+    match node {
+        Node::Observer(observer) => Ok(Some((observer.issued(), observer.floor()))),
+        Node::Host(host) => Ok(Some((host.sent(), host.delivered()))),
+        Node::Unit(unit) => {
+            let dump = unit.dump()?;
+            let at = dump.view.at as usize;
+            if at >= dump.view.slots.len() {
+                return Err("no entry".into());
+            }
+            let total = dump.view.slots.get(at).inflight[0];
+            Ok(Some((total.packets, total.bytes)))
+        }
+        Node::Control(_) => Ok(None),
+    }
+}
+
+fn told_of(alloc: Global, nodes: &[Node]) -> Result<Vec<(u64, u64)>, Fail> {
+    let mut all = Vec::new(alloc);
+    for node in nodes {
+        if let Some(one) = told(node)? {
+            all.push(one)?;
+        }
+    }
+    Ok(all)
+}
+
+/// Whether `World::run` comes to this by the schedule, with each entry in the book, where the links of
+/// its entries are looked up before and where they are not.
+fn comes_to(alloc: Global, input: &Input, looks_up: bool) -> Result<bool, Fail>
+    requires { CanRun input.now }
+{
+    let schedule = schedule(alloc, &input.net)?;
+    if schedule.len() != 10 {
+        return Err("another schedule".into());
+    }
+    let mut world = first_world(alloc, input)?;
+    if looks_up {
+        let links = world.look_up(alloc, schedule.as_slice())?;
+        world.run(schedule.as_slice(), Some(links.as_slice()))?;
+    } else {
+        world.run(schedule.as_slice(), None)?;
+    }
+    let (nodes, book) = world.into_book();
+    let all = told_of(alloc, nodes.as_slice())?;
+    Ok(book.entries.len() == 10 && all.as_slice() == expected())
+}
+
+fn both(alloc: Global) -> Result<(bool, bool), Fail> {
+    let input = runnable(alloc, THREE_PACKETS)?;
+    Ok((
+        comes_to(alloc, &input, true)?,
+        comes_to(alloc, &input, false)?,
+    ))
+}
+
+/// Two packets are credited to the snapshot that the egress unit adopted before it took them.
+#[test]
+fn two_packets_are_in_flight(rt: HostRuntime) -> Result<(), Fail> {
+    assert_eq!(rt; both(rt.alloc())?, (true, true));
+    Ok(())
+}

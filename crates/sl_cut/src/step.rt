@@ -1,0 +1,339 @@
+// The step that an entry makes.
+ghost use Rattle.std.specs.Prelude.{◌≡◌, ◌++◌, ◌<◌, length, suc, zero, reverse, not, OnOk, IfOk};
+ghost use Rattle.std.specs.Prelude.{slice_get, Some, None, flat_map};
+ghost use Rattle.std.specs.List.{All};
+ghost use Rattle.sl_layout.specs.Serving.{served};
+ghost use Rattle.sl_layout.specs.Roster.{IsActor};
+ghost use Rattle.sl_route.specs.Routes.{IsRoutesOf};
+ghost use Rattle.sl_layout.specs.declared.actor.ActorId.{ActorId};
+ghost use Rattle.sl_model.specs.History.{history};
+ghost use Rattle.sl_model.specs.Setup.{setup_of};
+ghost use Rattle.sl_model.specs.Knowledge.{can_issue, can_resend, issued, is_swept};
+ghost use Rattle.sl_layout.specs.Net.{links_out};
+ghost use Rattle.sl_model.specs.Puts.{puts_of, action, guarded, begin_all, poll_puts, send_all};
+ghost use Rattle.sl_model.specs.World.{front, step_by, next_step, floor_for};
+ghost use Rattle.sl_flow.specs.Flow.{HasAddresses};
+ghost use Rattle.sl_model.specs.Losses.{losses};
+
+use crate::control::{add_control, add_sweep, is_swept};
+use crate::flow::frame_at;
+use crate::history::World;
+use crate::knowledge::{can_issue, can_resend, floor, issued};
+use crate::losses::carried;
+use crate::message::copy_message;
+use crate::sends::add_out;
+use crate::tell::taken;
+use crate::units::add_unit;
+use crate::wires::{action_choice, observer};
+use sl_machine::Memory;
+use sl_model::{Message, Put, Puts, Step};
+use sl_net::{ActorId, Input, Net, Sort};
+use sl_route::Routes;
+use std::alloc::Global;
+
+fn message_at(alloc: Global, messages: &[Message], place: usize) -> Result<Option<Message>, Memory>
+    ensures { IfOk result (λ message. message ≡ slice_get messages.now place) }
+{
+    match messages.get(place) {
+        Some(message) => Ok(Some(copy_message(alloc, message)?)),
+        None => Ok(None),
+    }
+}
+
+/// The message that an actor would take next from a link.
+fn front(
+    alloc: Global,
+    input: &Input,
+    world: &World,
+    actor: u32,
+    choice: u32,
+    link: u32,
+) -> Result<Option<Message>, Memory>
+    requires { link < length input.now.net.links }
+    ensures { IfOk result
+        (λ message. message ≡ front input.now.net (losses input.now) world.now actor choice link) }
+{
+    let sender = world.steps(input.net.link(link).from);
+    let messages = carried(alloc, input, link, sender)?;
+    message_at(alloc, &messages, taken(choice as usize, world.steps(actor)))
+}
+
+fn add_puts(
+    alloc: Global,
+    input: &Input,
+    routes: &Routes,
+    puts: &mut Vec<Put>,
+    actor: u32,
+    of: ActorId,
+    steps: &[Step],
+    choice: u32,
+    link: u32,
+    message: &Message,
+) -> Result<(), Memory>
+    requires actor { actor < length input.now.net.actors }
+    requires routes { IsRoutesOf input.now.net routes.now }
+    requires part { IsActor input.now.net.parts of }
+    requires link { link < length input.now.net.links }
+    ensures { OnOk result
+        (puts.new.items ≡ puts.old.items ++ puts_of (setup_of input.now) actor of
+        (reverse steps.now) choice link message.now) }
+{
+    match of {
+        ActorId::Observer => Ok(()),
+        ActorId::Control(_) => add_control(alloc, &input.net, puts, actor, steps, choice, message),
+        ActorId::Unit(unit) => add_unit(
+            alloc, &input.net, routes, puts, actor, unit, steps, choice, link, message,
+        ),
+        ActorId::Host(_) => Ok(()),
+    }
+}
+
+fn puts_of(
+    alloc: Global,
+    input: &Input,
+    routes: &Routes,
+    actor: u32,
+    of: ActorId,
+    steps: &[Step],
+    choice: u32,
+    link: u32,
+    message: &Message,
+) -> Result<Puts, Memory>
+    requires actor { actor < length input.now.net.actors }
+    requires routes { IsRoutesOf input.now.net routes.now }
+    requires part { IsActor input.now.net.parts of }
+    requires link { link < length input.now.net.links }
+    ensures { IfOk result
+        (λ puts. puts ≡ puts_of (setup_of input.now) actor of
+        (reverse steps.now) choice link message.now) }
+{
+    let mut items = Vec::new(alloc);
+    add_puts(
+        alloc, input, routes, &mut items, actor, of, steps, choice, link, message,
+    )?;
+    Ok(Puts { items })
+}
+
+fn begin_all(alloc: Global, net: &Net, number: u64) -> Result<Puts, Memory>
+    ensures { IfOk result (λ puts. puts ≡ begin_all net.now number) }
+{
+    let mut items = Vec::new(alloc);
+    add_out(
+        alloc,
+        net,
+        &mut items,
+        observer(net),
+        Sort::Begin,
+        &Message::Begin(number),
+    )?;
+    Ok(Puts { items })
+}
+
+fn issue(alloc: Global, input: &Input, floor: u64, steps: &[Step]) -> Result<Option<Puts>, Memory>
+    ensures { let h = reverse steps.now in
+        IfOk result (λ puts. puts ≡ guarded (can_issue (setup_of input.now) floor h)
+        (begin_all input.now.net (suc (issued input.now.net h)))) }
+{
+    if !can_issue(input, floor, steps) {
+        return Ok(None);
+    }
+    let number = issued(&input.net, steps) + 1;
+    Ok(Some(begin_all(alloc, &input.net, number)?))
+}
+
+fn resend(alloc: Global, input: &Input, floor: u64, steps: &[Step]) -> Result<Option<Puts>, Memory>
+    ensures { let h = reverse steps.now in
+        IfOk result (λ puts. puts ≡ guarded (can_resend (setup_of input.now) floor h)
+        (begin_all input.now.net (issued input.now.net h))) }
+{
+    if !can_resend(input, floor, steps) {
+        return Ok(None);
+    }
+    let number = issued(&input.net, steps);
+    Ok(Some(begin_all(alloc, &input.net, number)?))
+}
+
+fn sweep(alloc: Global, net: &Net, actor: u32, steps: &[Step]) -> Result<Option<Puts>, Memory>
+    requires { actor < length net.now.actors }
+    ensures { let h = reverse steps.now in
+        IfOk result (λ puts. puts ≡ guarded (not (is_swept net.now actor h))
+        (flat_map (λ v. poll_puts v h) (served net.now actor))) }
+{
+    if is_swept(alloc, net, actor, steps)? {
+        return Ok(None);
+    }
+    let mut items = Vec::new(alloc);
+    add_sweep(alloc, net, &mut items, actor, steps)?;
+    Ok(Some(Puts { items }))
+}
+
+fn send_frame(alloc: Global, net: &Net, actor: u32, frame: &Message) -> Result<Puts, Memory>
+    requires { actor < length net.now.actors }
+    ensures { IfOk result
+        (λ puts. puts ≡ send_all frame.now (links_out net.now actor Sort.FromHost)) }
+{
+    let mut items = Vec::new(alloc);
+    add_out(alloc, net, &mut items, actor, Sort::FromHost, frame)?;
+    Ok(Puts { items })
+}
+
+fn inject(
+    alloc: Global,
+    input: &Input,
+    actor: u32,
+    host: u32,
+    steps: &[Step],
+) -> Result<Option<Puts>, Memory>
+    requires actor { actor < length input.now.net.actors }
+    requires addresses { All HasAddresses input.now.flows }
+    ensures { IfOk result
+        (λ puts. puts ≡ action (setup_of input.now) 0 actor (ActorId.Host host)
+        (reverse steps.now) zero) }
+{
+    let place = taken(action_choice(&input.net, actor), steps);
+    match frame_at(alloc, input, host, place)? {
+        Some(frame) => Ok(Some(send_frame(alloc, &input.net, actor, &Message::Host(frame))?)),
+        None => Ok(None),
+    }
+}
+
+#[tactic(auto, using(crate::proofs::Actions::observer_idle, crate::proofs::Actions::observer_issue, crate::proofs::Actions::observer_resend))]
+fn observer_action(
+    alloc: Global,
+    input: &Input,
+    world: &World,
+    actor: u32,
+    number: usize,
+) -> Result<Option<Puts>, Memory>
+    ensures { IfOk result
+        (λ puts. puts ≡ action (setup_of input.now)
+        (floor_for input.now.net world.now ActorId.Observer) actor ActorId.Observer
+        (history world.now actor) number) }
+{
+    let floor = floor(alloc, &input.net, world)?;
+    match number {
+        0 => issue(alloc, input, floor, world.steps(actor)),
+        1 => resend(alloc, input, floor, world.steps(actor)),
+        _ => Ok(None),
+    }
+}
+
+/// An own action of an actor, or none where its guard fails.
+fn action(
+    alloc: Global,
+    input: &Input,
+    world: &World,
+    actor: u32,
+    of: ActorId,
+    number: usize,
+) -> Result<Option<Puts>, Memory>
+    requires actor { actor < length input.now.net.actors }
+    requires addresses { All HasAddresses input.now.flows }
+    ensures { IfOk result
+        (λ puts. puts ≡ action (setup_of input.now) (floor_for input.now.net world.now of) actor of
+        (history world.now actor) number) }
+{
+    match of {
+        ActorId::Observer => observer_action(alloc, input, world, actor, number),
+        ActorId::Control(_) if number == 0 => sweep(alloc, &input.net, actor, world.steps(actor)),
+        ActorId::Host(host) if number == 0 => inject(alloc, input, actor, host, world.steps(actor)),
+        _ => Ok(None),
+    }
+}
+
+fn step_of_link(
+    alloc: Global,
+    input: &Input,
+    routes: &Routes,
+    world: &World,
+    actor: u32,
+    of: ActorId,
+    choice: u32,
+    link: u32,
+) -> Result<Option<Step>, Memory>
+    requires actor { actor < length input.now.net.actors }
+    requires routes { IsRoutesOf input.now.net routes.now }
+    requires part { IsActor input.now.net.parts of }
+    requires link { link < length input.now.net.links }
+    ensures { IfOk result
+        (λ step. step ≡ step_by (setup_of input.now) (losses input.now) world.now actor choice
+        (Some link) of) }
+{
+    let Some(message) = front(alloc, input, world, actor, choice, link)? else {
+        return Ok(None);
+    };
+    let puts = puts_of(
+        alloc,
+        input,
+        routes,
+        actor,
+        of,
+        world.steps(actor),
+        choice,
+        link,
+        &message,
+    )?;
+    Ok(Some(Step {
+        choice,
+        taken: Some(message),
+        puts,
+    }))
+}
+
+fn step_of_action(
+    alloc: Global,
+    input: &Input,
+    world: &World,
+    actor: u32,
+    of: ActorId,
+    choice: u32,
+) -> Result<Option<Step>, Memory>
+    requires actor { actor < length input.now.net.actors }
+    requires addresses { All HasAddresses input.now.flows }
+    ensures { IfOk result
+        (λ step. step ≡ step_by (setup_of input.now) (losses input.now)
+        world.now actor choice None of) }
+{
+    let first = action_choice(&input.net, actor);
+    match action(
+        alloc,
+        input,
+        world,
+        actor,
+        of,
+        (choice as usize).saturating_sub(first),
+    )? {
+        Some(puts) => Ok(Some(Step {
+            choice,
+            taken: None,
+            puts,
+        })),
+        None => Ok(None),
+    }
+}
+
+/// The step that an entry makes, or none where it is idle.
+pub fn next_step(
+    alloc: Global,
+    input: &Input,
+    routes: &Routes,
+    world: &World,
+    actor: u32,
+    choice: u32,
+) -> Result<Option<Step>, Memory>
+    requires addresses { All HasAddresses input.now.flows }
+    requires routes { IsRoutesOf input.now.net routes.now }
+    ensures { IfOk result
+        (λ step. step ≡ next_step (setup_of input.now) (losses input.now) world.now
+        (actor, choice)) }
+{
+    let net = &input.net;
+    if actor as usize >= net.actors().len() {
+        return Ok(None);
+    }
+    let of = net.actor(actor);
+    match net.links_into(actor).get(choice as usize) {
+        Some(link) => step_of_link(alloc, input, routes, world, actor, of, choice, *link),
+        None => step_of_action(alloc, input, world, actor, of, choice),
+    }
+}

@@ -1,6 +1,0 @@
-use Rattle.std.proofs.Common.{None}
-use Rattle.sl_hostile.proofs.Taken.{host-taken}
-use Rattle.sl_hostile.proofs.laws.forged_frames_are_bad.Goals as goal
-
-pub returns : goal.returns
-returns c = λ s choice bytes e q. host-taken s choice bytes None e q

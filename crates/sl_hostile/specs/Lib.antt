@@ -1,2 +1,0 @@
-pub mod Forged
-pub mod Dropped

@@ -1,5 +1,0 @@
-use Rattle.sl_image.proofs.ObserverStarts.{observer-start}
-use Rattle.sl_image.proofs.observers.observers_start.Goals as goal
-
-pub returns : goal.returns
-returns c s lost table = observer-start c.worlds_take_turns.ensures s.net table

@@ -1,6 +1,0 @@
-pub mod Messages
-pub mod UnitImage
-pub mod ControlImage
-pub mod Simulates
-pub mod ObserverImage
-pub mod HostImage

@@ -1,0 +1,5 @@
+-- Sums, lengths and numbers of lists.
+pub mod Sums
+pub mod Weighed
+pub mod Sizes
+pub mod Lowest

@@ -1,0 +1,13 @@
+-- Worlds, schedules and histories.
+pub mod Steps
+pub mod Turns
+pub mod Trails
+pub mod Legal
+pub mod Ran
+pub mod Numbers
+pub mod StepPuts
+pub mod Stamps
+pub mod Spared
+pub mod TakesTurns
+pub mod Passing
+pub mod ReachedWorlds

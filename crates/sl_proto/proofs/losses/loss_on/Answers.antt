@@ -1,6 +1,0 @@
-use Rattle.std.proofs.Common.{rules}
-use borrow.Author.Tests.{tests}
-use Rattle.sl_proto.proofs.losses.loss_on.Goals as goal
-
-pub returns : goal.returns
-returns c = search (tests, rules)

@@ -1,7 +1,0 @@
-use Rattle.sl_model.specs.Counting.{bytes}
-use Rattle.std.proofs.Common.{take, ◌*◌, ◌≡◌, ◌≤◌}
-use Rattle.std.specs.Prelude.{reverse}
-use Rattle.sl_replay.proofs.counting.bytes.Given as goal
-
-abbrev pub invariant-loop-step : goal.invariant-loop-step
-invariant-loop-step l = record { value : l.bytes ≡ bytes (reverse (take l.step-index l.steps)); bound : l.bytes ≤ 65535 * l.step-index }

@@ -1,6 +1,0 @@
-pub mod Pieces
-pub mod Named
-pub mod Texts
-pub mod Causes
-pub mod Sums
-pub mod Runs

@@ -1,2 +1,0 @@
-pub mod Sayable
-pub mod ShortRun

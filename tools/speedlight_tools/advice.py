@@ -3,7 +3,7 @@
 import difflib
 import re
 
-from .inputs import HEX, LOSSY, MOST_SLOTS, NAME, ranged
+from .inputs import HEX, LOSSY, MOST_SLOTS, NAME, TABLES, is_of_kind, ranged
 
 MEANINGS = {
     "device": "the list of the switches",
@@ -172,6 +172,15 @@ def table_name(path):
     return (parts[0], parts[1]) if len(parts) > 1 else ("top", parts[0])
 
 
+def guess_of(path, word):
+    """The key that an unknown word in the table of the path stands for, or None."""
+    name = table_name(f"{path}.x")[0] if path else "top"
+    small = word.lower()
+    if small in TABLES[name]:
+        return small
+    return OTHER_WORDS[name].get(small) or next(iter(near(small, TABLES[name], 1, 0.7)), None)
+
+
 def meaning(path):
     table, key = table_name(path)
     return MEANINGS[key if table == "top" else f"{table}.{key}"]
@@ -194,6 +203,17 @@ def value_shown(value):
     if isinstance(value, (int, float)):
         return f" ({value})"
     return ""
+
+
+def example_beside(key, table):
+    """An example of a key that lacks, such that it goes with the keys beside it."""
+    number = lambda name: table.get(name) if is_of_kind(table.get(name), "number") else None
+    window, ring = number("window") or 1, number("ring") or 1
+    if key.name == "ring" and 1 <= window <= MOST_SLOTS:
+        return f"ring = {window}"
+    if key.name == "bits" and max(window, ring) <= MOST_SLOTS:
+        return f"bits = {next(b for b in range(1, 17) if window < 2**b and ring <= 2**b)}"
+    return example_of(key)
 
 
 def example_of(key):

@@ -1,59 +1,51 @@
 """The frame of each tool: its options, its errors in plain words, and its status."""
 
 import argparse
-import os
 import sys
-from pathlib import Path
 
+from . import VERSION, needs, streams
 from .inputs import Refusal
 from .program import NoProgram
 from .reports import NoReport
-
-
-# The one place of the version.
-VERSION = Path(__file__).resolve().parents[2] / "VERSION"
+from .streams import read_text  # noqa: tools read by command.read_text
 
 
 class Trouble(Exception):
     """What a tool can't do, in plain words."""
 
 
+def tool(name):
+    """Another tool by the name that a person calls it by: `tools/explain`, or `speedlight-explain` where it is installed."""
+    return f"speedlight-{name}" if needs.called().startswith("speedlight-") else f"tools/{name}"
+
+
 def parser(name, description, **more):
+    """The parser of a tool's words; its help names the tool as it was called."""
+    called = needs.called()
     made = argparse.ArgumentParser(
-        prog=name, description=description, formatter_class=argparse.RawDescriptionHelpFormatter, **more
+        prog=called,
+        description=description.replace("tools/", "speedlight-") if called.startswith("speedlight-") else description,
+        formatter_class=argparse.RawDescriptionHelpFormatter,
+        **more,
     )
-    made.add_argument("--version", action="version", version=f"speedlight {VERSION.read_text(encoding='utf-8').strip()}")
+    made.add_argument("--version", action="version", version=f"speedlight {VERSION}")
     return made
+
+
+class Refused(Exception):
+    """An input that the program refuses, told in a line."""
 
 
 def main(name, body):
     """Runs the body, and turns what it can't do into one line and status 1, a refused input into status 3."""
-    try:
-        status = body()
-        sys.stdout.flush()
-    except Refusal as refusal:
-        status = 3
-        print(f"{name}: the program refuses this input: {refusal}; tools/explain says more", file=sys.stderr)
-    except (Trouble, NoProgram, NoReport) as trouble:
-        status = 1
-        print(f"{name}: {trouble}", file=sys.stderr)
-    except BrokenPipeError:
-        os.dup2(os.open(os.devnull, os.O_WRONLY), sys.stdout.fileno())
-        status = 1
-    except OSError as error:
-        status = 1
-        print(f"{name}: {error.filename}: {error.strerror}" if error.filename else f"{name}: {error}", file=sys.stderr)
-    except UnicodeDecodeError:
-        status = 1
-        print(f"{name}: a file that should be text is none", file=sys.stderr)
-    except KeyboardInterrupt:
-        status = 130
-    sys.exit(status or 0)
 
+    def run():
+        try:
+            return body()
+        except Refusal as refusal:
+            said = f"the program refuses this input: {refusal}; {tool('explain')} says more"
+            raise Refused(said) from None
 
-def read_text(path):
-    """The text of a file, `-` for standard input."""
-    if path == "-":
-        return sys.stdin.buffer.read().decode("utf-8")
-    with open(path, encoding="utf-8") as file:
-        return file.read()
+    known = [(Refused, 3), ((Trouble, NoProgram, NoReport), 1)]
+    called = needs.called()
+    sys.exit(streams.guard(called if called.startswith("speedlight-") else name, run, known))

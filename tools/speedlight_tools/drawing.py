@@ -6,7 +6,11 @@ Time goes down, a row for each turn; each actor has a column.
 from bisect import bisect_left
 from html import escape
 
+from .stories import sentence
+
 ROW, TOP = 17, 104
+# A picture of more rows than a screenful has the names of its columns again above each further one, and the legend beside each.
+SCREEN, BAND = 44, 34
 INK, FAINT, GREY, PAPER = "#222222", "#c4c4c4", "#8a8a8a", "#ffffff"
 DATA, FLIGHT, SPREAD, COLLECT, FAULT = "#1f5fbf", "#7a2ec2", "#e08a00", "#b9b9b9", "#d01c1c"
 POLL = "#00727d"
@@ -17,6 +21,17 @@ LOOKS = {
     "skipped": (FAULT, "#fbeeee"),
     "miscredited": (FAULT, "#fbeeee"),
     "pending": ("#9a6a00", "#f9f4e6"),
+}
+WORDS = {
+    "data": "a data packet",
+    "frame": "other bytes of a host",
+    "begin": "a Begin",
+    "init": "an initiation",
+    "probe": "a probe",
+    "notice": "a notice",
+    "poll": "a poll",
+    "dump": "a dump",
+    "done": "a Done",
 }
 MONO = "DejaVu Sans Mono, Consolas, monospace"
 
@@ -47,15 +62,21 @@ class Drawing:
         left += 60 if self.columns[0] in world.ids else 0
         column = max(100, 10 * max(map(len, self.columns)))
         self.xs = {a: left + column // 2 + i * column for i, a in enumerate(self.columns)}
-        self.width = max(left + column * len(self.columns) + 8, 900)
-        self.bottom = TOP + ROW * (len(self.shown) + 1)
+        self.side = left + column * len(self.columns) + 24
+        self.is_long = len(self.shown) > SCREEN
+        self.width = self.side + 500 if self.is_long else max(self.side - 16, 900)
+        self.bottom = self.row_y(len(self.shown) - 1) + 2 * ROW if self.shown else TOP + ROW
         self.parts = []
+
+    def row_y(self, row):
+        """The height of a row: the bands with the names of the columns stand between."""
+        return TOP + ROW * row + BAND * (max(row, 0) // SCREEN)
 
     def y(self, place):
         """The height of a turn: that of its row, or between two rows where it has none."""
         row = bisect_left(self.shown, place)
         has_row = row < len(self.shown) and self.shown[row] == place
-        return TOP + ROW * (row + (1 if has_row else 0.5))
+        return self.row_y(row) + ROW if has_row else self.row_y(max(row - 1, 0)) + ROW * (1.5 if row else 0.5)
 
     def cut_y(self, unit):
         turn = self.cuts[unit]
@@ -123,6 +144,13 @@ class Drawing:
         corners = [(tx, ty), (bx - uy * 3, by + ux * 3), (bx + uy * 3, by - ux * 3)]
         self.add("polygon", points=points_text(corners), fill=colour)
 
+    def group(self, title):
+        """What is added until the group ends has a title, which a browser shows where the mouse rests."""
+        self.parts.append(f"<g><title>{escape(title)}</title>")
+
+    def end_group(self):
+        self.parts.append("</g>")
+
     def cross(self, x, y, colour, width=2):
         for sign in (1, -1):
             self.line(x - 4, y - 4 * sign, x + 4, y + 4 * sign, stroke=colour, stroke_width=width)
@@ -143,7 +171,7 @@ class Drawing:
         for place in self.shown:
             self.dot(self.world.turns[place])
         self.marks()
-        height = self.legend(messages) + 22
+        height = (self.side_legend(messages) if self.is_long else self.legend(messages)) + 22
         head = (
             f'<svg xmlns="http://www.w3.org/2000/svg" width="{self.width}" height="{number(height)}" '
             f'viewBox="0 0 {self.width} {number(height)}" font-family="DejaVu Sans, Verdana, Arial, sans-serif">\n'
@@ -153,26 +181,10 @@ class Drawing:
 
     def title(self):
         self.text(self.verdict.line, 40, 26, self.colour, 16, font_weight="bold")
-        self.text(self.sentence(), 40, 46, INK, 12)
-
-    def sentence(self):
-        """The verdict in a sentence."""
-        v, k = self.verdict, self.snapshot
-        if v.verdict == "skipped":
-            turn = next(t for t in self.skips if t.actor == v.unit)
-            return f"At turn {turn.place + 1} {v.unit} goes from {turn.before} to {turn.id}: it saves nothing for {k}."
-        if v.verdict == "miscredited":
-            turn = next(t for t in self.late if t.actor == v.unit and t.written == v.other)
-            sent = f"a packet that {turn.took.link.source} sent when it was at {turn.took.stamp}"
-            return f"At turn {turn.place + 1} {v.unit}, at {turn.id} already, takes {sent}: it is missing from {k}."
-        if v.verdict == "pending" and v.channel == "id":
-            return f"At the end {v.unit} is still at {v.other}: the snapshot has not reached it."
-        if v.verdict == "pending":
-            sender = self.world.net.sender(v.unit, v.channel)
-            last = f"the last number that came from {sender}" if v.other else f"no number came from {sender}"
-            last += f" is {v.other}" if v.other else ""
-            return f"To {v.unit} {last} ({v.channel}): what is still on its way from before the cut is not known."
-        return "No unit took before the cut what was sent after it."
+        self.text(sentence(self.world, self.verdict), 40, 46, INK, 12)
+        turns = len(self.world.turns)
+        if self.first > 0 or self.last < turns - 1:
+            self.text(f"turns {self.first + 1} to {min(self.last + 1, turns)} of {turns}", 40, 64, GREY, 11)
 
     def shade(self):
         points = self.cut_points()
@@ -196,30 +208,28 @@ class Drawing:
     def lives(self):
         for actor in self.columns:
             x = self.xs[actor]
-            is_unit, is_at_fault = actor in self.cuts, actor == self.verdict.unit
-            look = {"stroke": INK, "stroke_width": 1.4} if is_unit else {"stroke": FAINT, "stroke_width": 1}
+            look = {"stroke": INK, "stroke_width": 1.4} if actor in self.cuts else {"stroke": FAINT, "stroke_width": 1}
             self.line(x, TOP - 4, x, self.bottom, **look)
-            if is_at_fault:
-                wide = 8 * len(actor) + 14
-                self.add(
-                    "rect",
-                    x=x - wide / 2,
-                    y=TOP - 40,
-                    width=wide,
-                    height=22,
-                    rx=4,
-                    fill=PAPER,
-                    stroke=self.colour,
-                    stroke_width=2,
-                )
+        self.names(TOP - 24)
+        for row in range(SCREEN, len(self.shown), SCREEN):
+            self.names(self.row_y(row) - 6)
+
+    def names(self, y):
+        """The names of the columns; the unit at fault is framed."""
+        for actor in self.columns:
+            x, is_at_fault = self.xs[actor], actor == self.verdict.unit
+            wide = 8 * len(actor) + 14
+            look = {"stroke": self.colour, "stroke_width": 2} if is_at_fault else {}
+            if is_at_fault or y > TOP:
+                self.add("rect", x=x - wide / 2, y=y - 16, width=wide, height=22, rx=4, fill=PAPER, **look)
             self.text(
                 actor,
                 x,
-                TOP - 24,
+                y,
                 self.colour if is_at_fault else INK,
                 13,
                 text_anchor="middle",
-                font_weight="bold" if is_unit else "normal",
+                font_weight="bold" if actor in self.cuts else "normal",
             )
 
     def weight(self, message):
@@ -240,13 +250,40 @@ class Drawing:
             colour, width = FLIGHT, 2.6
         x1, y1 = self.xs[message.put.actor], self.y(message.put.place)
         x2 = self.xs[message.link.target]
+        self.group(self.told(message))
         if message.take is not None:
             self.arrow(x1, y1, x2, self.y(message.take.place), colour, width)
-            return
-        x, y = x1 + (x2 - x1) * 0.3, y1 + ROW * 0.6
-        self.line(x1, y1, x, y, stroke=colour, stroke_width=width)
-        if message.lost:
-            self.cross(x, y, colour, width + 0.5)
+        else:
+            x, y = x1 + (x2 - x1) * 0.3, y1 + ROW * 0.6
+            self.line(x1, y1, x, y, stroke=colour, stroke_width=width)
+            if message.lost:
+                self.cross(x, y, colour, width + 0.5)
+                anchor = "start" if x2 > x1 else "end"
+                self.text(f"{message.kind} to {message.link.target}", x + (7 if x2 > x1 else -7), y + 10, colour, 10, text_anchor=anchor)
+        self.end_group()
+
+    def told(self, message):
+        """What a message is, in words: its kind and its link, its id, and the turns of its put and its take."""
+        words = f"{WORDS[message.kind]} on {message.link.spelling}, from {message.put.actor}"
+        if message.stamp is not None and message.kind in ("data", "probe", "init", "begin"):
+            words += f", id {message.stamp}"
+        if message.packet is not None:
+            words += f", to {message.packet.to or 'no host'}, {message.packet.size} bytes, {message.packet.hops} hops left"
+        words += f"; put at turn {message.put.place + 1}"
+        if message.take is not None:
+            return f"{words}, taken at turn {message.take.place + 1}"
+        return words + (", lost" if message.lost else ", not taken")
+
+    def told_turn(self, turn):
+        """What a turn does, in words: its id before and after, and what its unit had counted."""
+        words = f"turn {turn.place + 1}: {turn.actor} {turn.choice}"
+        if turn.actor in self.world.ids:
+            counted = [t for t in self.world.counted[turn.actor] if t.place <= turn.place]
+            size = sum(t.took.packet.size for t in counted)
+            words += f", id {turn.before}" + (f" to {turn.id}" if turn.id != turn.before else "")
+            words += f", counted {len(counted)} packets, {size} bytes by now"
+        puts = [f"{m.kind} to {m.link.target}" + (" (lost)" if m.lost else "") for m in turn.puts]
+        return words + (f"; puts {', '.join(puts)}" if puts else "")
 
     def cut_line(self, messages):
         look = {"stroke": self.cut_colour, "stroke_width": 2.4, "stroke_dasharray": "7 4"}
@@ -285,6 +322,7 @@ class Drawing:
 
     def dot(self, turn):
         x, y = self.xs[turn.actor], self.y(turn.place)
+        self.group(self.told_turn(turn))
         if turn.actor not in self.cuts:
             self.add("circle", cx=x, cy=y, r=3, fill=GREY)
         elif turn in self.late:
@@ -295,6 +333,7 @@ class Drawing:
             self.add("circle", cx=x, cy=y, r=4, fill=PAPER, stroke=INK, stroke_width=1.6)
         else:
             self.add("circle", cx=x, cy=y, r=4, fill=INK)
+        self.end_group()
 
     def marks(self):
         """At each unit's cut what it had counted, where the snapshot is consistent; else what went wrong."""
@@ -332,6 +371,16 @@ class Drawing:
                 sample(column, y + 22 * i)
                 self.text(words, column + 56, y + 22 * i + 4)
         return y + 22 * (max(len(left), len(right)) - 1)
+
+    def side_legend(self, messages):
+        """The legend beside each screenful; the height of the picture."""
+        entries = [*self.legend_of_messages(messages), *self.legend_of_turns()]
+        for row in range(0, len(self.shown), SCREEN):
+            for i, (sample, words) in enumerate(entries):
+                y = self.row_y(row) + 10 + 22 * i
+                sample(self.side, y)
+                self.text(words, self.side + 56, y + 4)
+        return max(self.bottom, self.row_y((len(self.shown) - 1) // SCREEN * SCREEN) + 10 + 22 * len(entries))
 
     def legend_of_messages(self, messages):
         k, kinds = self.snapshot, {m.kind for m in messages}

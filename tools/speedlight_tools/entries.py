@@ -1,11 +1,63 @@
 """Which word of a script entry is wrong, and what may stand there."""
 
+import re
+
 from .advice import listing, near
 from .inputs import DECIMAL, MOST_PASSES
-from .nets import port_of
+from .nets import LOSSY, port_of
 
 ACTIONS = {"observer": ("issue", "resend"), "control": ("sweep",), "host": ("inject",)}
 KINDS = ("observer", "control", "in", "out", "host", "pass")
+
+
+# Words that people use for an action, by its actor.
+VERBS = {
+    "host": dict.fromkeys(("send", "put", "emit", "transmit", "sends", "injects", "packet"), "inject"),
+    "observer": {
+        **dict.fromkeys(("snapshot", "take", "start", "initiate", "begin", "issues", "cut"), "issue"),
+        **dict.fromkeys(("retry", "again", "repeat", "reissue", "resends"), "resend"),
+    },
+    "control": dict.fromkeys(("poll", "collect", "read", "sweeps"), "sweep"),
+}
+SNAPSHOTS = re.compile(r"(take |issue |begin |start )?(a )?(snapshot|cut)( \d+)?$|snapshots?\b.*$")
+
+
+def entry_meant(entry, net):
+    """What an entry in other words stands for, or none where it isn't plain."""
+    words = entry.lower().split()
+    if SNAPSHOTS.match(" ".join(words)):
+        return ["A snapshot is taken by the observer: write `observer issue`."]
+    if words[:1] in (["trace"], ["turn"]) and len(words) == 2 and words[1].isdecimal():
+        return ["This is the first line of a trace, which says how many turns follow: leave it out.", "Each further line of a trace is an entry."]
+    if re.match(r"\d+\s+\S", entry) and " ".join(entry.split()[1:]) in set(net.choices()):
+        return [f"Leave out the number: `{' '.join(entry.split()[1:])}`."]
+    actor = " ".join(words[:-1])
+    verb = VERBS.get(words[0] if words else "", {}).get(words[-1] if words else "")
+    if verb and actor in net.actors:
+        return [f"Write `{actor} {verb}`."]
+    if words[:1] == ["passes"]:
+        return [f"Write `pass {words[1] if len(words) > 1 and words[1].isdecimal() else 1}`."]
+    if words[:1] in (["wait"], ["sleep"], ["step"], ["run"], ["turns"]):
+        return ["A script waits by passes, each a turn for each link and a packet of each host: `pass 3`."]
+    return []
+
+
+def links_meant(value, net):
+    """The links that can lose messages which a text in another spelling stands for."""
+    found = re.findall(r"([a-z0-9_]+)\.(\d)(?!\d)", value.lower())
+    ports = [f"{device}.{port}" for device, port in found]
+    if not ports or any(device not in net.devices for device, _ in found):
+        return []
+    lossy = [link for link in net.links.values() if link.sort in LOSSY]
+    if len(ports) == 2 and found[0][0] == found[1][0] and ports[0] != ports[1]:
+        return [k.spelling for k in lossy if k.sort == "crossbar" and k.source == f"in {ports[0]}" and k.target == f"out {ports[1]}"]
+    if len(ports) == 2:
+        joined = [k.spelling for k in lossy if k.sort == "cable" and k.source == f"out {ports[0]}" and k.target == f"in {ports[1]}"]
+        return joined or [k.spelling for k in lossy if k.sort == "cable" and k.target == f"in {ports[1]}"]
+    if len(ports) == 1 and re.fullmatch(r"(cable|link|wire)?\W*[a-z0-9_]+\.\d\W*(cable|link|wire)?", value.lower()):
+        at = [k for k in lossy if k.sort == "cable" and ports[0] in (k.target.split(" ")[1], k.source.split(" ")[1])]
+        return [k.spelling for k in sorted(at, key=lambda k: k.target.split(" ")[1] != ports[0])]
+    return []
 
 
 def wrong_word(entry, net):

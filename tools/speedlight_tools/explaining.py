@@ -3,8 +3,9 @@
 from .advice import (
     EXAMPLES,
     MEANINGS,
-    OTHER_WORDS,
+    example_beside,
     example_of,
+    guess_of,
     hex_advice,
     kind_of,
     listing,
@@ -19,12 +20,13 @@ from .advice import (
     wanted,
     within,
 )
-from .entries import wrong_word
+from .entries import entry_meant, links_meant, wrong_word
 from .frames import NARROW
 from .inputs import LIMIT, LOSSY, MOST_PACKETS, MOST_PASSES, MOST_ROWS, MOST_SLOTS, TABLES
+from .mistakes import mistakes
 from .nets import Net, port_of
 from .positions import path_of, positions
-from .syntax import plain_syntax, syntax_advice
+from .syntax import pasted_advice, plain_syntax, syntax_advice
 
 
 class Explanation:
@@ -78,6 +80,10 @@ class Explanation:
 
     def I2(self):
         hint = self.refusal.hint
+        pasted = pasted_advice(self.text)
+        if pasted:
+            self.say(*pasted)
+            return
         self.say(f"This is no TOML document: {plain_syntax(hint)}.")
         self.say(*syntax_advice(hint, self.text, self.place))
 
@@ -93,7 +99,9 @@ class Explanation:
             if stray:
                 self.say(f"There is a `{key}` below the heading `[{stray}]`: put it before the first heading.")
         else:
-            self.say(f"Add it, such as: {example_of(self.refusal.key)}")
+            beside = self.doc.get("snapshot") if table == "snapshot" else None
+            example = example_beside(self.refusal.key, beside) if isinstance(beside, dict) else example_of(self.refusal.key)
+            self.say(f"Add it, such as: {example}")
 
     def headed(self, key):
         """A table of the document that holds the key by mistake, since a heading stands before it."""
@@ -115,9 +123,7 @@ class Explanation:
                 (p for k, p in self.keys.items() if k[: len(where)] == where), None
             )
         self.say(f"The key `{word}` isn't listed for {'the top table' if name == 'top' else f'`{path}`'}.")
-        guess = OTHER_WORDS[name].get(word.lower()) or next(iter(near(word.lower(), TABLES[name], 1, 0.7)), None)
-        if guess is None and word.lower() in TABLES[name]:
-            guess = word.lower()
+        guess = guess_of("" if path == "top" else path, word)
         owners = [t for t in TABLES if t != name and word in TABLES[t]]
         if word in TABLES["top"] and name != "top":
             self.say(
@@ -219,14 +225,14 @@ class Explanation:
         if sort in ("link", "reliable"):
             self.drop_link(value, sort)
             return
-        names = [row["name"] for row in self.doc.get(sort, [])]
+        names = names_in(self.doc.get(sort))
         self.say(f"`{path}` names the {sort} `{value}`, which isn't there. The {sort}s are {listing(names)}.")
         guess = near(value, names, 1)
         if guess:
             self.say(f"Did you mean `{guess[0]}`?")
-        if sort == "host" and value in [d["name"] for d in self.doc["device"]]:
+        if sort == "host" and value in names_in(self.doc.get("device")):
             self.say(f"`{value}` is a switch; flows go from host to host.")
-        if sort == "device" and value in [h["name"] for h in self.doc.get("host", [])]:
+        if sort == "device" and value in names_in(self.doc.get("host")):
             self.say(f"`{value}` is a host; cables and hosts stand at ports of switches.")
 
     def drop_link(self, value, sort):
@@ -240,6 +246,10 @@ class Explanation:
             return
         such = lossy[0] if lossy else "in a.0 init"
         self.say(f"There is no link `{value}`. A link is spelled as the choice that takes from it, such as `{such}`.")
+        meant = links_meant(value, net)
+        if meant:
+            self.say(f"Did you mean {listing(meant)}?" if len(meant) < 2 else f"It may be one of {listing(meant)}.")
+            return
         self.say(*wrong_word(value, net))
         guess = near(value, lossy, 1)
         if guess:
@@ -256,6 +266,10 @@ class Explanation:
             return
         net = Net(self.doc)
         self.say(f"Entry {number}, `{entry}`, is neither a choice nor `pass n`.")
+        meant = entry_meant(entry, net)
+        if meant:
+            self.say(*meant)
+            return
         self.say(*wrong_word(entry, net))
         guess = near(entry, [*net.choices(), "pass 1"], 1)
         if guess and not entry.lower().startswith("pass"):
@@ -352,8 +366,11 @@ class Explanation:
     def N8(self, rest):
         sort, number, row = self.row(rest)
         self.at_value(f"{rest}.name")
-        first = next(i for i, other in enumerate(self.doc[sort]) if other["name"] == row["name"])
-        self.say(f"`{rest}` has the name `{row['name']}`, which `{sort}.{first}` has already. Give it another.")
+        first = next(i for i, other in enumerate(self.doc[sort]) if names_in([other]) == [row["name"]])
+        self.say(f"`{rest}` has the name `{row['name']}`, which `{sort}.{first}` has already.")
+        first_place = self.values.get((sort, first, "name"))
+        where = f" `{sort}.{first}` stands in line {first_place[0]}." if first_place and first_place != self.place else ""
+        self.say(f"Give it another, such as `{free_name(row['name'], names_in(self.doc[sort]))}`.{where}")
 
     def I10(self):
         self.at_value("flow")
@@ -384,8 +401,55 @@ class Explanation:
         )
 
 
+def names_in(rows):
+    """The names of the rows that are tables with a name."""
+    rows = rows if isinstance(rows, list) else []
+    return [row["name"] for row in rows if isinstance(row, dict) and isinstance(row.get("name"), str)]
+
+
+def free_name(name, names):
+    """A name like this one that isn't among the names: the next letter, or with the next number at its end."""
+    letters = [c for c in "abcdefghijklmnopqrstuvwxyz" if c > name and c not in names]
+    if len(name) == 1 and letters:
+        return letters[0]
+    stem = name.rstrip("0123456789")[:13]
+    return next(f"{stem}{number}" for number in range(len(names) + 1) if f"{stem}{number}" not in names)
+
+
 def explain(data, doc, refusal):
     return Explanation(data, doc, refusal).whole()
+
+
+# What a mistake comes to, where what it rests on is wrong too.
+GENERAL = {
+    "I3": "a required key is absent.",
+    "I4": "a table has a key that isn't listed.",
+    "I5": "a value of another kind, or a text not of its form.",
+    "I6": "a number out of its range.",
+    "I7": "a name, a device or a link that isn't there.",
+    "I8": "an entry that spells no choice, or too many passes.",
+    "I9": "a port that isn't there or isn't free, a name that stands twice, or too many of a kind.",
+    "I10": "too many packets and raw frames.",
+    "I11": "more than 8 bits, and frames of version 1.",
+    "I12": "too many rows: snapshots times units.",
+}
+
+
+def others(data, doc, refusal):
+    """A line for each further mistake that can be seen."""
+    told = []
+    for other in mistakes(doc) if doc is not None else []:
+        if other.line == refusal.line:
+            continue
+        about = Explanation(data, doc, other)
+        try:
+            about.whole()
+        except (KeyError, TypeError, AttributeError, ValueError, IndexError):
+            # What it rests on is wrong itself, and named in a line of its own.
+            about.lines = [GENERAL[other.kind]]
+        place = "line {}, column {}: ".format(*about.place) if about.place else ""
+        told.append(f"{place}{other.line.removeprefix('speedlight: ')}: {' '.join(about.lines[:2])}")
+    return list(dict.fromkeys(told))
 
 
 def notes(source):

@@ -2,7 +2,6 @@
 
 import math
 import re
-import sys
 import tomllib
 from dataclasses import dataclass, field
 
@@ -10,6 +9,7 @@ from .documents import load
 from .frames import NARROW
 from .nets import LOSSY, Net, net_fault, port_of
 from .positions import MOST_DEEP, is_too_deep
+from .streams import read_bytes
 
 LIMIT = 1_048_576
 TOO_DEEP = "More than 80 lists and tables are within one another, or a key has more than 80 parts"
@@ -126,36 +126,42 @@ def is_of_kind(value, kind):
 
 
 class Walk:
-    """The walk over the tables of a document, in the program's order."""
+    """The walk over the tables of a document, in the program's order. Its `fault` raises; see `mistakes` for one that goes on."""
 
     def __init__(self, doc):
         self.doc = doc
 
+    def fault(self, *what, **more):
+        raise Refusal(*what, **more)
+
     def table(self, path, name, table, ranges=None):
         listed = TABLES[name]
         if not all(key in listed for key in table):
-            raise Refusal("I4", path or "top", value=[k for k in table if k not in listed])
+            self.fault("I4", path or "top", value=[k for k in table if k not in listed])
         for key in listed.values():
             where = f"{path}.{key.name}" if path else key.name
             if key.name not in table:
                 if not key.optional:
-                    raise Refusal("I3", where, key)
+                    self.fault("I3", where, key)
                 continue
             self.value(where, key, table[key.name], table)
 
+    def ranged(self, key, table):
+        return ranged(key, table)
+
     def value(self, where, key, value, table):
         if not is_of_kind(value, key.kind):
-            raise Refusal("I5", where, key, value)
+            return self.fault("I5", where, key, value)
         if key.kind in ("tables", "texts"):
             for i, element in enumerate(value):
                 if not isinstance(element, dict if key.kind == "tables" else str):
-                    raise Refusal("I5", f"{where}.{i}", key, element)
+                    self.fault("I5", f"{where}.{i}", key, element)
         if where == "loss.drop" and len(value) > MOST_DROPS:
-            raise Refusal("I6", f"{where} {len(value)}", Key("drop", "tables", True, 0, MOST_DROPS), len(value))
+            self.fault("I6", f"{where} {len(value)}", Key("drop", "tables", True, 0, MOST_DROPS), len(value))
         if key.kind == "number":
-            key = ranged(key, table)
-            if not key.low <= value <= key.high:
-                raise Refusal("I6", f"{where} {value}", key, value)
+            key = self.ranged(key, table)
+            if key and not key.low <= value <= key.high:
+                self.fault("I6", f"{where} {value}", key, value)
 
     def run(self):
         doc = self.doc
@@ -321,13 +327,6 @@ def check(doc):
 def read_input(path):
     """The input in a file, `-` for standard input. Raises Refusal, or OSError where there is no such file."""
     return check(parse(read_bytes(path)))
-
-
-def read_bytes(path):
-    if path == "-":
-        return sys.stdin.buffer.read()
-    with open(path, "rb") as file:
-        return file.read()
 
 
 def text_of(doc):

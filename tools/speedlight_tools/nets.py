@@ -35,6 +35,7 @@ class Net:
             self.units += units
         self.actors += [f"host {h}" for h in self.hosts]
         self.links, self.out = {}, {a: [] for a in self.actors}
+        self.outs, self.data_channels = {}, {}
         for actor in self.actors:
             for choice, source, sort in self.incoming(actor):
                 spelling = f"{actor} {choice}"
@@ -69,14 +70,18 @@ class Net:
 
     def channels(self, unit):
         """The data channels of a unit, as a report names them, in its order."""
-        return [c for c, _, sort in self.incoming(unit) if sort in ("cable", "crossbar")]
+        if unit not in self.data_channels:
+            self.data_channels[unit] = [c for c, _, sort in self.incoming(unit) if sort in ("cable", "crossbar")]
+        return self.data_channels[unit]
 
     def sender(self, unit, channel):
         """The unit at the other end of a data channel."""
         return self.links[f"{unit} {channel}"].source
 
     def out_of(self, actor, *sorts):
-        return [link for link in self.out[actor] if link.sort in sorts]
+        if (actor, sorts) not in self.outs:
+            self.outs[actor, sorts] = [link for link in self.out[actor] if link.sort in sorts]
+        return self.outs[actor, sorts]
 
     def choices(self):
         """Each spelling of a choice, in order: links, then the actions of their actor."""

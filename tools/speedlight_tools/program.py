@@ -3,25 +3,37 @@
 import os
 import shutil
 import subprocess
+import sys
 from pathlib import Path
 
-TOP = Path(__file__).resolve().parent.parent.parent
+PACKAGE = Path(__file__).resolve().parent
+TOP = PACKAGE.parent.parent
 
 
 class NoProgram(Exception):
     pass
 
 
+def script(name):
+    """The file of a tool: beside the package, or in it where it is installed as a Python package."""
+    inside = PACKAGE / "commands" / name
+    return inside if inside.is_file() else PACKAGE.parent / name
+
+
 def compiled():
-    """The compiled program: the one that the gate or bin/build made, else `speedlight` on the path; or None."""
+    """The compiled program, or None: that of the gate or of bin/build, else the one that is installed beside the tool,
+    `speedlight` on the path, and the unproved one that bin/speedlight kept."""
     built = TOP / "crates" / "speedlight" / "out" / "speedlight"
-    if os.access(built, os.X_OK):
-        return str(built)
-    return shutil.which("speedlight")
+    beside = Path(sys.argv[0]).absolute().parent / "speedlight"
+    kept = TOP / "out" / "unproved"
+    for path in (built, beside, shutil.which("speedlight"), kept):
+        if path and os.path.isfile(path) and os.access(path, os.X_OK):
+            return str(path)
+    return None
 
 
 def find(given=None):
-    """The program: the given one, else the compiled one, else bin/speedlight, which may interpret it."""
+    """The program: the given one, else the compiled one, else bin/speedlight, which compiles it."""
     if given:
         path = shutil.which(given) or (given if os.access(given, os.X_OK) and os.path.isfile(given) else None)
         if path is None:

@@ -59,6 +59,14 @@ class Report:
 VERDICTS = ("consistent", "skipped", "miscredited", "pending", "not issued")
 
 
+# The program's numbers have at most 20 digits.
+MOST_DIGITS = 20
+
+
+def is_number(word):
+    return word.isdecimal() and word.isascii() and len(word) <= MOST_DIGITS
+
+
 class Lines:
     """The lines of a text, taken one at a time, with their numbers."""
 
@@ -77,13 +85,14 @@ class Lines:
         return [self.number(w) for s, w in zip(shape, words) if s is None]
 
     def number(self, word):
-        if not word.isdecimal() or not word.isascii():
+        if not is_number(word):
             self.at -= 1
-            raise self.fault(f"`{word}` is no number")
+            raise self.fault(f"`{word[:40]}` is no number")
         return int(word)
 
     def fault(self, message):
-        got = f"`{self.lines[self.at]}`" if self.at < len(self.lines) else "the end"
+        line = self.lines[self.at] if self.at < len(self.lines) else ""
+        got = f"`{line[:80]}{'..' if len(line) > 80 else ''}`" if self.at < len(self.lines) else "the end"
         return NoReport(f"line {self.at + 1}: {message}, found {got}")
 
 
@@ -124,7 +133,7 @@ def read_snapshot(lines, units, number):
         "not": None,
     }
     kind, rest = words[2], words[3:]
-    if kind not in shapes or not words[-1].isdecimal():
+    if kind not in shapes or not is_number(words[-1]):
         raise lines.fault("expected a verdict")
     other = int(words[-1])
     found = None
@@ -146,7 +155,7 @@ def read_counts(lines):
     if len(words) < 4 or words[0] not in ("in", "out") or (len(words) - 4) % 3:
         raise lines.fault("expected the counts of a unit")
     numbers = [w for i, w in enumerate(words[2:]) if i < 2 or i % 3 != 2]
-    if not all(w.isdecimal() for w in numbers):
+    if not all(map(is_number, numbers)):
         raise lines.fault("expected the counts of a unit")
     counts = Counts(f"{words[0]} {words[1]}", int(words[2]), int(words[3]))
     for i in range(4, len(words), 3):

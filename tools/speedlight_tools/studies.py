@@ -3,18 +3,24 @@
 import copy
 import csv
 import itertools
+import math
+import os
 import re
 import subprocess
+import sys
 import tomllib
 from pathlib import Path
 
+from . import program
 from .inputs import Refusal, check, parse, text_of
 from .looks import COLOURS, pyplot, svg_of
-from .reports import VERDICTS, read_report
+from .reports import VERDICTS, NoReport, read_report
 
 # What a grid may vary: the key of the input that each name stands for.
 KEYS = {name: ("snapshot", name) for name in ("bits", "window", "ring", "count", "retries", "credits", "version")}
 KEYS |= {name: ("loss", name) for name in ("seed", "cable", "crossbar", "init", "notice")}
+# The most points of a grid.
+MOST_RUNS = 20_000
 COMMANDS = ("step", "run")
 LOSSES = ("cable", "crossbar", "init", "notice")
 COUNTS = (*VERDICTS, "issued", "collected", "resent", "sent", "delivered", "lost")
@@ -34,8 +40,16 @@ class Plan:
                 doc = tomllib.load(file)
             except (tomllib.TOMLDecodeError, UnicodeDecodeError) as error:
                 raise NoPlan(f"{path}: this is no TOML document: {error}") from None
+            except (RecursionError, ValueError) as error:
+                raise NoPlan(f"{path}: this is no plan: {str(error)[:80]}") from None
         allowed = {"title", "input", "topology", "command", "grid", "picture"}
         only(doc, allowed, "the plan")
+        for key in ("title", "input", "topology"):
+            if not isinstance(doc.get(key, ""), str):
+                raise NoPlan(f"`{key}` is a text in quotes, not {doc[key]}")
+        rows = doc.get("picture", [])
+        if not isinstance(rows, list) or not all(isinstance(row, dict) for row in rows):
+            raise NoPlan("pictures are tables: each begins with [[picture]]")
         self.title = doc.get("title", self.path.stem)
         self.grid = self.read_grid(doc.get("grid"))
         if "command" in doc:
@@ -59,8 +73,8 @@ class Plan:
             raise NoPlan("a plan has one of `input`, a file beside it, and `topology`, parameters of tools/topology")
         if "input" in doc:
             return parse((self.path.parent / doc["input"]).read_bytes())
-        tool = Path(__file__).resolve().parent.parent / "topology"
-        done = subprocess.run([str(tool), *doc["topology"].split()], capture_output=True)
+        call = [sys.executable, str(program.script("topology")), *doc["topology"].split()]
+        done = subprocess.run(call, capture_output=True, env={**os.environ, "PYTHONPATH": str(program.PACKAGE.parent)})
         if done.returncode:
             raise NoPlan(f"topology: {done.stderr.decode().strip().splitlines()[-1]}")
         return parse(done.stdout)
@@ -68,9 +82,11 @@ class Plan:
     def read_picture(self, number, row):
         only(row, {"name", "across", "up", "where"}, f"picture {number}")
         for key in ("across", "up"):
-            if row.get(key) not in self.grid:
+            if not isinstance(row.get(key), str) or row[key] not in self.grid:
                 raise NoPlan(f"picture {number}: `{key}` is one of the grid's {', '.join(self.grid)}")
         where = row.get("where", {})
+        if not isinstance(where, dict) or not isinstance(row.get("name", ""), str):
+            raise NoPlan(f"picture {number}: `where` is a table and `name` a text")
         for name, value in where.items():
             if value not in self.grid.get(name, []):
                 raise NoPlan(f"picture {number}: the grid has no {name} = {value}")
@@ -82,6 +98,10 @@ class Plan:
     def runs(self):
         """The runs of the grid, by name, each with its values and its input; and how many points are no input."""
         runs, refused = {}, {}
+        points = math.prod(map(len, self.grid.values()))
+        if points > MOST_RUNS:
+            sizes = " x ".join(f"{len(values)} {name}" for name, values in self.grid.items() if len(values) > 1)
+            raise NoPlan(f"the grid has {points} points ({sizes}), and a study takes at most {MOST_RUNS} runs")
         for point in itertools.product(*self.grid.values()):
             values = dict(zip(self.grid, point))
             doc = copy.deepcopy(self.base)
@@ -90,7 +110,7 @@ class Plan:
                     table, key = KEYS[name]
                     doc.setdefault(table, {})[key] = value
             try:
-                check(parse(text_of(doc).encode()))
+                check(doc)
             except Refusal as refusal:
                 refused.setdefault(refusal.line.removeprefix("speedlight: ").rsplit(" ", 1)[0], []).append(values)
                 continue
@@ -112,6 +132,9 @@ def values_of(name, values):
         found = re.fullmatch(r"(\d+)-(\d+)", values)
         if not found or int(found[1]) > int(found[2]):
             raise NoPlan(f'[grid] {name}: a range is written such as "1-10"')
+        number = int(found[2]) - int(found[1]) + 1
+        if number > MOST_RUNS:
+            raise NoPlan(f"[grid] {name}: `{values}` are {number} values, and a study takes at most {MOST_RUNS} runs")
         return list(range(int(found[1]), int(found[2]) + 1))
     values = values if isinstance(values, list) else [values]
     kind = str if name == "command" else int
@@ -140,14 +163,27 @@ def row_of(report):
 
 
 def write_table(values, reports, path):
-    """The table of all runs as CSV: the values of each, then what its report says."""
-    with open(path, "w", newline="") as file:
+    """The table of the runs as CSV: the values of each, then what its report says.
+
+    Answers the runs that are not in it, each with what is wrong with its report, or with an empty text where it left none.
+    """
+    missing = {}
+    with open(path, "w", newline="", encoding="utf-8") as file:
         table = csv.writer(file, lineterminator="\n")
         names = list(next(iter(values.values())))
         table.writerow([*names, *(c.replace(" ", "_") for c in COUNTS)])
         for name, point in values.items():
-            row = row_of(read_report(Path(reports, f"{name}.report").read_text()))
+            report = Path(reports, f"{name}.report")
+            if not report.exists():
+                missing[name] = ""
+                continue
+            try:
+                row = row_of(read_report(report.read_text(encoding="utf-8")))
+            except (NoReport, UnicodeDecodeError) as fault:
+                missing[name] = f"its report is no whole one ({fault})"
+                continue
             table.writerow([*point.values(), *(row[c] for c in COUNTS)])
+    return missing
 
 
 def shares(rows, picture):
@@ -198,7 +234,8 @@ def write_picture(title, picture, table, path):
     where = "".join(f", {name} = {value}" for name, value in picture["where"].items())
     figure.suptitle(f"{title}: % of the snapshots{where}", fontsize=11, x=0.02, ha="left")
     figure.tight_layout()
-    Path(path).write_text(svg_of(figure))
+    Path(path).write_text(svg_of(figure), encoding="utf-8")
+    plot.close(figure)
 
 
 def axis_name(name):

@@ -1,11 +1,17 @@
 """The drawings of the tour, what a drawing marks by the verdict, and what is refused."""
 
+import subprocess
 import tempfile
 import unittest
 import xml.etree.ElementTree as tree
 from pathlib import Path
 
-from shared import EXAMPLES, TOP, run
+from shared import DATA, EXAMPLES, TOP, accepted, run
+
+from speedlight_tools import program
+from speedlight_tools.inputs import read_input
+from speedlight_tools.replay import replay
+from speedlight_tools.reports import read_report
 
 # The drawings in docs, with the options that they are drawn with.
 DRAWINGS = {
@@ -109,6 +115,74 @@ class Diagram(unittest.TestCase):
         for options in (["--turns", "9-5"], ["--turns", "x"], ["--turns", "99-100"], ["--actors", "zz"]):
             status, out, err = draw("two_in_flight", *options)
             self.assertEqual((status, out, err.count("\n")), (1, "", 1))
+
+    def test_by_default_the_turns_of_the_cut(self):
+        svg = run("diagram", DATA / "long.toml", DATA / "long.trace", "--snapshot", "2")[1]
+        words = self.words(svg)
+        shown = next(w for w in words if w.startswith("turns "))
+        self.assertRegex(shown, r"turns \d+ to \d+ of 218")
+        self.assertLess(len(svg), len(run("diagram", DATA / "long.toml", DATA / "long.trace", "--turns", "all")[1]))
+        self.assertIn("cut 2", words)
+        self.assertNotIn("cut 2, later", words)
+        self.assertFalse([w for w in self.words(draw("two_in_flight")[1]) if w.startswith("turns ")])
+
+    def test_which_turns_the_cut_needs(self):
+        for words in (["--turns", "x"], ["--turns", "999-1000"]):
+            status, out, err = run("diagram", DATA / "long.toml", DATA / "long.trace", *words)
+            self.assertEqual((status, out, err.count("\n")), (1, "", 1))
+            self.assertRegex(err, r"cut 1 is at turns \d+ to \d+")
+        status, out, err = run("diagram", DATA / "long.toml", DATA / "long.trace", "--turns", "1-3")
+        self.assertEqual((status, err.count("\n")), (0, 1))
+        self.assertRegex(err, r"cut 1 is at turns \d+ to \d+, and not all of these are drawn")
+
+    def test_names_and_legend_on_each_screenful(self):
+        words = self.words(run("diagram", DATA / "long.toml", DATA / "long.trace", "--turns", "all")[1])
+        screens = -(-218 // 44)
+        self.assertEqual([words.count(w) for w in ("in a.0", "observer", "a Begin, an initiation or a probe")], [screens] * 3)
+        self.assertEqual(self.words(draw("two_in_flight")[1]).count("observer"), 1)
+
+    def test_a_cap_on_columns(self):
+        wide = "device = [" + ", ".join(f'{{name = "s{i}", ports = 8}}' for i in range(12)) + "]\ncable = ["
+        wide += ", ".join(f'{{a = "s{i}.{p}", b = "s{i}.{p + 1}"}}' for i in range(12) for p in (0, 2, 4, 6)) + "]\n"
+        wide += "snapshot = {bits = 1, window = 1, ring = 1, count = 1}\n"
+        with tempfile.TemporaryDirectory() as folder:
+            path = Path(folder) / "wide.toml"
+            path.write_text(wide)
+            status, out, err = run("diagram", path, data=trace(["observer issue", "control s0 begin"]))
+            self.assertEqual((status, out, err.count("\n")), (1, "", 1))
+            self.assertIn("would have 205 columns, and at most 64 are drawn", err)
+            words = err.split("such as ")[1].split()
+            self.assertEqual(run("diagram", path, *words, data=trace(["observer issue", "control s0 begin", "in s0.0 init"]))[0], 0)
+
+    def test_hover_titles(self):
+        titles = [e.text for e in tree.fromstring(draw("two_in_flight")[1]).iter("{http://www.w3.org/2000/svg}title")]
+        data = [t for t in titles if t.startswith("a data packet on out a.1 x0, from in a.0, id 0, to h1, 100 bytes, 7 hops left; put at turn ")]
+        self.assertTrue(data and all(", taken at turn " in t for t in data), titles)
+        self.assertTrue([t for t in titles if t.startswith("turn ") and "id 0 to 1, counted 2 packets, 200 bytes by now" in t])
+
+    def test_lost_messages_say_what_and_whither(self):
+        words = self.words(draw("dead_cable")[1])
+        self.assertIn("probe to in a.1", words)
+        titles = [e.text for e in tree.fromstring(draw("dead_cable")[1]).iter("{http://www.w3.org/2000/svg}title")]
+        self.assertTrue([t for t in titles if t.endswith(", lost")])
+
+    def test_a_changed_count_is_told(self):
+        text = (TOP / "docs" / "two_in_flight.trace").read_text()
+        for old, new in (("in a.0 2 200", "in a.0 3 200"), ("in a.0 2 200", "in a.0 2 300"), ("x0 2 200", "x0 1 100"), ("x0 2 200", "x1 2 200")):
+            status, out, err = run("diagram", EXAMPLES / "two_in_flight.toml", data=text.replace(old, new, 1))
+            self.assertEqual((status, out, err.count("\n")), (1, "", 1))
+            self.assertIn("where the turns show", err)
+
+    def test_the_counts_of_each_example(self):
+        found = program.compiled()
+        if found is None:
+            self.skipTest("no compiled program")
+        for path in accepted():
+            done = subprocess.run([found, "step", "--trace"], input=path.read_bytes(), capture_output=True)
+            report = read_report(done.stdout.decode())
+            world = replay(read_input(path), report.trace)
+            for snapshot in report.consistent()[:5]:
+                self.assertEqual(world.counts(snapshot.number), snapshot.counts, (path, snapshot.number))
 
     def test_raw_frames(self):
         with tempfile.TemporaryDirectory() as folder:

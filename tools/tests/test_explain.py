@@ -1,15 +1,18 @@
 """The table of mistakes: each is refused by the program as the table says, and explained as it says."""
 
+import re
 import subprocess
 import tempfile
 import unittest
 from pathlib import Path
 
-from shared import EXAMPLES, TOP, expand, mistakes, run
+from shared import EXAMPLES, TOP, accepted, expand, mistakes, run
 
 from speedlight_tools import program
 from speedlight_tools.explaining import explain
-from speedlight_tools.inputs import Refusal, check, parse
+from speedlight_tools.inputs import Refusal, check, parse, read_input
+from speedlight_tools.mistakes import mistakes as all_mistakes
+from speedlight_tools.sizes import turns_at_most
 
 
 def refused(data):
@@ -56,7 +59,64 @@ class Explaining(unittest.TestCase):
         self.assertIn("Did you mean `h1`?", out)
         status, out, _ = run("explain", EXAMPLES / "three_packets.toml")
         self.assertEqual(status, 0)
-        self.assertIn("1 devices, 4 units, 2 hosts, 3 packets", out)
+        self.assertIn("1 device, 4 units, 2 hosts, 3 packets", out)
+
+    def test_the_turns_and_the_time_of_an_accepted_input(self):
+        for path in accepted():
+            source = read_input(path)
+            status, out, _ = run("explain", path)
+            self.assertEqual(status, 0)
+            self.assertIn(f"at most {turns_at_most(source):,} turns", out)
+            if program.compiled() is None:
+                continue
+            self.assertRegex(out, r"a run took (\d+\.\d\d|more than 5) seconds here")
+            done = subprocess.run([program.compiled(), "step", "--trace"], input=path.read_bytes(), capture_output=True)
+            turns = re.search(r"^trace (\d+)$", done.stdout.decode(), re.M)
+            self.assertLessEqual(int(turns[1]), turns_at_most(source), path)
+        # What the contract of the bound says of one switch with two hosts: 84, 4 for each packet, 49 for each sweep.
+        first = 'device=[{name="a",ports=2}]\nhost=[{name="h0",at="a.0"},{name="h1",at="a.1"}]\n'
+        first += "snapshot={bits=1,window=1,ring=1,count=1}\n"
+        flow = 'flow=[{from="h0",to="h1",count=10,bytes=1,hops=1}]\n'
+        sweeps = 'script={entries=["control a sweep","pass 3","control a sweep"]}\n'
+        for more, bound in (("", 84), (flow, 124), (sweeps, 182)):
+            self.assertEqual(turns_at_most(check(parse((first + more).encode()))), bound)
+
+    def test_all_mistakes_at_once(self):
+        text = (EXAMPLES / "three_packets.toml").read_text()
+        for old, new in (("ports = 2", "ports = 9"), ('at = "a.1"', 'at = "b.1"'), ("count = 3", "count = 30000"), ("ring = 3", "rings = 3")):
+            text = text.replace(old, new)
+        status, out, _ = run("explain", "-", data=text)
+        self.assertEqual(status, 3)
+        first, _, more = out.partition("\n\n3 more mistakes:\n")
+        self.assertTrue(first.startswith("speedlight: I4 snapshot\n"), first)
+        self.assertIn("Did you mean `ring`", first)
+        for kind in ("I6 flow.0.count 30000", "I9 N3 device.0", "I7 host.1.at"):
+            self.assertIn(f": {kind}: ", more)
+        self.assertTrue(all(line.startswith("line ") for line in more.strip().split("\n")[:3]), more)
+
+    def test_the_first_of_all_mistakes_is_the_programs(self):
+        for mistake in mistakes():
+            data = expand(mistake["input"]).encode()
+            doc, refusal = refused(data)
+            if doc is not None and refusal is not None:
+                self.assertEqual(all_mistakes(doc)[0].line, mistake["says"], mistake["name"])
+        for path in accepted():
+            self.assertEqual(all_mistakes(parse(path.read_bytes())), [])
+
+    def test_a_line_that_is_none_of_the_program(self):
+        for line, why in (
+            ("nonsense", "no line of the program"),
+            ("speedlight: I99 x", "no line of the program"),
+            ("speedlight: I13", "no line of the program"),
+            ("speedlight: usage: speedlight step", "no input was read"),
+            ("speedlight: out of memory", "too little memory"),
+            ("speedlight: 300 actors, at most 256", "`step` runs it"),
+        ):
+            status, out, err = run("explain", EXAMPLES / "three_packets.toml", "--refusal", line)
+            self.assertEqual((status, out, err.count("\n")), (1, "", 1), line)
+            self.assertIn(why, err)
+        status, out, _ = run("explain", EXAMPLES / "three_packets.toml", "--refusal", "-", data="")
+        self.assertEqual((status, out.split("\n")[0]), (0, "the program accepts this input"))
 
     def test_notes_on_what_is_accepted(self):
         text = (EXAMPLES / "two_switches.toml").read_text()
@@ -81,6 +141,11 @@ class Explaining(unittest.TestCase):
     def test_the_example_of_the_documents(self):
         out = run("explain", EXAMPLES / "refused.toml", "--refusal", "speedlight: I7 flow.0.to")[1]
         self.assertTrue(f"```text\n{out}```" in (TOP / "docs" / "TOOLS.md").read_text())
+
+    def test_the_mistakes_of_the_documents(self):
+        text = (EXAMPLES / "refused.toml").read_text().replace("ports = 2", "ports = 9").replace("count = 3", "count = 30000")
+        told = run("explain", "-", "--refusal", "speedlight: I6 flow.0.count 30000", data=text)[1].splitlines()[-3:]
+        self.assertIn("```text\n" + "\n".join(told) + "\n```", (TOP / "docs" / "TOOLS.md").read_text())
 
     def test_errors_are_plain(self):
         for words in (["nothing.toml"], [str(EXAMPLES)], [EXAMPLES / "refused.toml", "--program", "/nothing"]):

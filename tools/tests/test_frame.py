@@ -1,13 +1,22 @@
-"""Frames there and back, what is no frame, and the tables and the worked frame of docs/FORMATS.md."""
+"""Frames there and back, what is no frame, the tables and the worked frame of docs/FORMATS.md, and captures by tshark."""
 
+import collections
 import json
+import os
 import random
 import re
+import shutil
+import subprocess
+import tempfile
 import unittest
+from pathlib import Path
 
-from shared import EXAMPLES, TOP, run
+from shared import ENVIRONMENT, EXAMPLES, TOOLS, TOP, accepted, run
 
-from speedlight_tools import frames
+from speedlight_tools import frames, needs, program
+from speedlight_tools.inputs import read_input
+from speedlight_tools.replay import replay
+from speedlight_tools.reports import read_report
 
 CARRIED = "010100030000000100000002006407010000000000000000"
 PLAIN = "000000000000000100000000006408010000000000000000"
@@ -146,6 +155,184 @@ class Frame(unittest.TestCase):
             else:
                 self.assertEqual(status, 1, data)
                 self.assertIn(f"no frame, {told[:2]}: ", err)
+
+    def test_that_version_2_is_needed(self):
+        words = ["frame", "make", "probe", "--channel", "0", "--id", "300", "--bits", "16"]
+        status, out, err = run(*words)
+        self.assertEqual((status, out, err.count("\n")), (1, "", 1))
+        self.assertIn("so give --version 2", err)
+        self.assertEqual(run(*words, "--version", "2")[0], 0)
+        for words in (["--id", "70000", "--bits", "16"], ["--id", "5"], ["--id", "300", "--bits", "16", "--version", "2", "--check", "1"]):
+            self.assertNotIn("give --version 2", run("frame", "make", "probe", "--channel", "0", *words)[2])
+
+
+COLUMNS = [
+    "frame.interface_name",
+    "frame.time_epoch",
+    "frame.packet_flags_direction",
+    "frame.comment",
+    "speedlight.link",
+    "speedlight.lost",
+    "speedlight.number",
+    "speedlight.refusal",
+    "speedlight.drop",
+    *(f"speedlight.{name}" for name, _, _, _ in frames.FIELDS),
+]
+DIRECTIONS = {"host": "0x00000001", "net": "0x00000002", "cable": "0x00000002"}
+
+
+def shown(capture):
+    """What tshark shows of each frame of a capture: a row of COLUMNS."""
+    words = ["tshark", "-X", f"lua_script:{TOOLS / 'speedlight.lua'}", "-r", str(capture), "-T", "fields", "-E", "separator=/t"]
+    for name in COLUMNS:
+        words += ["-e", name]
+    done = subprocess.run(words, stdout=subprocess.PIPE, stderr=subprocess.PIPE, env={**os.environ, "LC_ALL": "C.UTF-8"})
+    assert done.returncode == 0, done.stderr.decode()
+    assert b"Lua" not in done.stderr, done.stderr.decode()
+    return [dict(zip(COLUMNS, line.split("\t"))) for line in done.stdout.decode().splitlines()]
+
+
+def capture(*words):
+    """Status, bytes and errors of tools/frame pcap."""
+    done = subprocess.run([str(TOOLS / "frame"), "pcap", *map(str, words)], capture_output=True, env=ENVIRONMENT)
+    return done.returncode, done.stdout, done.stderr.decode()
+
+
+@unittest.skipUnless(shutil.which("tshark"), "no tshark: tools/setup installs it")
+@unittest.skipUnless(needs.python_with("dpkt"), "no dpkt: tools/setup installs it")
+class Captured(unittest.TestCase):
+    @unittest.skipUnless(program.compiled(), "no program is built")
+    def test_the_frames_of_all_examples(self):
+        """Each frame that was put, with its fields, its turn and what became of it, as the trace and the report tell."""
+        with tempfile.TemporaryDirectory() as folder:
+            for path in accepted():
+                with self.subTest(example=path.stem):
+                    told = program.run(program.compiled(), ["step", "--trace"], path.read_bytes())[1]
+                    trace, made = Path(folder) / "run", Path(folder) / "run.pcapng"
+                    trace.write_bytes(told)
+                    status, data, errors = capture(path, trace)
+                    self.assertEqual((status, errors), (0, ""))
+                    made.write_bytes(data)
+                    source, report = read_input(path), read_report(told.decode())
+                    world = replay(source, report.trace)
+                    put = [m for m in world.messages if m.link.sort in ("host", "net", "cable", "crossbar", "init")]
+                    rows = shown(made)
+                    self.assertEqual(len(rows), len(put))
+                    for row, message in zip(rows, put):
+                        self.fields(row, message, source)
+                    self.totals(rows, world, report)
+
+    def fields(self, row, message, source):
+        link, packet = message.link, message.packet
+        self.assertEqual((row["frame.interface_name"], row["speedlight.link"]), (link.spelling, link.spelling))
+        self.assertEqual(float(row["frame.time_epoch"]), message.put.place + 1)
+        self.assertEqual(row["frame.packet_flags_direction"], DIRECTIONS.get(link.sort, ""))
+        self.assertEqual(row["speedlight.lost"], str(int(message.lost)))
+        self.assertEqual("lost" in row["frame.comment"], message.lost)
+        carries = link.sort in ("cable", "crossbar", "init")
+        self.assertEqual(row["speedlight.number"], str(message.stamp) if carries else "")
+        self.assertEqual(row["speedlight.drop"].split(":")[0], (message.take.dropped or "") if message.take else "")
+        if message.kind == "frame":
+            try:
+                self.assertNotEqual(frames.read(packet.sent.data, frames.NARROW)["kind"], "plain")
+            except frames.NoFrame as fault:
+                # A host's unit takes ids of no width, so a carried frame is read by the bits of the input here.
+                self.assertTrue(row["speedlight.refusal"].startswith(fault.refusal) or fault.refusal == "E3")
+            return
+        self.assertEqual(row["speedlight.refusal"], "")
+        kind = {"host": "plain", "net": "plain", "init": "initiation"}.get(link.sort, "carried" if message.kind == "data" else "probe")
+        self.assertEqual(frames.KINDS[int(row["speedlight.kind"])], kind)
+        if carries:
+            self.assertEqual(int(row["speedlight.id"]), message.stamp % 2 ** source.snapshot["bits"])
+            port = 255 if kind == "initiation" else int(link.source.rpartition(".")[2])
+            self.assertEqual(int(row["speedlight.channel"]), port)
+        cables = {c[end]: c.get("version", source.snapshot["version"]) for c in source.doc.get("cable", []) for end in "ab"}
+        version = 1 if not carries else cables[link.target.split(" ")[1]] if link.sort == "cable" else source.snapshot["version"]
+        self.assertEqual(int(row["speedlight.version"]), version)
+        if packet is not None:
+            hosts, sent = source.net.hosts, packet.sent
+            if sent.flow is not None:
+                flow = source.flows[sent.flow]
+                ends = (hosts.index(flow["from"]), hosts.index(flow["to"]), sent.seq, flow["bytes"], packet.hops)
+                found = tuple(int(row[f"speedlight.{name}"]) for name in ("src", "dst", "seq", "len", "hops"))
+                self.assertEqual(found, ends)
+
+    def totals(self, rows, world, report):
+        sorts = {spelling: link.sort for spelling, link in world.net.links.items()}
+        count = lambda sort, name, value: sum(sorts[r["speedlight.link"]] == sort and r[name].split(":")[0] == value for r in rows)
+        for sort in ("cable", "crossbar", "init"):
+            self.assertEqual(count(sort, "speedlight.lost", "1"), report.lost[sort])
+        drops = collections.Counter(r["speedlight.drop"].split(":")[0] for r in rows)
+        self.assertEqual({name: drops[name] for name in report.drops}, report.drops)
+        self.assertEqual(count("host", "speedlight.lost", "0"), sum(sent for sent, _ in report.host_counts.values()))
+        self.assertEqual(count("net", "speedlight.lost", "0"), sum(taken for _, taken in report.host_counts.values()))
+
+    def test_what_is_no_frame_is_flagged(self):
+        """Each byte of some frames changed, and the frames of docs/FORMATS.md: the same answer as that of tools/frame."""
+        import_dpkt()
+        changes = []
+        for frame in map(bytes.fromhex, (CARRIED, CHECKED, PLAIN, PROBE, INITIATION)):
+            for place in range(24):
+                for value in (0, 1, 2, 3, 4, 7, 8, 100, 255):
+                    changes.append((16 if frame[15] == 2 else 2, frame[:place] + bytes([value]) + frame[place + 1 :]))
+            changes += [(8, frame[:23]), (8, frame + b"0"), (8, b"")]
+        rows = re.findall(r"^\| (\d+) \| `([0-9a-f]+)` \| (.*) \|$", (TOP / "docs" / "FORMATS.md").read_text(), re.M)
+        changes += [(int(bits), bytes.fromhex(data)) for bits, data, _ in rows]
+        with tempfile.TemporaryDirectory() as folder:
+            for bits in {bits for bits, _ in changes}:
+                tried = [data for width, data in changes if width == bits]
+                path = Path(folder) / f"{bits}.pcapng"
+                path.write_bytes(capture_of(tried, bits))
+                for data, row in zip(tried, shown(path), strict=True):
+                    try:
+                        frames.read(data, bits)
+                        wanted = ""
+                    except frames.NoFrame as fault:
+                        wanted = fault.refusal
+                    self.assertEqual(row["speedlight.refusal"].split(":")[0], wanted, data.hex())
+
+    def test_errors_of_captures(self):
+        for words, wanted, why in (
+            ([EXAMPLES / "refused.toml"], 3, "I7 flow.0.to"),
+            ([EXAMPLES / "one_port.toml", TOP / "docs" / "dead_cable.trace"], 1, "is not one of this input"),
+            ([EXAMPLES / "one_port.toml", EXAMPLES / "one_port.toml"], 1, "no report"),
+            ([EXAMPLES / "nothing.toml"], 1, "No such file"),
+        ):
+            status, out, errors = capture(*words)
+            self.assertEqual((status, out, errors.count("\n")), (wanted, b"", 1), errors)
+            self.assertIn(why, errors)
+
+    def test_the_lines_of_the_documents(self):
+        with tempfile.TemporaryDirectory() as folder:
+            path = Path(folder) / "run.pcapng"
+            path.write_bytes(capture(EXAMPLES / "dead_cable.toml", TOP / "docs" / "dead_cable.trace")[1])
+            words = ["tshark", "-X", f"lua_script:{TOOLS / 'speedlight.lua'}", "-r", str(path), "-Y", "speedlight.lost == 1", "-t", "e"]
+            told = subprocess.run(words, capture_output=True, text=True).stdout.splitlines()
+            document = (TOP / "docs" / "TOOLS.md").read_text()
+            self.assertTrue(told)
+            for line in told[:3]:
+                self.assertTrue(re.sub(r"\s+", " ", line.strip()) in re.sub(r"[ \t]+", " ", document), line)
+
+
+def import_dpkt():
+    """dpkt in this Python, from Debian's packages where it is another one."""
+    import sys
+
+    if not needs.imports(("dpkt",)):
+        sys.path.append("/usr/lib/python3/dist-packages")
+
+
+def capture_of(tried, bits):
+    """A capture of these bytes, as on a link within a switch."""
+    import dpkt.pcapng as pcapng
+
+    from speedlight_tools.captures import LINK_TYPE, closed, option
+
+    about = f"crossbar, from in a.0 to out a.1; ids of {bits} bits".encode()
+    face = pcapng.InterfaceDescriptionBlockLE(linktype=LINK_TYPE, snaplen=0, opts=closed([option(2, b"out a.1 x0"), option(3, about)]))
+    parts = [bytes(pcapng.SectionHeaderBlockLE()), bytes(face)]
+    parts += [bytes(pcapng.EnhancedPacketBlockLE(ts_low=1, pkt_data=data)) for data in tried]
+    return b"".join(parts)
 
 
 if __name__ == "__main__":

@@ -98,7 +98,7 @@ class Forms(unittest.TestCase):
     def test_errors_are_plain(self):
         trace = TOP / "docs" / "two_in_flight.trace"
         cases = [
-            (["json", EXAMPLES / "one_port.toml"], "line 1"),
+            (["json", EXAMPLES / "one_port.toml"], "one_port.toml: this is an input"),
             (["json", "nothing"], "No such file"),
             (["balance", REPORT], "--input"),
             (["balance", REPORT, "--input", EXAMPLES / "one_port.toml"], "of this input?"),
@@ -118,6 +118,113 @@ class Forms(unittest.TestCase):
         self.assertEqual(run("report", "nonsense")[0], 2)
 
 
+class Texts(unittest.TestCase):
+    """The other texts of the program, and what is none of them."""
+
+    def test_they_are_those_of_the_input(self):
+        found = program.compiled()
+        if found is None:
+            self.skipTest("no compiled program")
+        for words in (["values"], ["poll", "3", "3"], ["balance"]):
+            done = subprocess.run([found, *words], input=INPUT.read_bytes(), capture_output=True)
+            self.assertEqual(done.stdout, (DATA / f"lossy_net.{words[0]}").read_bytes())
+
+    def rows(self, *words):
+        status, out, err = run("report", *words)
+        self.assertEqual((status, err), (0, ""))
+        return [line.split() for line in out.splitlines()]
+
+    def test_values(self):
+        rows = self.rows("values", DATA / "lossy_net.values", "--units", "in l0.0,s1.0")
+        self.assertEqual(rows[0], ["unit", *map(str, range(1, 13))])
+        self.assertEqual([row[:2] for row in rows[1:]], [["in", "s1.0"], ["out", "s1.0"], ["in", "l0.0"]])
+        self.assertEqual(rows[3][2:8], ["3", "(+3)", "6", "(+3)", "9", "(+3)"])
+
+    def test_poll(self):
+        rows = self.rows("poll", DATA / "lossy_net.poll", "--most", "1")
+        self.assertEqual(rows[1], ["in", "l0.0", "39", "2", "200"])
+        self.assertEqual(" ".join(rows[2]), "broken by a packet on in l1.2 cable: sent at turn 30, received at turn 40")
+
+    def test_the_table_of_balance(self):
+        rows = self.rows("balance", DATA / "lossy_net.balance")
+        self.assertEqual(rows[0], ["snapshot", "device", "cables", "least", "greatest", "spread"])
+        self.assertEqual(rows[1], ["1", "s0", "3", "0", "2", "6"])
+        self.assertIn(["device", "host", "equal", "ways"], rows)
+        found = json.loads(run("report", "balance", DATA / "lossy_net.balance", "--json", "--snapshot", "1")[1])
+        self.assertEqual(found[0], {"snapshot": 1, "device": "s0", "cables": 3, "least": 0, "greatest": 2, "spread": 6})
+
+    def test_json_and_csv_of_each(self):
+        for name, head in (("values", "snapshot,verdict,unit"), ("poll", "unit,turn,packets"), ("balance", "snapshot,device")):
+            json.loads(run("report", "json", DATA / f"lossy_net.{name}")[1])
+            self.assertTrue(run("report", "csv", DATA / f"lossy_net.{name}")[1].startswith(head))
+
+    def test_totals_and_changes_and_the_largest(self):
+        rows = self.rows("counts", REPORT, "--table", "--most", "2")
+        self.assertEqual([row[:6] for row in rows[1:]], [["out", "s0.0", "0", "(+0)", "2", "(+2)"], ["in", "s0.2", "2", "(+2)", "4", "(+2)"]])
+        told = run("report", "counts", REPORT, "--table", "--most", "2")[1]
+        self.assertIn(f"```text\n{told}```", (TOP / "docs" / "TOOLS.md").read_text())
+        rows = self.rows("flight", REPORT, "--table", "--units", "l0.2")
+        self.assertTrue(all(row[:2] in (["in", "l0.2"], ["out", "l0.2"]) for row in rows[1:]))
+        self.assertEqual(len(list(csv.DictReader(io.StringIO(run("report", "csv", REPORT, "--units", "s0.0")[1])))), 7 * 2 + 5)
+
+    def test_the_kind_of_text_is_named(self):
+        texts = [
+            ("", "it is empty"),
+            ("hello\n", "no text of the program"),
+            ((EXAMPLES / "ring.toml").read_text(), "an input"),
+            ("trace 1\nobserver issue\n", "a trace without its report"),
+            ("speedlight: I2\n", "a line with which the program refuses"),
+            ("sample 3\ndevices 7\n", "the summary of `speedlight sample`"),
+            ("route a h0 0 0\nend\n", "what `speedlight routes` prints"),
+            ("check yes\n", "an answer of `speedlight check`"),
+            ('{"network": 1}', "JSON"),
+            ("<svg></svg>", "a picture"),
+            ((DATA / "lossy_net.poll").read_text(), "what `speedlight poll` prints"),
+            ((DATA / "lossy_net.values").read_text(), "what `speedlight values` prints"),
+        ]
+        for text, why in texts:
+            status, out, err = run("report", "verdicts" if "lossy" not in why and "values" not in why else "flight", data=text)
+            self.assertEqual((status, out, err.count("\n")), (1, "", 1), text[:40])
+            self.assertIn("tools/report: standard input: ", err)
+            self.assertIn(why, err)
+        self.assertIn("needed is what `speedlight poll` prints", run("report", "poll", REPORT)[2])
+
+    def test_a_text_that_is_cut_off(self):
+        for name, form in (("report", "json"), ("values", "json"), ("poll", "json"), ("balance", "json")):
+            text = (DATA / f"lossy_net.{name}").read_text()
+            lines = text.splitlines(keepends=True)
+            for cut in ("".join(lines[:-1]), "".join(lines[: len(lines) // 2]), text[: len(text) // 2]):
+                status, out, err = run("report", form, data=cut)
+                self.assertEqual((status, out, err.count("\n")), (1, "", 1), name)
+                self.assertIn("cut off after line", err)
+        trace = (TOP / "docs" / "two_in_flight.trace").read_text()
+        self.assertIn("cut off after line", run("report", "json", data="".join(trace.splitlines(keepends=True)[:-3]))[2])
+
+    def test_options_that_do_nothing(self):
+        for words in (
+            ["json", REPORT, "--snapshot", "1"],
+            ["csv", REPORT, "--json"],
+            ["verdicts", REPORT, "--units", "s0"],
+            ["balance", REPORT, "--input", INPUT, "--most", "2"],
+            ["values", DATA / "lossy_net.values", "--table"],
+            ["counts", REPORT, "--picture"],
+            ["json", REPORT, "--input", INPUT],
+            ["json", REPORT, "--program", "x"],
+            ["poll", "--input", INPUT],
+            ["counts", REPORT, "--most", "0"],
+        ):
+            status, out, err = run("report", *words)
+            self.assertEqual((status, out), (2, ""), words)
+        self.assertIn("--snapshot does nothing for json: it goes with balance", run("report", "json", REPORT, "--snapshot", "1")[2])
+        status, _, err = run("report", "csv", REPORT, "--units", "zz")
+        self.assertEqual(status, 1)
+        self.assertIn("no unit, port or switch `zz`", err)
+
+    def test_the_file_is_named(self):
+        for words in (["json", EXAMPLES / "ring.toml"], ["json", TOP / "nothing"], ["json", TOP], ["counts", EXAMPLES / "ring.toml", "--table"]):
+            self.assertIn(str(words[1]), run("report", *words)[2])
+
+
 @unittest.skipUnless(HAS_MATPLOTLIB, "no matplotlib")
 class Pictures(unittest.TestCase):
     def words(self, form, *words, **more):
@@ -127,7 +234,7 @@ class Pictures(unittest.TestCase):
 
     def test_counts(self):
         words = self.words("counts", REPORT)
-        for word in ("in l2.2", "39", "skipped", "packets counted before the cut (12 more units counted none)"):
+        for word in ("in l2.2", "39", "skipped", "packets counted before the cut (12 more units not shown)"):
             self.assertIn(word, words)
         self.assertIn("snapshot 1", self.words("counts", data=cut_report("two_in_flight")))
 
@@ -145,6 +252,29 @@ class Pictures(unittest.TestCase):
 
     def test_the_same_each_time(self):
         self.assertEqual(run("report", "flight", REPORT), run("report", "flight", REPORT))
+
+    def test_changes_stand_beside_totals(self):
+        words = self.words("counts", REPORT)
+        self.assertIn("since the consistent snapshot before", words)
+        self.assertIn("36", words)
+
+    def test_a_scale_where_cells_have_no_numbers(self):
+        many = ["speedlight 1", "network devices 1 units 1 hosts 0", "observer count 50 issued 50 collected 50 resent 0"]
+        for k in range(1, 51):
+            many += [f"snapshot {k} consistent", f"in a.0 {3 * k} 0"]
+        many += ["drops bad 0 expired 0 noroute 0", "lost cable 0 crossbar 0 init 0 notice 0", "end", ""]
+        words = self.words("counts", data="\n".join(many))
+        self.assertIn("packets", words)
+        self.assertNotIn("150", words)
+        self.assertNotIn("packets", self.words("counts", REPORT))
+
+    def test_the_other_texts(self):
+        self.assertIn("packets counted before the cut (28 more units not shown)", self.words("values", DATA / "lossy_net.values", "--picture", "--most", "8"))
+        words = self.words("poll", DATA / "lossy_net.poll", "--picture")
+        self.assertIn("in l0.0, before turn 40", words)
+        words = self.words("balance", DATA / "lossy_net.balance", "--picture")
+        self.assertIn("greatest less least use of the cables of a switch", words)
+        self.assertIn("consistent 12", self.words("verdicts", DATA / "lossy_net.values"))
 
     def test_nothing_to_draw(self):
         for form in ("counts", "flight"):

@@ -1,12 +1,15 @@
 """A study runs each point of its grid once, goes on where it was, and adds up the verdicts."""
 
 import csv
+import signal
+import subprocess
 import tempfile
+import time
 import unittest
 import xml.etree.ElementTree as tree
 from pathlib import Path
 
-from shared import EXAMPLES, TOOLS, TOP, run
+from shared import ENVIRONMENT, EXAMPLES, TOOLS, TOP, run
 
 from speedlight_tools import needs
 from speedlight_tools.studies import NoPlan, Plan, shares
@@ -27,6 +30,9 @@ up = "window"
 PROGRAM = """#!/bin/bash
 echo "$1" >> {folder}/calls
 input=$(cat)
+[ -e {folder}/slow ] && sleep 2
+[ -e {folder}/killed ] && [[ "$input" == *"seed = 2"* ]] && kill -SEGV $$
+[ -e {folder}/half ] && [[ "$input" == *"seed = 2"* ]] && {{ echo "speedlight 1"; exit; }}
 [ -e {folder}/broken ] && {{ echo "speedlight: out of memory" >&2; exit 6; }}
 echo "speedlight 1"; echo "network devices 1 units 0 hosts 0"; echo "observer count 2 issued 2 collected 2 resent 0"
 [[ "$input" == *"window = 1"* ]] && echo "snapshot 1 consistent" || echo "snapshot 1 inconsistent in a.0 skipped to 2"
@@ -73,6 +79,9 @@ class Plans(Folder):
             (PLAN.replace('input = "net.toml"', ""), "one of `input`"),
             (PLAN.replace("window = [1, 3]", "window = []"), "window: a list"),
             (PLAN.replace('"1-2"', '"2-1"'), "a range"),
+            (PLAN.replace('"1-2"', '"1-200000"'), "200000 values, and a study takes at most 20000 runs"),
+            (PLAN.replace('"1-2"', '"1-9999999999999"'), "at most 20000 runs"),
+            (PLAN.replace('"1-2"', '"1-9999"'), "39996 points (2 window x 2 ring x 9999 seed)"),
             (PLAN.replace("[1, 3]", "[9]"), "no point of the grid"),
             (PLAN.replace('across = "ring"', 'across = "bits"'), "`across`"),
             (PLAN + "where = {seed = 7}\n", "no seed = 7"),
@@ -177,6 +186,70 @@ class Studies(Folder):
         self.assertIn("speedlight: out of memory", err)
         (self.folder / "broken").unlink()
         self.assertEqual(self.study()[0], 0)
+
+    def test_one_failed_run_leaves_the_table_of_the_others(self):
+        for name, why in (("killed", "killed by SIGSEGV"), ("half", "its report is no whole one")):
+            (self.folder / name).touch()
+            status, out, err = self.study()
+            self.assertEqual(status, 1, err)
+            self.assertEqual(err.count(why), 3, err)
+            self.assertIn("failed: window-1_ring-1_seed-2_command-step: ", err)
+            self.assertIn("3 of 6 runs failed: the table has the others", err)
+            self.assertIn("table.csv, both.svg", out)
+            self.assertEqual([row["seed"] for row in self.table()], ["1"] * 3)
+            (self.folder / name).unlink()
+            self.calls()
+            self.assertEqual(self.study()[0], 0)
+            self.assertEqual((self.calls(), len(self.table())), (3, 6))
+            self.plan(PLAN.replace('"1-2"', "[1, 2]"))
+            for report in (self.folder / "out" / "reports").glob("*seed-2*"):
+                report.unlink()
+
+    def test_a_blank_in_the_path(self):
+        blank = self.folder / "a folder"
+        blank.mkdir()
+        program = blank / "a program"
+        program.write_text(self.program.read_text())
+        program.chmod(0o755)
+        (blank / "net.toml").write_text((self.folder / "net.toml").read_text())
+        (blank / "a plan.toml").write_text(PLAN)
+        status, out, err = run("study", blank / "a plan.toml", "--out", blank / "the runs", "--program", program)
+        self.assertEqual(status, 0, err)
+        self.assertTrue((blank / "the runs" / "both.svg").exists())
+
+    def test_another_program_is_told(self):
+        self.study()
+        self.calls()
+        self.program.write_text(self.program.read_text() + "\n# another\n")
+        status, _, err = self.study()
+        self.assertEqual((status, self.calls()), (0, 6))
+        self.assertLess(err.index("the program is another than that of the 6 finished runs, which was built anew"), err.index("of 6 runs"))
+        self.assertNotIn("another", self.study()[2])
+
+    def test_stopping_it(self):
+        (self.folder / "slow").touch()
+        words = [str(TOOLS / "study"), str(self.folder / "plan.toml"), "--out", str(self.folder / "out")]
+        words += ["--program", str(self.program), "--cores", "1"]
+        with subprocess.Popen(words, stderr=subprocess.PIPE, text=True, env=ENVIRONMENT) as study:
+            while not list((self.folder / "out" / "reports").glob("*")):
+                time.sleep(0.1)
+            study.send_signal(signal.SIGINT)
+            err = study.communicate(timeout=60)[1]
+        self.assertEqual(study.returncode, 130)
+        self.assertRegex(err, r"stopped: \d of 6 runs are done; call again to go on\n")
+        self.assertNotIn("Traceback", err)
+        (self.folder / "slow").unlink()
+        self.assertEqual(self.study()[0], 0)
+        self.assertEqual(len(self.table()), 6)
+
+    def test_how_long_it_will_take(self):
+        self.assertRegex(self.study()[2], r"\d of 6 runs, about \d+ seconds left")
+
+    def test_words_for_snakemake(self):
+        for words in (["--", "--cluster"], ["--", "--cluster", "--jobs", "3"], ["--", "--jobs"]):
+            status, out, err = self.study(*words)
+            self.assertEqual((status, out, err.count("\n")), (1, "", 1), err)
+            self.assertIn("takes", err)
 
     def test_words(self):
         status, out, err = self.study("--dry-run")

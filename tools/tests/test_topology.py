@@ -87,7 +87,7 @@ class Shapes(unittest.TestCase):
     def test_versions(self):
         self.assertEqual(made("line", "--bits", 12, "--window", 1000).snapshot["version"], 2)
         self.assertEqual(made("line", "--version", 2).snapshot["version"], 2)
-        self.assertIn("I11 snapshot.version", run("topology", "line", "--bits", 12, "--version", 1)[2])
+        self.assertIn("--bits 12 needs frames of version 2", run("topology", "line", "--bits", 12, "--version", 1)[2])
 
     def test_the_same_net_each_time(self):
         words = ["random", "--switches", 12, "--flows", "random", "--net-seed", 5]
@@ -106,22 +106,42 @@ class Shapes(unittest.TestCase):
 
     def test_nets_that_are_too_large(self):
         for words, why in (
-            (["line", "--switches", 65], "65 switches"),
             (["star", "--switches", 10], "`middle` would have 9 ports"),
             (["leaf-spine", "--hosts", 7], "`l0` would have 9 ports"),
-            (["fat-tree", "--arity", 5], "even"),
-            (["fat-tree", "--arity", 8], "80 switches"),
             (["ring", "--switches", 2], "at least 3"),
             (["random", "--switches", 5, "--cables", 3], "at least 4"),
             (["random", "--switches", 3, "--cables", 9], "no more than 3"),
             (["line", "--switches", 40, "--hosts", 4], "160 hosts"),
-            (["line", "--window", 9], "I6 snapshot.window 9"),
+            (["line", "--window", 9], "--window 9 is too large: with --bits 2 it is 1 to 3; or give --bits 4"),
+            (["line", "--ring", 9], "--ring 9 is out of range: with --window 1 and --bits 2 it is 1 to 4"),
+            (["line", "--snapshots", 100, "--every", 200], "20000 passes, and at most 10000"),
+            (["line", "--switches", 20, "--count", 20000], "400000 packets, and at most 200000"),
+            (["line", "--switches", 20, "--snapshots", 100000], "rows, one for each unit"),
         ):
             status, out, err = run("topology", *words)
             self.assertEqual((status, out, err.count("\n")), (1, "", 1), words)
             self.assertIn(why, err)
-        self.assertEqual(run("topology", "line", "--switches", "x")[0], 2)
+        self.assertEqual(run("topology", "line", "--window", 9, "--bits", 4)[0], 0)
         self.assertEqual(run("topology")[0], 2)
+
+    def test_ranges_in_words_of_its_own(self):
+        for words, why in (
+            (["line", "--switches", "x"], "`x` is no whole number: it is 1 to 64"),
+            (["line", "--switches", 65], "65 is out of range: it is 1 to 64"),
+            (["fat-tree", "--arity", 5], "2, 4 or 6 ports"),
+            (["fat-tree", "--arity", 8], "2, 4 or 6 ports"),
+            (["line", "--loss-cable", "0.1"], "losses are per thousand messages, 0 to 1000: `0.1` is 100"),
+            (["line", "--loss-init", "5%"], "losses are per thousand messages, 0 to 1000: `5%` is 50"),
+            (["line", "--loss-notice", 1001], "1001 is out of range: it is 0 to 1000, of a thousand messages"),
+            (["line", "--bits", 17], "17 is out of range: it is 1 to 16"),
+            (["line", "--count", 20001], "0 to 20000"),
+            (["line", "--bytes", "1e3"], "no whole number"),
+            (["line", "--retries", -1], "out of range"),
+            (["line", "--version", 3], "it is 1 to 2"),
+        ):
+            status, out, err = run("topology", *words)
+            self.assertEqual((status, out), (2, ""), words)
+            self.assertIn(why, err)
 
 
 @unittest.skipUnless(HAS_LIBRARIES, "no networkx or no graphviz")

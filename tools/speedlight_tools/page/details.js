@@ -1,0 +1,332 @@
+// Elements.
+function made(name, attributes = {}, ...inside) {
+  const element = document.createElement(name);
+  for (const [key, value] of Object.entries(attributes)) {
+    if (key === "onclick") element.addEventListener("click", value);
+    else if (key === "class") element.className = value;
+    else element.setAttribute(key, value);
+  }
+  element.append(...inside.filter((part) => part !== null && part !== undefined));
+  return element;
+}
+const toTurn = (place, text) => made("button", { class: "go short", title: `Go to turn ${place + 1}`, onclick: () => { change({ turn: place + 1 }); show(place + 1); } }, text || `turn ${place + 1}`);
+const toPacket = (p, text) => made("button", { class: "go", onclick: () => change({ packet: p, tab: "packet" }) }, text || packetName(p));
+const toUnit = (who) => made("button", { class: nameOf(who).length > 12 ? "go" : "go short", onclick: () => change({ unit: who, tab: "unit" }) }, nameOf(who));
+
+// What the words of the protocol and of the trace mean, for titles.
+const MEANING = {
+  initiation: "an initiation: a control plane gives an ingress unit the number of a snapshot", probe: "a probe: a message between units that carries a number without a packet",
+  notice: "a notice: a unit tells its control plane that a number changed", poll: "a poll: a control plane asks a unit for its registers", dump: "a dump: a unit answers a poll with its registers",
+  Begin: "a Begin: the observer asks a control plane to begin a snapshot", Done: "a Done: a control plane reports to the observer what it collected", cable: "the channel over the cable, from the unit at its other end",
+};
+function explained(text) {
+  const made2 = (word, title) => made("abbr", { title }, word);
+  const ofCrossbar = (word) => `the channel over the crossbar inside the switch, from the ingress unit of port ${word.slice(1)}`;
+  return text.split(/\b(initiation|probe|notice|poll|dump|Begin|Done|(?<=\()cable|(?<=\()x\d+)\b/).map((part, i) => (i % 2 ? made2(part, MEANING[part] || ofCrossbar(part)) : part));
+}
+// What a choice of an actor is, as the trace spells it.
+function choiceMeaning(name) {
+  const choice = name.slice(name.lastIndexOf(" ") + 1), [word, of] = choice.split(":"), port = /^x(\d+)$/.exec(choice), where = of && of.replace(".", " ");
+  if (port) return `takes what came through the switch from its port ${port[1]}`;
+  return { init: "takes an initiation: its control plane gives it the number of a snapshot", cable: "takes what came over the cable", host: "takes what its host sent", net: "takes a packet", inject: "sends its next packet",
+    poll: "takes a poll, and answers with a dump of its registers", notice: `takes a notice: a number of ${where} changed`, dump: `takes a dump: the registers of ${where}`, begin: "takes a Begin, and sends initiations to its ingress units",
+    done: `takes a Done: what control plane ${of} collected`, issue: "begins the next snapshot", resend: "begins the last snapshot once more", sweep: "polls all its units" }[word] || "";
+}
+const many = (n, name, ending = "s") => `${n.toLocaleString("en")} ${name}${n === 1 ? "" : ending}`;
+// The head and the strip of snapshots.
+function head() {
+  const counts = {};
+  for (const told of words.snapshots) counts[told.verdict] = (counts[told.verdict] || 0) + 1;
+  const verdicts = Object.keys(MARKS).filter((v) => counts[v]).map((v) => `${counts[v].toLocaleString("en")} ${v}`);
+  $("summary").textContent = `${many(words.devices.length, "switch", "es")}, ${many(words.hosts.length, "host")}, ${many(T, "turn")}; snapshots: ${verdicts.join(", ") || "none"}`;
+  $("turn").max = T;
+}
+const STRIP = 150;
+function strip() {
+  const list = $("snapshots");
+  list.textContent = "";
+  const numbers = [];
+  const kept = (k) => !state.onlyFailed || failed(k);
+  for (let k = state.shown + 1; k <= K && numbers.length < STRIP; k++) if (kept(k)) numbers.push(k);
+  for (const k of numbers) {
+    const verdict = words.snapshots[k - 1].verdict;
+    list.append(made("button", { class: verdict.replace(" ", "-"), "data-snapshot": k, "aria-pressed": String(k === state.snapshot), "aria-label": `snapshot ${k}, ${verdict}`, title: words.snapshots[k - 1].line, onclick: () => choose(k) },
+      String(k), made("span", { class: "mark", "aria-hidden": "true" }, MARKS[verdict])));
+  }
+  if (!numbers.length) list.append(made("span", { class: "dim" }, K ? "all are consistent" : "the run takes none"));
+  const last = numbers.length ? numbers[numbers.length - 1] : K;
+  $("strip-back").hidden = state.shown === 0;
+  $("strip-on").hidden = last >= K;
+  $("strip-on").onclick = () => { state.shown = last; strip(); };
+  $("strip-back").onclick = () => { state.shown = Math.max(0, state.shown - STRIP); strip(); };
+}
+function showStrip(k) {
+  if (state.onlyFailed && !failed(k)) { state.onlyFailed = $("only-failed").checked = false; }
+  const there = $("snapshots").querySelector(`[data-snapshot="${k}"]`);
+  if (!there) state.shown = Math.max(0, k - 1 - (STRIP >> 1)), strip();
+  for (const button of $("snapshots").children) button.setAttribute("aria-pressed", String(Number(button.dataset.snapshot) === k));
+  const button = $("snapshots").querySelector(`[data-snapshot="${k}"]`);
+  if (button) button.scrollIntoView({ block: "nearest", inline: "center" });
+}
+
+function titleOf(k) {
+  const { verdict } = words.snapshots[k - 1];
+  return { consistent: `Snapshot ${k}: consistent`, pending: `Snapshot ${k}: not finished (pending)`, "not issued": `Snapshot ${k}: not begun (not issued)` }[verdict] || `Snapshot ${k} failed: ${verdict}`;
+}
+// What is said of the unit that the verdict names.
+const waits = (told) => told.verdict === "pending" || told.verdict === "not issued";
+const standing = (told) => (waits(told) ? "waiting" : "at fault");
+// The banner: the verdict of the chosen snapshot and why.
+let banner = null;
+function verdictBanner() {
+  if (banner === state.snapshot) return;
+  banner = state.snapshot;
+  const place = $("verdict");
+  place.textContent = "";
+  if (!state.snapshot) {
+    place.className = "not-issued";
+    place.append(made("div", { class: "head" }, made("b", {}, K ? "Choose a snapshot above" : "No snapshot in this run")), made("p", { class: "why" }, "Its cut, its values or why it failed are then shown here and in both pictures."));
+    return;
+  }
+  const k = state.snapshot, told = words.snapshots[k - 1];
+  place.className = told.verdict.replace(" ", "-");
+  place.append(made("div", { class: "head" }, made("b", {}, `${MARKS[told.verdict]} ${titleOf(k)}`)));
+  const said = [told.cause, told.sentence, told.besides].filter(Boolean).join(" ");
+  const why = made("p", { class: "why" }, told.verdict === "consistent" ? "" : made("b", {}, "Why: "), ...explained(said));
+  const line = made("p", { class: "line" }, "In the report: ", made("code", {}, told.line), " ");
+  for (const turn of new Set([told.causeTurn, told.turn])) if (turn !== null) line.append(toTurn(turn, `show turn ${turn + 1}`));
+  place.append(why, line);
+}
+
+// The details.
+let shownPanel = "";
+function panel() {
+  for (const tab of $("tabs").children) tab.setAttribute("aria-selected", String(tab.dataset.tab === state.tab));
+  const key = [state.tab, state.tab === "snapshot" ? state.snapshot : "", state.tab === "packet" ? state.packet : "", state.unit, state.tab === "poll" ? state.poll : "", state.turn].join();
+  if (key === shownPanel) return;
+  const again = shownPanel.split(",")[0] === state.tab;
+  shownPanel = key;
+  const place = $("panel"), at = place.scrollTop;
+  if (state.tab === "snapshot" && again && place.dataset.snapshot === String(state.snapshot)) return;
+  place.dataset.snapshot = state.tab === "snapshot" ? state.snapshot : "";
+  place.textContent = "";
+  place.append(...{ snapshot: snapshotPanel, turn: turnPanel, packet: packetPanel, unit: unitPanel, poll: pollPanel }[state.tab]());
+  place.scrollTop = again && state.tab !== "snapshot" ? at : 0;
+}
+function table(heads, rows, here = () => false) {
+  const body = rows.map((row, place) => made("tr", here(place) ? { class: "here" } : {}, ...row.map((cell) => made("td", {}, cell))));
+  return made("table", {}, made("thead", {}, made("tr", {}, ...heads.map((name) => made("th", { scope: "col" }, name)))), made("tbody", {}, ...body));
+}
+const inFlight = (m, k) => column.across[m] >= k && column.stamp[m] < k;
+let flightOf = [0, []];
+function flight(k) {
+  if (flightOf[0] === k) return flightOf[1];
+  const found = [];
+  if (k && cutOf(k, 0) !== undefined) for (let m = 0; m < M; m++) if (column.across[m] >= k && column.stamp[m] < k) found.push(m);
+  flightOf = [k, found];
+  return found;
+}
+function lateOf(k) {
+  const found = [];
+  for (let i = 0; i < column.lateMessage.length; i++) if (column.lateStamp[i] < k && k < column.lateWritten[i]) found.push(column.lateMessage[i]);
+  return found;
+}
+const channelsOf = words.units.map((who) => links.map((link, place) => ({ ...link, place })).filter((link) => link.target === who && (link.sort === "cable" || link.sort === "crossbar")));
+const channelStart = [0];
+for (const list of channelsOf) channelStart.push(channelStart[channelStart.length - 1] + list.length);
+const shortName = (link) => link.spelling.slice(link.spelling.lastIndexOf(" ") + 1);
+function valuesOf(k, place) {
+  const width = channelStart[U];
+  const row = ((k - 1) * U + place) * 2;
+  return {
+    packets: column.counts[row], bytes: column.counts[row + 1],
+    channels: channelsOf[place].map((link, i) => {
+      const at = ((k - 1) * width + channelStart[place] + i) * 2;
+      return { name: shortName(link), link: link.place, packets: column.channels[at], bytes: column.channels[at + 1] };
+    }),
+  };
+}
+function snapshotPanel() {
+  const k = state.snapshot;
+  if (!k) return [made("p", {}, "No snapshot is chosen. Choose one in the strip above, or press n for the next that isn't consistent.")];
+  const told = words.snapshots[k - 1], parts = [];
+  parts.push(made("h2", {}, told.verdict === "consistent" ? "How it was taken" : "What happened, in order"));
+  const story = made("ol", { class: "story" });
+  told.steps.forEach(([place, said, message, snapshot]) => {
+    const isFault = told.verdict !== "consistent" && (place === told.turn || (told.turn === null && place === null));
+    const item = made("li", isFault ? { class: "fault" } : {}, place === null ? made("span", { class: "dim" }, snapshot ? "" : "at the end ") : toTurn(place), made("span", { class: "words" }, " ", ...explained(said), " "));
+    if (message !== null && column.packet[message] >= 0) item.append(toPacket(column.packet[message], "follow the packet"));
+    if (snapshot) item.append(made("button", { class: "go", onclick: () => choose(snapshot) }, `snapshot ${snapshot}`));
+    story.append(item);
+  });
+  parts.push(story);
+  if (told.verdict === "not issued") return parts;
+  if (told.verdict === "consistent") {
+    parts.push(made("h2", {}, "Values: what each unit had counted before the cut"));
+    const rows = words.units.map((who, place) => {
+      const value = valuesOf(k, place);
+      const flying = value.channels.filter((c) => c.packets).map((c) => `${c.name}: ${c.packets} (${c.bytes} bytes)`).join(", ");
+      return [toUnit(who), String(value.packets), String(value.bytes), made("span", { class: "wraps" }, flying || "–"), toTurn(cutOf(k, place), String(cutOf(k, place) + 1))];
+    });
+    parts.push(table(["unit", "packets", "bytes", "in flight to it", "cut at"], rows));
+  } else {
+    const isPending = told.verdict === "pending";
+    parts.push(made("h2", {}, "Where the units were"), made("p", { class: "dim" }, `A snapshot that ${isPending ? "isn't finished" : "failed"} has no values. These are the turns in which each unit reached its number, and the number that it went to.`));
+    const order = words.units.map((who, place) => [who, place]).sort(([a], [b]) => (b === told.unit) - (a === told.unit));
+    const rows = order.map(([who, place]) => {
+      const at = cutOf(k, place), mark = who === told.unit ? made("span", { class: isPending ? "pending" : "bad" }, ` ${standing(told)}`) : "";
+      const went = at < 0 ? idAt(who, T) : column.id[at];
+      return [made("span", {}, toUnit(who), mark), at < 0 ? "never" : toTurn(at, String(at + 1)), went > k ? made("span", { class: "bad", title: `it went over ${k} and saved nothing for it` }, `${went}, over ${k}`) : String(went)];
+    });
+    parts.push(table(["unit", "at turn", "went to"], rows));
+  }
+  const flying = flight(k);
+  if (told.verdict === "pending") {
+    parts.push(made("h2", {}, "In flight across the cut: not known"), made("p", { class: "dim" }, `It isn't known while ${nameOf(told.unit)} waits.${flying.length ? ` Seen so far: ${flying.length}.` : ""}`));
+  } else parts.push(made("h2", {}, `In flight across the cut: ${flying.length}`));
+  if (flying.length) {
+    const rows = flying.slice(0, 100).map((m) => [toPacket(column.packet[m]), links[column.link[m]].spelling, toTurn(put[m], String(put[m] + 1)), toTurn(column.take[m], String(column.take[m] + 1))]);
+    parts.push(table(["packet", "link", "sent", "taken"], rows));
+    if (flying.length > 100) parts.push(made("p", { class: "dim" }, `and ${flying.length - 100} more`));
+  }
+  return parts;
+}
+function wordsOf(m) {
+  const inside = [column.packet[m] >= 0 ? toPacket(column.packet[m], messageName(m)) : messageName(m)];
+  return made("span", {}, ...inside, ` on ${links[column.link[m]].spelling}`, isLost(m) ? made("span", { class: "bad" }, " lost") : "");
+}
+function turnPanel() {
+  const t = state.turn - 1;
+  if (t < 0) return [made("h2", {}, "Before the first turn"), made("p", {}, "Nothing was sent yet. Step on with →.")];
+  const parts = [made("h2", {}, `Turn ${t + 1}: `, made("code", { title: choiceMeaning(turnName(t)) }, turnName(t))), made("p", { class: "dim" }, `${nameOf(actor[t])} ${choiceMeaning(turnName(t))}.`)];
+  const who = actor[t];
+  if (unitOf.has(who)) {
+    const before = idAt(who, t);
+    parts.push(made("p", {}, toUnit(who), before === column.id[t] ? ` stays at ${before}` : ` goes from ${before} to ${column.id[t]}`, `; it has counted ${many(column.packets[t], "packet")}, ${many(column.bytes[t], "byte")}.`));
+    if (column.id[t] > before + 1) parts.push(made("p", { class: "bad" }, column.id[t] - before === 2 ? `It skips ${before + 1}.` : `It skips ${before + 1} to ${column.id[t] - 1}.`));
+  }
+  const m = took[t];
+  parts.push(made("h2", {}, "It took"), made("p", {}, m < 0 ? "nothing" : wordsOf(m), m < 0 ? "" : made("span", {}, ", put at ", toTurn(put[m]))));
+  if (m >= 0 && column.packet[m] >= 0 && column.packetEndTurn[column.packet[m]] === t && column.packetEnd[column.packet[m]] > 1)
+    parts.push(made("p", { class: "bad" }, `and dropped it: ${endWords[words.ends[column.packetEnd[column.packet[m]]]]}`));
+  const puts = [];
+  for (let i = first[t]; i < first[t + 1]; i++) puts.push(i);
+  parts.push(made("h2", {}, `It put${puts.length ? "" : " nothing"}`));
+  for (const i of puts.slice(0, 60)) parts.push(made("p", {}, wordsOf(i), isLost(i) ? "" : column.take[i] < 0 ? ", never taken" : made("span", {}, ", taken at ", toTurn(column.take[i]))));
+  if (puts.length > 60) parts.push(made("p", { class: "dim" }, `and ${puts.length - 60} more`));
+  return parts;
+}
+const endWords = { "under way": "it is still under way at the end", delivered: "delivered", bad: "no plain frame (bad)", expired: "no hops were left (expired)", noroute: "no way leads there (noroute)", lost: "lost on the way" };
+function packetPanel() {
+  const p = state.packet;
+  if (p < 0) return [made("p", {}, "No packet is chosen. Click an arrow of a packet in the diagram, a dot in the net, or find one: packet 5.")];
+  const flow = column.packetFlow[p], end = words.ends[column.packetEnd[p]];
+  const parts = [made("h2", {}, packetName(p)), made("p", {}, `${column.packetBytes[p]} bytes; ${flow < 0 ? "a raw frame" : `flow ${flow}`}; packet ${p} of the run.`)];
+  const rows = [];
+  for (let i = ofPacket.start[p]; i < ofPacket.start[p + 1]; i++) {
+    const m = ofPacket.items[i], link = links[column.link[m]];
+    rows.push([link.spelling, column.stamp[m] === NONE || link.sort === "net" || link.sort === "host" ? "–" : String(column.stamp[m]), toTurn(put[m], String(put[m] + 1)), isLost(m) ? made("span", { class: "bad" }, "lost") : column.take[m] < 0 ? "never" : toTurn(column.take[m], String(column.take[m] + 1))]);
+  }
+  parts.push(table(["link", "number it carries", "put", "taken"], rows, (i) => { const m = ofPacket.items[ofPacket.start[p] + i]; return put[m] < state.turn && takeOf(m) >= state.turn && !isLost(m); }));
+  const at = column.packetEndTurn[p];
+  parts.push(made("p", {}, made("b", end === "delivered" ? {} : { class: "bad" }, `End: ${endWords[end]}`), at < 0 ? "" : made("span", {}, " at ", toTurn(at))));
+  const cuts = new Set();
+  for (let i = ofPacket.start[p]; i < ofPacket.start[p + 1]; i++) { const m = ofPacket.items[i]; for (let k = column.stamp[m] + 1; column.across[m] >= k && k <= K; k++) cuts.add(k); }
+  if (cuts.size) parts.push(made("p", {}, "In flight across the cut of ", ...[...cuts].slice(0, 20).map((k) => made("button", { class: "go", onclick: () => choose(k) }, `snapshot ${k}`))));
+  return parts;
+}
+function unitPanel() {
+  const who = state.unit;
+  if (who < 0) return [made("p", {}, "No unit is chosen. Click one in the net, or find one: in a.0.")];
+  const place = unitOf.get(who), now = state.turn, t = lastTurn(who, now);
+  const parts = [made("h2", {}, `${nameOf(who)}, after turn ${now}`)];
+  parts.push(table(["number", "packets counted", "bytes"], [[String(t < 0 ? 0 : column.id[t]), String(t < 0 ? 0 : column.packets[t]), String(t < 0 ? 0 : column.bytes[t])]]));
+  parts.push(chart(who));
+  parts.push(made("h2", {}, "Last-seen numbers"));
+  const seen = links.map((link, i) => [link, i]).filter(([link]) => link.target === who && ["cable", "crossbar", "init"].includes(link.sort)).map(([link, i]) => {
+    const from = column.seenStart[i], end = lower(from, column.seenStart[i + 1], now, (j) => column.seenTurn[j]);
+    return [shortName(link), end === from ? "0" : String(column.seenNumber[end - 1]), end === from ? "–" : toTurn(column.seenTurn[end - 1], String(column.seenTurn[end - 1] + 1))];
+  });
+  parts.push(table(["channel", "number", "since"], seen));
+  const ring = words.settings.ring, from = column.saveStart[place], to = lower(from, column.saveStart[place + 1], now, (j) => column.saveTurn[j]);
+  const id = t < 0 ? 0 : column.id[t];
+  parts.push(made("h2", {}, `Ring: ${ring} ${ring === 1 ? "slot" : "slots"}`));
+  const credits = new Map();
+  const lastCredit = lower(column.creditStart[place], column.creditStart[place + 1], now, (j) => column.creditTurn[j]);
+  for (let j = lastCredit - 1; j >= column.creditStart[place] && j > lastCredit - 20000; j--) {
+    const key = `${column.creditNumber[j]} ${column.creditLink[j]}`;
+    if (column.creditNumber[j] + ring > id && !credits.has(key)) credits.set(key, `${shortName(links[column.creditLink[j]])}: ${column.creditPackets[j]} (${column.creditBytes[j]} bytes)`);
+  }
+  const rows = [];
+  for (let j = to - 1; j >= from && column.saveNumber[j] + ring > id; j--) {
+    const number = column.saveNumber[j];
+    const given = [...credits].filter(([key]) => key.startsWith(`${number} `)).map(([, text]) => text).join(", ");
+    rows.push([String(number), String(number % ring), String(column.savePackets[j]), String(column.saveBytes[j]), made("span", { class: "wraps" }, given || "–"), toTurn(column.saveTurn[j], String(column.saveTurn[j] + 1))]);
+  }
+  parts.push(rows.length ? table(["number", "slot", "packets", "bytes", "in flight", "saved"], rows.slice(0, 64)) : made("p", { class: "dim" }, "nothing is saved yet"));
+  return parts;
+}
+// A unit's counters and number over all turns, with the chosen turn.
+function chart(who) {
+  const canvas = made("canvas", { class: "chart", role: "img", "aria-label": "packets counted and number over the turns" });
+  const from = turnsOf.start[who], to = turnsOf.start[who + 1];
+  requestAnimationFrame(() => {
+    const [w, h, context] = sized(canvas);
+    const look = colours(), last = to > from ? turnsOf.items[to - 1] : 0;
+    const most = Math.max(1, column.packets[last] || 0), top = Math.max(1, column.id[last] || 0);
+    context.fillStyle = look.paper;
+    context.fillRect(0, 0, w, h);
+    const step = Math.max(1, Math.floor((to - from) / (2 * w)));
+    const line = (value, high, colour) => {
+      context.strokeStyle = colour; context.lineWidth = 1.6; context.beginPath(); context.moveTo(0, h - 4);
+      let y = h - 4;
+      for (let i = from; i < to; i += step) { const t = turnsOf.items[i], x = ((t + 1) / T) * w; context.lineTo(x, y); y = h - 4 - (value[t] / high) * (h - 22); context.lineTo(x, y); }
+      context.lineTo(w, y); context.stroke();
+    };
+    line(column.packets, most, look.data);
+    line(column.id, top, look.spread);
+    context.font = "11px sans-serif";
+    context.fillStyle = look.data; context.fillText(`packets, to ${most}`, 6, 12);
+    context.fillStyle = look.spread; context.fillText(`number, to ${top}`, 120, 12);
+    context.strokeStyle = look.ink; context.lineWidth = 1; context.beginPath(); context.moveTo((state.turn / T) * w, 0); context.lineTo((state.turn / T) * w, h); context.stroke();
+  });
+  canvas.addEventListener("click", (event) => { const turn = (event.offsetX / canvas.clientWidth) * T; change({ turn }); show(state.turn); });
+  return canvas;
+}
+// Polling: the unit at place i is read after start + i * gap turns.
+let reading = null;
+function readingOf(poll) {
+  if (!poll) return null;
+  if (reading && reading.poll === poll) return reading;
+  const [start, gap] = poll;
+  const at = words.units.map((who, place) => Math.min(start + place * gap, T));
+  const of = new Map(words.units.map((who, place) => [who, at[place]]));
+  let broken = -1;
+  for (let t = 0; t < T && broken < 0; t++) {
+    const m = took[t];
+    if (m < 0 || kindOf(m) !== KIND.data) continue;
+    const link = links[column.link[m]];
+    if (link.sort !== "cable" && link.sort !== "crossbar") continue;
+    if (t < of.get(link.target) && put[m] >= of.get(link.source)) broken = m;
+  }
+  reading = { poll, at, of, broken };
+  return reading;
+}
+function pollPanel() {
+  const parts = [made("h2", {}, "Polling in place of a snapshot"), made("p", {}, "One unit after the other is read: the first after S turns, each further one G turns later.")];
+  const field = (name, value) => made("input", { type: "number", min: 0, max: 1000000, id: name, value, style: "width: 90px", "aria-label": name === "poll-start" ? "S, the turn of the first reading" : "G, the turns between two readings" });
+  const start = field("poll-start", state.poll ? state.poll[0] : state.turn), gap = field("poll-gap", state.poll ? state.poll[1] : 3);
+  const go = made("button", { id: "poll-read", onclick: () => { const pair = [start, gap].map((f) => Math.max(0, Math.min(1000000, Math.floor(Number(f.value) || 0)))); change({ poll: pair }); shownPanel = ""; } }, "Read");
+  const off = made("button", { onclick: () => { change({ poll: null }); shownPanel = ""; } }, "Off");
+  parts.push(made("p", {}, "S ", start, " G ", gap, " ", go, " ", off));
+  const found = readingOf(state.poll);
+  if (!found) return parts;
+  if (found.broken < 0) parts.push(made("p", { id: "poll-answer" }, made("b", { class: "consistent" }, "whole"), ": no packet was taken before its taker was read and sent after its sender was."));
+  else {
+    const m = found.broken, link = links[column.link[m]];
+    parts.push(made("p", { id: "poll-answer" }, made("b", { class: "bad" }, "broken"), " by ", toPacket(column.packet[m]), ` on ${link.spelling}: sent at `, toTurn(put[m]), `, after ${nameOf(link.source)} was read, and taken at `, toTurn(column.take[m]), `, before ${nameOf(link.target)} was. So it counts as taken and not as sent: no moment was so.`));
+  }
+  const rows = words.units.map((who, place) => { const t = lastTurn(who, found.at[place]); return [toUnit(who), String(found.at[place]), String(t < 0 ? 0 : column.packets[t]), String(t < 0 ? 0 : column.bytes[t])]; });
+  parts.push(table(["unit", "read after turn", "packets", "bytes"], rows));
+  return parts;
+}

@@ -1,0 +1,463 @@
+"""The page of a run, in a real browser: what it shows of twenty runs, compared with their reports.
+
+With `--pictures FOLDER` it makes the screenshots of the documents there in place of the tests."""
+
+import base64
+import gzip
+import io
+import json
+import re
+import sys
+import tempfile
+import unittest
+from pathlib import Path
+
+from shared import EXAMPLES, TOP, accepted, run
+
+from browser import Browser, in_a_python_with_selenium, lack
+
+in_a_python_with_selenium()
+
+from speedlight_tools import program
+from speedlight_tools.inputs import read_input
+from speedlight_tools.replay import replay
+from speedlight_tools.reports import read_report
+from speedlight_tools.stories import Stories, of_retries, sentence
+
+# Runs beside those of the examples: their inputs by the parameters of tools/topology.
+NETS = {
+    "leaf_spine_with_losses": "leaf-spine --hosts 2 --count 20 --snapshots 8 --every 3 --bits 3 --window 3 --loss-cable 20 --loss-init 60 --seed 3",
+    "line": "line --switches 3 --count 12 --snapshots 5 --every 2 --window 3 --loss-crossbar 30 --loss-notice 100 --seed 2",
+    "ring": "ring --switches 4 --count 9 --snapshots 6 --every 2 --window 2 --loss-init 250 --retries 1 --seed 5",
+}
+PICTURES = {
+    "view": ("leaf_spine_with_losses", "#snapshot=5", 1280, 800, "light", ""),
+    "view_dark": ("two_in_flight", "#snapshot=1&turn=12&poll=3,3", 1280, 800, "dark", ""),
+    "view_values": ("leaf_spine_with_losses", "#snapshot=1", 1280, 800, "light", ""),
+    "view_phone": ("dead_cable", "#snapshot=1", 390, 844, "light", ""),
+}
+
+
+# What happened to the first snapshot of some examples, and to the last of dead_cable, turn by turn, from 0.
+STORIES = {
+    "dead_cable": [
+        [None, "The window is 1: the observer issues 2 only when all units have reported 1, and in a.1 has reported 0."],
+        [None, "So snapshot 1 is what all later ones wait for."],
+    ],
+    "lost_initiation": [
+        [0, "The observer issues snapshot 1."],
+        [1, "control a sends in a.0 the initiation 1: it is lost on the way."],
+        [4, "in a.0 is at 0 and takes the initiation 2 from control a: it goes to 2 at once, and saves nothing for 1."],
+    ],
+    "too_late_packet": [
+        [1, "in a.0 is at 0, so it has not reached 1, and sends out a.1 the packet 0 from h0 to h1. It belongs to 1 as a packet in flight."],
+        [2, "The observer issues snapshot 1."],
+        [8, "out a.1 reaches 1 and saves its counters."],
+        [9, "out a.1 goes on to 2, before the packet has come."],
+        [
+            10,
+            "The packet 0 from h0 to h1 comes, too late: out a.1 is at 2 and can credit it to its last saved number, 2, alone. "
+            "So it is missing from 1.",
+        ],
+    ],
+    "two_in_flight": [
+        [4, "The observer issues snapshot 1."],
+        [6, "in a.1 is the first unit to reach 1, and saves its counters."],
+        [13, "out a.0 is the last unit to reach 1."],
+    ],
+}
+
+
+# Why the first snapshot of some examples failed or isn't finished, as the banner says it.
+WHYS = {
+    "lost_initiation": "At turn 2 control a sends in a.0 the initiation 1: it is lost on the way. At turn 5 in a.0 goes from 0 to 2: it saves nothing for 1.",
+    "too_late_packet": "At turn 2 in a.0 sends out a.1 the packet 0 from h0 to h1; at turn 10 out a.1 goes on to 2, before the packet has come. "
+    "At turn 11 out a.1, at 2 already, takes a packet that in a.0 sent when it was at 0: it is missing from 1.",
+    "dead_cable": "At turn 10 out b.0 sends in a.1 the probe 1: it is lost. "
+    "To in a.1 no number came from out b.0 (cable): what is still on its way from before the cut is not known.",
+}
+TITLES = {"consistent": ": consistent", "pending": ": not finished (pending)", "not issued": ": not begun (not issued)"}
+
+
+def input_of(name, folder):
+    """The path of an input: that of an example, or a net that is made."""
+    if name not in NETS:
+        return EXAMPLES / f"{name}.toml"
+    status, text, errors = run("topology", *NETS[name].split())
+    assert status == 0, errors
+    path = Path(folder) / f"{name}.toml"
+    path.write_text(text)
+    return path
+
+
+def built(name, folder, found):
+    """A run of the input and its page: the path of both, the report and the world."""
+    path = input_of(name, folder)
+    status, told, errors = program.run(found, ["step", "--trace"], path.read_bytes())
+    assert status == 0, errors
+    report = read_report(told.decode())
+    trace = Path(folder) / f"{name}.run"
+    trace.write_bytes(told)
+    status, page, errors = run("view", path, trace)
+    assert (status, errors) == (0, ""), errors
+    made = Path(folder) / f"{name}.html"
+    made.write_text(page)
+    return path, made, report, replay(read_input(path), report.trace)
+
+
+class Words(unittest.TestCase):
+    """What needs no browser."""
+
+    def test_errors_are_plain(self):
+        trace = lambda name: TOP / "docs" / f"{name}.trace"
+        cases = [
+            ([EXAMPLES / "refused.toml", trace("dead_cable")], 3, "I7 flow.0.to"),
+            ([EXAMPLES / "nothing.toml"], 1, "No such file"),
+            ([EXAMPLES / "one_port.toml", trace("dead_cable")], 1, "is not one of this input"),
+            ([EXAMPLES / "dead_cable.toml", EXAMPLES / "dead_cable.toml"], 1, "no report"),
+            ([EXAMPLES / "dead_cable.toml", "--program", "/nothing"], 1, "no program"),
+            ([EXAMPLES / "dead_cable.toml", trace("dead_cable"), "--poll", "-1", "2"], 1, "--poll"),
+        ]
+        for words, wanted, why in cases:
+            status, out, err = run("view", *words)
+            self.assertEqual((status, out, err.count("\n")), (wanted, "", 1), err)
+            self.assertIn(why, err)
+        wrong = trace("lost_initiation").read_text()
+        self.assertIn("without a trace", run("view", EXAMPLES / "lost_initiation.toml", "-", data=wrong.split("trace ")[0])[2])
+        self.assertIn("the turns show", run("view", EXAMPLES / "lost_initiation.toml", "-", data=wrong.replace("to 2", "to 3"))[2])
+
+    def test_one_file_that_loads_nothing(self):
+        page = run("view", EXAMPLES / "dead_cable.toml", TOP / "docs" / "dead_cable.trace")[1]
+        self.assertEqual(page, run("view", EXAMPLES / "dead_cable.toml", TOP / "docs" / "dead_cable.trace")[1])
+        self.assertNotRegex(page, r"<(link|img|iframe)\b|<script[^>]* src=|@import|url\(")
+        self.assertIn("Mike Bostock", page)
+        self.assertNotRegex(page, r"\{\{\w+\}\}")
+
+    def test_the_sentences_are_those_of_diagram(self):
+        for name in ("dead_cable", "lost_initiation", "too_late_packet", "two_in_flight"):
+            given = [EXAMPLES / f"{name}.toml", TOP / "docs" / f"{name}.trace"]
+            words = json.loads(gzip.decompress(base64.b64decode(re.search(r'id="words">(.*?)</script>', run("view", *given)[1])[1])))
+            self.assertIn(f">{words['snapshots'][0]['sentence']}<".replace("'", "&#x27;"), run("diagram", *given)[1])
+            self.assertEqual([[place, said] for place, said, *_ in words["snapshots"][-1 if name == "dead_cable" else 0]["steps"]], STORIES[name])
+
+
+    def test_retries_in_words(self):
+        cases = {
+            (0, 0): "the input allows no retries",
+            (0, 1): "the one retry was not used",
+            (1, 1): "the one retry is used up",
+            (1, 3): "1 of 3 retries was used",
+            (2, 3): "2 of 3 retries were used",
+            (3, 3): "all 3 retries are used up",
+        }
+        for (used, allowed), words in cases.items():
+            self.assertEqual(of_retries(used, allowed), words)
+
+
+@unittest.skipIf(lack(), lack())
+@unittest.skipUnless(program.compiled(), "no program is built")
+class Page(unittest.TestCase):
+    @classmethod
+    def setUpClass(cls):
+        cls.folder = tempfile.TemporaryDirectory()
+        cls.program = program.compiled()
+        cls.browser = Browser()
+
+    @classmethod
+    def tearDownClass(cls):
+        cls.browser.__exit__()
+        cls.folder.cleanup()
+
+    def test_twenty_runs(self):
+        names = [path.stem for path in accepted()] + list(NETS)
+        self.assertGreaterEqual(len(names), 20)
+        for name in names:
+            with self.subTest(run=name):
+                path, page, report, world = built(name, self.folder.name, self.program)
+                self.browser.open(page)
+                self.verdicts(path, report, world)
+                self.scrubs(report)
+                self.follows_packets(world)
+                self.polls(path, report, world)
+                self.assertEqual(self.browser.told(), [])
+
+    def verdicts(self, path, report, world):
+        """The strip, and of some snapshots the sentence, the cut, the counts and what was in flight."""
+        code = "return [...document.querySelectorAll('#snapshots button')].map(b => [b.title, b.getAttribute('aria-label')])"
+        shown = self.browser.run(code)
+        wanted = [[s.line, f"snapshot {s.number}, {s.verdict}"] for s in report.snapshots]
+        self.assertEqual(shown, wanted[: len(shown)])
+        self.assertGreaterEqual(len(shown), min(len(wanted), 75))
+        stories = Stories(world, read_input(path), report.snapshots)
+        first = {}
+        for s in report.snapshots:
+            first.setdefault(s.verdict, s)
+        for s in [*report.snapshots[:2], *(s for s in first.values() if s.number > 2)]:
+            self.browser.click(f'#snapshots [data-snapshot="{s.number}"]')
+            told = self.browser.text("#verdict")
+            self.assertIn(s.line, told)
+            self.assertIn(f"Snapshot {s.number}{TITLES.get(s.verdict, f' failed: {s.verdict}')}", told)
+            self.assertLessEqual(*self.browser.run("const p = document.getElementById('panel'); return [p.scrollWidth, p.clientWidth]"))
+            if s.verdict == "not issued":
+                continue
+            why = [stories.cause(s)[0], sentence(world, s)]
+            self.assertIn(" ".join(part for part in why if part), told)
+            self.assertEqual(stories.besides(s) is not None, "could not become consistent any more" in told)
+            rows = self.browser.rows()
+            units = sorted(world.net.units, key=lambda unit: unit != s.unit)
+            mark = " waiting" if s.verdict == "pending" else " at fault"
+            self.assertEqual([row[0] for row in rows], [unit + mark if unit == s.unit else unit for unit in units])
+            crossings = [world.crossing(u, s.number) for u in units]
+            if s.verdict == "consistent":
+                self.counts(s, rows, crossings, world)
+            else:
+                self.assertEqual([row[1] for row in rows], ["never" if t is None else str(t.place + 1) for t in crossings])
+            if s.verdict == "pending":
+                panel = self.browser.text("#panel")
+                self.assertIn("In flight across the cut: not known", panel)
+                self.assertNotIn("fault", panel)
+                self.assertNotIn("failed", told)
+        self.cut_in_the_net(report, world)
+
+    def counts(self, s, rows, crossings, world):
+        for row, counts, crossing in zip(rows, s.counts, crossings):
+            self.assertEqual(row[1:3], [str(counts.packets), str(counts.size)])
+            flying = [f"{c}: {n} ({size} bytes)" for c, (n, size) in counts.channels.items() if n]
+            self.assertEqual(row[3], ", ".join(flying) or "–")
+            self.assertEqual(row[4], str(crossing.place + 1))
+        flight = sum(n for c in s.counts for n, _ in c.channels.values())
+        self.assertIn(f"In flight across the cut: {flight}", self.browser.text("#panel"))
+        values = self.browser.run("return [...document.querySelectorAll('.value')].map(v => [v.dataset.value, v.firstChild.textContent])")
+        self.assertEqual(dict(values), {c.unit: str(c.packets) for c in s.counts})
+
+    def cut_in_the_net(self, report, world):
+        """At any turn the units that have reached the chosen snapshot are marked, and each shows its number."""
+        chosen = next((s for s in report.snapshots if s.verdict != "not issued"), None)
+        if chosen is None:
+            return
+        self.browser.click(f'#snapshots [data-snapshot="{chosen.number}"]')
+        for turn in (0, len(report.trace) // 3, len(report.trace)):
+            self.browser.run("speedlight.change({turn: arguments[0]})", turn)
+            self.browser.settled()
+            code = "return [...document.querySelectorAll('.unit')].map(u => [u.dataset.unit, u.classList.contains('reached'), u.querySelector('text').textContent])"
+            for unit, reached, number in self.browser.run(code):
+                crossing = world.crossing(unit, chosen.number)
+                self.assertEqual(reached, crossing is not None and crossing.place < turn, (unit, turn))
+                last = max((n for n, t in zip(world.adopted[unit], world.adopting[unit]) if t.place < turn), default=0)
+                self.assertEqual(number, str(last) if last < 1000 else f"…{last % 100:02}")
+
+    def scrubs(self, report):
+        """The bar, the keys and the field lead to a turn, whose text is that of the trace."""
+        trace = report.trace
+        text = lambda turn: f"turn {turn:,} of {len(trace):,}: {trace[turn - 1] if turn else 'nothing yet'}"
+        self.browser.click("#panel")
+        self.browser.key("\ue011")
+        self.browser.click("#start")
+        self.assertEqual(self.browser.text("#now"), text(0))
+        if not trace:
+            return
+        self.browser.click("#on")
+        self.assertEqual(self.browser.text("#now"), text(1))
+        self.browser.run("document.activeElement.blur()")
+        self.browser.key("\ue014")
+        self.assertEqual(self.browser.text("#now"), text(min(2, len(trace))))
+        self.browser.key("\ue010")
+        self.assertEqual(self.browser.text("#now"), text(len(trace)))
+        for turn in {1, len(trace) // 2 or 1, len(trace)}:
+            code = "const b = document.querySelector('#turn'); b.value = arguments[0]; b.dispatchEvent(new Event('input'))"
+            self.browser.run(code, turn)
+            self.browser.settled()
+            self.assertEqual(self.browser.text("#now"), text(turn))
+        middle = len(trace) // 2 or 1
+        self.browser.find(f"turn {middle}")
+        self.assertIn(f"Turn {middle}: {trace[middle - 1]}", self.browser.text("#panel"))
+
+    def follows_packets(self, world):
+        """The way of the first and the last packet, and its end."""
+        ways = {}
+        for message in world.messages:
+            if message.packet is not None:
+                ways.setdefault(message.packet.sent, []).append(message)
+        for place in {0, len(ways) - 1} if ways else ():
+            self.browser.find(f"packet {place}")
+            way = list(ways.values())[place]
+            rows = self.browser.rows()
+            wanted = [[m.link.spelling, str(m.put.place + 1), "lost" if m.lost else str(m.take.place + 1) if m.take else "never"] for m in way]
+            self.assertEqual([[row[0], row[2], row[3]] for row in rows], wanted)
+            last = way[-1]
+            end = "lost on the way" if last.lost else "under way" if last.take is None else last.take.dropped or "delivered"
+            self.assertIn(end, self.browser.text("#panel"))
+            marked = self.browser.run("return [...document.querySelectorAll('.wire.path')].map(w => speedlight.words.links[w.dataset.link][0])")
+            self.assertEqual(set(marked), {m.link.spelling for m in way})
+
+    def polls(self, path, report, world):
+        """Some readings, as the program tells them."""
+        readings = ((len(report.trace) // 3, 2), (3, 7), (0, 0))
+        for start, gap in readings if len(report.trace) < 5000 else readings[:1]:
+            told = program.run(self.program, ["poll", str(start), str(gap)], path.read_bytes())[1].decode().splitlines()
+            self.browser.click('#tabs [data-tab="poll"]')
+            for field, value in (("poll-start", start), ("poll-gap", gap)):
+                self.browser.run("document.getElementById(arguments[0]).value = arguments[1]", field, value)
+            self.browser.click("#poll-read")
+            rows = [f"read {' '.join(row)}" for row in self.browser.rows()]
+            self.assertEqual(rows, told[1 : 1 + len(world.net.units)])
+            answer = self.browser.text("#poll-answer")
+            if told[-2] == "whole":
+                self.assertTrue(answer.startswith("whole"), answer)
+            else:
+                found = re.fullmatch(r"broken (.*) sent (\d+) received (\d+)", told[-2])
+                self.assertTrue(answer.startswith("broken"), answer)
+                for part in (f"on {found[1]}:", f"sent at turn {found[2]},", f"taken at turn {found[3]},"):
+                    self.assertIn(part, answer)
+
+    def test_addresses(self):
+        _, page, report, world = built("too_late_packet", self.folder.name, self.program)
+        self.browser.open(page, "#snapshot=2&turn=9&unit=in_a.0")
+        self.assertIn("Snapshot 2", self.browser.text("#verdict"))
+        self.assertTrue(self.browser.text("#now").startswith("turn 9 "))
+        self.assertIn("in a.0, after turn 9", self.browser.text("#panel"))
+        self.browser.open(page, "#poll=3,3")
+        self.assertIn("Polling", self.browser.text("#panel"))
+        self.browser.open(page, "#snapshot=99&turn=x&unit=nobody&packet=77&poll=1")
+        self.assertIn("Snapshot 1", self.browser.text("#verdict"))
+        self.browser.click('#snapshots [data-snapshot="2"]')
+        self.browser.until("return location.hash.startsWith('#snapshot=2&turn=')")
+        self.assertEqual(self.browser.told(), [])
+
+    def test_the_keys_and_the_tabs(self):
+        _, page, report, _ = built("leaf_spine_with_losses", self.folder.name, self.program)
+        self.browser.open(page)
+        failed = [s.number for s in report.snapshots if s.verdict != "consistent"]
+        self.assertIn(f"Snapshot {failed[0]} failed", self.browser.text("#verdict"))
+        self.browser.key("n")
+        self.assertIn(f"Snapshot {failed[1]} failed", self.browser.text("#verdict"))
+        self.browser.key("[")
+        self.assertIn(f"Snapshot {failed[1] - 1}", self.browser.text("#verdict"))
+        before = self.browser.run("return speedlight.state.turn")
+        self.browser.key("c")
+        self.assertEqual(self.browser.run("return document.getElementById('control').getAttribute('aria-pressed')"), "true")
+        self.browser.key(" ")
+        self.browser.until(f"return speedlight.state.turn > {before}")
+        self.browser.key(" ")
+        self.browser.find("in l0.2")
+        self.assertIn("Last-seen numbers", self.browser.text("#panel"))
+        self.browser.find("h0 h1")
+        self.assertIn("from h0 to h1", self.browser.text("#panel"))
+        self.browser.click("#theme")
+        self.browser.click("#help-open")
+        self.assertIn("Keys", self.browser.text("#help"))
+        self.assertEqual(self.browser.told(), [])
+
+    def test_clicks_in_the_pictures(self):
+        """An arrow of the diagram chooses its packet, a row its turn, and a unit of the net itself."""
+        _, page, report, world = built("two_in_flight", self.folder.name, self.program)
+        self.browser.open(page)
+        message = next(m for m in world.messages if m.packet is not None and m.packet.sent.seq == 1 and m.link.sort == "crossbar")
+        x, y = self.browser.run("return speedlight.middleOf(arguments[0])", message.place)
+        self.browser.point("#plot", x, y)
+        self.assertIn("packet 1 from h0 to h1", self.browser.text("#tip"))
+        self.browser.point("#plot", x, y, click=True)
+        self.assertIn("packet 1 from h0 to h1", self.browser.text("#panel"))
+        rows = self.browser.rows()
+        self.assertEqual([row[0] for row in rows], ["in a.0 host", "out a.1 x0", "host h1 net"])
+        _, y = self.browser.run("return speedlight.middleOf(0)")
+        self.browser.point("#plot", 60, y, click=True)
+        self.assertIn(f"Turn {self.browser.run('return speedlight.state.turn')}: host h0 inject", self.browser.text("#panel"))
+        self.browser.point('[data-unit="out a.1"] .body', click=True)
+        self.assertIn("out a.1, after turn", self.browser.text("#panel"))
+        self.assertEqual(self.browser.told(), [])
+
+    def test_why(self):
+        """The banner begins with the cause; the report's line stands below it, smaller."""
+        for name, words in WHYS.items():
+            page = built(name, self.folder.name, self.program)[1]
+            self.browser.open(page, "#snapshot=1")
+            self.assertEqual(self.browser.text("#verdict .why"), f"Why: {words}")
+            sizes = self.browser.run("return ['.why', '.line'].map(n => parseFloat(getComputedStyle(document.querySelector('#verdict ' + n)).fontSize))")
+            self.assertGreater(*sizes)
+            titles = self.browser.run("return [...document.querySelectorAll('#verdict abbr')].map(a => [a.textContent, a.title])")
+            self.assertTrue(all(title for _, title in titles))
+            self.assertEqual([word for word, _ in titles], [word for word in re.findall(r"initiation|probe|cable", words)])
+
+    def test_the_turn_at_fault_is_in_the_middle(self):
+        """And what it came of is in view, or has a mark at the edge that leads to it."""
+        _, page, report, world = built("leaf_spine_with_losses", self.folder.name, self.program)
+        self.browser.open(page)
+        stories = Stories(world, read_input(Path(self.folder.name) / "leaf_spine_with_losses.toml"), report.snapshots)
+        high = self.browser.run("return document.getElementById('plot').clientHeight")
+        told = 0
+        for s in report.snapshots:
+            if s.verdict == "consistent":
+                continue
+            self.browser.click(f'#snapshots [data-snapshot="{s.number}"]')
+            fault, cause = stories.fault(s)[0], stories.cause(s)[1]
+            heights = [self.browser.run("return speedlight.heightOf(arguments[0])", turn) for turn in (fault, cause)]
+            if 0 <= heights[1] <= high:
+                self.assertTrue(0 <= heights[0] <= high, heights)
+                continue
+            self.assertAlmostEqual(heights[0], self.browser.run("return document.getElementById('plot').clientHeight") / 2, delta=2)
+            self.assertEqual(self.browser.run("return speedlight.edges()"), [f"↑ lost at turn {cause + 1}"])
+            told += 1
+        self.assertGreater(told, 0)
+        _, page, _, world = built("too_late_packet", self.folder.name, self.program)
+        self.browser.open(page, "#snapshot=1")
+        self.assertEqual(self.browser.run("return speedlight.edges()"), [])
+
+    def test_nothing_is_cut_off_or_stretched(self):
+        """The head, the rows, and the port names of some nets, which lie on no unit and on no other name; sizes change."""
+        code = """
+            const boxes = (n) => [...document.querySelectorAll(n)].map(e => e.getBoundingClientRect()), names = boxes('#picture .side'), units = boxes('#picture .unit .body');
+            const meet = (a, b) => a.left < b.right - 1 && b.left < a.right - 1 && a.top + 2 < b.bottom - 2 && b.top + 2 < a.bottom - 2;
+            return [names.length, names.filter((a, i) => names.some((b, j) => i < j && meet(a, b)) || units.some(b => meet(a, b))).length]"""
+        for name in ("dead_cable", "too_late_packet", "lost_initiation", "line"):
+            page, _, world = built(name, self.folder.name, self.program)[1:]
+            self.browser.open(page)
+            self.assertEqual(self.browser.run(code), [len(world.net.units), 0], name)
+            self.assertTrue(self.browser.run("const s = document.getElementById('summary'); return s.scrollWidth <= s.clientWidth"))
+            chosen = "const b = document.querySelector('#snapshots [aria-pressed=true]'), m = document.createElement('i'); m.className = b.className; document.body.append(m); const c = [getComputedStyle(b).color, getComputedStyle(m).color]; m.remove(); return c"
+            self.assertEqual(len(set(self.browser.run(chosen))), 1)
+            self.assertTrue(self.browser.run("return document.getElementById('marks').open"))
+        try:
+            self.browser.size(1280, 700)
+            self.browser.settled()
+            self.assertEqual(*self.browser.run("const p = document.getElementById('plot'); return [p.height, p.clientHeight]"))
+        finally:
+            self.browser.size(1280, 800)
+
+    def test_a_phone(self):
+        _, page, _, _ = built("dead_cable", self.folder.name, self.program)
+        try:
+            self.browser.size(390, 844)
+            self.browser.open(page)
+            for part in ("details", "net", "time"):
+                self.browser.click(f'#switch [data-show="{part}"]')
+                code = "return ['details', 'net', 'time'].filter(n => document.getElementById(n).getBoundingClientRect().height > 100)"
+                self.assertEqual(self.browser.run(code), [part])
+            self.assertLessEqual(self.browser.run("return document.documentElement.scrollWidth"), 390)
+            self.assertEqual(self.browser.told(), [])
+        finally:
+            self.browser.size(1280, 800)
+
+
+def pictures(folder):
+    """The screenshots of the documents, with few colours."""
+    from PIL import Image
+
+    with tempfile.TemporaryDirectory() as scratch, Browser() as browser:
+        for name, (run_name, address, width, height, theme, code) in PICTURES.items():
+            page = built(run_name, scratch, program.find())[1]
+            browser.size(width, height)
+            browser.theme(theme)
+            browser.open(page, address)
+            if code:
+                browser.run(code)
+            browser.settled()
+            image = Image.open(io.BytesIO(browser.picture())).convert("RGB")
+            image.quantize(160, method=Image.Quantize.FASTOCTREE, dither=Image.Dither.NONE).save(Path(folder) / f"{name}.png", optimize=True)
+
+
+if __name__ == "__main__":
+    if sys.argv[1:2] == ["--pictures"]:
+        pictures(sys.argv[2])
+    else:
+        unittest.main()

@@ -14,8 +14,8 @@ _speedlight() {
     sample) option=--input words=$(seq 1 64) ;;
     *) return ;;
     esac
-    # The option stands at most once.
-    if [[ " ${COMP_WORDS[*]:2:COMP_CWORD-2} " == *" $option "* ]]; then option=; fi
+    # The option stands at most once, and not after a word that is -- alone.
+    if [[ " ${COMP_WORDS[*]:2:COMP_CWORD-2} " == *" $option "* || " ${COMP_WORDS[*]:2:COMP_CWORD-2} " == *" -- "* ]]; then option=; fi
     mapfile -t COMPREPLY < <(compgen -W "$option $words" -- "$word")
 }
 complete -o default -F _speedlight speedlight

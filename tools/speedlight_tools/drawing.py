@@ -5,10 +5,10 @@ Time goes down, a row for each turn; each actor has a column.
 
 from bisect import bisect_left
 from html import escape
+from textwrap import wrap
 
-from .stories import sentence
-
-ROW, TOP = 17, 104
+# Rows begin at TOP where one line is said of the verdict, and a LINE lower for each further one.
+ROW, TOP, LINE = 17, 104, 16
 # A picture of more rows than a screenful has the names of its columns again above each further one, and the legend beside each.
 SCREEN, BAND = 44, 34
 INK, FAINT, GREY, PAPER = "#222222", "#c4c4c4", "#8a8a8a", "#ffffff"
@@ -39,11 +39,12 @@ MONO = "DejaVu Sans Mono, Consolas, monospace"
 class Drawing:
     """The picture of a world's turns with the cut of one snapshot.
 
-    `actors` are those that have a column, `turns` the first and the last place that has a row. `pace` is where the
-    units are polled: the first after so many turns, each further one after so many more.
+    `actors` are those that have a column, `turns` the first and the last place that has a row. `whys` are the sentences
+    on the verdict. `pace` is where the units are polled: the first after so many turns, each further one after so many
+    more.
     """
 
-    def __init__(self, world, verdict, actors, turns, pace=None):
+    def __init__(self, world, verdict, whys, actors, turns, pace=None):
         self.world, self.verdict, self.snapshot = world, verdict, verdict.number
         net = world.net
         self.first, self.last = turns
@@ -65,12 +66,15 @@ class Drawing:
         self.side = left + column * len(self.columns) + 24
         self.is_long = len(self.shown) > SCREEN
         self.width = self.side + 500 if self.is_long else max(self.side - 16, 900)
-        self.bottom = self.row_y(len(self.shown) - 1) + 2 * ROW if self.shown else TOP + ROW
+        # A letter of this size takes seven units at most, but for the widest.
+        self.said = [line for words in whys for line in wrap(words, (self.width - 80) // 7)]
+        self.top = TOP + LINE * (len(self.said) - 1)
+        self.bottom = self.row_y(len(self.shown) - 1) + 2 * ROW if self.shown else self.top + ROW
         self.parts = []
 
     def row_y(self, row):
         """The height of a row: the bands with the names of the columns stand between."""
-        return TOP + ROW * row + BAND * (max(row, 0) // SCREEN)
+        return self.top + ROW * row + BAND * (max(row, 0) // SCREEN)
 
     def y(self, place):
         """The height of a turn: that of its row, or between two rows where it has none."""
@@ -181,14 +185,15 @@ class Drawing:
 
     def title(self):
         self.text(self.verdict.line, 40, 26, self.colour, 16, font_weight="bold")
-        self.text(sentence(self.world, self.verdict), 40, 46, INK, 12)
+        for place, line in enumerate(self.said):
+            self.text(line, 40, 46 + LINE * place, INK, 12)
         turns = len(self.world.turns)
         if self.first > 0 or self.last < turns - 1:
-            self.text(f"turns {self.first + 1} to {min(self.last + 1, turns)} of {turns}", 40, 64, GREY, 11)
+            self.text(f"turns {self.first + 1} to {min(self.last + 1, turns)} of {turns}", 40, self.top - 40, GREY, 11)
 
     def shade(self):
         points = self.cut_points()
-        points = [(points[0][0], TOP - 4), *points, (points[-1][0], TOP - 4)]
+        points = [(points[0][0], self.top - 4), *points, (points[-1][0], self.top - 4)]
         self.add("polygon", points=points_text(points), fill=self.shade_colour)
 
     def cut_points(self):
@@ -199,7 +204,7 @@ class Drawing:
         return points
 
     def rows(self):
-        self.text("turn", 30, TOP - 24, GREY, 11, text_anchor="end")
+        self.text("turn", 30, self.top - 24, GREY, 11, text_anchor="end")
         for place in self.shown:
             turn, y = self.world.turns[place], self.y(place)
             self.text(str(place + 1), 30, y + 4, GREY, 11, text_anchor="end")
@@ -209,8 +214,8 @@ class Drawing:
         for actor in self.columns:
             x = self.xs[actor]
             look = {"stroke": INK, "stroke_width": 1.4} if actor in self.cuts else {"stroke": FAINT, "stroke_width": 1}
-            self.line(x, TOP - 4, x, self.bottom, **look)
-        self.names(TOP - 24)
+            self.line(x, self.top - 4, x, self.bottom, **look)
+        self.names(self.top - 24)
         for row in range(SCREEN, len(self.shown), SCREEN):
             self.names(self.row_y(row) - 6)
 
@@ -220,7 +225,7 @@ class Drawing:
             x, is_at_fault = self.xs[actor], actor == self.verdict.unit
             wide = 8 * len(actor) + 14
             look = {"stroke": self.colour, "stroke_width": 2} if is_at_fault else {}
-            if is_at_fault or y > TOP:
+            if is_at_fault or y > self.top:
                 self.add("rect", x=x - wide / 2, y=y - 16, width=wide, height=22, rx=4, fill=PAPER, **look)
             self.text(
                 actor,

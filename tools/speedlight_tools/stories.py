@@ -142,6 +142,15 @@ class Stories:
             return None, None, None
         return (step.words if step.place is None else f"At turn {step.place + 1} {step.words}"), step.place, step.message
 
+    def whys(self, verdict):
+        """What is said of a snapshot: the sentence that comes first is what it came of, where that is known; then what
+        that led to, and what else would have failed it."""
+        if verdict.verdict == "not issued":
+            return [self.not_issued(verdict)]
+        besides = self.besides(verdict)
+        last = f"At turn {besides.place + 1} {besides.words}" if besides else None
+        return [words for words in (self.cause(verdict)[0], sentence(self.world, verdict), last) if words]
+
     def besides(self, verdict):
         """Of a pending snapshot, the first turn that would fail it once nothing waited: it went over the number, or took
         a packet too late; or None."""

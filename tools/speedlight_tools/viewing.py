@@ -7,7 +7,7 @@ import sys
 from array import array
 
 from .drawing import ordered
-from .stories import Stories, sentence
+from .stories import Stories
 
 NONE = 0xFFFFFFFF
 KINDS = ("data", "frame", "begin", "init", "probe", "notice", "poll", "dump", "done")
@@ -217,18 +217,15 @@ class Run:
         for s in self.report.snapshots:
             issued = s.verdict != "not issued"
             place, message = stories.fault(s)
-            cause, begun, carried = stories.cause(s)
-            besides = stories.besides(s)
+            _, begun, carried = stories.cause(s)
             told.append(
                 {
                     "verdict": s.verdict,
                     "line": s.line,
                     "unit": self.actors.get(s.unit, -1) if s.unit else -1,
-                    "sentence": sentence(self.world, s) if issued else stories.not_issued(s),
-                    "cause": cause,
+                    "whys": stories.whys(s),
                     "causeTurn": begun,
                     "causeMessage": carried,
-                    "besides": f"At turn {besides.place + 1} {besides.words}" if besides else None,
                     "turn": place,
                     "message": message,
                     "steps": [[p.place, p.words, p.message, p.snapshot] for p in stories.steps(s)],

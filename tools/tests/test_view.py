@@ -22,7 +22,7 @@ from speedlight_tools import program
 from speedlight_tools.inputs import read_input
 from speedlight_tools.replay import replay
 from speedlight_tools.reports import read_report
-from speedlight_tools.stories import Stories, of_retries, sentence
+from speedlight_tools.stories import Stories, of_retries
 
 # Runs beside those of the examples: their inputs by the parameters of tools/topology.
 NETS = {
@@ -68,13 +68,20 @@ STORIES = {
 }
 
 
-# Why the first snapshot of some examples failed or isn't finished, as the banner says it.
+# Why the first snapshot of some examples failed or isn't finished: the banner has the first sentence, and the rest below.
 WHYS = {
-    "lost_initiation": "At turn 2 control a sends in a.0 the initiation 1: it is lost on the way. At turn 5 in a.0 goes from 0 to 2: it saves nothing for 1.",
-    "too_late_packet": "At turn 2 in a.0 sends out a.1 the packet 0 from h0 to h1; at turn 10 out a.1 goes on to 2, before the packet has come. "
-    "At turn 11 out a.1, at 2 already, takes a packet that in a.0 sent when it was at 0: it is missing from 1.",
-    "dead_cable": "At turn 10 out b.0 sends in a.1 the probe 1: it is lost. "
-    "To in a.1 no number came from out b.0 (cable): what is still on its way from before the cut is not known.",
+    "lost_initiation": [
+        "At turn 2 control a sends in a.0 the initiation 1: it is lost on the way.",
+        "At turn 5 in a.0 goes from 0 to 2: it saves nothing for 1.",
+    ],
+    "too_late_packet": [
+        "At turn 2 in a.0 sends out a.1 the packet 0 from h0 to h1; at turn 10 out a.1 goes on to 2, before the packet has come.",
+        "At turn 11 out a.1, at 2 already, takes a packet that in a.0 sent when it was at 0: it is missing from 1.",
+    ],
+    "dead_cable": [
+        "At turn 10 out b.0 sends in a.1 the probe 1: it is lost.",
+        "To in a.1 no number came from out b.0 (cable): what is still on its way from before the cut is not known.",
+    ],
 }
 TITLES = {"consistent": ": consistent", "pending": ": not finished (pending)", "not issued": ": not begun (not issued)"}
 
@@ -137,7 +144,10 @@ class Words(unittest.TestCase):
         for name in ("dead_cable", "lost_initiation", "too_late_packet", "two_in_flight"):
             given = [EXAMPLES / f"{name}.toml", TOP / "docs" / f"{name}.trace"]
             words = json.loads(gzip.decompress(base64.b64decode(re.search(r'id="words">(.*?)</script>', run("view", *given)[1])[1])))
-            self.assertIn(f">{words['snapshots'][0]['sentence']}<".replace("'", "&#x27;"), run("diagram", *given)[1])
+            self.assertEqual(words["snapshots"][0]["whys"], WHYS.get(name, ["No unit took before the cut what was sent after it."]))
+            drawn = re.findall(r"<text [^>]*>([^<]*)<", run("diagram", *given)[1])
+            said = " ".join(words["snapshots"][0]["whys"])
+            self.assertTrue(" ".join(drawn[1:]).startswith(said), drawn[:4])
             self.assertEqual([[place, said] for place, said, *_ in words["snapshots"][-1 if name == "dead_cable" else 0]["steps"]], STORIES[name])
 
 
@@ -200,8 +210,10 @@ class Page(unittest.TestCase):
             self.assertLessEqual(*self.browser.run("const p = document.getElementById('panel'); return [p.scrollWidth, p.clientWidth]"))
             if s.verdict == "not issued":
                 continue
-            why = [stories.cause(s)[0], sentence(world, s)]
-            self.assertIn(" ".join(part for part in why if part), told)
+            whys = stories.whys(s)
+            self.assertTrue(self.browser.text("#verdict .why").endswith(whys[0]), whys)
+            if whys[1:]:
+                self.assertEqual(self.browser.text("#verdict .then"), " ".join(whys[1:]))
             self.assertEqual(stories.besides(s) is not None, "could not become consistent any more" in told)
             rows = self.browser.rows()
             units = sorted(world.net.units, key=lambda unit: unit != s.unit)
@@ -368,16 +380,17 @@ class Page(unittest.TestCase):
         self.assertEqual(self.browser.told(), [])
 
     def test_why(self):
-        """The banner begins with the cause; the report's line stands below it, smaller."""
-        for name, words in WHYS.items():
+        """The banner has the cause in one sentence; the rest and the report's line stand below it, smaller."""
+        for name, (first, *rest) in WHYS.items():
             page = built(name, self.folder.name, self.program)[1]
             self.browser.open(page, "#snapshot=1")
-            self.assertEqual(self.browser.text("#verdict .why"), f"Why: {words}")
-            sizes = self.browser.run("return ['.why', '.line'].map(n => parseFloat(getComputedStyle(document.querySelector('#verdict ' + n)).fontSize))")
-            self.assertGreater(*sizes)
+            self.assertEqual(self.browser.text("#verdict .why"), f"Why: {first}")
+            self.assertEqual(self.browser.text("#verdict .then"), " ".join(rest))
+            sizes = self.browser.run("return ['.why', '.then', '.line'].map(n => parseFloat(getComputedStyle(document.querySelector('#verdict ' + n)).fontSize))")
+            self.assertEqual(sizes, sorted(set(sizes), reverse=True))
             titles = self.browser.run("return [...document.querySelectorAll('#verdict abbr')].map(a => [a.textContent, a.title])")
             self.assertTrue(all(title for _, title in titles))
-            self.assertEqual([word for word, _ in titles], [word for word in re.findall(r"initiation|probe|cable", words)])
+            self.assertEqual([word for word, _ in titles], [word for word in re.findall(r"initiation|probe|cable", " ".join([first, *rest]))])
 
     def test_the_turn_at_fault_is_in_the_middle(self):
         """And what it came of is in view, or has a mark at the edge that leads to it."""

@@ -91,11 +91,12 @@ function verdictBanner() {
   const k = state.snapshot, told = words.snapshots[k - 1];
   place.className = told.verdict.replace(" ", "-");
   place.append(made("div", { class: "head" }, made("b", {}, `${MARKS[told.verdict]} ${titleOf(k)}`)));
-  const said = [told.cause, told.sentence, told.besides].filter(Boolean).join(" ");
-  const why = made("p", { class: "why" }, told.verdict === "consistent" ? "" : made("b", {}, "Why: "), ...explained(said));
+  const [first, ...more] = told.whys;
+  const why = made("p", { class: "why" }, told.verdict === "consistent" ? "" : made("b", {}, "Why: "), ...explained(first));
+  const then = more.length ? [made("p", { class: "then" }, ...explained(more.join(" ")))] : [];
   const line = made("p", { class: "line" }, "In the report: ", made("code", {}, told.line), " ");
   for (const turn of new Set([told.causeTurn, told.turn])) if (turn !== null) line.append(toTurn(turn, `show turn ${turn + 1}`));
-  place.append(why, line);
+  place.append(why, ...then, line);
 }
 
 // The details.

@@ -66,7 +66,7 @@ function layColumns() {
   view.shown = words.order.filter((who) => (told.size ? told.has(who) : state.control || !isControl[who]));
   const w = plot.clientWidth;
   // Room for the longest row, and on the right for a name that stands aslant.
-  view.gutter = w < 420 ? 104 : Math.round(Math.min(Math.max(120, 6.7 * (LONGEST + DIGITS + 1) + 22), w * 0.44));
+  view.gutter = Math.round(Math.min(Math.max(w < 420 ? 104 : 120, 6.7 * (LONGEST + DIGITS + 1) + 22), w * 0.44));
   const fit = (margin) => (w - view.gutter - margin) / Math.max(1, view.shown.length);
   view.margin = fit(14) >= 62 ? 14 : 40;
   view.width = Math.max(LEAST, Math.min(110, fit(view.margin))) * view.wide;
@@ -367,17 +367,18 @@ function rows(context, c, from, to, k, at, h) {
   context.textAlign = "left"; context.textBaseline = "middle"; context.font = '11px "DejaVu Sans Mono", ui-monospace, monospace';
   const step = k >= 12 ? 1 : [2, 5, 10, 20, 50, 100, 200, 500, 1000, 2000, 5000, 10000, 20000, 50000, 100000, 200000].find((n) => n * k >= 22) || 500000;
   const start = Math.ceil((from + 1) / step) * step;
-  const name = (t) => { const said = turnName(t), room = Math.floor((view.gutter - 12) / 6.7) - String(t + 1).length - 1; const choice = said.slice(said.lastIndexOf(" ")); return said.length <= room ? said : choice.length + 3 < room ? `${said.slice(0, room - choice.length - 1)}…${choice}` : `${said.slice(0, room - 1)}…`; };
+  // A name that is too long for its room is drawn narrower, and whole.
+  const name = (n, x, y) => context.fillText(turnName(n - 1), x, y, view.gutter - 12 - x);
   for (let n = start; n <= to; n += step) {
     const y = at(n - 1);
     if (n === state.turn) continue;
     if (k < 12 && state.turn && Math.abs(y - at(state.turn - 1)) < 14) continue;
     context.fillStyle = c.dim; context.fillText(String(n), 6, y);
-    if (k >= 12) { context.fillStyle = c.ink; context.fillText(name(n - 1), 6 + 6.7 * (String(n).length + 1), y); }
+    if (k >= 12) { context.fillStyle = c.ink; name(n, 6 + 6.7 * (String(n).length + 1), y); }
   }
   if (state.turn) {
     const y = at(state.turn - 1);
-    if (y > -10 && y < h + 10) { context.fillStyle = c.now; context.fillRect(0, y - 8, view.gutter - 10, 16); context.fillStyle = c.ink; context.font = `bold ${context.font}`; context.fillText(`${state.turn} ${name(state.turn - 1)}`, 6, y); }
+    if (y > -10 && y < h + 10) { context.fillStyle = c.now; context.fillRect(0, y - 8, view.gutter - 10, 16); context.fillStyle = c.ink; context.font = `bold ${context.font}`; context.fillText(String(state.turn), 6, y); name(state.turn, 6 + 6.7 * (String(state.turn).length + 1), y); }
   }
   context.textBaseline = "alphabetic";
 }

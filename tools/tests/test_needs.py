@@ -21,12 +21,15 @@ CALLS = {
     "explain": (["explain", EXAMPLES / "three_packets.toml"], None),
     "diagram": (["diagram", EXAMPLES / "two_in_flight.toml", TOP / "docs" / "two_in_flight.trace"], None),
     "frame": (["frame", "read", "000000000000000100000000006408010000000000000000"], None),
+    "frame pcap": (["frame", "pcap", EXAMPLES / "two_in_flight.toml", TOP / "docs" / "two_in_flight.trace"], "dpkt"),
     "report json": (["report", "json", DATA / "lossy_net.report"], None),
     "report csv": (["report", "csv", DATA / "lossy_net.report"], None),
     "report balance": (["report", "balance", DATA / "lossy_net.report", "--input", DATA / "lossy_net.toml"], None),
     "report counts": (["report", "counts", DATA / "lossy_net.report"], "matplotlib"),
     "report flight": (["report", "flight", DATA / "lossy_net.report"], "matplotlib"),
     "report verdicts": (["report", "verdicts", DATA / "lossy_net.report"], "matplotlib"),
+    "report values": (["report", "values", DATA / "lossy_net.values"], None),
+    "report poll": (["report", "poll", DATA / "lossy_net.poll"], None),
     "topology line": (["topology", "line"], "networkx"),
     "topology draw": (["topology", "draw", EXAMPLES / "three_packets.toml"], "networkx"),
     "view": (["view", EXAMPLES / "two_in_flight.toml", TOP / "docs" / "two_in_flight.trace"], "networkx"),
@@ -45,7 +48,7 @@ else:
     sys.path[0] = __import__("os").path.dirname(__import__("os").path.realpath(words[0]))
     runpy.run_path(words[0], run_name="__main__")
 """
-LIBRARIES = ["matplotlib", "networkx", "graphviz", "snakemake", "jsonschema"]
+LIBRARIES = ["matplotlib", "networkx", "graphviz", "snakemake", "jsonschema", "dpkt"]
 
 
 class Needs(unittest.TestCase):

@@ -438,16 +438,27 @@ class Page(unittest.TestCase):
             self.browser.size(1280, 800)
 
     def test_a_phone(self):
-        _, page, _, _ = built("dead_cable", self.folder.name, self.program)
+        """One part at a time, and no text is cut off: neither in the page nor in the rows of the diagram."""
+        shown = "return ['details', 'net', 'time'].filter(n => document.getElementById(n).getBoundingClientRect().height > 100)"
+        cut = """return [...document.querySelectorAll('body *')].filter(e => e.clientWidth && /hidden|clip/.test(getComputedStyle(e).overflowX)
+            && e.scrollWidth > e.clientWidth + 1).map(e => `${e.id} ${e.textContent.slice(0, 40)}`)"""
+        record = """const p = CanvasRenderingContext2D.prototype, f = p.fillText; window.drawn = [];
+            p.fillText = function (said, ...more) { window.drawn.push(said); f.call(this, said, ...more); };"""
         try:
             self.browser.size(390, 844)
-            self.browser.open(page)
-            for part in ("details", "net", "time"):
-                self.browser.click(f'#switch [data-show="{part}"]')
-                code = "return ['details', 'net', 'time'].filter(n => document.getElementById(n).getBoundingClientRect().height > 100)"
-                self.assertEqual(self.browser.run(code), [part])
-            self.assertLessEqual(self.browser.run("return document.documentElement.scrollWidth"), 390)
-            self.assertEqual(self.browser.told(), [])
+            for name in ("dead_cable", "leaf_spine_with_losses"):
+                _, page, report, _ = built(name, self.folder.name, self.program)
+                self.browser.open(page)
+                self.browser.run(record)
+                for part in ("details", "net", "time"):
+                    self.browser.click(f'#switch [data-show="{part}"]')
+                    self.assertEqual(self.browser.run(shown), [part])
+                    self.assertEqual(self.browser.run(cut), [])
+                turn = self.browser.run("return speedlight.state.turn")
+                self.assertIn(report.trace[turn - 1], self.browser.run("return window.drawn"))
+                self.assertFalse([said for said in self.browser.run("return window.drawn") if "…" in said])
+                self.assertLessEqual(self.browser.run("return document.documentElement.scrollWidth"), 390)
+                self.assertEqual(self.browser.told(), [])
         finally:
             self.browser.size(1280, 800)
 

@@ -35,6 +35,8 @@ CALLS = {
     "view": (["view", EXAMPLES / "two_in_flight.toml", TOP / "docs" / "two_in_flight.trace"], "networkx"),
     "study": (["study", TOOLS / "plans" / "lossy_leaf_spine.toml", "--dry-run"], "snakemake"),
 }
+# Seconds after which a call is said to run for ever: other work beside may make it wait.
+PATIENCE = 300
 # Python as a script would start it: with modules that can't be imported, and with another version.
 START = """import runpy, sys
 for name in {hidden!r}: sys.modules[name] = None
@@ -74,9 +76,10 @@ class Needs(unittest.TestCase):
         if alone:
             environment[needs.MARK] = os.pathsep.join(p for p in needs.pythons())
         done = subprocess.run(
-            [str(TOOLS / words[0]), *map(str, words[1:])], capture_output=True, env=environment, timeout=60, input=b""
+            [str(TOOLS / words[0]), *map(str, words[1:])], capture_output=True, env=environment, timeout=PATIENCE, input=b""
         )
-        return done.returncode, done.stdout.decode(), done.stderr.decode()
+        # A capture is no text.
+        return done.returncode, done.stdout.decode(errors="replace"), done.stderr.decode()
 
     def each(self, folders, alone):
         with ThreadPoolExecutor(4) as pool:

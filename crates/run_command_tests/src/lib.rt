@@ -1,10 +1,9 @@
-// Tests of the command run, with a thread for each actor.
+// Tests of the command run in two threads at once, and of the program over streams that move one byte
+// at each call.
 #![tactic(auto)]
 
 #[cfg(test)]
 mod call;
-#[cfg(test)]
-mod hostile;
 #[cfg(test)]
 mod meeting;
 #[cfg(test)]

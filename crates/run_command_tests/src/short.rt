@@ -1,12 +1,18 @@
 // The program over a source and sinks that move one byte at each call.
-use crate::call::THREE_PACKETS;
+use crate::call::{sink, source, words_of};
 use sl_actor::FreeGate;
-use sl_app::speedlight;
-use sl_io::{MemorySink, MemorySource, Short};
+use sl_app::{Ended, speedlight};
+use sl_io::{MemorySink, Short};
 use std::alloc::Global;
 use std::sync::Wait;
 use std::test::Fail;
 use std::thread::Threads;
+
+const THREE_PACKETS: &str = r#"device = [{name = "a", ports = 2}]
+host = [{name = "h0", at = "a.0"}, {name = "h1", at = "a.1"}]
+flow = [{from = "h0", to = "h1", count = 3, bytes = 100, hops = 8}]
+snapshot = {bits = 2, window = 3, ring = 3, count = 1, retries = 0}
+"#;
 
 const REPORT: &str = r#"speedlight 1
 network devices 1 units 4 hosts 2
@@ -23,45 +29,41 @@ lost cable 0 crossbar 0 init 0 notice 0
 end
 "#;
 
-fn sink(alloc: Global, fail: &[u64]) -> Result<Short<MemorySink>, Fail> {
-    let inner = MemorySink::new(alloc, 4096, Vec::from_slice(alloc, fail)?)
-        .ok()
-        .ok_or("memory")?;
-    Ok(Short { inner, most: 1 })
+fn report() -> &'static [u8] {
+    REPORT.as_bytes()
 }
 
-/// The status of `step`, what it wrote, and whether there is a book, where these writes fail.
-fn stepped<R: Threads + Wait + Sync>(
+/// Whether a call has this status and a book, and wrote so many bytes of the report.
+fn is_right(ended: &Ended, out: &MemorySink, status: u8, written: usize) -> bool {
+    let told = report().starts_with(out.bytes()) && out.bytes().len() == written;
+    told && ended.status == status && ended.book.is_some()
+}
+
+/// The same of `step`, where these writes fail.
+fn steps<R: Threads + Wait + Sync>(
     rt: &R,
     alloc: Global,
     fail: &[u64],
-) -> Result<(u8, Vec<u8>, bool), Fail> {
-    let bytes = Vec::from_slice(alloc, THREE_PACKETS.as_bytes())?;
-    let inner = MemorySource::new(bytes, Vec::new(alloc));
+    status: u8,
+    written: usize,
+) -> Result<bool, Fail> {
+    let words = words_of(alloc, "step")?;
+    let inner = source(alloc, THREE_PACKETS)?;
     let mut input = Short { inner, most: 1 };
-    let mut out = sink(alloc, fail)?;
-    let mut err = sink(alloc, &[])?;
-    let mut words = Vec::new(alloc);
-    words.push(String::from_str(alloc, "step")?)?;
+    let inner = sink(alloc, fail)?;
+    let mut out = Short { inner, most: 1 };
+    let inner = sink(alloc, &[])?;
+    let mut err = Short { inner, most: 1 };
     let words = words.as_slice();
     let ended = speedlight(rt, alloc, words, &mut input, &mut out, &mut err, &FreeGate);
-    let told = Vec::from_slice(alloc, out.inner.bytes())?;
-    Ok((ended.status, told, ended.book.is_some()))
+    Ok(is_right(&ended, &out.inner, status, written))
 }
 
 /// A report that is written byte by byte is the same, and of one whose hundredth byte fails the
 /// first ninety-nine stand.
 #[test]
 fn one_byte_at_a_time(rt: HostRuntime) -> Result<(), Fail> {
-    let alloc = rt.alloc();
-    let (status, told, has_book) = stepped(&rt, alloc, &[])?;
-    let whole = REPORT.as_bytes();
-    assert_eq!(rt;
-        (status, told.as_slice() == whole, has_book),
-        (0, true, true)
-    );
-    let (status, told, has_book) = stepped(&rt, alloc, &[100])?;
-    let first = whole.starts_with(told.as_slice());
-    assert_eq!(rt; (status, told.len(), first, has_book), (5, 99, true, true));
+    assert!(rt; steps(&rt, rt.alloc(), &[], 0, report().len())?);
+    assert!(rt; steps(&rt, rt.alloc(), &[100], 5, 99)?);
     Ok(())
 }

@@ -4,7 +4,7 @@ ghost use Rattle.sl_proto.specs.RunBook.{CanRun};
 
 use sl_check::accepted_inputs_can_run;
 use sl_machine::{Book, Entry};
-use sl_net::{Input, Script1, find_choice};
+use sl_net::{Input, Net, Script1, find_choice};
 use sl_proto::{Taker, expand, first_world, settle};
 use sl_read::read_input;
 use sl_report::trace_bytes;
@@ -104,9 +104,9 @@ fn a_world_settles(rt: HostRuntime) -> Result<(), Fail> {
     Ok(())
 }
 
-fn traced(alloc: Global, text: &str, line: &str) -> Result<Vec<u8>, Fail> {
-    let input = runnable(alloc, text)?;
-    match find_choice(&input.net, line) {
+/// The trace of a book with the choice of a line alone.
+fn traced_in(alloc: Global, net: &Net, line: &str) -> Result<Vec<u8>, Fail> {
+    match find_choice(net, line) {
         Some((actor, choice)) => {
             let entry = Entry {
                 number: 1,
@@ -116,10 +116,15 @@ fn traced(alloc: Global, text: &str, line: &str) -> Result<Vec<u8>, Fail> {
             let book = Book {
                 entries: vec![in alloc; entry]?,
             };
-            Ok(trace_bytes(alloc, &input.net, &book)?)
+            Ok(trace_bytes(alloc, net, &book)?)
         }
         None => Err("no choice".into()),
     }
+}
+
+fn traced(alloc: Global, text: &str, line: &str) -> Result<Vec<u8>, Fail> {
+    let input = runnable(alloc, text)?;
+    traced_in(alloc, &input.net, line)
 }
 
 /// A trace is the number of its entries and their spellings.

@@ -1,14 +1,14 @@
-// Tests of calls between the machines and the top call: scripts, settling, a trace, checks,
-// a world of nodes, actors and threads of nodes, and values.
+// Tests of calls between the machines and the top call: scripts, settling, a trace, how schedules
+// end, a world of nodes, actors of nodes in one thread, and values.
 #![tactic(auto)]
 
 #[cfg(test)]
+mod actors;
+#[cfg(test)]
 mod calls;
 #[cfg(test)]
-mod checks;
+mod endings;
 #[cfg(test)]
 mod in_flight;
-#[cfg(test)]
-mod threads;
 #[cfg(test)]
 mod values;

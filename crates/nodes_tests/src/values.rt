@@ -67,20 +67,35 @@ fn told_of(run: &ValueRun) -> (usize, usize, usize) {
     (controls.len(), run.list.items.len(), told)
 }
 
+/// What is told of a run, and whether no control plane has a value for 0 or for a number above those
+/// collected.
+fn found_in(run: &ValueRun) -> ((usize, usize, usize), bool) {
+    let controls = run.controls.as_slice();
+    (told_of(run), has_none(controls, 0) && has_none(controls, 3))
+}
+
+/// The same of a run of the two devices.
+fn found(alloc: Global) -> Result<((usize, usize, usize), bool), Fail> {
+    let input = runnable(alloc, TWO_SWITCHES)?;
+    let run = run_values(alloc, &input)?;
+    Ok(found_in(&run))
+}
+
 /// Each value is what the control plane of its unit's device answers, and no other does; none has
 /// a value for 0, or for a number above those collected.
 #[test]
 fn controls_answer_values(rt: HostRuntime) -> Result<(), Fail> {
-    let input = runnable(rt.alloc(), TWO_SWITCHES)?;
-    let run = run_values(rt.alloc(), &input)?;
-    let controls = run.controls.as_slice();
-    assert_eq!(rt; told_of(&run), (2, 2, 2));
-    assert!(rt; has_none(controls, 0) && has_none(controls, 3));
+    assert_eq!(rt; found(rt.alloc())?, ((2, 2, 2), true));
     Ok(())
 }
 
-/// What a new control plane answers for a unit.
-fn first_answer(alloc: Global, input: &Input, device: u32, unit: u32) -> Result<Option<Whole>, Fail>
+/// What the control plane of a device, just made, answers for a unit.
+fn answer_at_first(
+    alloc: Global,
+    input: &Input,
+    device: u32,
+    unit: u32,
+) -> Result<Option<Whole>, Fail>
     requires { CanRun input.now }
 {
     if device as usize >= input.net.parts().devices.len() {
@@ -90,10 +105,14 @@ fn first_answer(alloc: Global, input: &Input, device: u32, unit: u32) -> Result<
     Ok(control.value(unit, 1))
 }
 
+fn first_answer(alloc: Global) -> Result<Option<Whole>, Fail> {
+    let input = runnable(alloc, TWO_SWITCHES)?;
+    answer_at_first(alloc, &input, 1, 4)
+}
+
 /// A new control plane has no value of its first unit.
 #[test]
 fn a_new_control_has_no_value(rt: HostRuntime) -> Result<(), Fail> {
-    let input = runnable(rt.alloc(), TWO_SWITCHES)?;
-    assert_eq!(rt; first_answer(rt.alloc(), &input, 1, 4)?, None);
+    assert_eq!(rt; first_answer(rt.alloc())?, None);
     Ok(())
 }

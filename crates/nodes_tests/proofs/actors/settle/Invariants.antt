@@ -1,7 +1,7 @@
 use Rattle.sl_machine.specs.Fit.{HasCounts}
 use Rattle.sl_layout.specs.Wiring.{plan_of}
 use Rattle.sl_actor.specs.Held.{held}
-use Rattle.nodes_tests.proofs.threads.settle.Given as goal
+use Rattle.nodes_tests.proofs.actors.settle.Given as goal
 
 abbrev pub invariant-loop : goal.invariant-loop
 invariant-loop g l = HasCounts (λ a. (held a).counts) (plan_of l.net) l.actors.items

@@ -3,7 +3,7 @@ use Rattle.sl_actor.specs.Follows.{ActorView}
 use Rattle.sl_actor.specs.Held.{held}
 use Rattle.sl_proto.specs.Nodes.{node_counts}
 use Rattle.nodes_tests.proofs.ActorLemmas.{fit_by}
-use Rattle.nodes_tests.proofs.threads.actors_of.Goals as goal
+use Rattle.nodes_tests.proofs.actors.actors_of.Goals as goal
 
 pub returns : goal.returns
 returns c = fit_by held (λ (v : ActorView _ _). v.counts) node_counts (plan_of c.args.input.now.net) _ c.in_ok-nodes.nodes.items c.in_ok-make_actors.ensures.counts c.in_ok-nodes.ensures.fit

@@ -368,7 +368,7 @@ function rows(context, c, from, to, k, at, h) {
   const step = k >= 12 ? 1 : [2, 5, 10, 20, 50, 100, 200, 500, 1000, 2000, 5000, 10000, 20000, 50000, 100000, 200000].find((n) => n * k >= 22) || 500000;
   const start = Math.ceil((from + 1) / step) * step;
   // A name that is too long for its room is drawn narrower, and whole.
-  const name = (n, x, y) => context.fillText(turnName(n - 1), x, y, view.gutter - 12 - x);
+  const name = (n, x, y) => { const said = turnName(n - 1), room = view.gutter - 12 - x; context.fillText(said, x, y, ...(6.7 * said.length > room ? [room] : [])); };
   for (let n = start; n <= to; n += step) {
     const y = at(n - 1);
     if (n === state.turn) continue;

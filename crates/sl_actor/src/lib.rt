@@ -16,7 +16,7 @@ mod sleeper;
 mod steps;
 
 pub use actor::{Actor, ActorParts};
-pub use laws::no_wake_up_is_lost;
+pub use laws::{no_run_sleeps_for_good, no_wake_up_is_lost};
 pub use make::make_actors;
 pub use moved::Moved;
 pub use part::OutPart;

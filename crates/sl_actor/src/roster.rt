@@ -1,8 +1,9 @@
 // The roster of the actors of a wiring: who is awake, and who was told of what. No clause speaks of it.
 //
 // All acts on the roster and on links are sequentially consistent, so there is one order of them all.
-// `specs/Wakes.antt` has them as a machine of its own, whose acts are named here beside each atomic, and
-// the law `no_wake_up_is_lost` says for any order of them what the argument below says of messages and room:
+// Two machines of their own have them, whose acts are named here beside each atomic. For any order of them
+// the law `no_wake_up_is_lost` (`specs/Wakes.antt`) says what the argument below says of messages and room,
+// and the law `no_run_sleeps_for_good` (`specs/Awake.antt`, the count) what it says of the end:
 //   1. A sender puts a message on a link (`Put`). After that
 //   2. it sets the link's bit among its receiver's news (no act of the machine: a bit that is lost costs
 //      time alone), and
@@ -30,11 +31,11 @@
 //   receiver finds that link empty (8) only after that, and finds the mark. A mark that an earlier find took
 //   away, after 5, was taken by one who then wakes the sender, whose word says since 4 that it sleeps.
 //
-// No actor sleeps for good while something is left to do (of this the machine says nothing):
+// No actor sleeps for good while something is left to do:
 // - The count (6, 9) is of those awake, of those being woken, and of those whose run has not begun. Who has
 //   something to tell tells it (3, 8) before it takes itself off, and by then has counted whom it woke. So
 //   the count comes to 0 only where nothing is on its way to an actor that runs.
-// - Who brings it to 0 sees that, and wakes all for good (`Rouse`).
+// - Who brings it to 0 sees that, and wakes all for good (`TellAll`, `Rouse`).
 use crossbeam_utils::CachePadded;
 use sl_machine::{Memory, Wiring};
 use std::alloc::Global;
@@ -102,9 +103,10 @@ impl Roster {
     /// A run of an actor begins, its first or a later one (`Begin`).
     pub fn count_in(&self, is_first: bool) {
         if is_first {
-            // until now it was counted as one whose run has not begun
+            // until now it was counted as one whose run has not begun, so this is no act of the count
             self.begun.fetch_add(1, SeqCst);
         } else {
+            // `Begin`
             self.awake.fetch_add(1, SeqCst);
         }
     }
@@ -145,12 +147,12 @@ impl Roster {
         }
     }
 
-    /// An actor that was about to sleep stays awake (`GetUp`).
+    /// An actor that was about to sleep stays awake (`GetUp`; on the count `GetUpCalled` where it was woken).
     pub fn get_up(&self, actor: u32) {
         if let Some(bed) = self.beds.get(actor as usize)
             && bed.state.swap(AWAKE, SeqCst) == AWAKE
         {
-            // a neighbour has counted this one once more
+            // a neighbour has counted this one once more (`GiveBack`)
             self.leave();
         }
     }
@@ -173,10 +175,11 @@ impl Roster {
             // `Ask` or `AskSender`, where it is awake
             && bed.state.load(SeqCst) != AWAKE
         {
+            // `CountIn`
             self.awake.fetch_add(1, SeqCst);
-            // `Wake` or `WakeSender`
+            // `Wake` or `WakeSender`; on the count `WakeLying` or `WakeSleeping`, where it said that it sleeps
             if bed.state.swap(AWAKE, SeqCst) == AWAKE {
-                // another has woken it, and has counted it
+                // another has woken it, and has counted it (`GiveBack`)
                 self.leave();
             } else {
                 bed.state.wake_one();
@@ -184,15 +187,17 @@ impl Roster {
         }
     }
 
-    /// One less is awake (6). Where it was the last, nothing moves any more.
+    /// One less is awake (6; `Leave`, `LeaveCalled` where it was woken, `End` or `GiveBack`). Where it was the
+    /// last, nothing moves any more.
     pub fn leave(&self) {
         if self.awake.fetch_sub(1, SeqCst) == 1 {
             self.wake_all();
         }
     }
 
-    /// Wakes all, for good (`Rouse`).
+    /// Wakes all, for good.
     fn wake_all(&self) {
+        // `TellAll`, and then `Rouse` for each
         self.is_over.store(true, SeqCst);
         for bed in &self.beds {
             bed.state.store(AWAKE, SeqCst);
@@ -200,9 +205,9 @@ impl Roster {
         }
     }
 
-    /// An actor sleeps until it is woken, or some time has passed (6 and 7, `Sleep`; then `GetUp`). Where in this time no
-    /// run began although some are to begin, these come behind this one, or never, and nobody sleeps any
-    /// more.
+    /// An actor sleeps until it is woken, or some time has passed (6 and 7, `Sleep`; then `GetUp`, on the
+    /// count `Rise`). Where in this time no run began although some are to begin, these come behind this
+    /// one, or never, and nobody sleeps any more.
     pub fn sleep<R: Wait>(&self, rt: &R, actor: u32) {
         let begun = self.begun.load(SeqCst);
         let have_all = begun >= self.beds.len() as u64;

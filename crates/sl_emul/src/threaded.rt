@@ -6,6 +6,7 @@ ghost use Rattle.sl_layout.specs.Wiring.{plan_of};
 ghost use Rattle.sl_model.specs.Losses.{losses};
 ghost use Rattle.sl_model.specs.Setup.{setup_of};
 ghost use Rattle.sl_world.specs.World.{scene};
+ghost use Rattle.sl_threads.specs.Threads.{HavePassed};
 ghost use Rattle.sl_proto.specs.Nodes.{node_state};
 ghost use Rattle.sl_proto.specs.Standing.{case_of, world_of, StandsFor, HasObserver};
 ghost use Rattle.sl_proto.specs.RunBook.{CanRun};
@@ -95,6 +96,8 @@ pub fn threaded_world<R: Threads + Wait + Sync, G: Gate + Sync>(
     ensures rest { IfOk result (λ w. length (scene w).book < 2 ^ 27
         → HasRested (setup_of input.now)
         (world_of (case_of input.now (losses input.now)) (scene w))) }
+    ensures passed { IfOk result (λ w. length (scene w).book < 2 ^ 27
+        → HavePassed G.passed gate.now (length input.now.net.actors) 200) }
 {
     inputs_spare_reliable_links();
     inputs_are_runnable();
@@ -132,8 +135,10 @@ fn run_few<R: Threads + Wait + Sync, G: Gate + Sync>(
 ) -> Result<Ran, Memory>
     requires can { CanRun input.now }
     requires few { length input.now.net.actors ≤ 256 }
-    ensures { IfOk result
+    ensures run { IfOk result
         (λ r. HasEnded IsThreadedBook input.now (losses input.now) (scene r.world) r.front) }
+    ensures passed { IfOk result (λ r. r.front < 2 ^ 27
+        → HavePassed G.passed gate.now (length input.now.net.actors) 200) }
 {
     runs_are_bounded();
     cuts_are_consistent();
@@ -142,7 +147,8 @@ fn run_few<R: Threads + Wait + Sync, G: Gate + Sync>(
 }
 
 /// Runs an input on the nodes of its net to its end: each in a thread of its own until none moves
-/// any more, and then finishes in one thread. Each actor passes the gate before each of its rounds.
+/// any more, and then finishes in one thread. Each actor passes the gate before each of its rounds, 200
+/// at least where the front is short.
 /// The script isn't used.
 pub fn finish_threaded<R: Threads + Wait + Sync, G: Gate + Sync>(
     rt: &R,
@@ -153,6 +159,8 @@ pub fn finish_threaded<R: Threads + Wait + Sync, G: Gate + Sync>(
     requires { CanRun input.now }
     ensures run { IfOk result
         (λ r. HasEnded IsThreadedBook input.now (losses input.now) (scene r.world) r.front) }
+    ensures passed { IfOk result (λ r. r.front < 2 ^ 27
+        → HavePassed G.passed gate.now (length input.now.net.actors) 200) }
     ensures many { 256 < length input.now.net.actors
         → IsErrOf result (EmulFault.TooMany (length input.now.net.actors)) }
     ensures few { length input.now.net.actors ≤ 256 → IsOkUnless result EmulFault.Memory }
@@ -175,6 +183,8 @@ pub fn run_threaded<R: Threads + Wait + Sync, G: Gate + Sync>(
     ensures run { IfOk result
         (λ r. IsThreadedOutcome input.now (losses input.now) r.book.entries r.front r.findings
         (map node_state r.nodes.items)) }
+    ensures passed { IfOk result (λ r. r.front < 2 ^ 27
+        → HavePassed G.passed gate.now (length input.now.net.actors) 200) }
     ensures many { 256 < length input.now.net.actors
         → IsErrOf result (EmulFault.TooMany (length input.now.net.actors)) }
     ensures few { length input.now.net.actors ≤ 256 → IsOkUnless result EmulFault.Memory }

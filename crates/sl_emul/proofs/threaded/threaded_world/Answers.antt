@@ -1,10 +1,10 @@
-use Rattle.std.proofs.Common.{◌≡◌, ℕ, ◌^◌, ◌<◌, Vec, Global, length, map, sym, subst, ap, ◌∙◌, arith, rules}
+use Rattle.std.proofs.Common.{◌≡◌, ℕ, ◌^◌, ◌<◌, List, Vec, Global, length, map, sym, subst, ap, ◌∙◌, arith, rules}
 use Rattle.std.proofs.lemmas.List.{length-map}
 use Rattle.std.proofs.lemmas.Result.{IfOk-weaker}
 use Rattle.std.proofs.lemmas.List.FromFn.{length-map-range_with_len}
 use Rattle.sl_machine.specs.Plan.{Plan, IsSound}
 use Rattle.sl_machine.specs.Fit.{Fits, HasCounts}
-use Rattle.sl_layout.specs.Net.{links_into, link_numbers}
+use Rattle.sl_layout.specs.Net.{Net, links_into, link_numbers}
 use Rattle.sl_layout.specs.Wiring.{plan_of, wired_link}
 use Rattle.sl_net.specs.Input.{Input}
 use Rattle.sl_model.specs.Losses.{losses, loss_on}
@@ -12,6 +12,7 @@ use Rattle.sl_model.specs.Setup.{setup_of}
 use Rattle.sl_model.specs.Books.{schedule_of}
 use Rattle.sl_world.specs.World.{scene}
 use Rattle.sl_threads.specs.Threads.{ArePlans}
+use Rattle.sl_proto.specs.declared.node.Node.{Node}
 use Rattle.sl_proto.specs.Nodes.{node_state, node_counts}
 use Rattle.sl_proto.specs.Standing.{case_of, scene_of, AreNewLosses}
 use Rattle.sl_emul.specs.Threaded.{plans_of}
@@ -41,12 +42,12 @@ run_machines-requires-clause-plans g c =
     subst (ArePlans (map node_counts c.in_ok-nodes.nodes.items)) (sym plans) (plans-fit node_counts i.net c.in_ok-nodes.nodes.items c.in_ok-nodes.ensures.fit) in
     search (rules, fit)
 
+-- there is a node for each actor
+node-each : (net : Net) (nodes : List Node) → HasCounts node_counts (plan_of net) nodes → length nodes ≡ length net.actors
+node-each net nodes fit = sym (length-map nodes (λ a. (node_counts a).ins)) ∙ ap length fit.ins_are ∙ length-map-range_with_len (λ a. length (links_into net a)) 0 (length net.actors)
+
 pub run_machines-requires-clause-few : goal.run_machines-requires-clause-few
-run_machines-requires-clause-few g c =
-    let i = c.args.input.now in
-    let many : length c.in_ok-nodes.nodes.items ≡ length i.net.actors =
-    sym (length-map c.in_ok-nodes.nodes.items (λ a. (node_counts a).ins)) ∙ ap length c.in_ok-nodes.ensures.fit.ins_are ∙ length-map-range_with_len (λ a. length (links_into i.net a)) 0 (length i.net.actors) in
-    omega (arith, many, c.requires.few)
+run_machines-requires-clause-few g c = omega (arith, node-each c.args.input.now.net c.in_ok-nodes.nodes.items c.in_ok-nodes.ensures.fit, c.requires.few)
 
 pub returns : goal.returns
 returns g c =
@@ -78,4 +79,5 @@ returns g c =
       }) come;
       rest = IfOk-weaker c.run_machines.result _ _ (λ w h few. rested x (scene w) (stands-by-run x f (scene w) only h.run law.image law.only (below40 _ h.short)) (below40 _ h.short)
           (c.nodes_follow.ensures (setup_of i) i.snapshot (losses i) can) (h.rest few)) come;
+      passed = IfOk-weaker c.run_machines.result _ _ (λ w h few actor low. h few actor (subst (λ n. actor < n) (sym (node-each i.net c.in_ok-nodes.nodes.items c.in_ok-nodes.ensures.fit)) low)) e.passed;
     }

@@ -2,7 +2,7 @@
 use Rattle.std.proofs.Common.{◌≡◌, ℕ, ◌<◌, ◌≤◌, ◌⊎◌, inl, inr, List, Option, Some, None, ap, length, take, sym, subst, arith, ◌∙◌}
 use Rattle.std.proofs.Math.Seq.{take-length}
 use Rattle.std.proofs.lemmas.Bool.{cases_order}
-use Rattle.std.specs.Prelude.{Bool, Result, Ok, Err}
+use Rattle.std.specs.Prelude.{Bool, Result, Ok, Err, IsErr, IsErrAnd}
 use Rattle.std.specs.Io.KnownBytes.{Appends}
 use Rattle.sl_io.specs.Faults.{Rose}
 use Rattle.sl_io.specs.Pieces.{AppendsPart}
@@ -54,6 +54,11 @@ too_many_told r i actors Usage words read many is told = absurd told
 too_many_told r i actors (InputRefused line) words read many is told = absurd told
 too_many_told r i actors (StreamRefused line) words read many is told = absurd told
 too_many_told r i actors ReadFault words read many is told = absurd told
+
+-- want of memory, where an input is read
+pub memory_told : (r : Reading) (c : Command) (x : Result Served Refusal) → words_of r.words ≡ Some c → reads (Some c) → IsErr x × IsErrAnd x (λ e. e ≡ Memory) → Serves r x
+memory_told r c (Ok s) words read h = let k = h.0 in absurd (cc)
+memory_told r c (Err e) words read h = subst (λ (x : Refusal). HasCause r x) (sym h.1) (λ none. absurd (none (subst reads (sym words) read)))
 
 -- a sample is served without reading
 pub sample_served : (r : Reading) (number : ℕ) (input : Bool) (x : Result Served Refusal) → words_of r.words ≡ Some (Sample number input) → IsUnread r

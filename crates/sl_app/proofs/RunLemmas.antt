@@ -5,15 +5,17 @@ use Rattle.std.specs.List.{All}
 use Rattle.sl_net.specs.declared.input.Flow.{Flow}
 use Rattle.sl_machine.specs.Book.{Book}
 use Rattle.sl_machine.specs.declared.wiring.Entry.{Entry}
-use Rattle.sl_net.specs.Wired.{IsNet}
-use Rattle.sl_layout.specs.Net.{units}
+use Rattle.sl_net.specs.Wired.{IsNet, IsWired}
+use Rattle.sl_layout.specs.Net.{Net, actor_of, is_unit, units}
 use Rattle.sl_parts.specs.Parts.{below}
 use Rattle.sl_net.specs.Input.{Input}
 use Rattle.sl_check.proofs.Runnable.{carries-is}
 use Rattle.sl_read.specs.Accepted.{IsAccepted}
 use Rattle.sl_flow.specs.Sample.{IsSample, flow, host_count, sample_parts}
 use Rattle.sl_parts.specs.Lists.{Each}
+use Rattle.sl_parts.proofs.Lists.{length_filter_le}
 use Rattle.std.proofs.lemmas.List.{length-map}
+use Rattle.std.proofs.lemmas.List.FromFn.{length-range_with_len}
 use Rattle.std.proofs.lemmas.List.Sums.{sum-map}
 use Rattle.sl_model.specs.declared.findings.Findings.{Findings}
 use Rattle.sl_model.specs.History.{Losses}
@@ -30,8 +32,8 @@ use Rattle.sl_emul.specs.Threaded.{IsThreadedBook}
 use Rattle.sl_balance.specs.Balance.{AreFew}
 use Rattle.sl_words.specs.declared.command.Command.TheVariants.{Step, Run, Balance, Poll, Values}
 use Rattle.sl_words.specs.Words.{words_of}
-use Rattle.sl_app.specs.Served.{run_text, IsPrinted, IsReport, IsTable, IsReading, AreValues}
-use Rattle.sl_app.specs.Ends.{Reading, WasRead, IsServed}
+use Rattle.sl_app.specs.Served.{run_text, IsPrinted, IsReport, AllPassed, IsTable, IsReading, AreValues}
+use Rattle.sl_app.specs.Ends.{Reading, WasRead, IsServed, NodesPassed}
 
 each-map : {A B : Type 0} (P : B → Type 0) (f : A → B) (xs : List A) → ((x : A) → P (f x)) → Each P (map f xs)
 each-map P f [] all = tt
@@ -58,9 +60,13 @@ Small = (i : Input) → IsNet i.net → i.snapshot.count ≤ 100000 → i.snapsh
 pub small : Small → (i : Input) → CanRun i → IsAccepted i → input_bound i < 2 ^ 27
 small law i can a = law i can.net a.snapshot.count a.few_values a.snapshot.retries a.few_packets a.few_entries
 
--- so is that of a sample, whose net has no more units than any net
-pub small_sample : Small → (i : Input) → CanRun i → IsSample i → length (units i.net) ≤ 1217 → input_bound i < 2 ^ 27
-small_sample law i can s few = law i can.net (omega (arith, s.count)) (subst (λ n. n * length (units i.net) ≤ 1024000) (sym s.count) (omega (arith, few))) (omega (arith, s.retries))
+-- a net has no more units than actors
+few-units : (net : Net) → IsWired net → length (units net) ≤ 1217
+few-units net w = omega (arith, w.few_actors, length_filter_le (λ a. is_unit (actor_of net a)) (below (length net.actors)), length-range_with_len 0 (length net.actors))
+
+-- so is that of a sample
+pub small_sample : Small → ((net : Net) → IsNet net → IsWired net) → (i : Input) → CanRun i → IsSample i → input_bound i < 2 ^ 27
+small_sample law wired i can s = law i can.net (omega (arith, s.count)) (subst (λ n. n * length (units i.net) ≤ 1024000) (sym s.count) (omega (arith, few-units i.net (wired i.net can.net)))) (omega (arith, s.retries))
     (omega (arith, s.few_packets, sum-map (λ (f : Flow). f.count) i.flows, ap length s.raws)) (omega (arith, ap length s.script))
 
 -- a run in threads sweeps as little as a run with no script
@@ -88,6 +94,13 @@ threaded r i trace words read small few (Some book) front (Some nodes) status te
     (inr (record { trace = trace; words = words; input = i; accepted = read; few = few; small = small; rested = told.run.rested small; run = told }), is)
 threaded r i trace words read small few (Some book) front None status text told is = absurd told
 threaded r i trace words read small few None front nodes status text told is = absurd told
+
+-- in a run in threads that was reported each actor passed the gate
+pub nodes-passed : {G : Type 0} (passed : G → ℕ → ℕ → Type 0) (gate : G) (i : Input) (trace : Bool) (front : ℕ) (text : List ℕ) → bound_of (setup_of i) 0 < 2 ^ 27 → (front < 2 ^ 27 → AllPassed passed gate (length i.net.actors))
+    → (book : Option Book) (nodes : Option (List NodeState)) → IsReport IsThreadedBook i (losses i) book front nodes trace text → NodesPassed passed gate nodes
+nodes-passed passed gate i trace front text small all (Some book) (Some nodes) told = λ actor low. all (omega (arith, told.run.within_book, told.run.within, small)) actor (subst (λ n. actor < n) told.stand.each low)
+nodes-passed passed gate i trace front text small all book None told = tt
+nodes-passed passed gate i trace front text small all None (Some nodes) told = absurd told
 
 -- a table that was made of an input that was read
 pub tabled : (r : Reading) (i : Input) → words_of r.words ≡ Some Balance → WasRead r i → input_bound i < 2 ^ 27

@@ -37,7 +37,7 @@ use Rattle.sl_check.specs.AnswerText.{answer_text}
 use Rattle.sl_proto.specs.Nodes.{NodeState}
 use Rattle.sl_proto.specs.RunBook.{IsRunBook}
 use Rattle.sl_emul.specs.Threaded.{HasRested, IsThreadedBook}
-use Rattle.sl_app.specs.Served.{IsPrinted, IsTabledRun, IsPolledRun, IsValuedRun, IsSampleText, states_of}
+use Rattle.sl_app.specs.Served.{IsPrinted, IsTabledRun, IsPolledRun, IsValuedRun, IsSampleText, AllPassed, states_of}
 
 -- the words, and the source before and after: the bytes left, where it tells them, and its count of faults
 pub record Reading : Type 0 where
@@ -337,3 +337,8 @@ pub record IsRefused (r : Reading) (out err : Writing) (e : Ended) : Type 0 wher
 
 abbrev pub Ends : Reading → Writing → Writing → Ended → Type 0
 Ends r out err e = IsReported r out err e ⊎ IsRefused r out err e
+
+-- the actors of the nodes that a run in threads left passed the gate
+abbrev pub NodesPassed : {G : Type 0} → (G → ℕ → ℕ → Type 0) → G → Option (List NodeState) → Type 0
+NodesPassed passed gate (Some nodes) = AllPassed passed gate (length nodes)
+NodesPassed passed gate None = Unit {0}

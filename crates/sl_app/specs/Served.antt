@@ -1,6 +1,6 @@
 -- Trusted text, but for IsReport, ServesThreads, IsTable, IsReading, AreValues.
 -- What is served: for an input the book and the nodes of its run, and the text; for a sample the text.
-use Rattle.std.specs.Prelude.{◌≡◌, ℕ, ◌<◌, ◌≤◌, Bool, true, false, if◌then◌else◌, List, [], ◌++◌, length, map, Option, Some, None, option_map, Result, Ok, Err, Vec}
+use Rattle.std.specs.Prelude.{◌≡◌, ℕ, ◌<◌, ◌≤◌, ◌^◌, Bool, true, false, if◌then◌else◌, List, [], ◌++◌, length, map, Option, Some, None, option_map, Result, Ok, Err, Vec}
 use Rattle.std.specs.Global.{Global}
 use Rattle.sl_machine.specs.Book.{Book}
 use Rattle.sl_machine.specs.declared.wiring.Entry.{Entry}
@@ -8,6 +8,7 @@ use Rattle.sl_net.specs.Input.{Input}
 use Rattle.sl_flow.specs.Sample.{sample_parts}
 use Rattle.sl_flow.specs.InputText.{sample_text}
 use Rattle.sl_model.specs.History.{Losses}
+use Rattle.sl_model.specs.Bound.{input_bound}
 use Rattle.sl_model.specs.Losses.{losses}
 use Rattle.sl_model.specs.Setup.{setup_of}
 use Rattle.sl_model.specs.World.{world}
@@ -57,6 +58,10 @@ ServesThreads i trace (Ok s) = (length i.net.actors ≤ 256) × (IsReport IsThre
 ServesThreads i trace (Err (TooMany actors)) = (256 < length i.net.actors) × (actors ≡ length i.net.actors)
 ServesThreads i trace (Err OutOfMemory) = Unit {0}
 
+-- each of the first n actors passed the gate before each of its first 200 rounds
+abbrev pub AllPassed : {G : Type 0} → (G → ℕ → ℕ → Type 0) → G → ℕ → Type 0
+AllPassed passed gate n = (actor : ℕ) → actor < n → (round : ℕ) → round < 200 → passed gate actor round
+
 -- the table of balance of a run
 abbrev pub table_text : Input → Losses → List Entry → List ℕ
 table_text i lost book = balance_text i.net (balance i.net (findings (setup_of i) lost (schedule_of book)).list)
@@ -100,10 +105,11 @@ abbrev pub AreValues : Input → Losses → Option Book → ℕ → Option (List
 AreValues i lost (Some book) front None text = IsValuedRun i lost book.entries front text
 AreValues i lost _ front _ text = ⊥
 
--- the summary of the findings of a run of a sample's input
+-- the summary of the findings of a run of a sample's input, whose bound is below that of any input
 pub record IsSummary (number : ℕ) (i : Input) (text : List ℕ) : Type 0 where
   pub book : List Entry
   pub front : ℕ
+  pub small : input_bound i < 2 ^ 27
   pub run : IsRunBook i (losses i) book front
   pub text_is : text ≡ summary_text number i.net (findings (setup_of i) (losses i) (schedule_of book))
 

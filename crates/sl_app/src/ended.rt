@@ -2,8 +2,9 @@
 // How a call ends, and what a refusal is.
 ghost use Rattle.std.specs.Prelude.{◌≡◌};
 ghost use Rattle.sl_app.specs.Texts.{status_of, refusal_text};
+ghost use Rattle.sl_app.specs.declared.ended.Refusal.TheVariants as refusal;
 
-use sl_machine::Book;
+use sl_machine::{Book, Memory};
 use sl_proto::Node;
 
 /// Why nothing is served.
@@ -53,6 +54,14 @@ impl Refusal {
             Refusal::TooMany(line) => line.as_slice(),
             Refusal::Memory => b"speedlight: out of memory\n",
         }
+    }
+}
+
+impl From<Memory> for Refusal {
+    ghost from_gives = { λ _ e. e ≡ refusal.Memory };
+
+    fn from(_: Memory) -> Refusal {
+        Refusal::Memory
     }
 }
 

@@ -6,7 +6,7 @@ ghost use Rattle.sl_proto.specs.RunBook.{CanRun};
 ghost use Rattle.sl_app.specs.Served.{IsReading, states_of};
 
 use crate::run::Served;
-use sl_emul::run_stepped;
+use sl_emul::finish_stepped;
 use sl_machine::{Entry, Memory};
 use sl_net::Input;
 use sl_poll::{poll_of, polled_bytes};
@@ -32,13 +32,14 @@ pub fn serve_poll(alloc: Global, input: &Input, start: u64, gap: u64) -> Result<
         (states_of s.nodes) start gap s.text.items) }
     ensures status { IfOk result (λ s. s.status ≡ 0) }
 {
-    let run = run_stepped(alloc, input)?;
-    let schedule = schedule_of(alloc, run.book.entries.as_slice())?;
+    let ran = finish_stepped(alloc, input)?;
+    let (_nodes, book) = ran.world.into_book();
+    let schedule = schedule_of(alloc, book.entries.as_slice())?;
     let polled = poll_of(alloc, input, schedule.as_slice(), start, gap)?;
     let text = polled_bytes(alloc, &input.net, &polled)?;
     Ok(Served {
-        book: Some(run.book),
-        front: run.front,
+        book: Some(book),
+        front: ran.front,
         nodes: None,
         status: 0,
         text,

@@ -12,7 +12,7 @@ ghost use Rattle.sl_proto.specs.Standing.{case_of, world_of, StandsFor};
 ghost use Rattle.sl_proto.specs.RunBook.{CanRun, IsRunBook};
 ghost use Rattle.sl_emul.specs.Run.{HasEnded};
 ghost use Rattle.sl_emul.specs.Threaded.{IsThreadedBook};
-ghost use Rattle.sl_app.specs.Served.{IsReport, ServesThreads, states_of};
+ghost use Rattle.sl_app.specs.Served.{IsReport, ServesThreads, AllPassed, states_of};
 
 use sl_actor::Gate;
 use sl_emul::{EmulFault, Ran, finish_stepped, finish_threaded, report_of};
@@ -91,6 +91,7 @@ fn report_run(alloc: Global, input: &Input, ran: Ran, trace: bool) -> Result<Ser
         (λ s. IsReport IsThreadedBook input.now (losses input.now) s.book s.front
         (states_of s.nodes) trace s.text.items) }
     ensures status { IfOk result (λ s. s.status ≡ 0) }
+    ensures front { IfOk result (λ s. s.front ≡ ran.front) }
 {
     legal_books_are_choices();
     let mut text = report_of(alloc, input, &ran.world)?;
@@ -126,7 +127,9 @@ pub fn serve_threads<R: Threads + Wait + Sync, G: Gate + Sync>(
     gate: &G,
 ) -> Result<Served, EmulFault>
     requires { CanRun input.now }
-    ensures { ServesThreads input.now trace result }
+    ensures serves { ServesThreads input.now trace result }
+    ensures passed { IfOk result (λ s. s.front < 2 ^ 27
+        → AllPassed G.passed gate.now (length input.now.net.actors)) }
 {
     let ran = finish_threaded(rt, alloc, input, gate)?;
     Ok(report_run(alloc, input, ran, trace)?)

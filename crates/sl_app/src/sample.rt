@@ -7,7 +7,8 @@ ghost use Rattle.sl_app.specs.Served.{IsSummary, IsSampleText};
 use sl_emul::run_stepped;
 use sl_flow::{SampleFault, sample_input, sample_parts};
 use sl_machine::Memory;
-use sl_net::Input;
+use sl_model::input_bounds_are_small;
+use sl_net::{Input, nets_are_wired};
 use sl_report::summary_bytes;
 use std::alloc::Global;
 
@@ -41,6 +42,8 @@ fn summary_of(alloc: Global, number: u8) -> Result<Vec<u8>, Memory>
     requires { IsSampleNumber number }
     ensures { IfOk result (λ text. IsSummary number (sample_parts number) text.items) }
 {
+    nets_are_wired();
+    input_bounds_are_small();
     let input = input_of(alloc, number)?;
     let run = run_stepped(alloc, &input)?;
     summary_bytes(alloc, u64::from(number), &input, &run.findings)

@@ -9,7 +9,8 @@ ghost use Rattle.sl_words.specs.declared.command.Command.TheVariants as command;
 ghost use Rattle.sl_app.specs.Texts.{many_text};
 ghost use Rattle.sl_app.specs.Ends.{reading, writing, texts_of, reads_input, reads, asks_for_run};
 ghost use Rattle.sl_app.specs.Ends.{TellsFault, TellsTooMany, Accepts, Serves, ServesSample};
-ghost use Rattle.sl_app.specs.Ends.{TellsWriteFault, Refuses, ReportsServed, Ends};
+ghost use Rattle.sl_app.specs.Ends.{TellsWriteFault, Refuses, ReportsServed, Ends, NodesPassed};
+ghost use Rattle.sl_app.specs.Served.{states_of};
 
 use crate::ended::{Ended, Refusal};
 use crate::polling::serve_poll;
@@ -80,10 +81,7 @@ fn step<I: Source>(
     ensures { Serves (reading I.Source (texts_of words.now) input.old input.new) result }
 {
     let accepted = accept(alloc, words, input)?;
-    match serve_run(alloc, &accepted, trace) {
-        Ok(served) => Ok(served),
-        Err(_) => Err(Refusal::Memory),
-    }
+    Ok(serve_run(alloc, &accepted, trace)?)
 }
 
 /// The line for a net of so many actors.
@@ -113,12 +111,10 @@ fn run<R: Threads + Wait + Sync, I: Source, G: Gate + Sync>(
     gate: &G,
 ) -> Result<Served, Refusal>
     requires { words_of (texts_of words.now) ≡ Some (command.Run trace) }
-    ensures { Serves (reading I.Source (texts_of words.now) input.old input.new) result }
+    ensures serves { Serves (reading I.Source (texts_of words.now) input.old input.new) result }
+    ensures passed { IfOk result (λ s. NodesPassed G.passed gate.now (states_of s.nodes)) }
 {
-    let accepted = match accept(alloc, words, input) {
-        Ok(accepted) => accepted,
-        Err(refusal) => return Err(refusal),
-    };
+    let accepted = accept(alloc, words, input)?;
     match serve_threads(rt, alloc, &accepted, trace, gate) {
         Ok(served) => Ok(served),
         Err(EmulFault::TooMany(actors)) => Err(too_many(alloc, actors)),
@@ -139,10 +135,7 @@ fn check<I: Source>(alloc: Global, words: &[String], input: &mut I) -> Result<Se
         Ok(answer) => answer,
         Err(fault) => return Err(refused_stream(alloc, &fault)),
     };
-    match serve_answer(alloc, answer) {
-        Ok(served) => Ok(served),
-        Err(_) => Err(Refusal::Memory),
-    }
+    Ok(serve_answer(alloc, answer)?)
 }
 
 fn balance<I: Source>(alloc: Global, words: &[String], input: &mut I) -> Result<Served, Refusal>
@@ -150,10 +143,7 @@ fn balance<I: Source>(alloc: Global, words: &[String], input: &mut I) -> Result<
     ensures { Serves (reading I.Source (texts_of words.now) input.old input.new) result }
 {
     let accepted = accept(alloc, words, input)?;
-    match serve_balance(alloc, &accepted) {
-        Ok(served) => Ok(served),
-        Err(_) => Err(Refusal::Memory),
-    }
+    Ok(serve_balance(alloc, &accepted)?)
 }
 
 fn poll<I: Source>(
@@ -167,10 +157,7 @@ fn poll<I: Source>(
     ensures { Serves (reading I.Source (texts_of words.now) input.old input.new) result }
 {
     let accepted = accept(alloc, words, input)?;
-    match serve_poll(alloc, &accepted, start, gap) {
-        Ok(served) => Ok(served),
-        Err(_) => Err(Refusal::Memory),
-    }
+    Ok(serve_poll(alloc, &accepted, start, gap)?)
 }
 
 fn values<I: Source>(alloc: Global, words: &[String], input: &mut I) -> Result<Served, Refusal>
@@ -178,10 +165,7 @@ fn values<I: Source>(alloc: Global, words: &[String], input: &mut I) -> Result<S
     ensures { Serves (reading I.Source (texts_of words.now) input.old input.new) result }
 {
     let accepted = accept(alloc, words, input)?;
-    match serve_values(alloc, &accepted) {
-        Ok(served) => Ok(served),
-        Err(_) => Err(Refusal::Memory),
-    }
+    Ok(serve_values(alloc, &accepted)?)
 }
 
 fn routes<I: Source>(alloc: Global, words: &[String], input: &mut I) -> Result<Served, Refusal>
@@ -189,20 +173,15 @@ fn routes<I: Source>(alloc: Global, words: &[String], input: &mut I) -> Result<S
     ensures { Serves (reading I.Source (texts_of words.now) input.old input.new) result }
 {
     let accepted = accept(alloc, words, input)?;
-    match serve_routes(alloc, &accepted) {
-        Ok(served) => Ok(served),
-        Err(_) => Err(Refusal::Memory),
-    }
+    Ok(serve_routes(alloc, &accepted)?)
 }
 
 fn sample(alloc: Global, number: u8, text: bool) -> Result<Served, Refusal>
     requires { IsSampleNumber number }
     ensures { ServesSample number text result }
 {
-    match sample_bytes(alloc, number, text) {
-        Ok(bytes) => Ok(only_text(0, bytes)),
-        Err(_) => Err(Refusal::Memory),
-    }
+    let bytes = sample_bytes(alloc, number, text)?;
+    Ok(only_text(0, bytes))
 }
 
 /// Serves each command but `run`.
@@ -299,7 +278,7 @@ pub fn one_thread<I: Source, O: Sink, E: Sink>(
 
 /// The top call: does what the words ask for, reads the input from `input` and writes the report
 /// to `out`, and refusals to `err`. For `run` each actor has a thread of its own, and passes the
-/// gate before each of its rounds.
+/// gate before each of its rounds, 200 at least.
 pub fn speedlight<R: Threads + Wait + Sync, I: Source, O: Sink, E: Sink, G: Gate + Sync>(
     rt: &R,
     alloc: Global,
@@ -309,8 +288,10 @@ pub fn speedlight<R: Threads + Wait + Sync, I: Source, O: Sink, E: Sink, G: Gate
     err: &mut E,
     gate: &G,
 ) -> Ended
-    ensures { Ends (reading I.Source (texts_of words.now) input.old input.new)
+    ensures ends { Ends (reading I.Source (texts_of words.now) input.old input.new)
         (writing O.Sink out.old out.new) (writing E.Sink err.old err.new) result }
+    ensures passed { asks_for_run (words_of (texts_of words.now))
+        → NodesPassed G.passed gate.now (states_of result.nodes) }
 {
     match words_of(alloc, words) {
         Ok(Some(Command::Run(trace))) => {

@@ -45,4 +45,5 @@ returns c =
       stepped = λ ended. report-of IsRunBook i (losses i) c.args.trace v.book c.args.ran.front v.states _ _ _ ended.run stand told.book told.machines text;
       threaded = λ ended. report-of IsThreadedBook i (losses i) c.args.trace v.book c.args.ran.front v.states _ _ _ ended.run stand told.book told.machines text;
       status = refl;
+      front = refl;
     }

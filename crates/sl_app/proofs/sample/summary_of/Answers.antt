@@ -1,11 +1,12 @@
-use Rattle.std.proofs.Common.{sym, subst, ap, ◌∙◌}
+use Rattle.std.proofs.Common.{◌<◌, ◌^◌, sym, subst, ap, ◌∙◌}
 use Rattle.std.proofs.lemmas.Result.{IfOk-weaker}
 use Rattle.sl_net.specs.Input.{Input}
-use Rattle.sl_flow.specs.Sample.{IsSample}
+use Rattle.sl_flow.specs.Sample.{IsSample, sample_parts}
 use Rattle.sl_report.specs.SummaryText.{summary_text}
 use Rattle.sl_proto.specs.RunBook.{CanRun}
 use Rattle.sl_app.specs.Served.{IsSummary}
-use Rattle.sl_app.proofs.RunLemmas.{sample_runs}
+use Rattle.sl_model.specs.Bound.{input_bound}
+use Rattle.sl_app.proofs.RunLemmas.{sample_runs, small_sample}
 use Rattle.sl_app.proofs.sample.summary_of.Goals as goal
 
 pub run_stepped-requires : goal.run_stepped-requires
@@ -19,6 +20,9 @@ returns c =
     let input = c.in_ok-input.input in
     let run = c.in_ok-run.run' in
     let told = c.in_ok-run.ensures in
+    let is = c.in_ok-input.ensures.input in
+    let sample = subst IsSample is c.in_ok-input.ensures.holds in
+    let small : input_bound input < 2 ^ 27 = subst (λ (i : Input). input_bound i < 2 ^ 27) (sym is) (small_sample c.input_bounds_are_small.ensures c.nets_are_wired.ensures (sample_parts n) (sample_runs n sample) sample) in
     IfOk-weaker c.summary_bytes.result _ _
-    (λ text is. subst (λ (i : Input). IsSummary n i text.items) c.in_ok-input.ensures.input (record { book = run.book.entries; front = run.front; run = told.run; text_is = is ∙ (ap (λ m. summary_text m input.net run.findings) c.from.ensures ∙ ap (summary_text n input.net) told.tells) }))
+    (λ text same. subst (λ (i : Input). IsSummary n i text.items) is (record { book = run.book.entries; front = run.front; small = small; run = told.run; text_is = same ∙ (ap (λ m. summary_text m input.net run.findings) c.from.ensures ∙ ap (summary_text n input.net) told.tells) }))
     c.summary_bytes.ensures

@@ -1,6 +1,11 @@
+use Rattle.sl_words.specs.declared.command.Command.TheVariants.{Balance}
+use Rattle.sl_app.proofs.EndLemmas.{memory_told}
 use Rattle.sl_app.proofs.RunLemmas.{tabled}
 use Rattle.sl_app.proofs.top.balance.Goals as goal
 
-pub returns-in-Ok : goal.returns-in-Ok
-returns-in-Ok g c = let e = c.in_ok-accepted.ensures in
-    tabled _ c.in_ok-accepted.accepted c.requires e.accepts.0 e.small _ _ _ _ _ c.in-Ok.ensures.table c.in-Ok.ensures.status
+pub returns : goal.returns
+returns g c = let e = c.in_ok-accepted.ensures in
+    tabled _ c.in_ok-accepted.accepted c.requires e.accepts.0 e.small _ _ _ _ _ c.in_ok-serve_balance.ensures.table c.in_ok-serve_balance.ensures.status
+
+pub returns-in_err-serve_balance : goal.returns-in_err-serve_balance
+returns-in_err-serve_balance g c = memory_told _ Balance c.from_residual-in_err-serve_balance.result c.requires tt c.from_residual-in_err-serve_balance.ensures

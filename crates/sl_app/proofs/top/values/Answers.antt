@@ -1,6 +1,11 @@
+use Rattle.sl_words.specs.declared.command.Command.TheVariants.{Values}
+use Rattle.sl_app.proofs.EndLemmas.{memory_told}
 use Rattle.sl_app.proofs.RunLemmas.{valued}
 use Rattle.sl_app.proofs.top.values.Goals as goal
 
-pub returns-in-Ok : goal.returns-in-Ok
-returns-in-Ok g c = let e = c.in_ok-accepted.ensures in
-    valued _ c.in_ok-accepted.accepted c.requires e.accepts.0 e.small _ _ _ _ _ c.in-Ok.ensures.values c.in-Ok.ensures.status
+pub returns : goal.returns
+returns g c = let e = c.in_ok-accepted.ensures in
+    valued _ c.in_ok-accepted.accepted c.requires e.accepts.0 e.small _ _ _ _ _ c.in_ok-serve_values.ensures.values c.in_ok-serve_values.ensures.status
+
+pub returns-in_err-serve_values : goal.returns-in_err-serve_values
+returns-in_err-serve_values g c = memory_told _ Values c.from_residual-in_err-serve_values.result c.requires tt c.from_residual-in_err-serve_values.ensures

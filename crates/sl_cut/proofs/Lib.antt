@@ -6,3 +6,4 @@ pub mod ForwardPuts
 pub mod Actions
 pub mod Observed
 pub mod LegalFront
+pub mod Hostile

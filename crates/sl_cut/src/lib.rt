@@ -11,6 +11,7 @@ mod flow;
 mod frames;
 mod gather;
 mod history;
+mod hostile_laws;
 mod judge;
 mod knowledge;
 mod losses;
@@ -28,6 +29,9 @@ pub use counting::{bad, bytes, expired, noroute, packets};
 pub use ending::ending_of;
 pub use gather::findings_of;
 pub use history::{History, World};
+pub use hostile_laws::{
+    bad_frames_change_no_finding, bad_frames_change_no_text, bad_frames_change_no_turn,
+};
 pub use knowledge::{can_issue, floor, issued, resent, unit_floor};
 pub use losses::{carried, without_lost};
 pub use schedule::{follow, follow_legal};

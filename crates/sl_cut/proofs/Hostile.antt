@@ -1,0 +1,10 @@
+-- A bad frame blanked changes nothing that is told.
+pub mod Frames
+pub mod Told
+pub mod Judged
+pub mod Puts
+pub mod Worlds
+pub mod Found
+pub mod Ended
+pub mod Polled
+pub mod Alike

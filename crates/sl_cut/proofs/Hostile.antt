@@ -1,7 +1,7 @@
 -- A bad frame blanked changes nothing that is told.
 pub mod Frames
+pub mod Kept
 pub mod Told
-pub mod Judged
 pub mod Puts
 pub mod Worlds
 pub mod Found

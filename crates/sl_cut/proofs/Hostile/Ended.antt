@@ -16,7 +16,8 @@ use Rattle.sl_model.specs.End.{append_to, then_from, again_from, settle, is_coll
 use Rattle.sl_model.specs.Ending.{HasEnding}
 use Rattle.sl_cut.specs.Hostile.{blank, blank_message, blank_step, blank_world}
 use Rattle.sl_cut.proofs.Hostile.Frames.{blank_setup, frames-blank}
-use Rattle.sl_cut.proofs.Hostile.Told.{taken-blank, known-blank, length-blank, issue-blank}
+use Rattle.sl_cut.proofs.Hostile.Told.{known-blank, blank-keeps}
+use Rattle.sl_cut.proofs.Hostile.Kept.{issue-kept, length-kept, taken-kept}
 use Rattle.sl_cut.proofs.Hostile.Worlds.{of_actor, issued-blank, floor-same, all-carried, all-taken, next-blank, idle-same, turn-blank, run-blank, start-blank, world-blank, kept-blank}
 
 -- Finishing. go and come are what follows, in a world and in the world with bad frames blanked.
@@ -102,7 +103,7 @@ count-frames s h = ap length (frames-blank s h) ∙ length-map (frames_of s h) b
 
 none-to-issue : (s : Setup) (w : World) → can_issue (blank_setup s) (floor s.net (blank_world w)) (observer (blank_world w)) ≡ can_issue s (floor s.net w) (observer w)
 none-to-issue s w = ap (λ f. can_issue (blank_setup s) f (observer (blank_world w))) (floor-same s.net w)
-    ∙ of_actor (can_issue (blank_setup s) (floor s.net w)) (issue-blank s (floor s.net w)) w 0
+    ∙ of_actor (can_issue (blank_setup s) (floor s.net w)) (issue-kept blank_step blank-keeps s (floor s.net w)) w 0
 
 abbrev AllEnded : Setup → Losses → World → Type 0
 AllEnded s lost w = (AllTaken s.net lost w × AllSent s w × (can_issue s (floor s.net w) (observer w) ≡ false))
@@ -120,11 +121,11 @@ finished-of s lost w f = record {
 ended-blank : (s : Setup) (lost : Losses) (w : World) → AllEnded (blank_setup s) lost (blank_world w) ≡ AllEnded s lost w
 ended-blank s lost w = λ i. (
     ((l : ℕ) → l < length s.net.links → all-taken s.net w l i ≡ count-carried s.net lost w l i)
-    × ((a h : ℕ) → slice_get s.net.actors a ≡ Some (OfHost h) → of_actor (taken (action_choice s.net a)) (taken-blank (action_choice s.net a)) w a i ≡ count-frames s h i)
+    × ((a h : ℕ) → slice_get s.net.actors a ≡ Some (OfHost h) → of_actor (taken (action_choice s.net a)) (taken-kept blank_step blank-keeps (action_choice s.net a)) w a i ≡ count-frames s h i)
     × (none-to-issue s w i ≡ false))
     × ((collected-same s w i ≡ true)
-    ⊎ ((of_actor (resent s.net) (taken-blank (suc (action_choice s.net 0))) w 0 i ≡ s.retries)
-    × Each (λ u. of_actor (known (unit_place s.net u)) (known-blank (unit_place s.net u)) w 0 i ≡ of_actor length length-blank w u i) (units s.net)))
+    ⊎ ((of_actor (resent s.net) (taken-kept blank_step blank-keeps (suc (action_choice s.net 0))) w 0 i ≡ s.retries)
+    × Each (λ u. of_actor (known (unit_place s.net u)) (known-blank (unit_place s.net u)) w 0 i ≡ of_actor length (length-kept blank_step) w u i) (units s.net)))
 
 cast : {A B : Type 0} → A ≡ B → A → B
 cast p x = subst (λ X. X) p x

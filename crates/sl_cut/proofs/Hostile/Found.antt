@@ -18,17 +18,17 @@ use Rattle.sl_model.specs.World.{sender, receiver, taken_by}
 use Rattle.sl_model.specs.Cut.{before, crossing, data_count, data_bytes, channel_value}
 use Rattle.sl_model.specs.Verdict.{cause, lag, judged, issued_verdict, place_or_zero, floor_holder, verdict}
 use Rattle.sl_model.specs.Findings.{channel_links, eight_totals, row, rows_for, finding, ingress_units, over_ingress, lost_of, findings_in}
-use Rattle.sl_cut.specs.Hostile.{blank_message, blank_history, blank_world}
+use Rattle.sl_cut.specs.Hostile.{blank_step, blank_message, blank_history, blank_world}
 use Rattle.sl_cut.proofs.Hostile.Frames.{blank_setup, count-blank, bytes-blank as data-blank, weigh-blank}
-use Rattle.sl_cut.proofs.Hostile.Told.{taken-blank, count-put, carried-blank, packets-blank, bytes-blank, bads-blank, expired-blank, noroute-blank}
-use Rattle.sl_cut.proofs.Hostile.Judged.{before-blank, cause-blank, lag-blank}
+use Rattle.sl_cut.proofs.Hostile.Told.{carried-blank, blank-keeps}
+use Rattle.sl_cut.proofs.Hostile.Kept.{bad-kept, bytes-kept, count-kept, expired-kept, noroute-kept, packets-kept, taken-kept, before-kept, cause-kept, lag-kept}
 use Rattle.sl_cut.proofs.Hostile.Worlds.{history-blank, of_actor, issued-blank, unit_floor-blank, floor-same, all-taken}
 
 -- Verdicts.
 
 judged-blank : (n : ℕ) (net : Net) (w : World) (k : ℕ) → issued_verdict n net (blank_world w) k ≡ issued_verdict n net w k
-judged-blank n net w k = λ i. judged (first_told (λ u. of_actor (lag net k u) (lag-blank net k u) w u i) (units net))
-    (first_told (λ u. of_actor (cause n k) (cause-blank n k) w u i) (units net))
+judged-blank n net w k = λ i. judged (first_told (λ u. of_actor (lag net k u) (lag-kept blank_step blank-keeps net k u) w u i) (units net))
+    (first_told (λ u. of_actor (cause n k) (cause-kept blank_step blank-keeps n k) w u i) (units net))
 
 holder-blank : (net : Net) (w : World) → floor_holder net (blank_world w) ≡ floor_holder net w
 holder-blank net w = λ i. place_or_zero (first_told (λ u. if unit_floor-blank net w u i == floor-same net w i then Some u else None) (units net))
@@ -39,16 +39,16 @@ verdict-blank n net w k = λ i. if nat_le k (issued-blank net w i) then judged-b
 -- Rows.
 
 of_cut : {A : Type 0} (f : History → A) → ((h : History) → f (blank_history h) ≡ f h) → (w : World) (k u : ℕ) → f (before k (history (blank_world w) u)) ≡ f (before k (history w u))
-of_cut f e w k u = ap (λ h. f (before k h)) (history-blank w u) ∙ ap f (before-blank k (history w u)) ∙ e (before k (history w u))
+of_cut f e w k u = ap (λ h. f (before k h)) (history-blank w u) ∙ ap f (before-kept blank_step blank-keeps k (history w u)) ∙ e (before k (history w u))
 
 cut-carried : (net : Net) (lost : Losses) (w : World) (k l : ℕ) → carried_by lost l (before k (sender net (blank_world w) l)) ≡ map blank_message (carried_by lost l (before k (sender net w l)))
 cut-carried net lost w k l = ap (λ h. carried_by lost l (before k h)) (history-blank w (link_of net l).from)
-    ∙ ap (carried_by lost l) (before-blank k (sender net w l)) ∙ carried-blank lost l (before k (sender net w l))
+    ∙ ap (carried_by lost l) (before-kept blank_step blank-keeps k (sender net w l)) ∙ carried-blank lost l (before k (sender net w l))
 
 crossing-blank : (net : Net) (lost : Losses) (w : World) (k l : ℕ) → crossing net lost (blank_world w) k l ≡ map blank_message (crossing net lost w k l)
 crossing-blank net lost w k l =
     let m = taken_by net l (before k (receiver net w l)) in let n = taken_by net l (receiver net w l) in let ms = carried_by lost l (before k (sender net w l)) in
-    (λ i. drop (of_cut (taken (choice_of net l)) (taken-blank (choice_of net l)) w k (link_of net l).to i) (take (all-taken net w l i) (cut-carried net lost w k l i)))
+    (λ i. drop (of_cut (taken (choice_of net l)) (taken-kept blank_step blank-keeps (choice_of net l)) w k (link_of net l).to i) (take (all-taken net w l i) (cut-carried net lost w k l i)))
     ∙ ap (drop m) (take-map blank_message n ms) ∙ drop-map blank_message m (take n ms)
 
 value-blank : (net : Net) (lost : Losses) (w : World) (k l : ℕ) → channel_value net lost (blank_world w) k l ≡ channel_value net lost w k l
@@ -58,8 +58,8 @@ value-blank net lost w k l = let ms = crossing net lost w k l in
 
 row-blank : (net : Net) (lost : Losses) (w : World) (k u : ℕ) → row net lost (blank_world w) k u ≡ row net lost w k u
 row-blank net lost w k u = λ i. record {
-  packets = of_cut packets packets-blank w k u i;
-  bytes = of_cut bytes bytes-blank w k u i;
+  packets = of_cut packets (packets-kept blank_step blank-keeps) w k u i;
+  bytes = of_cut bytes (bytes-kept blank_step blank-keeps) w k u i;
   inflight = eight_totals (map (λ l. value-blank net lost w k l i) (channel_links net u));
 }
 
@@ -78,21 +78,21 @@ ingress-blank : (net : Net) (w : World) (f : ℕ → History → ℕ) → ((d : 
 ingress-blank net w f e = λ i. weigh (λ u. of_actor (f (device_of (actor_of net u))) (e (device_of (actor_of net u))) w u i) (ingress_units net)
 
 lost-blank : (net : Net) (lost : Losses) (w : World) (sort : Sort) → lost_of net lost (blank_world w) sort ≡ lost_of net lost w sort
-lost-blank net lost w sort = λ i. weigh (λ l. tally (λ n. lost l n) (range_with_len 1 (of_actor (λ h. length (put l h)) (count-put l) w (link_of net l).from i)))
+lost-blank net lost w sort = λ i. weigh (λ l. tally (λ n. lost l n) (range_with_len 1 (of_actor (λ h. length (put l h)) (count-kept blank_step blank-keeps l) w (link_of net l).from i)))
     (filter (λ l. same_sort (link_of net l).sort sort) (link_numbers net))
 
 pub findings-blank : (s : Setup) (lost : Losses) (w : World) → findings_in (blank_setup s) lost (blank_world w) ≡ findings_in s lost w
 findings-blank s lost w = λ i. record {
   issued = issued-blank s.net w i;
   floor = floor-same s.net w i;
-  resent = of_actor (resent s.net) (taken-blank (suc (action_choice s.net 0))) w 0 i;
+  resent = of_actor (resent s.net) (taken-kept blank_step blank-keeps (suc (action_choice s.net 0))) w 0 i;
   list = map (λ k. finding-blank s.credits s.net lost w k i) (range_with_len 1 s.count);
-  sent = map (λ a. of_actor (taken (action_choice s.net a)) (taken-blank (action_choice s.net a)) w a i) (hosts s.net);
-  delivered = map (λ a. of_actor (taken 0) (taken-blank 0) w a i) (hosts s.net);
+  sent = map (λ a. of_actor (taken (action_choice s.net a)) (taken-kept blank_step blank-keeps (action_choice s.net a)) w a i) (hosts s.net);
+  delivered = map (λ a. of_actor (taken 0) (taken-kept blank_step blank-keeps 0) w a i) (hosts s.net);
   drops = record {
-    bad = ingress-blank s.net w (λ d h. bad h) (λ d h. bads-blank h) i;
-    expired = ingress-blank s.net w (λ d h. expired h) (λ d h. expired-blank h) i;
-    noroute = ingress-blank s.net w (λ d h. noroute s.net.parts d h) (noroute-blank s.net.parts) i;
+    bad = ingress-blank s.net w (λ d h. bad h) (λ d. bad-kept blank_step blank-keeps) i;
+    expired = ingress-blank s.net w (λ d h. expired h) (λ d. expired-kept blank_step blank-keeps) i;
+    noroute = ingress-blank s.net w (λ d h. noroute s.net.parts d h) (noroute-kept blank_step blank-keeps s.net.parts) i;
   };
   lost = record {
     cable = lost-blank s.net lost w Cable i;

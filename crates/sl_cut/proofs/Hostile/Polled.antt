@@ -13,13 +13,14 @@ use Rattle.sl_poll.specs.Reading.{read_after, reads, breaks, broken_by}
 use Rattle.sl_poll.specs.Trail.{pair_from, pair_by, pairs_from}
 use Rattle.sl_cut.specs.Hostile.{blank_step, blank_history, blank_world}
 use Rattle.sl_cut.proofs.Hostile.Frames.{blank_setup, counted-blank, through}
-use Rattle.sl_cut.proofs.Hostile.Told.{taken-blank, packets-blank, bytes-blank}
+use Rattle.sl_cut.proofs.Hostile.Told.{blank-keeps}
+use Rattle.sl_cut.proofs.Hostile.Kept.{bytes-kept, packets-kept, taken-kept}
 use Rattle.sl_cut.proofs.Hostile.Worlds.{of_actor, next-blank, turn-blank, start-blank, world-blank}
 use Rattle.sl_cut.proofs.Hostile.Ended.{count-carried}
 
 pair-blank : (net : Net) (w : World) (n : ℕ) (putters : Putters) (e : Entry) (l : Option ℕ) (o : Option Step)
     → pair_by net (blank_world w) n putters e l (option_map blank_step o) ≡ pair_by net w n putters e l o
-pair-blank net w n putters e (Some l) (Some step) = λ i. pair_from net n (putters l) l (of_actor (taken e.1) (taken-blank e.1) w e.0 i) (through counted_in counted-blank step.taken i)
+pair-blank net w n putters e (Some l) (Some step) = λ i. pair_from net n (putters l) l (of_actor (taken e.1) (taken-kept blank_step blank-keeps e.1) w e.0 i) (through counted_in counted-blank step.taken i)
 pair-blank net w n putters e (Some l) None = refl
 pair-blank net w n putters e None o = none o
   where
@@ -50,8 +51,8 @@ pub reads-blank : (s : Setup) (lost : Losses) (es : List Entry) (begin gap : ℕ
 reads-blank s lost es begin gap = λ i. map (λ place. record {
   unit = place;
   at = at place;
-  packets = told packets packets-blank place i;
-  bytes = told bytes bytes-blank place i;
+  packets = told packets (packets-kept blank_step blank-keeps) place i;
+  bytes = told bytes (bytes-kept blank_step blank-keeps) place i;
 }) (below (length (units s.net)))
   where
     at : ℕ → ℕ

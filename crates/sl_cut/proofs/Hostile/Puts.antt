@@ -21,9 +21,10 @@ use Rattle.sl_model.specs.History.{History, stamp_of, last, taken}
 use Rattle.sl_model.specs.Knowledge.{is_outstanding, is_again, is_swept, issued, can_issue, can_resend}
 use Rattle.sl_model.specs.Puts.{send, send_all, crossbar_to, onward, route, route_frame, ingress_puts, is_own_port, egress_puts, side_puts, notice_puts, dump_puts, id_after, unit_puts, poll_puts, dump_answer, control_puts, puts_of, begin_all, guarded, action}
 use Rattle.sl_model.specs.Setup.{Setup, frames_of}
-use Rattle.sl_cut.specs.Hostile.{blank, blank_message, blank_put, blank_history}
+use Rattle.sl_cut.specs.Hostile.{blank_step, blank, blank_message, blank_put, blank_history}
 use Rattle.sl_cut.proofs.Hostile.Frames.{blank_setup, packet-blank, plain-blank, stamp-blank, frames-blank}
-use Rattle.sl_cut.proofs.Hostile.Told.{id-blank, last-blank, taken-blank, length-blank, outstanding-blank, again-blank, swept-blank, issue-blank, resend-blank}
+use Rattle.sl_cut.proofs.Hostile.Told.{blank-keeps}
+use Rattle.sl_cut.proofs.Hostile.Kept.{again-kept, id-kept, issue-kept, last-kept, length-kept, outstanding-kept, resend-kept, swept-kept, taken-kept}
 
 -- puts with no bad frame
 abbrev IsClean : List Put → Type 0
@@ -103,8 +104,8 @@ dump-blank net u n _ = refl
 
 unit-blank : (net : Net) (u : ℕ) (i : UnitId) (h : History) (c l : ℕ) (m : Message) → unit_puts net u i (blank_history h) c l (blank_message m) ≡ unit_puts net u i h c l m
 unit-blank net u i h c l m =
-    (λ j. side_puts net u i i.side (max (unwrap_or (stamp-blank m j) 0) (id-blank h j)) l (blank_message m)
-    ++ (notice_puts net u (last-blank c h j) (stamp-blank m j) ++ dump_puts net u (suc (length-blank h j)) (blank_message m)))
+    (λ j. side_puts net u i i.side (max (unwrap_or (stamp-blank m j) 0) (id-kept blank_step blank-keeps h j)) l (blank_message m)
+    ++ (notice_puts net u (last-kept blank_step blank-keeps c h j) (stamp-blank m j) ++ dump_puts net u (suc (length-kept blank_step h j)) (blank_message m)))
     ∙ (λ j. side-blank net u i i.side (id_after m h) l m j ++ (notice_puts net u (last c h) (stamp_of m) ++ dump-blank net u (suc (length h)) m j))
 
 -- Control planes.
@@ -123,11 +124,11 @@ control-clean net a h c (DumpMsg n) = clean-each _ (λ v. clean-if (c == v.dump)
 control-clean net a h c _ = refl
 
 poll-blank : (v : Served) (h : History) → poll_puts v (blank_history h) ≡ poll_puts v h
-poll-blank v h = ap (λ b. if b then [] else send PollMsg v.poll ∷ []) (outstanding-blank v h)
+poll-blank v h = ap (λ b. if b then [] else send PollMsg v.poll ∷ []) (outstanding-kept blank_step blank-keeps v h)
 
 answer-blank : (net : Net) (a : ℕ) (h : History) (n : ℕ) (v : Served) → dump_answer net a (blank_history h) n v ≡ dump_answer net a h n v
 answer-blank net a h n v = ap (λ b. send_all (DoneMsg (unit_place net v.unit) n) (links_out net a Done) ++ (if b then send PollMsg v.poll ∷ [] else []))
-    (again-blank (action_choice net a) v h)
+    (again-kept blank_step blank-keeps (action_choice net a) v h)
 
 control-blank : (net : Net) (a : ℕ) (h : History) (c : ℕ) (m : Message) → control_puts net a (blank_history h) c (blank_message m) ≡ control_puts net a h c m
 control-blank net a h c (HostMsg bytes) = refl
@@ -155,17 +156,17 @@ begin-clean net k = clean-all (BeginMsg k) refl (links_out net 0 Begin)
 
 issue-action : (s : Setup) (f a : ℕ) (h : History)
     → action (blank_setup s) f a Observer (blank_history h) zero ≡ option_map (map blank_put) (action s f a Observer h zero)
-issue-action s f a h = (λ i. guarded (issue-blank s f h i) (begin_all s.net (suc (taken-blank (action_choice s.net 0) h i))))
+issue-action s f a h = (λ i. guarded (issue-kept blank_step blank-keeps s f h i) (begin_all s.net (suc (taken-kept blank_step blank-keeps (action_choice s.net 0) h i))))
     ∙ guarded-blank (can_issue s f h) _ (begin-clean s.net (suc (issued s.net h)))
 
 resend-action : (s : Setup) (f a : ℕ) (h : History)
     → action (blank_setup s) f a Observer (blank_history h) (suc zero) ≡ option_map (map blank_put) (action s f a Observer h (suc zero))
-resend-action s f a h = (λ i. guarded (resend-blank s f h i) (begin_all s.net (taken-blank (action_choice s.net 0) h i)))
+resend-action s f a h = (λ i. guarded (resend-kept blank_step blank-keeps s f h i) (begin_all s.net (taken-kept blank_step blank-keeps (action_choice s.net 0) h i)))
     ∙ guarded-blank (can_resend s f h) _ (begin-clean s.net (issued s.net h))
 
 sweep-action : (s : Setup) (f a d : ℕ) (h : History)
     → action (blank_setup s) f a (Control d) (blank_history h) zero ≡ option_map (map blank_put) (action s f a (Control d) h zero)
-sweep-action s f a d h = (λ i. guarded (not (swept-blank s.net a h i)) (flat_map (λ v. poll-blank v h i) (served s.net a)))
+sweep-action s f a d h = (λ i. guarded (not (swept-kept blank_step blank-keeps s.net a h i)) (flat_map (λ v. poll-blank v h i) (served s.net a)))
     ∙ guarded-blank (not (is_swept s.net a h)) _ (clean-each _ (λ v. poll-clean v h) (served s.net a))
 
 -- a frame that is sent, blanked
@@ -180,7 +181,7 @@ some-sent ls (Some bytes) = ap Some (sent-blank ls bytes)
 inject-action : (s : Setup) (f a i : ℕ) (h : History)
     → action (blank_setup s) f a (OfHost i) (blank_history h) zero ≡ option_map (map blank_put) (action s f a (OfHost i) h zero)
 inject-action s f a i h = let n = taken (action_choice s.net a) h in
-    (λ j. option_map (λ bytes. send_all (HostMsg bytes) (links_out s.net a FromHost)) (slice_get (frames-blank s i j) (taken-blank (action_choice s.net a) h j)))
+    (λ j. option_map (λ bytes. send_all (HostMsg bytes) (links_out s.net a FromHost)) (slice_get (frames-blank s i j) (taken-kept blank_step blank-keeps (action_choice s.net a) h j)))
     ∙ ap (option_map (λ bytes. send_all (HostMsg bytes) (links_out s.net a FromHost))) (slice_get-map blank (frames_of s i) n)
     ∙ some-sent (links_out s.net a FromHost) (slice_get (frames_of s i) n)
 

@@ -18,7 +18,8 @@ use Rattle.sl_model.specs.Knowledge.{observer, known, floor_of, collected, unit_
 use Rattle.sl_model.specs.World.{Entry, start, sender, receiver, carried, taken_by, front, taking, acting, floor_for, step_by, next_step, after, turn, run, world, kept_from}
 use Rattle.sl_cut.specs.Hostile.{blank_message, blank_put, blank_step, blank_history, blank_world}
 use Rattle.sl_cut.proofs.Hostile.Frames.{blank_setup}
-use Rattle.sl_cut.proofs.Hostile.Told.{taken-blank, first-blank, known-blank, floor-blank, carried-blank}
+use Rattle.sl_cut.proofs.Hostile.Told.{known-blank, carried-blank, blank-keeps}
+use Rattle.sl_cut.proofs.Hostile.Kept.{first-kept, floor-kept, taken-kept}
 use Rattle.sl_cut.proofs.Hostile.Puts.{puts-blank, action-blank}
 
 pub history-blank : (w : World) (a : ℕ) → history (blank_world w) a ≡ blank_history (history w a)
@@ -31,14 +32,14 @@ of_actor f e w a = ap f (history-blank w a) ∙ e (history w a)
 -- The floor.
 
 pub issued-blank : (net : Net) (w : World) → issued net (observer (blank_world w)) ≡ issued net (observer w)
-issued-blank net w = of_actor (issued net) (taken-blank (action_choice net 0)) w 0
+issued-blank net w = of_actor (issued net) (taken-kept blank_step blank-keeps (action_choice net 0)) w 0
 
 collected-blank : (net : Net) (w : World) (u : ℕ) → collected net (blank_world w) u ≡ blank_history (collected net w u)
 collected-blank net w u = (λ i. first (of_actor (known (unit_place net u)) (known-blank (unit_place net u)) w 0 i) (history-blank w u i))
-    ∙ first-blank (known (unit_place net u) (observer w)) (history w u)
+    ∙ first-kept blank_step (known (unit_place net u) (observer w)) (history w u)
 
 pub unit_floor-blank : (net : Net) (w : World) (u : ℕ) → unit_floor net (blank_world w) u ≡ unit_floor net w u
-unit_floor-blank net w u = ap (floor_of net u) (collected-blank net w u) ∙ floor-blank net u (collected net w u)
+unit_floor-blank net w u = ap (floor_of net u) (collected-blank net w u) ∙ floor-kept blank_step blank-keeps net u (collected net w u)
 
 pub floor-same : (net : Net) (w : World) → floor net (blank_world w) ≡ floor net w
 floor-same net w = λ i. unwrap_or (least (map (λ u. unit_floor-blank net w u i) (units net))) (issued-blank net w i)
@@ -49,10 +50,10 @@ pub all-carried : (net : Net) (lost : Losses) (w : World) (l : ℕ) → carried 
 all-carried net lost w l = ap (λ h. carried_by lost l h) (history-blank w (link_of net l).from) ∙ carried-blank lost l (sender net w l)
 
 pub all-taken : (net : Net) (w : World) (l : ℕ) → taken_by net l (receiver net (blank_world w) l) ≡ taken_by net l (receiver net w l)
-all-taken net w l = of_actor (taken (choice_of net l)) (taken-blank (choice_of net l)) w (link_of net l).to
+all-taken net w l = of_actor (taken (choice_of net l)) (taken-kept blank_step blank-keeps (choice_of net l)) w (link_of net l).to
 
 front-blank : (net : Net) (lost : Losses) (w : World) (a c l : ℕ) → front net lost (blank_world w) a c l ≡ option_map blank_message (front net lost w a c l)
-front-blank net lost w a c l = (λ i. slice_get (all-carried net lost w l i) (of_actor (taken c) (taken-blank c) w a i))
+front-blank net lost w a c l = (λ i. slice_get (all-carried net lost w l i) (of_actor (taken c) (taken-kept blank_step blank-keeps c) w a i))
     ∙ slice_get-map blank_message (carried net lost w l) (taken c (history w a))
 
 -- Steps.

@@ -2,6 +2,7 @@
 pub mod Frames
 pub mod Kept
 pub mod Told
+pub mod Flowing
 pub mod Puts
 pub mod Worlds
 pub mod Found

@@ -7,3 +7,4 @@ pub mod Actions
 pub mod Observed
 pub mod LegalFront
 pub mod Hostile
+pub mod Honest

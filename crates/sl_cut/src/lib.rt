@@ -31,6 +31,7 @@ pub use gather::findings_of;
 pub use history::{History, World};
 pub use hostile_laws::{
     bad_frames_change_no_finding, bad_frames_change_no_text, bad_frames_change_no_turn,
+    hostile_turns_change_no_finding,
 };
 pub use knowledge::{can_issue, floor, issued, resent, unit_floor};
 pub use losses::{carried, without_lost};

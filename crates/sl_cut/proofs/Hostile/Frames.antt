@@ -38,7 +38,7 @@ packet-blank bytes = by_packet (packet_of bytes) refl
     by_packet None e = ap (λ o. packet_of (if is_none o then [] else bytes)) e ∙ no-bytes ∙ sym e
     by_packet (Some p) e = ap (λ o. packet_of (if is_none o then [] else bytes)) e
 
-plain-packet : (p : Packet) → is_none (packet_of (plain_frame p)) ≡ false
+pub plain-packet : (p : Packet) → is_none (packet_of (plain_frame p)) ≡ false
 unfolding packet_of plain_frame
 plain-packet p = refl
 

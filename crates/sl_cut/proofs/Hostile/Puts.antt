@@ -1,5 +1,5 @@
 -- What an actor puts: with bad frames blanked it puts the same, blanked. All but a host's own frames it puts as they are.
-use Rattle.std.proofs.Common.{◌≡◌, ℕ, suc, zero, ◌-◌, List, [], ◌∷◌, ◌++◌, length, refl, sym, ap, ◌∙◌, Option, Some, None}
+use Rattle.std.proofs.Common.{◌≡◌, ℕ, suc, zero, List, [], ◌∷◌, ◌++◌, length, refl, sym, ap, ◌∙◌, Option, Some, None}
 use Rattle.std.specs.Prelude.{true, false, Bool, not, ◌==◌, if◌then◌else◌, map, max, flat_map, unwrap_or, option_map, slice_get}
 use Rattle.std.proofs.lemmas.List.{map-append}
 use Rattle.std.proofs.lemmas.Option.{slice_get-map}
@@ -8,22 +8,20 @@ use Rattle.sl_layout.specs.declared.actor.ActorId.TheVariants.{Observer, Control
 use Rattle.sl_layout.specs.declared.actor.UnitId.{UnitId}
 use Rattle.sl_layout.specs.declared.actor.Side.{Side}
 use Rattle.sl_layout.specs.declared.actor.Side.TheVariants.{Ingress, Egress}
-use Rattle.sl_layout.specs.declared.actor.Sort.TheVariants.{FromHost, ToHost, Cable, Crossbar, Init, Notice, Dump, Begin, Done}
+use Rattle.sl_layout.specs.declared.actor.Sort.TheVariants.{FromHost, Init, Dump, Begin, Done}
 use Rattle.sl_layout.specs.Net.{Net, links_out, action_choice, unit_place}
 use Rattle.sl_layout.specs.Serving.{Served, served}
-use Rattle.sl_net.specs.declared.input.Packet.{Packet}
-use Rattle.sl_route.specs.Route.{next_port}
 use Rattle.sl_model.specs.declared.message.Message.{Message}
-use Rattle.sl_model.specs.declared.message.Message.TheVariants.{Host as HostMsg, Data, Probe as ProbeMsg, Init as InitMsg, Poll as PollMsg, Notice as NoticeMsg, Dump as DumpMsg, Begin as BeginMsg, Done as DoneMsg}
+use Rattle.sl_model.specs.declared.message.Message.TheVariants.{Host as HostMsg, Init as InitMsg, Poll as PollMsg, Notice as NoticeMsg, Dump as DumpMsg, Begin as BeginMsg, Done as DoneMsg}
 use Rattle.sl_model.specs.declared.message.Put.{Put}
-use Rattle.sl_model.specs.Frame.{plain_frame, packet_of}
 use Rattle.sl_model.specs.History.{History, stamp_of, last, taken}
-use Rattle.sl_model.specs.Knowledge.{is_outstanding, is_again, is_swept, issued, can_issue, can_resend}
-use Rattle.sl_model.specs.Puts.{send, send_all, crossbar_to, onward, route, route_frame, ingress_puts, is_own_port, egress_puts, side_puts, notice_puts, dump_puts, id_after, unit_puts, poll_puts, dump_answer, control_puts, puts_of, begin_all, guarded, action}
+use Rattle.sl_model.specs.Knowledge.{is_again, is_swept, issued, can_issue, can_resend}
+use Rattle.sl_model.specs.Puts.{send, send_all, route_frame, ingress_puts, egress_puts, side_puts, notice_puts, dump_puts, id_after, unit_puts, poll_puts, dump_answer, control_puts, puts_of, begin_all, guarded, action}
 use Rattle.sl_model.specs.Setup.{Setup, frames_of}
 use Rattle.sl_cut.specs.Hostile.{blank_step, blank, blank_message, blank_put, blank_history}
-use Rattle.sl_cut.proofs.Hostile.Frames.{blank_setup, packet-blank, plain-blank, stamp-blank, frames-blank}
+use Rattle.sl_cut.proofs.Hostile.Frames.{blank_setup, packet-blank, stamp-blank, frames-blank}
 use Rattle.sl_cut.proofs.Hostile.Told.{blank-keeps}
+use Rattle.sl_cut.proofs.Hostile.Flowing.{IsFlowing, AreFlowing, flow-side, flow-notice, flow-poll}
 use Rattle.sl_cut.proofs.Hostile.Kept.{again-kept, id-kept, issue-kept, last-kept, length-kept, outstanding-kept, resend-kept, swept-kept, taken-kept}
 
 -- puts with no bad frame
@@ -47,44 +45,23 @@ clean-each f e (v ∷ vs) = clean-append (f v) (flat_map f vs) (e v) (clean-each
 
 -- Units.
 
-onward-clean : (net : Net) (u d k : ℕ) (q : Packet) (o : Option ℕ) → IsClean (onward net u d k q o)
-onward-clean net u d k q None = refl
-onward-clean net u d k q (Some port) = clean-all (Data k q) refl (crossbar_to net u d port)
-
-route-clean : (net : Net) (u d k : ℕ) (q : Packet) → IsClean (route net u d k q)
-route-clean net u d k q = clean-if (q.hops == 0) [] _ refl (onward-clean net u d k (record q { hops = q.hops - 1 }) (next_port net.parts d q.dst))
-
-frame-clean : (net : Net) (u d k : ℕ) (o : Option Packet) → IsClean (route_frame net u d k o)
-frame-clean net u d k None = refl
-frame-clean net u d k (Some q) = route-clean net u d k q
-
-ingress-clean : (net : Net) (u d k : ℕ) (m : Message) → IsClean (ingress_puts net u d k m)
-ingress-clean net u d k (HostMsg bytes) = frame-clean net u d k (packet_of bytes)
-ingress-clean net u d k (Data s q) = route-clean net u d k q
-ingress-clean net u d k (InitMsg s) = clean-all (ProbeMsg k) refl (links_out net u Crossbar)
-ingress-clean net u d k _ = refl
-
-egress-clean : (net : Net) (u d p k l : ℕ) (m : Message) → IsClean (egress_puts net u d p k l m)
-egress-clean net u d p k l (Data s q) = clean-append _ _ (clean-all (Data k q) refl (links_out net u Cable))
-    (clean-all (HostMsg (plain_frame q)) (ap HostMsg (plain-blank q)) (links_out net u ToHost))
-egress-clean net u d p k l (ProbeMsg s) = clean-if (is_own_port net d p l) _ [] (clean-all (ProbeMsg k) refl (links_out net u Cable)) refl
-egress-clean net u d p k l _ = refl
-
-side-clean : (net : Net) (u : ℕ) (i : UnitId) (side : Side) (k l : ℕ) (m : Message) → IsClean (side_puts net u i side k l m)
-side-clean net u i Ingress k l m = ingress-clean net u i.device k m
-side-clean net u i Egress k l m = egress-clean net u i.device i.port k l m
-
-notice-clean : (net : Net) (u before : ℕ) (o : Option ℕ) → IsClean (notice_puts net u before o)
-notice-clean net u before None = refl
-notice-clean net u before (Some s) = clean-if (before == s) [] _ refl (clean-all NoticeMsg refl (links_out net u Notice))
+clean-flow : (ps : List Put) → AreFlowing ps → IsClean ps
+clean-flow [] e = refl
+clean-flow (p ∷ ps) e = λ i. record { link = p.link; message = clean p.message e.0 i } ∷ clean-flow ps e.1 i
+  where
+    clean : (m : Message) → IsFlowing m → blank_message m ≡ m
+    clean (HostMsg bytes) f = ap (λ b. HostMsg (if b then [] else bytes)) f
+    clean (DumpMsg n) f = refl
+    clean (DoneMsg place n) f = refl
+    clean _ f = refl
 
 dump-clean : (net : Net) (u n : ℕ) (m : Message) → IsClean (dump_puts net u n m)
 dump-clean net u n PollMsg = clean-all (DumpMsg n) refl (links_out net u Dump)
 dump-clean net u n _ = refl
 
 unit-clean : (net : Net) (u : ℕ) (i : UnitId) (h : History) (c l : ℕ) (m : Message) → IsClean (unit_puts net u i h c l m)
-unit-clean net u i h c l m = clean-append _ _ (side-clean net u i i.side (id_after m h) l m)
-    (clean-append _ _ (notice-clean net u (last c h) (stamp_of m)) (dump-clean net u (suc (length h)) m))
+unit-clean net u i h c l m = clean-append _ _ (clean-flow _ (flow-side net u i i.side (id_after m h) l m))
+    (clean-append _ _ (clean-flow _ (flow-notice net u (last c h) (stamp_of m))) (dump-clean net u (suc (length h)) m))
 
 ingress-blank : (net : Net) (u d k : ℕ) (m : Message) → ingress_puts net u d k (blank_message m) ≡ ingress_puts net u d k m
 ingress-blank net u d k (HostMsg bytes) = ap (route_frame net u d k) (packet-blank bytes)
@@ -110,16 +87,13 @@ unit-blank net u i h c l m =
 
 -- Control planes.
 
-poll-clean : (v : Served) (h : History) → IsClean (poll_puts v h)
-poll-clean v h = clean-if (is_outstanding v h) [] (send PollMsg v.poll ∷ []) refl refl
-
 answer-clean : (net : Net) (a : ℕ) (h : History) (n : ℕ) (v : Served) → IsClean (dump_answer net a h n v)
 answer-clean net a h n v = clean-append _ _ (clean-all (DoneMsg (unit_place net v.unit) n) refl (links_out net a Done))
     (clean-if (is_again (action_choice net a) v h) (send PollMsg v.poll ∷ []) [] refl refl)
 
 control-clean : (net : Net) (a : ℕ) (h : History) (c : ℕ) (m : Message) → IsClean (control_puts net a h c m)
 control-clean net a h c (BeginMsg k) = clean-all (InitMsg k) refl (links_out net a Init)
-control-clean net a h c NoticeMsg = clean-each _ (λ v. clean-if (c == v.notice) _ [] (poll-clean v h) refl) (served net a)
+control-clean net a h c NoticeMsg = clean-each _ (λ v. clean-if (c == v.notice) _ [] (clean-flow _ (flow-poll v h)) refl) (served net a)
 control-clean net a h c (DumpMsg n) = clean-each _ (λ v. clean-if (c == v.dump) _ [] (answer-clean net a h n v) refl) (served net a)
 control-clean net a h c _ = refl
 
@@ -167,7 +141,7 @@ resend-action s f a h = (λ i. guarded (resend-kept blank_step blank-keeps s f h
 sweep-action : (s : Setup) (f a d : ℕ) (h : History)
     → action (blank_setup s) f a (Control d) (blank_history h) zero ≡ option_map (map blank_put) (action s f a (Control d) h zero)
 sweep-action s f a d h = (λ i. guarded (not (swept-kept blank_step blank-keeps s.net a h i)) (flat_map (λ v. poll-blank v h i) (served s.net a)))
-    ∙ guarded-blank (not (is_swept s.net a h)) _ (clean-each _ (λ v. poll-clean v h) (served s.net a))
+    ∙ guarded-blank (not (is_swept s.net a h)) _ (clean-each _ (λ v. clean-flow _ (flow-poll v h)) (served s.net a))
 
 -- a frame that is sent, blanked
 sent-blank : (ls : List ℕ) (bytes : List ℕ) → send_all (HostMsg (blank bytes)) ls ≡ map blank_put (send_all (HostMsg bytes) ls)

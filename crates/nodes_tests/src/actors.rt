@@ -40,7 +40,7 @@ fn told(node: &Node) -> Option<(u64, u64)> {
 }
 
 /// Whether an actor of a net has a choice.
-pub fn has_choice(net: &Net, actor: u32, choice: u32) -> bool
+fn has_choice(net: &Net, actor: u32, choice: u32) -> bool
     ensures { IsTrue result → HasChoice (plan_of net.now) actor choice }
 {
     let wiring = net.wiring();

@@ -6,10 +6,10 @@ ghost use Rattle.sl_layout.specs.Wiring.{plan_of};
 ghost use Rattle.sl_world.specs.World.{scene};
 ghost use Rattle.sl_proto.specs.RunBook.{CanRun};
 
-use crate::actors::{THREE_PACKETS, has_choice};
+use crate::actors::THREE_PACKETS;
 use crate::calls::runnable;
 use sl_net::{Input, Net, find_choice};
-use sl_proto::{Node, first_world};
+use sl_proto::{Node, first_world, passes_are_choices};
 use sl_world::World;
 use std::alloc::Global;
 use std::test::Fail;
@@ -36,18 +36,24 @@ fn expected() -> &'static [(u64, u64)] {
     &TOLD
 }
 
+/// The choice that a line spells.
+fn choice_of(net: &Net, line: &str) -> Result<(u32, u32), Fail>
+    ensures { IfOk result (λ e. HasChoice (plan_of net.now) e.0 e.1) }
+{
+    passes_are_choices();
+    match find_choice(net, line) {
+        Some(entry) => Ok(entry),
+        None => Err("no choice".into()),
+    }
+}
+
 fn schedule(alloc: Global, net: &Net) -> Result<Vec<(u32, u32)>, Fail>
     ensures { IfOk result (λ v. All (λ e. HasChoice (plan_of net.now) e.0 e.1) v.items) }
 {
     let mut entries = Vec::new(alloc);
     for line in ENTRIES.lines() {
-        let Some((actor, choice)) = find_choice(net, line) else {
-            return Err("no choice".into());
-        };
-        if !has_choice(net, actor, choice) {
-            return Err("no such choice".into());
-        }
-        entries.push((actor, choice))?;
+        let entry = choice_of(net, line)?;
+        entries.push(entry)?;
     }
     Ok(entries)
 }

@@ -20,11 +20,12 @@ def tool(name):
 
 
 def parser(name, description, **more):
-    """The parser of a tool's words; its help names the tool as it was called."""
+    """The parser of a tool's words; its help names the tool, and the program, as they are called."""
     called = needs.called()
+    installed = description.replace("tools/", "speedlight-").replace("bin/speedlight", "speedlight")
     made = argparse.ArgumentParser(
         prog=called,
-        description=description.replace("tools/", "speedlight-") if called.startswith("speedlight-") else description,
+        description=installed if called.startswith("speedlight-") else description,
         formatter_class=argparse.RawDescriptionHelpFormatter,
         **more,
     )

@@ -6,6 +6,8 @@ import subprocess
 import sys
 from pathlib import Path
 
+from . import needs
+
 PACKAGE = Path(__file__).resolve().parent
 TOP = PACKAGE.parent.parent
 
@@ -18,6 +20,11 @@ def script(name):
     """The file of a tool: beside the package, or in it where it is installed as a Python package."""
     inside = PACKAGE / "commands" / name
     return inside if inside.is_file() else PACKAGE.parent / name
+
+
+def called():
+    """The program as a person calls it: `bin/speedlight` in a clone, `speedlight` where it is installed."""
+    return "speedlight" if needs.called().startswith("speedlight-") else "bin/speedlight"
 
 
 def compiled():

@@ -44,7 +44,7 @@ def report_of(options, text):
     except NoReport as fault:
         raise command.Trouble(f"{name}: no report with its trace: {fault}") from None
     if report.trace is None:
-        raise command.Trouble(f"{name}: a report without a trace: run `speedlight step --trace`")
+        raise command.Trouble(f"{name}: a report without a trace: run `{program.called()} step --trace`")
     return report
 
 

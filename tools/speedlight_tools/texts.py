@@ -8,18 +8,18 @@ from .reports import Lines, NoReport, Report, Snapshot, read_counts, read_report
 
 # What begins a text, what the text is, and who prints or reads it.
 KINDS = [
-    ("report", r"speedlight 1\n", "a report", "`speedlight step` prints one"),
+    ("report", r"speedlight 1\n", "a report", "`step` prints one"),
     ("values", r"values 1\n", "what `speedlight values` prints", "the form `values` reads it"),
     ("poll", r"poll 1\n", "what `speedlight poll` prints", "the form `poll` reads it"),
     ("balance", r"balance 1\n", "what `speedlight balance` prints", "the form `balance` reads it"),
     ("refusal", r"speedlight: ", "a line with which the program refuses an input", "explain says more of it"),
-    ("trace", r"trace \d+\n", "a trace without its report", "`speedlight step --trace` prints both"),
+    ("trace", r"trace \d+\n", "a trace without its report", "`step --trace` prints both"),
     ("sample", r"sample \d+\n", "the summary of `speedlight sample`", "`sample N --input` prints its input, which step runs"),
     ("routes", r"route \S+ \S+ ", "what `speedlight routes` prints", "no form reads it"),
     ("check", r"check (yes|no)", "an answer of `speedlight check`", "no form reads it"),
     ("json", r"\s*[{\[]", "JSON", "the program's own text is read"),
     ("svg", r"\s*<", "a picture", "the program's own text is read"),
-    ("input", r"(?s).*^\s*(\[+)?(device|snapshot|host|cable|flow)\b", "an input, or another TOML document", "`speedlight step` runs it"),
+    ("input", r"(?s).*^\s*(\[+)?(device|snapshot|host|cable|flow)\b", "an input, or another TOML document", "`step` runs it"),
 ]
 
 

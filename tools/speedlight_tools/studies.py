@@ -19,11 +19,15 @@ from .reports import VERDICTS, NoReport, read_report
 # What a grid may vary: the key of the input that each name stands for.
 KEYS = {name: ("snapshot", name) for name in ("bits", "window", "ring", "count", "retries", "credits", "version")}
 KEYS |= {name: ("loss", name) for name in ("seed", "cable", "crossbar", "init", "notice")}
+# And what it may vary of the parameters of a topology.
+PARAMETERS = ("every", "passes")
 # The most points of a grid.
 MOST_RUNS = 20_000
+# The most inputs that are made of one topology.
+MOST_PACES = 200
 COMMANDS = ("step", "run")
 LOSSES = ("cable", "crossbar", "init", "notice")
-COUNTS = (*VERDICTS, "issued", "collected", "resent", "sent", "delivered", "lost")
+COUNTS = (*VERDICTS, "issued", "collected", "resent", "sent", "delivered", *(f"lost_{sort}" for sort in LOSSES))
 
 
 class NoPlan(Exception):
@@ -51,29 +55,41 @@ class Plan:
         if not isinstance(rows, list) or not all(isinstance(row, dict) for row in rows):
             raise NoPlan("pictures are tables: each begins with [[picture]]")
         self.title = doc.get("title", self.path.stem)
-        self.grid = self.read_grid(doc.get("grid"))
+        self.grid = self.read_grid(doc.get("grid"), "topology" in doc)
         if "command" in doc:
             self.grid.setdefault("command", [doc["command"]])
         self.grid.setdefault("command", ["step"])
         if not set(self.grid["command"]) <= set(COMMANDS):
             raise NoPlan(f"command is {' or '.join(COMMANDS)}, not {self.grid['command']}")
-        self.base = self.read_base(doc)
+        self.bases = self.read_bases(doc)
         self.pictures = [self.read_picture(i, row) for i, row in enumerate(doc.get("picture", []))]
         if len({p["name"] for p in self.pictures}) != len(self.pictures):
             raise NoPlan("two pictures have one name")
 
-    def read_grid(self, grid):
+    def read_grid(self, grid, with_topology):
         if not isinstance(grid, dict) or not grid:
             raise NoPlan("a plan has a table [grid], such as window = [1, 2, 3]")
-        only(grid, {*KEYS, "command"}, "[grid]")
+        for name in PARAMETERS:
+            if name in grid and not with_topology:
+                raise NoPlan(f"[grid] has `{name}`, which goes with `topology`: of an input, another pace is another input, with a plan of its own")
+        only(grid, {*KEYS, *PARAMETERS, "command"}, "[grid]")
         return {name: values_of(name, values) for name, values in grid.items()}
 
-    def read_base(self, doc):
+    def read_bases(self, doc):
+        """The documents that the points change, by the point's values of PARAMETERS."""
         if ("input" in doc) == ("topology" in doc):
             raise NoPlan("a plan has one of `input`, a file beside it, and `topology`, parameters of tools/topology")
         if "input" in doc:
-            return parse((self.path.parent / doc["input"]).read_bytes())
-        call = [sys.executable, str(program.script("topology")), *doc["topology"].split()]
+            return {(): parse((self.path.parent / doc["input"]).read_bytes())}
+        names = [name for name in self.grid if name in PARAMETERS]
+        if math.prod(len(self.grid[name]) for name in names) > MOST_PACES:
+            raise NoPlan(f"[grid] has more than {MOST_PACES} pairs of {' and '.join(names)}")
+        paces = itertools.product(*(self.grid[name] for name in names))
+        return {pace: self.made(doc["topology"], dict(zip(names, pace))) for pace in paces}
+
+    def made(self, topology, parameters):
+        words = [word for name, value in parameters.items() for word in (f"--{name}", str(value))]
+        call = [sys.executable, str(program.script("topology")), *topology.split(), *words]
         done = subprocess.run(call, capture_output=True, env={**os.environ, "PYTHONPATH": str(program.PACKAGE.parent)})
         if done.returncode:
             raise NoPlan(f"topology: {done.stderr.decode().strip().splitlines()[-1]}")
@@ -104,20 +120,28 @@ class Plan:
             raise NoPlan(f"the grid has {points} points ({sizes}), and a study takes at most {MOST_RUNS} runs")
         for point in itertools.product(*self.grid.values()):
             values = dict(zip(self.grid, point))
-            doc = copy.deepcopy(self.base)
+            doc = copy.deepcopy(self.bases[tuple(value for name, value in values.items() if name in PARAMETERS)])
             for name, value in values.items():
-                if name != "command":
+                if name in KEYS:
                     table, key = KEYS[name]
                     doc.setdefault(table, {})[key] = value
             try:
                 check(doc)
             except Refusal as refusal:
-                refused.setdefault(refusal.line.removeprefix("speedlight: ").rsplit(" ", 1)[0], []).append(values)
+                refused.setdefault(self.why(refusal, doc), []).append(values)
                 continue
             runs["_".join(f"{name}-{value}" for name, value in values.items())] = (values, text_of(doc))
         if not runs:
             raise NoPlan(f"no point of the grid is an input that the program takes: {', '.join(refused)}")
         return runs, refused
+
+
+    def why(self, refusal, doc):
+        """Why a point is no input, in words."""
+        line = refusal.line.removeprefix("speedlight: ")
+        if line.startswith("I6 snapshot.ring ") and "ring" not in self.grid and "window" in self.grid:
+            return f"the window is above ring {doc['snapshot']['ring']}: add `ring` to [grid]"
+        return line.rsplit(" ", 1)[0]
 
 
 def only(table, allowed, where):
@@ -158,7 +182,7 @@ def row_of(report):
         "resent": report.resent,
         "sent": sum(h[0] for h in hosts),
         "delivered": sum(h[1] for h in hosts),
-        "lost": sum(report.lost.values()),
+        **{f"lost_{sort}": report.lost[sort] for sort in LOSSES},
     }
 
 

@@ -63,6 +63,26 @@ class Plans(Folder):
         )
         self.assertEqual({reason: len(points) for reason, points in refused.items()}, {"I6 snapshot.ring": 2})
 
+    def test_a_ring_that_stays_below_the_windows(self):
+        runs, refused = Plan(self.plan(PLAN.replace("ring = [1, 3]\n", "").replace('"ring"', '"seed"').replace("[1, 3]", "[1, 5, 7]"))).runs()
+        self.assertEqual(len(runs), 2)
+        self.assertEqual({why: len(points) for why, points in refused.items()}, {"I6 snapshot.window": 4})
+        net = self.folder / "net.toml"
+        net.write_text(net.read_text().replace("bits = 2", "bits = 3"))
+        _, refused = Plan(self.folder / "plan.toml").runs()
+        self.assertEqual({why: len(points) for why, points in refused.items()}, {"the window is above ring 3: add `ring` to [grid]": 4})
+
+    def test_the_pace_of_a_topology(self):
+        if needs.python_with("networkx", "graphviz") is None:
+            self.skipTest("no networkx or no graphviz")
+        plan = PLAN.replace('input = "net.toml"', 'topology = "line --every 9 --snapshots 2 --bits 3"').replace("[grid]", "[grid]\nevery = [0, 2]\npasses = [1, 3]")
+        runs, _ = Plan(self.plan(plan)).runs()
+        self.assertEqual(len(runs), 24)
+        scripts = {name.partition("_window")[0]: text.partition("script")[2] for name, (_, text) in runs.items()}
+        self.assertEqual(list(scripts), ["every-0_passes-1", "every-0_passes-3", "every-2_passes-1", "every-2_passes-3"])
+        self.assertEqual(len(set(scripts.values())), 4)
+        self.assertNotIn("pass 9", "".join(scripts.values()))
+
     def test_the_plan_of_the_documents(self):
         if needs.python_with("networkx", "graphviz") is None:
             self.skipTest("no networkx or no graphviz")
@@ -89,6 +109,7 @@ class Plans(Folder):
             ('command = "jump"\n' + PLAN, "command is step or run"),
             (PLAN.replace('name = "both"', 'name = "a/b"'), "letters"),
             (PLAN.replace("seed =", "seeds ="), "`seeds`"),
+            (PLAN.replace("seed =", "every = [1, 2]\nseed ="), "`every`, which goes with `topology`"),
         ):
             with self.assertRaises(NoPlan, msg=text) as caught:
                 Plan(self.plan(text)).runs()
@@ -155,7 +176,8 @@ class Studies(Folder):
         self.assertEqual(self.calls(), 6)
         rows = self.table()
         self.assertEqual(
-            [(r["window"], r["skipped"], r["lost"]) for r in rows], [("1", "0", "3")] * 4 + [("3", "1", "3")] * 2
+            [(r["window"], r["skipped"], r["lost_cable"], r["lost_crossbar"], r["lost_init"], r["lost_notice"]) for r in rows],
+            [("1", "0", "0", "0", "1", "2")] * 4 + [("3", "1", "0", "0", "1", "2")] * 2,
         )
         svg = (self.folder / "out" / "both.svg").read_text()
         words = [e.text for e in tree.fromstring(svg).iter("{http://www.w3.org/2000/svg}text")]
@@ -253,7 +275,12 @@ class Studies(Folder):
 
     def test_words(self):
         status, out, err = self.study("--dry-run")
-        self.assertEqual((status, out, err), (0, "", "6 runs; left out 2 that are no input (I6 snapshot.ring)\n"))
+        self.assertEqual((status, out), (0, ""))
+        self.assertRegex(
+            err,
+            r"\A6 runs; left out 2 that are no input \(I6 snapshot.ring\)\n"
+            r"window-1_ring-3_seed-2_command-step took \d\.\d seconds: that makes \d\.\d seconds in all with \d+ at a time, and snakemake's own time\n\Z",
+        )
         self.assertFalse((self.folder / "out").exists())
         self.assertEqual(run("study", "nothing.toml")[0], 1)
         self.assertEqual(run("study")[0], 2)

@@ -118,6 +118,18 @@ class Stories:
             return len(self.world.turns) - 1, None
         return None, None
 
+    def involved(self, verdict):
+        """The actors and the places of the turns that a failed or pending snapshot tells of: its unit, and the messages of
+        its story with their ends; none of a consistent one."""
+        if verdict.unit is None or verdict.verdict in ("consistent", "not issued"):
+            return set(), []
+        steps, (place, message) = self.steps(verdict), self.fault(verdict)
+        told = [self.world.messages[m] for m in [*(s.message for s in steps), message] if m is not None]
+        actors = {verdict.unit, *(end for m in told for end in (m.link.source, m.link.target))}
+        places = [turn.place for m in told for turn in (m.put, m.take) if turn is not None]
+        places += [p for p in [*(s.place for s in steps), place] if p is not None and self.world.turns[p].actor in actors]
+        return actors, sorted(places)
+
     def cause(self, verdict):
         """What a failed or pending snapshot came of, in a sentence, with the places of its turn and its message; None
         for what isn't known."""

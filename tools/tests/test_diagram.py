@@ -1,5 +1,6 @@
 """The drawings of the tour, what a drawing marks by the verdict, and what is refused."""
 
+import re
 import subprocess
 import tempfile
 import unittest
@@ -125,6 +126,43 @@ class Diagram(unittest.TestCase):
         self.assertIn("cut 2", words)
         self.assertNotIn("cut 2, later", words)
         self.assertFalse([w for w in self.words(draw("two_in_flight")[1]) if w.startswith("turns ")])
+
+    def test_what_is_involved(self):
+        for name, wanted in (("too_late_packet", ["in a.0", "out a.1"]), ("lost_initiation", ["control a", "in a.0"])):
+            words = self.words(draw(name, "--involved")[1])
+            actors = [w for w in words if re.fullmatch(r"observer|control a|host h\d|(in|out) a\.\d", w)]
+            self.assertEqual(sorted(set(actors)), wanted, name)
+        status, svg, err = draw("too_late_packet", "--involved")
+        self.assertEqual((status, err), (0, ""))
+        self.assertIn("late, at 2", self.words(svg))
+        status, out, err = draw("two_in_flight", "--involved")
+        self.assertEqual((status, out, err.count("\n")), (1, "", 1))
+        self.assertIn("leave out --involved", err)
+        for words in (["--turns", "1-9"], ["--actors", "a"]):
+            self.assertEqual(draw("too_late_packet", "--involved", *words)[0], 2)
+
+    def test_a_failed_cut_of_many_turns(self):
+        found = program.compiled()
+        if found is None:
+            self.skipTest("no compiled program")
+        shape = ["leaf-spine", "--hosts", "2", "--count", "40", "--snapshots", "7", "--every", "3", "--bits", "3", "--window", "3"]
+        status, text, err = run("topology", *shape, "--loss-cable", "20", "--loss-init", "60", "--seed", "3")
+        if status:
+            self.skipTest(err.strip())
+        with tempfile.TemporaryDirectory() as folder:
+            path = Path(folder) / "net.toml"
+            path.write_text(text)
+            told = subprocess.run([found, "step", "--trace"], input=text.encode(), capture_output=True).stdout.decode()
+            world = replay(read_input(path), read_report(told).trace)
+            failed = [k for k in range(1, world.issued + 1) if world.verdict(k).verdict != "consistent"]
+            wide = {k: world.cut_turns(k)[1] - world.cut_turns(k)[0] for k in failed}
+            number = max(wide, key=wide.get)
+            self.assertGreater(wide[number], 150)
+            drawn = run("diagram", path, "--snapshot", number, data=told)
+            self.assertEqual((drawn[0], drawn[2].count("\n")), (0, 1), drawn[2])
+            self.assertIn(f"drawn is what snapshot {number} tells of (--involved)", drawn[2])
+            self.assertEqual(drawn[1], run("diagram", path, "--snapshot", number, "--involved", data=told)[1])
+            self.assertLess(drawn[1].count("<line"), run("diagram", path, "--snapshot", number, "--turns", "all", data=told)[1].count("<line") / 5)
 
     def test_which_turns_the_cut_needs(self):
         for words in (["--turns", "x"], ["--turns", "999-1000"]):

@@ -86,7 +86,8 @@ def guard(name, body, known=()):
     except KeyboardInterrupt:
         status = 130
     except BrokenPipeError:
-        status, message = 1, "standard output was closed before all was written"
+        # Who reads has gone, as `head` does, and wants no more.
+        status = 1
         silence(sys.stdout)
     except Unreadable as fault:
         status, message = 1, fault

@@ -162,7 +162,10 @@ class Diagram(unittest.TestCase):
             self.assertEqual((drawn[0], drawn[2].count("\n")), (0, 1), drawn[2])
             self.assertIn(f"drawn is what snapshot {number} tells of (--involved)", drawn[2])
             self.assertEqual(drawn[1], run("diagram", path, "--snapshot", number, "--involved", data=told)[1])
-            self.assertLess(drawn[1].count("<line"), run("diagram", path, "--snapshot", number, "--turns", "all", data=told)[1].count("<line") / 5)
+            first, last = world.cut_turns(number)
+            whole = run("diagram", path, "--snapshot", number, "--turns", f"{first + 1}-{last + 1}", data=told)
+            self.assertEqual(whole[0], 0, whole[2])
+            self.assertLess(drawn[1].count("<line"), whole[1].count("<line") / 5)
 
     def test_which_turns_the_cut_needs(self):
         for words in (["--turns", "x"], ["--turns", "999-1000"]):

@@ -18,7 +18,8 @@ def placed(net):
     ends = [d for cable in net.cables for d, _ in cable]
     is_round = layers is None and len(net.devices) > 2 and all(ends.count(d) == 2 for d in net.devices)
     dot = graphviz.Graph(engine="dot" if layers else "circo" if is_round else "neato")
-    dot.attr(overlap="false", nodesep="0.3", ranksep="1.0", sep="+14", mindist="0.8", start="1")
+    # Without this scaling neato leaves much room, and names are small.
+    dot.attr(overlap="false", overlap_scaling="-1", nodesep="0.3", ranksep="1.0", sep="+14", mindist="0.8", start="1")
     for far in sorted(layers or {0: None}, reverse=True):
         with dot.subgraph() as part:
             if layers:

@@ -188,6 +188,7 @@ new ResizeObserver(() => {
   else extents();
   if (h) view.high = h;
   drawnNet = "";
+  scaleNames();
   if (state.tab === "unit") shownPanel = "";
   if (window.speedlight && window.speedlight.ready) draw(); else asked = true;
 }).observe(plot);

@@ -50,6 +50,7 @@ function drawNet() {
     if (!inner) backOf.set(endsKey(link.source, link.target), link);
     (inner ? layers.inner : layers.wires).append("path").attr("class", inner ? "wire inner" : "wire").attr("data-link", place).attr("d", `M${x1},${y1}Q${mx},${my} ${x2},${y2}`);
   });
+  scaleNames();
   const [wires, rects] = obstacles();
   for (const one of labels) {
     const [x, y] = beside(one, wires, rects, labels);
@@ -59,6 +60,11 @@ function drawNet() {
   const zoomNet = d3.zoom().scaleExtent([0.3, 12]).on("zoom", () => sheetOfNet.attr("transform", d3.event.transform));
   svg.call(zoomNet).on("dblclick.zoom", null);
   $("net-fit").onclick = () => svg.call(zoomNet.transform, d3.zoomIdentity);
+}
+// Names and numbers are larger in a net that has little room.
+function scaleNames() {
+  const picture = $("picture"), { width, height } = picture.viewBox.baseVal, scale = Math.min(picture.clientWidth / width, picture.clientHeight / height);
+  picture.style.setProperty("--grow", scale > 0 ? Math.min(1.5, Math.max(1, 0.85 / scale)) : 1);
 }
 // The middle handle of a link inside a switch, which goes around the name of the switch.
 function around([x, y, r], x1, y1, x2, y2) {
@@ -159,7 +165,7 @@ function updateNet() {
   const acting = now ? actor[now - 1] : -1;
   svg.selectAll(".unit").each(function (_, place) {
     const who = actorOf.get(this.dataset.unit), id = idAt(who, now), unit = unitOf.get(who);
-    if (drawnIds[unit] !== id) { drawnIds[unit] = id; this.children[1].setAttribute("fill", `var(--id${id % 8})`); this.children[2].textContent = id > 999 ? `…${String(id % 100).padStart(2, "0")}` : id; }
+    if (drawnIds[unit] !== id) { drawnIds[unit] = id; this.children[1].setAttribute("fill", `var(--id${id % 8})`); this.children[2].textContent = id > 999 ? `…${String(id % 100).padStart(2, "0")}` : id; this.children[2].classList.toggle("long", id > 99); }
     const reached = k && cutOf(k, unit) >= 0 && cutOf(k, unit) < now && told.verdict !== "not issued";
     const name = `unit${reached ? " reached" : k ? " short" : ""}${told && told.verdict !== "consistent" && told.unit === who ? (waits(told) ? " waiting" : " fault") : ""}${who === acting ? " acting" : ""}${who === state.unit ? " chosen" : ""}`;
     if (this.getAttribute("class") !== name) this.setAttribute("class", name);

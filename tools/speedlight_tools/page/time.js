@@ -159,7 +159,7 @@ function drawTime() {
   if (state.turn) { const v = at(state.turn - 1), tall = Math.max(2, k); context.fillStyle = c.now; context.fillRect(left, v - tall / 2, w, tall); }
   for (const who of view.shown) { context.strokeStyle = unitOf.has(who) ? c.line : c.faint; context.lineWidth = 1.2; context.beginPath(); context.moveTo(xs[who], Math.max(0, y)); context.lineTo(xs[who], Math.min(h, y + T * k)); context.stroke(); }
   const few = to - from <= MANY;
-  if (few) arrows(context, c, from, to, k, at);
+  if (few) { context.globalAlpha = isNarrowed(told) ? 0.3 : 1; arrows(context, c, from, to, k, at); context.globalAlpha = 1; }
   else density(context, c, from, to, k, y, h);
   for (const [look, marked] of marks(s, told)) marksOf(context, c, look, marked, k, at, h, few);
   if (cut && units.length) {
@@ -186,13 +186,15 @@ function drawTime() {
   context.restore();
   rows(context, c, from, to, k, at, h);
 }
+// Whether only what is involved in a failed snapshot is shown: then what the snapshot tells of is thick, and all else thin.
+const isNarrowed = (told) => state.focus && told && !["consistent", "not issued"].includes(told.verdict);
 // What is drawn over all else: what was in flight, what is at fault, the chosen packet.
 function marks(s, told) {
   const found = [];
   const add = (m, name, wide) => { const key = `${name} ${wide}`; const there = found.find(([look]) => look === key); if (there) there[1].push(m); else found.push([key, [m]]); };
   if (s && told.verdict !== "not issued") {
-    for (const m of flight(s).slice(0, 4000)) add(m, "flight", 2.2);
-    if (told.verdict === "miscredited") for (const m of lateOf(s).slice(0, 400)) add(m, "fault", 2.6);
+    for (const m of flight(s).slice(0, 4000)) add(m, "flight", isNarrowed(told) ? 0.6 : 2.2);
+    if (told.verdict === "miscredited") for (const m of lateOf(s).slice(0, 400)) add(m, "fault", isNarrowed(told) ? 0.8 : 2.6);
     for (const [, , m] of told.steps) if (m !== null && m !== told.message) add(m, "fault", 2.2);
     if (told.message !== null) add(told.message, "fault", 3);
   }
@@ -304,7 +306,8 @@ function dots(context, c, from, to, k, at, s, told) {
 function spotsOf(told) {
   const ends = (m) => { const link = links[column.link[m]]; return Number.isNaN(view.xs[link.source]) ? link.target : link.source; };
   const isPending = told.verdict === "pending", lost = isPending && told.message !== null, spots = [];
-  const said = { skipped: `skips ${state.snapshot}`, miscredited: "too late", pending: lost ? "lost here" : "waits" }[told.verdict];
+  const more = told.verdict === "miscredited" ? lateOf(state.snapshot).length - 1 : 0;
+  const said = { skipped: `skips ${state.snapshot}`, miscredited: more > 0 && isNarrowed(told) ? `too late, and ${more} more` : "too late", pending: lost ? "lost here" : "waits" }[told.verdict];
   spots.push({ turn: told.turn, who: lost ? ends(told.message) : told.unit, said, cross: lost && isHidden(told.message), colour: isPending && !lost ? "pending" : "fault" });
   const m = told.causeMessage;
   if (m !== null && told.causeTurn !== null && told.causeTurn !== told.turn) spots.push({ turn: told.causeTurn, who: ends(m), said: isLost(m) ? "lost here" : "sent here", cross: isLost(m) && isHidden(m), colour: "fault" });

@@ -13,9 +13,12 @@ class Misfit(Exception):
 
 
 class Message:
-    """A message on a link: its kind, its stamp, its packet, and the turns of its put and its take."""
+    """A message on a link: its kind, its stamp, its packet, and the turns of its put and its take.
 
-    __slots__ = ("kind", "stamp", "packet", "place", "link", "put", "take", "lost")
+    `note` is for whoever follows the replay.
+    """
+
+    __slots__ = ("kind", "stamp", "packet", "place", "link", "put", "take", "lost", "note")
 
     def __init__(self, kind, stamp=None, packet=None):
         self.kind, self.stamp, self.packet = kind, stamp, packet
@@ -79,10 +82,11 @@ class Turn:
     """One turn: its actor and choice, what it took and put, and a unit's number before and after it.
 
     `written` is the least of the last numbers that the unit saved, as many as a packet is credited to; 0 while it has
-    saved fewer. `dropped` says why a unit dropped what it took: bad, expired or noroute.
+    saved fewer. `dropped` says why a unit dropped what it took: bad, expired or noroute. `note` is for whoever follows the
+    replay.
     """
 
-    __slots__ = ("place", "actor", "choice", "took", "puts", "before", "id", "written", "dropped")
+    __slots__ = ("place", "actor", "choice", "took", "puts", "before", "id", "written", "dropped", "note")
 
     def __init__(self, place, actor, choice):
         self.place, self.actor, self.choice = place, actor, choice

@@ -1,12 +1,12 @@
 -- Where no actor of a plan can act, all hosts have sent and there is nothing to issue.
-use Rattle.std.proofs.Common.{◌≡◌, ℕ, suc, ◌^◌, ◌<◌, ◌≤◌, List, [], ◌∷◌, ◌++◌, length, get_or, refl, sym, ap, ◌∙◌, subst, arith, inl, Option, Some, None, is_some, zero-add}
-use Rattle.std.specs.Prelude.{false, slice_get, slice_index, option_map}
+use Rattle.std.proofs.Common.{◌≡◌, ℕ, suc, ◌^◌, ◌<◌, ◌≤◌, List, [], ◌∷◌, ◌++◌, length, get_or, refl, sym, ap, ◌∙◌, subst, arith, inl, inr, length-append, Option, Some, None, is_some, zero-add}
+use Rattle.std.specs.Prelude.{◌⊎◌, false, slice_get, slice_index, option_map}
 use Rattle.std.specs.List.{All}
 use Rattle.std.proofs.lemmas.List.{length-map}
-use Rattle.std.proofs.lemmas.Option.{get_or_from_slice_get, slice_get-get_or, slice_get_within}
+use Rattle.std.proofs.lemmas.Option.{get_or_from_slice_get, slice_get_cases, slice_get_within}
 use Rattle.std.proofs.lemmas.List.FromFn.{get_or-map-range_with_len}
 use Rattle.sl_parts.specs.Parts.{below}
-use Rattle.sl_parts.proofs.Lists.{each-at, each-from_all, member-right}
+use Rattle.std.proofs.Math.Seq.{get_or-append_seam}
 use Rattle.sl_layout.specs.declared.actor.ActorId.TheVariants.{Observer, Host as OfHost}
 use Rattle.sl_layout.specs.declared.actor.Sort.TheVariants.{FromHost}
 use Rattle.sl_layout.specs.Net.{Net, actor_of, links_into, links_out, action_choice, nobody}
@@ -25,7 +25,6 @@ use Rattle.sl_model.specs.End.{AllSent}
 use Rattle.sl_model.proofs.Finishing.NetWiring.{Wiring, wiring}
 use Rattle.sl_model.proofs.Finishing.Idle.{get-past, none-past, none-of-idle, own-step, sent-within, there, guard-fails}
 use Rattle.sl_world.specs.Scene.{Scene}
-use Rattle.sl_world.proofs.TurnLemmas.{some_at}
 use Rattle.sl_threads.specs.Threads.{AreAtRest}
 use Rattle.sl_proto.specs.Nodes.{NodeState, node_rules}
 use Rattle.sl_proto.specs.Meaning.{NodeStands}
@@ -46,7 +45,11 @@ module _ (x : Case) (v : Scene NodeState Msg) (stands : StandsFor x.setup.net x 
   short = subst (λ (n : ℕ). n < 2 ^ 40) (sym (length-map v.book _)) few
 
   state-at : (a : ℕ) → a < length v.states → (s : NodeState) × (slice_get v.states a ≡ Some s)
-  state-at a low = let s = (some_at v.states a low).0 in (get_or v.states a s, slice_get-get_or v.states a s low)
+  state-at a low = by_place (slice_get_cases v.states a).1
+    where
+      by_place : ((s : NodeState) × (a < length v.states) × (slice_get v.states a ≡ Some s) × (get_or v.states a s ≡ s)) ⊎ ((length v.states ≤ a) × (slice_get v.states a ≡ None)) → (s : NodeState) × (slice_get v.states a ≡ Some s)
+      by_place (inl q) = (q.0, q.2)
+      by_place (inr q) = absurd (omega (arith, low, q.0))
 
   -- an actor that tries its first action
   module _ (a : ℕ) (low : a < length net.actors) (own : tried_actions net a (actor_of net a) ≡ action_choice net a ∷ []) where
@@ -68,7 +71,7 @@ module _ (x : Case) (v : Scene NodeState Msg) (stands : StandsFor x.setup.net x 
     none : (s : NodeState) → slice_get v.states a ≡ Some s → node_rules.act s m ≡ None
     none s is =
         let all : All (RestsBy s) (below m ++ m ∷ []) = subst (λ (y : NodeState). All (RestsBy y) (below m ++ m ∷ [])) (get_or_from_slice_get v.states a s s is) (subst (All (RestsBy (get_or v.states a s))) plan (rest a s here)) in
-        let by_m : RestsBy s m = each-at (RestsBy s) m (below m ++ m ∷ []) (each-from_all (RestsBy s) (below m ++ m ∷ []) all) (member-right m (below m) (m ∷ []) (inl refl)) in
+        let by_m : RestsBy s m = let n = length-append (below m) (m ∷ []) in subst (RestsBy s) (get_or-append_seam (below m) m [] 0) (all (length (below m)) 0 (omega (arith, n))) in
         by_m (omega (arith, ins))
 
     by_step : (o : Option Step) (s : NodeState) → slice_get v.states a ≡ Some s → next_step x.setup x.lost (world_of x v) (a, m) ≡ o → o ≡ None

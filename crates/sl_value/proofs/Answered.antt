@@ -16,9 +16,8 @@ use Rattle.sl_value.specs.declared.whole.Whole.{Whole}
 use Rattle.sl_value.specs.Reading.{counted}
 use Rattle.sl_value.specs.Valued.{UnitValues, value_of, value_in}
 use Rattle.sl_value.specs.Standing.{kept_told, AreKept, IsToldOf, AnswersAsTold}
-use Rattle.sl_value.proofs.Takes.{IsJoined, joined}
+use Rattle.sl_value.proofs.Takes.{joined, each-served}
 use Rattle.sl_value.proofs.Collected.{value-number, entry-of}
-use Rattle.sl_parts.proofs.Lists.{each-of, each-map}
 
 value-above : (f : ℕ → Whole) (m k : ℕ) → m < k → value_of (map f (range_with_len 1 m)) k ≡ None
 value-above f m k h = let size = length-map-range_with_len f 1 m in
@@ -40,7 +39,7 @@ module _ (net : Net) (us : ℕ → History) (a : ℕ) (kept : List UnitValues) (
       let j = joined net a l z m in
       ap (λ ks. value_in ks (unit_place net (link_of net l).to) k) is
       ∙ entry-of net us a (link_of net l).to k j.id z j.unit j.reports (links_out net a Poll)
-      (each-of (λ x. IsJoined net a x) (links_out net a Poll) (λ x n. joined net a x z n))
+      (λ x n. joined net a x z n)
       (subst (λ x. Member x (links_out net a Poll)) j.poll m)
       ∙ ap (λ x. value_of (kept_told net us a (serving net a x)).values k) (sym j.poll)
 
@@ -56,8 +55,6 @@ module _ (net : Net) (us : ℕ → History) (a : ℕ) (kept : List UnitValues) (
 
   pub answers-as-told : AnswersAsTold net us a kept
   answers-as-told = record {
-    units = each-map (λ v. IsToldOf net v.unit (told_of us v (us a)) (λ k. value_in kept (unit_place net v.unit) k)) (serving net a) (links_out net a Poll)
-        (each-of (λ l. IsToldOf net (link_of net l).to (told_of us (serving net a l) (us a)) (λ k. value_in kept (unit_place net (link_of net l).to) k))
-        (links_out net a Poll) told-of);
+    units = each-served (λ v. IsToldOf net v.unit (told_of us v (us a)) (λ k. value_in kept (unit_place net v.unit) k)) net a told-of;
     others = λ place k none. ap (λ ks. value_in ks place k) is ∙ no-entry net us a place k (served net a) none;
   }

@@ -93,10 +93,10 @@ value-number f m k one le = let low : k - 1 < m = omega (arith, one, le) in
     ap (λ b. cond b None (slice_get (map f (range_with_len 1 m)) (k - 1))) (ne_eqb k 0 (λ e. omega (arith, e, one)))
     ∙ slice_get_read (map f (range_with_len 1 m)) m (k - 1) (f k) (sym (length-map-range_with_len f 1 m)) low (sym (get_or-map-range_with_len f 1 m (k - 1) k (f k) low (omega (arith, one))))
 
-pub entry-of : (net : Net) (us : ℕ → History) (a u k : ℕ) (i : UnitId) (z : IsWired net) → actor_of net u ≡ OfUnit i → (r : Reports net u) → (ks : List ℕ) → Each (λ x. IsJoined net a x) ks → Member r.poll ks
+pub entry-of : (net : Net) (us : ℕ → History) (a u k : ℕ) (i : UnitId) (z : IsWired net) → actor_of net u ≡ OfUnit i → (r : Reports net u) → (ks : List ℕ) → ((x : ℕ) → Member x ks → IsJoined net a x) → Member r.poll ks
     → value_in (map (kept_told net us a) (map (serving net a) ks)) (unit_place net u) k ≡ value_of (kept_told net us a (serving net a r.poll)).values k
 entry-of net us a u k i z q r [] j m = absurd m
-entry-of net us a u k i z q r (x ∷ xs) j m = by_tells (eqb_tells (unit_place net (link_of net x).to) (unit_place net u)) m (λ n. entry-of net us a u k i z q r xs j.1 n)
+entry-of net us a u k i z q r (x ∷ xs) j m = by_tells (eqb_tells (unit_place net (link_of net x).to) (unit_place net u)) m (λ n. entry-of net us a u k i z q r xs (λ y p. j y (inr p)) n)
   where
     here : UnitValues
     here = kept_told net us a (serving net a x)
@@ -107,7 +107,7 @@ entry-of net us a u k i z q r (x ∷ xs) j m = by_tells (eqb_tells (unit_place n
         → cond (unit_place net (link_of net x).to == unit_place net u) (value_of (kept_told net us a (serving net a x)).values k) (value_in (map (kept_told net us a) (map (serving net a) xs)) (unit_place net u) k)
         ≡ value_of (kept_told net us a (serving net a r.poll)).values k
     by_tells (inl e) m ih =
-        let is : x ≡ r.poll = r.polled x (z.ways.one_unit u (link_of net x).to i q e.1) j.0.out.sort in
+        let is : x ≡ r.poll = r.polled x (z.ways.one_unit u (link_of net x).to i q e.1) (j x (inl refl)).out.sort in
         ap (λ b. cond b (value_of (kept_told net us a (serving net a x)).values k) (value_in (map (kept_told net us a) (map (serving net a) xs)) (unit_place net u) k)) e.0
         ∙ ap (λ y. value_of (kept_told net us a (serving net a y)).values k) is
     by_tells (inr e) (inl p) ih = absurd (e.1 (ap (unit_place net) (ap (λ y. (link_of net y).to) (sym p) ∙ r.poll_to)))
@@ -205,7 +205,7 @@ module _ (s : Setup) (lost : Losses) (w : World) (z : IsWired s.net) (window : I
       let links : List ℕ = links_out net a Poll in
       let dump : (serving net a r.poll).dump ≡ choice_of net r.dump = ap (λ x. choice_from net a x Dump) r.poll_to ∙ r.dump_choice in
       ap (λ us. value_in us (unit_place net u) k) is
-      ∙ entry-of net (history w) a u k i z q r links (each-of (λ x. IsJoined net a x) links (λ x m. joined net a x z m)) r.poll_listed
+      ∙ entry-of net (history w) a u k i z q r links (λ x m. joined net a x z m) r.poll_listed
       ∙ ap (λ x. value_of (values_told net x (first (dumped (serving net a r.poll).dump (history w a)) (history w x))) k) r.poll_to
       ∙ ap (λ x. value_of (values_told net u (first (dumped x (history w a)) (history w u))) k) dump
       ∙ value-number (λ j. counted j told) (upto_of net u told) k one up.1

@@ -1,5 +1,5 @@
 -- Nodes that keep values follow the steps of histories.
-use Rattle.std.proofs.Common.{◌≡◌, ℕ, ◌^◌, ◌<◌, ◌≤◌, List, [], ◌∷◌, length, map, refl, sym, ap, subst, ◌∙◌, Option, Some, None, arith, inl, inr}
+use Rattle.std.proofs.Common.{◌≡◌, ℕ, ◌^◌, ◌<◌, ◌≤◌, List, ◌∷◌, length, map, refl, sym, ap, subst, ◌∙◌, Option, Some, None, arith, inl, inr}
 use Rattle.std.specs.Prelude.{Bool, true, false, cond, ◌==◌, ◌⊎◌, flat_map, slice_get, option_map, option_and_then}
 use Rattle.sl_machine.specs.Machine.{After}
 use Rattle.sl_parts.specs.Lists.{Each, Member}
@@ -34,8 +34,7 @@ use Rattle.sl_proto.specs.Machines.{MachineSimulates, MachineActSimulates, Follo
 use Rattle.sl_value.specs.Valued.{UnitValues, ValueState, kept_after, kept_by, first_done, with_kept}
 use Rattle.sl_value.specs.Nodes.{ValueNodeState, Other, Valued, value_node_take, value_node_act, value_node_rules}
 use Rattle.sl_value.specs.Standing.{values_told, kept_told, AreKept, ValueStands}
-use Rattle.sl_value.proofs.Takes.{Counts, joined, of_some, kept-same, kept-dump}
-use Rattle.sl_parts.proofs.Lists.{each-of}
+use Rattle.sl_value.proofs.Takes.{Counts, joined, of_some, same-map, kept-same, kept-dump}
 
 -- What laws of lower crates say.
 
@@ -207,7 +206,7 @@ module _ (s : Setup) (table : Snapshot) (lost : Losses) (r : IsRunnable s table 
   -- A step of another actor.
 
   stay-kept : (es : List Entry) (a b c : ℕ) (kept : List UnitValues) → (b ≡ a → ⊥) → AreKept s.net (history (world s lost es)) b kept → AreKept s.net (history (turn s lost (world s lost es) (a, c))) b kept
-  stay-kept es a b c kept ne h = h ∙ same-each (links_out s.net b Poll) (each-of (λ k. kept_told s.net us b (serving s.net b k) ≡ kept_told s.net ws b (serving s.net b k)) (links_out s.net b Poll) one)
+  stay-kept es a b c kept ne h = h ∙ same-map (kept_told s.net us b) (kept_told s.net ws b) (serving s.net b) (links_out s.net b Poll) one
     where
       w : World
       w = world s lost es
@@ -228,10 +227,6 @@ module _ (s : Setup) (table : Snapshot) (lost : Losses) (r : IsRunnable s table 
           let f : first (dumped (serving s.net b k).dump (us b)) (us u) ≡ first (dumped (serving s.net b k).dump (us b)) (ws u) = sym ((turns.extends s lost w (a, c) u).steps (dumped (serving s.net b k).dump (us b)) few) in
           let g : first (dumped (serving s.net b k).dump (us b)) (us u) ≡ first (dumped (serving s.net b k).dump (ws b)) (ws u) = f ∙ ap (λ x. first (dumped (serving s.net b k).dump x) (ws u)) e in
           λ i. record { unit = unit_place s.net u; values = values_told s.net u (g i) }
-
-      same-each : (ks : List ℕ) → Each (λ k. kept_told s.net us b (serving s.net b k) ≡ kept_told s.net ws b (serving s.net b k)) ks → map (kept_told s.net us b) (map (serving s.net b) ks) ≡ map (kept_told s.net ws b) (map (serving s.net b) ks)
-      same-each [] e = refl
-      same-each (k ∷ ks) e = let x = e.0 in let y = same-each ks e.1 in λ i. x i ∷ y i
 
   stays : (es : List Entry) (a b c : ℕ) (step : Step) (state : ValueNodeState) → length es < 2 ^ 40 → next_step s lost (world s lost es) (a, c) ≡ Some step → (b ≡ a → ⊥)
       → ValueStands s table (world s lost es) b state → ValueStands s table (turn s lost (world s lost es) (a, c)) b state

@@ -1,4 +1,3 @@
-mod Reading
 mod Counting
 mod Lists
 mod Reports

@@ -38,18 +38,21 @@ use Rattle.sl_value.specs.Valued.{UnitValues, first_done, or_done, values_by, ke
 use Rattle.sl_value.specs.Standing.{values_told, kept_told}
 use Rattle.sl_value.proofs.Reports.{first-append, each-in-span, both}
 use Rattle.sl_value.proofs.Told.{heard-nothing, heard-other, heard-here, upto-id, values-grow, values-same}
-use Rattle.sl_parts.proofs.Lists.{each-of, each-at}
-use Rattle.sl_simulation.proofs.ControlSteps.{each-unmap}
+use Rattle.sl_parts.proofs.Lists.{each-of, each-at, each-map, member-map}
 
 -- Lists.
 
-same-map : {A B C : Type 0} (g h : B → C) (f : A → B) (xs : List A) → Each (λ x. g (f x) ≡ h (f x)) xs → map g (map f xs) ≡ map h (map f xs)
+pub same-map : {A B C : Type 0} (g h : B → C) (f : A → B) (xs : List A) → ((x : A) → Member x xs → g (f x) ≡ h (f x)) → map g (map f xs) ≡ map h (map f xs)
 same-map g h f [] e = refl
-same-map g h f (x ∷ xs) e = let y = e.0 in let z = same-map g h f xs e.1 in λ i. y i ∷ z i
+same-map g h f (x ∷ xs) e = let y = e x (inl refl) in let z = same-map g h f xs (λ w m. e w (inr m)) in λ i. y i ∷ z i
 
-changed-map : {A B C : Type 0} (j : C → C) (g h : B → C) (f : A → B) (xs : List A) → Each (λ x. j (g (f x)) ≡ h (f x)) xs → map j (map g (map f xs)) ≡ map h (map f xs)
+changed-map : {A B C : Type 0} (j : C → C) (g h : B → C) (f : A → B) (xs : List A) → ((x : A) → Member x xs → j (g (f x)) ≡ h (f x)) → map j (map g (map f xs)) ≡ map h (map f xs)
 changed-map j g h f [] e = refl
-changed-map j g h f (x ∷ xs) e = let y = e.0 in let z = changed-map j g h f xs e.1 in λ i. y i ∷ z i
+changed-map j g h f (x ∷ xs) e = let y = e x (inl refl) in let z = changed-map j g h f xs (λ w m. e w (inr m)) in λ i. y i ∷ z i
+
+-- each of those that a control plane serves, by the poll links to them
+pub each-served : (P : Served → Type 0) (net : Net) (a : ℕ) → ((l : ℕ) → Member l (links_out net a Poll) → P (serving net a l)) → Each P (served net a)
+each-served P net a f = each-map P (serving net a) (links_out net a Poll) (each-of (λ l. P (serving net a l)) (links_out net a Poll) f)
 
 each-same : {A B C : Type 0} (j : C → C) (g h : B → C) (f : A → B) (xs : List A) → map j (map g (map f xs)) ≡ map h (map f xs) → Each (λ x. j (g (f x)) ≡ h (f x)) xs
 each-same j g h f [] e = tt
@@ -104,8 +107,7 @@ module _ (net : Net) (us ws : ℕ → History) (a d : ℕ) (step : Step) (q : ac
 
   pub kept-same : IsWired net → option_and_then dump_of step.taken ≡ None → map (kept_told net us a) (served net a) ≡ map (kept_told net ws a) (served net a)
   kept-same z e = same-map (kept_told net us a) (kept_told net ws a) (serving net a) (links_out net a Poll)
-      (each-of (λ k. kept_told net us a (serving net a k) ≡ kept_told net ws a (serving net a k)) (links_out net a Poll)
-      (λ k m. told-same k (joined net a k z m) (heard-nothing dump_of (serving net a k).dump step (us a) e)))
+      (λ k m. told-same k (joined net a k z m) (heard-nothing dump_of (serving net a k).dump step (us a) e))
 
 -- The report on a dump.
 
@@ -166,16 +168,14 @@ module _ (net : Net) (sizes : Sizes) (us ws : ℕ → History) (a d l n : ℕ) (
   is-told : (k : ℕ) → Member k (links_out net a Poll) → step.choice ≡ (serving net a k).dump → IsTold k
   is-told k m e =
       let j = joined net a k z m in
+      let here = member-map (serving net a) k (links_out net a Poll) m in
       let dumps : IsDumpOf net sizes (link_of net k).to (first n (us (link_of net k).to)) dump =
       subst (λ u. IsDumpOf net sizes u (first n (us u)) dump) (dump-from net a k step.choice l j into e) of in record {
         now = ap (dumped (serving net a k).dump) same ∙ heard-here dump_of (serving net a k).dump n step (us a) e (ap (option_and_then dump_of) taken);
-        brings = each-at (λ k. step.choice ≡ (serving net a k).dump → IsBrought net window (link_of net k).to (us (link_of net k).to) (dumped (serving net a k).dump (us a)) n) k (links_out net a Poll)
-            (each-unmap (λ v. step.choice ≡ v.dump → IsBrought net window v.unit (us v.unit) (dumped v.dump (us a)) n) (serving net a) (links_out net a Poll) brought) m e;
+        brings = each-at (λ (v : Served). step.choice ≡ v.dump → IsBrought net window v.unit (us v.unit) (dumped v.dump (us a)) n) (serving net a k) (served net a) brought here e;
         dumps = dumps;
-        numbers = each-at (λ k. step.choice ≡ (serving net a k).dump → IsDumpOf net sizes (link_of net k).to (first n (us (link_of net k).to)) dump
-            → numbers_told sizes.bits dump (known_of net us a (serving net a k)) ≡ numbers_after net (link_of net k).to (first n (us (link_of net k).to))) k (links_out net a Poll)
-            (each-unmap (λ v. step.choice ≡ v.dump → IsDumpOf net sizes v.unit (first n (us v.unit)) dump → numbers_told sizes.bits dump (known_of net us a v) ≡ numbers_after net v.unit (first n (us v.unit)))
-            (serving net a) (links_out net a Poll) unwraps) m e dumps;
+        numbers = each-at (λ (v : Served). step.choice ≡ v.dump → IsDumpOf net sizes v.unit (first n (us v.unit)) dump → numbers_told sizes.bits dump (known_of net us a v) ≡ numbers_after net v.unit (first n (us v.unit)))
+            (serving net a k) (served net a) unwraps here e dumps;
       }
 
   rises : (k : ℕ) → IsTold k → (j : ℕ) → j ≤ id (first (dumped (serving net a k).dump (us a)) (us (link_of net k).to)) → j ≤ id (first n (us (link_of net k).to))
@@ -278,8 +278,7 @@ module _ (net : Net) (sizes : Sizes) (us ws : ℕ → History) (a d l n : ℕ) (
           → kept_by dump.view found (map (kept_told net us a) (served net a)) ≡ map (kept_told net ws a) (served net a)
       by_found (inl r) = ap (λ o. kept_by dump.view o (map (kept_told net us a) (served net a))) r.is
           ∙ changed-map (kept_of dump.view (report r.place)) (kept_told net us a) (kept_told net ws a) (serving net a) (links_out net a Poll)
-          (each-of (λ x. kept_of dump.view (report r.place) (kept_told net us a (serving net a x)) ≡ kept_told net ws a (serving net a x)) (links_out net a Poll) (λ x y. another r.place x r.member y r.taken))
+          (λ x y. another r.place x r.member y r.taken)
       by_found (inr r) = ap (λ o. kept_by dump.view o (map (kept_told net us a) (served net a))) r.0
           ∙ same-map (kept_told net us a) (kept_told net ws a) (serving net a) (links_out net a Poll)
-          (each-of (λ x. kept_told net us a (serving net a x) ≡ kept_told net ws a (serving net a x)) (links_out net a Poll)
-          (λ x y. not-taken x y (each-at (λ k. takes_dump (lengths sizes) step.choice dump (known_of net us a (serving net a k)) ≡ false) x (links_out net a Poll) r.1 y)))
+          (λ x y. not-taken x y (each-at (λ k. takes_dump (lengths sizes) step.choice dump (known_of net us a (serving net a k)) ≡ false) x (links_out net a Poll) r.1 y))

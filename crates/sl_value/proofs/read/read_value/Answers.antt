@@ -1,6 +1,6 @@
 use Rattle.std.proofs.Common.{◌-◌, ◌≤◌, ◌<◌, ℕ, subst, sym, ap, ◌∙◌}
 use Rattle.sl_saves.specs.Views.{place_below}
-use Rattle.sl_value.proofs.Reading.{IsReading, reading-last, reading-step}
+use Rattle.sl_value.proofs.Counting.{IsReading, reading-last, reading-step}
 use Rattle.sl_value.proofs.read.read_value.Goals as goal
 
 pub returns-then-from-number : goal.returns-then-from-number

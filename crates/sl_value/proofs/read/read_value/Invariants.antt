@@ -1,5 +1,5 @@
 use Rattle.std.proofs.Common.{◌-◌}
-use Rattle.sl_value.proofs.Reading.{IsReading}
+use Rattle.sl_value.proofs.Counting.{IsReading}
 use Rattle.sl_value.proofs.read.read_value.Given as goal
 
 abbrev pub invariant-loop-number : goal.invariant-loop-number

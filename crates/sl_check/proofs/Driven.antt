@@ -1,7 +1,7 @@
 -- What turns of a world of nodes lead to.
 use Rattle.std.proofs.Common.{◌≡◌, ℕ, ◌+◌, ◌<◌, List, [], ◌∷◌, ◌++◌, length, get_or, take, true, false, Option, Some, None, refl, sym, ap, subst, ◌∙◌, arith, inl, inr, length-append, append-nil}
 use Rattle.std.specs.Prelude.{cond, is_some, not, nat_eq, ◌⊎◌, ◌≢◌}
-use Rattle.std.proofs.lemmas.List.{length-map, map-append, take_more}
+use Rattle.std.proofs.lemmas.List.{length-map, take_more}
 use Rattle.std.proofs.lemmas.Option.{get_or_from_slice_get}
 use Rattle.std.proofs.lemmas.Bool.Decides.{eqb_tells}
 use Rattle.sl_machine.specs.declared.wiring.Entry.{Entry as BookEntry}
@@ -15,9 +15,7 @@ use Rattle.sl_model.specs.World.{Entry, next_step, world, kept_from, IsLegal}
 use Rattle.sl_model.specs.Books.{schedule_of}
 use Rattle.sl_model.specs.Schedule.{settling_pass}
 use Rattle.sl_model.specs.End.{Settled}
-use Rattle.sl_world.specs.Scene.{Scene, last_number}
-use Rattle.sl_world.specs.Legal.{numbered_from}
-use Rattle.sl_world.proofs.BookLaws.{schedule_of-numbered_from}
+use Rattle.sl_world.specs.Scene.{Scene}
 use Rattle.sl_proto.specs.Nodes.{NodeState}
 use Rattle.sl_proto.specs.Runs.{grown, Follows}
 use Rattle.sl_proto.specs.Standing.{Case, world_of, run_at, StandsFor}
@@ -25,20 +23,20 @@ use Rattle.sl_model.specs.Ending.{IsFirstIdle}
 use Rattle.sl_model.proofs.Finishing.Endings.{first_idle}
 use Rattle.sl_check.specs.Driven.{Turned, Rested}
 
-grown-turns : (old new : List BookEntry) (es : List Entry) → new ≡ grown old es → schedule_of new ≡ schedule_of old ++ es
-grown-turns old new es h = ap schedule_of h ∙ map-append (λ (e : BookEntry). (e.actor, e.choice)) old (numbered_from (last_number old) es)
-    ∙ ap (λ (r : List Entry). schedule_of old ++ r) (schedule_of-numbered_from (last_number old) es)
+-- the law that a schedule grows with its book
+abbrev pub SchedulesGrow : Type 0
+SchedulesGrow = (book : List BookEntry) (es : List Entry) → schedule_of (grown book es) ≡ schedule_of book ++ es
 
 none-of : (es : List Entry) (n k : ℕ) → n ≡ k + length es → n ≡ k → es ≡ []
 none-of [] n k h e = refl
 none-of (x ∷ es) n k h e = absurd (omega (arith, h, e))
 
-module _ (x : Case) (v u : Scene NodeState Msg) (es : List Entry) (follows : Follows x.setup x.lost (run_at x v) es (run_at x u)) where
+module _ (grows : SchedulesGrow) (x : Case) (v u : Scene NodeState Msg) (es : List Entry) (follows : Follows x.setup x.lost (run_at x v) es (run_at x u)) where
   abbrev done : List Entry
   done = kept_from x.setup x.lost (world_of x v) es
 
   turns : schedule_of u.book ≡ schedule_of v.book ++ done
-  turns = grown-turns v.book u.book done follows.book
+  turns = ap schedule_of follows.book ∙ grows v.book done
 
   more : length u.book ≡ length v.book + length done
   more = let a : length (schedule_of u.book) ≡ length u.book = length-map u.book _ in
@@ -53,28 +51,28 @@ module _ (x : Case) (v u : Scene NodeState Msg) (es : List Entry) (follows : Fol
 kept-one : (s : Setup) (lost : Losses) (w : World) (e : Entry) (o : Option Step) → next_step s lost w e ≡ o → kept_from s lost w (e ∷ []) ≡ cond (is_some o) (e ∷ []) []
 kept-one s lost w e o h = ap (λ (p : Option Step). cond (is_some p) (e ∷ []) []) h
 
-turn-idle : (x : Case) (v u : Scene NodeState Msg) (e : Entry) → Follows x.setup x.lost (run_at x v) (e ∷ []) (run_at x u) → length u.book ≡ length v.book
+turn-idle : SchedulesGrow → (x : Case) (v u : Scene NodeState Msg) (e : Entry) → Follows x.setup x.lost (run_at x v) (e ∷ []) (run_at x u) → length u.book ≡ length v.book
     → (o : Option Step) → next_step x.setup x.lost (world_of x v) e ≡ o → next_step x.setup x.lost (world_of x v) e ≡ None
-turn-idle x v u e f same None h = h
-turn-idle x v u e f same (Some step) h = absurd (some-not-none (sym (kept-one x.setup x.lost (world_of x v) e (Some step) h) ∙ nothing x v u (e ∷ []) f same))
+turn-idle grows x v u e f same None h = h
+turn-idle grows x v u e f same (Some step) h = absurd (some-not-none (sym (kept-one x.setup x.lost (world_of x v) e (Some step) h) ∙ nothing grows x v u (e ∷ []) f same))
   where
     some-not-none : e ∷ [] ≡ [] → ⊥
     some-not-none q = cc
 
-turn-did : (x : Case) (v u : Scene NodeState Msg) (e : Entry) → Follows x.setup x.lost (run_at x v) (e ∷ []) (run_at x u) → (length u.book ≡ length v.book → ⊥)
+turn-did : SchedulesGrow → (x : Case) (v u : Scene NodeState Msg) (e : Entry) → Follows x.setup x.lost (run_at x v) (e ∷ []) (run_at x u) → (length u.book ≡ length v.book → ⊥)
     → (o : Option Step) → next_step x.setup x.lost (world_of x v) e ≡ o → schedule_of u.book ≡ schedule_of v.book ++ (e ∷ [])
-turn-did x v u e f other None h = absurd
-    (other (more x v u (e ∷ []) f ∙ ap (λ (r : List Entry). length v.book + length r) (kept-one x.setup x.lost (world_of x v) e None h) ∙ (let z : length v.book + 0 ≡ length v.book = omega arith in z)))
-turn-did x v u e f other (Some step) h = turns x v u (e ∷ []) f ∙ ap (λ (r : List Entry). schedule_of v.book ++ r) (kept-one x.setup x.lost (world_of x v) e (Some step) h)
+turn-did grows x v u e f other None h = absurd
+    (other (more grows x v u (e ∷ []) f ∙ ap (λ (r : List Entry). length v.book + length r) (kept-one x.setup x.lost (world_of x v) e None h) ∙ (let z : length v.book + 0 ≡ length v.book = omega arith in z)))
+turn-did grows x v u e f other (Some step) h = turns grows x v u (e ∷ []) f ∙ ap (λ (r : List Entry). schedule_of v.book ++ r) (kept-one x.setup x.lost (world_of x v) e (Some step) h)
 
 -- by the lengths of both books
-pub turn-tells : (net : Net) (v u : Scene NodeState Msg) (e : Entry) (n m : ℕ) → ((x : Case) → StandsFor net x v → Follows x.setup x.lost (run_at x v) (e ∷ []) (run_at x u))
+pub turn-tells : SchedulesGrow → (net : Net) (v u : Scene NodeState Msg) (e : Entry) (n m : ℕ) → ((x : Case) → StandsFor net x v → Follows x.setup x.lost (run_at x v) (e ∷ []) (run_at x u))
     → n ≡ length u.book → m ≡ length v.book → (x : Case) → StandsFor net x v → Turned x v e (not (nat_eq n m)) u
-turn-tells net v u e n m f a b x h = go (eqb_tells n m)
+turn-tells grows net v u e n m f a b x h = go (eqb_tells n m)
   where
     go : ((nat_eq n m ≡ true) × (n ≡ m)) ⊎ ((nat_eq n m ≡ false) × (n ≢ m)) → Turned x v e (not (nat_eq n m)) u
-    go (inl p) = subst (λ t. Turned x v e (not t) u) (sym p.0) (turn-idle x v u e (f x h) (sym a ∙ p.1 ∙ b) (next_step x.setup x.lost (world_of x v) e) refl)
-    go (inr p) = subst (λ t. Turned x v e (not t) u) (sym p.0) (turn-did x v u e (f x h) (λ q. p.1 (a ∙ q ∙ sym b)) (next_step x.setup x.lost (world_of x v) e) refl)
+    go (inl p) = subst (λ t. Turned x v e (not t) u) (sym p.0) (turn-idle grows x v u e (f x h) (sym a ∙ p.1 ∙ b) (next_step x.setup x.lost (world_of x v) e) refl)
+    go (inr p) = subst (λ t. Turned x v e (not t) u) (sym p.0) (turn-did grows x v u e (f x h) (λ q. p.1 (a ∙ q ∙ sym b)) (next_step x.setup x.lost (world_of x v) e) refl)
 
 -- Turns up to the first idle one.
 
@@ -96,22 +94,22 @@ IdlePassesSettle = (s : Setup) (lost : Losses) (es : List Entry) → IsNet s.net
 abbrev pub SettledAreIdle : Type 0
 SettledAreIdle = (s : Setup) (lost : Losses) (es : List Entry) → IsNet s.net → Settled s lost (world s lost es) → kept_from s lost (world s lost es) (settling_pass s.net) ≡ []
 
-pub pass-tells : IdlePassesSettle → SettledAreIdle → (net : Net) (v u : Scene NodeState Msg) (pass : List Entry) (n m : ℕ) → pass ≡ settling_pass net
+pub pass-tells : SchedulesGrow → IdlePassesSettle → SettledAreIdle → (net : Net) (v u : Scene NodeState Msg) (pass : List Entry) (n m : ℕ) → pass ≡ settling_pass net
     → ((x : Case) → StandsFor net x v → Follows x.setup x.lost (run_at x v) pass (run_at x u))
     → n ≡ length u.book → m ≡ length v.book → (x : Case) → StandsFor net x v → Rested x v (nat_eq n m) u
-pass-tells settles idles net v u pass n m p f a b x h = go (eqb_tells n m)
+pass-tells grows settles idles net v u pass n m p f a b x h = go (eqb_tells n m)
   where
     follows : Follows x.setup x.lost (run_at x v) (settling_pass x.setup.net) (run_at x u)
     follows = subst (λ (es : List Entry). Follows x.setup x.lost (run_at x v) es (run_at x u)) (p ∙ ap settling_pass (sym h.net_is)) (f x h)
 
     rested : n ≡ m → Rested x v true u
-    rested q = let none = nothing x v u (settling_pass x.setup.net) follows (sym a ∙ q ∙ b) in (
+    rested q = let none = nothing grows x v u (settling_pass x.setup.net) follows (sym a ∙ q ∙ b) in (
       settles x.setup x.lost (schedule_of v.book) h.runnable.net none,
-      turns x v u (settling_pass x.setup.net) follows ∙ ap (λ (r : List Entry). schedule_of v.book ++ r) none ∙ append-nil (schedule_of v.book),
+      turns grows x v u (settling_pass x.setup.net) follows ∙ ap (λ (r : List Entry). schedule_of v.book ++ r) none ∙ append-nil (schedule_of v.book),
     )
 
     restless : n ≢ m → Rested x v false u
-    restless q settled = q (a ∙ more x v u (settling_pass x.setup.net) follows
+    restless q settled = q (a ∙ more grows x v u (settling_pass x.setup.net) follows
         ∙ ap (λ (r : List Entry). length v.book + length r) (idles x.setup x.lost (schedule_of v.book) h.runnable.net settled)
         ∙ (let z : length v.book + 0 ≡ length v.book = omega arith in z) ∙ sym b)
 

@@ -14,7 +14,7 @@ use Rattle.sl_model.specs.declared.message.Step.{Step}
 use Rattle.sl_model.specs.History.{World, Losses, history}
 use Rattle.sl_model.specs.Losses.{losses}
 use Rattle.sl_model.specs.Setup.{Setup, setup_of}
-use Rattle.sl_model.specs.Knowledge.{observer, floor, issued, resent}
+use Rattle.sl_model.specs.Knowledge.{observer, floor, resent}
 use Rattle.sl_model.specs.World.{Entry, IsLossTable, start, next_step, turn, after, run, world, IsLegal, IsLegalFrom}
 use Rattle.sl_model.specs.Turns.{TakesTurns}
 use Rattle.sl_model.specs.Books.{schedule_of}

@@ -21,9 +21,9 @@ use crate::laws::worlds_finish_well;
 use crate::nodes::{follow, take_pass};
 use sl_machine::Memory;
 use sl_model::{Ending, worlds_take_turns};
-use sl_net::{Input, nets_are_wired};
+use sl_net::Input;
 use sl_observe::Observer;
-use sl_proto::{Node, Taker};
+use sl_proto::{Node, Taker, nodes_tell_findings};
 use sl_simulation::observers_tell;
 use sl_world::World;
 use std::alloc::Global;
@@ -42,7 +42,7 @@ fn observer_nodes_tell()
         → StandsIn i v → slice_get v.states 0 ≡ Some (ObserverNode o)
         → Tells (setup_of i) (world_of (case_of i (losses i)) v) o }
 {
-    nets_are_wired();
+    nodes_tell_findings();
     observers_tell()
 }
 

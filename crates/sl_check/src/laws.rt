@@ -1,5 +1,5 @@
-// Laws of claims. The functions do nothing, or call other laws: their contracts are the laws, and the
-// proofs are in proofs/.
+// Laws of claims. The functions do nothing, or call other laws: their contracts are the laws, and
+// the proofs are in proofs/.
 ghost use Rattle.std.specs.Prelude.{◌≡◌, ◌≤◌, ℕ, List, [], length, Result, Ok, true};
 ghost use Rattle.sl_machine.specs.declared.wiring.Entry.{Entry as BookEntry};
 ghost use Rattle.sl_read.specs.Accepted.{IsAccepted};
@@ -92,8 +92,8 @@ pub fn claims_have_one_answer(input: &Input)
     endings_are_one()
 }
 
-/// A stream has at most one answer or refusal, want of memory aside: any stream of this input, and any
-/// that is refused.
+/// A stream has at most one answer or refusal, want of memory aside: any stream of this input, and
+/// any that is refused.
 pub fn streams_have_one_answer(input: &Input)
     ensures { (bytes : List ℕ) (a b : Result Checked CheckFault) → ReadsNoOther bytes input.now
         → IsChecked bytes a → IsChecked bytes b → IsGiven a → IsGiven b → a ≡ b }

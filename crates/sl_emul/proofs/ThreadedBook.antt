@@ -15,7 +15,6 @@ use Rattle.sl_model.specs.Bound.{bound_of}
 use Rattle.sl_model.specs.Sweeps.{sweeps_in}
 use Rattle.sl_world.specs.Scene.{Scene, last_number}
 use Rattle.sl_world.specs.Legal.{numbered_from}
-use Rattle.sl_world.proofs.BookLaws.{schedule_of-numbered_from}
 use Rattle.sl_proto.specs.Nodes.{NodeState}
 use Rattle.sl_proto.specs.Runs.{grown}
 use Rattle.sl_proto.specs.Standing.{case_of, world_of, StandsFor, FinishesTo}
@@ -37,8 +36,12 @@ kept-legal s lost w (e ∷ es) legal =
 between : (a b c d : ℕ) → a ≤ b → b ≤ c → c < d → a < d
 between a b c d p q r = omega (arith, p, q, r)
 
+-- the law that a schedule grows with its book
+abbrev pub SchedulesGrow : Type 0
+SchedulesGrow = (book : List BookEntry) (es : List Entry) → schedule_of (grown book es) ≡ schedule_of book ++ es
+
 -- from the scene u to which the threads came by finishing to t
-module _ (i : Input) (lost : Losses) (u t : Scene NodeState Msg) (ends : FinishesTo (case_of i lost) u t) where
+module _ (grows : SchedulesGrow) (i : Input) (lost : Losses) (u t : Scene NodeState Msg) (ends : FinishesTo (case_of i lost) u t) where
   whole-book : t.book ≡ grown u.book ends.turns
   whole-book = ends.goes.book
 
@@ -46,8 +49,7 @@ module _ (i : Input) (lost : Losses) (u t : Scene NodeState Msg) (ends : Finishe
   front-book = ap (take (length u.book)) whole-book ∙ take-append_seam u.book (numbered_from (last_number u.book) ends.turns)
 
   whole : schedule_of t.book ≡ schedule_of u.book ++ ends.turns
-  whole = ap schedule_of whole-book ∙ map-append (λ (e : BookEntry). (e.actor, e.choice)) u.book (numbered_from (last_number u.book) ends.turns)
-      ∙ ap (λ (es : List Entry). schedule_of u.book ++ es) (schedule_of-numbered_from (last_number u.book) ends.turns)
+  whole = ap schedule_of whole-book ∙ grows u.book ends.turns
 
   count : length (schedule_of u.book) ≡ length u.book
   count = length-map u.book (λ (e : BookEntry). (e.actor, e.choice))
@@ -87,10 +89,10 @@ module _ (i : Input) (lost : Losses) (u t : Scene NodeState Msg) (ends : Finishe
     }
 
 -- the scene v to which finishing leads from the scene u to which the threads came
-pub has-ended : (i : Input) (lost : Losses) (u v : Scene NodeState Msg) (front : ℕ) → IsFinishedFrom i lost u v front → RunsBounded → Consistent → IsNet i.net → StandsFor i.net (case_of i lost) u
+pub has-ended : (i : Input) (lost : Losses) (u v : Scene NodeState Msg) (front : ℕ) → IsFinishedFrom i lost u v front → SchedulesGrow → RunsBounded → Consistent → IsNet i.net → StandsFor i.net (case_of i lost) u
     → IsThreadedFront i lost u.book → (length u.book < 2 ^ 27 → HasRested (setup_of i) (world_of (case_of i lost) u)) → HasEnded IsThreadedBook i lost v front
-has-ended i lost u v front done bound consistent net first threads rest = record {
-  run = subst (IsThreadedBook i lost v.book) (sym done.front_is) (is-book i lost u v done.finishing bound consistent net first done.stands threads rest);
+has-ended i lost u v front done grows bound consistent net first threads rest = record {
+  run = subst (IsThreadedBook i lost v.book) (sym done.front_is) (is-book grows i lost u v done.finishing bound consistent net first done.stands threads rest);
   stands = done.stands;
   few = done.few;
 }

@@ -1,5 +1,5 @@
-// The report of a finished world of nodes. What was found of a snapshot is written once it is found,
-// so that no two findings are kept.
+// The report of a finished world of nodes. What was found of a snapshot is written once it is
+// found, so that no two findings are kept.
 ghost use Rattle.std.specs.Prelude.{◌≡◌, ◌++◌, ◌<◌, ◌^◌, IfOk, OnOk, flat_map, length, map};
 ghost use Rattle.std.specs.Prelude.{string_bytes};
 ghost use Rattle.std.specs.List.{range_with_len};

@@ -12,7 +12,7 @@ ghost use Rattle.sl_emul.specs.Finishing.{IsFinishedFrom, IsToldOf};
 use sl_machine::{Book, Memory};
 use sl_model::Findings;
 use sl_net::Input;
-use sl_proto::{Node, Taker, findings, finish};
+use sl_proto::{Node, end_run, findings};
 use sl_world::World;
 use std::alloc::Global;
 
@@ -43,12 +43,7 @@ pub fn finish_run(alloc: Global, input: &Input, mut world: World<Node>) -> Resul
     ensures { IfOk result
         (λ r. IsFinishedFrom input.now (losses input.now) (scene world) (scene r.world) r.front) }
 {
-    let front = world.entries();
-    finish(alloc, &input.net, &mut world)?;
-    // A book of 2^40 entries would fill any memory.
-    if world.entries() >= 1 << 40 {
-        return Err(Memory);
-    }
+    let front = end_run(alloc, &input.net, &mut world)?;
     Ok(Ran { world, front })
 }
 

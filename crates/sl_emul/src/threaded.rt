@@ -23,8 +23,8 @@ use sl_model::{
 };
 use sl_net::{ActorId, Input, Net, nets_have_ways};
 use sl_proto::{
-    Node, build_nodes, inputs_are_runnable, make_losses, nodes_follow, nodes_follow_their_books,
-    nodes_stand_at_first, nodes_stand_for_histories, nodes_start,
+    Node, books_grow_by_turns, build_nodes, inputs_are_runnable, make_losses, nodes_follow,
+    nodes_follow_their_books, nodes_stand_at_first, nodes_stand_for_histories, nodes_start,
 };
 use sl_threads::run_machines;
 use sl_world::{World, every_schedule};
@@ -140,6 +140,7 @@ fn run_few<R: Threads + Wait + Sync, G: Gate + Sync>(
     ensures passed { IfOk result (λ r. r.front < 2 ^ 27
         → HavePassed G.passed gate.now (length input.now.net.actors) 200) }
 {
+    books_grow_by_turns();
     runs_are_bounded();
     cuts_are_consistent();
     let world = threaded_world(rt, alloc, input, gate)?;
@@ -147,9 +148,8 @@ fn run_few<R: Threads + Wait + Sync, G: Gate + Sync>(
 }
 
 /// Runs an input on the nodes of its net to its end: each in a thread of its own until none moves
-/// any more, and then finishes in one thread. Each actor passes the gate before each of its rounds, 200
-/// at least where the front is short.
-/// The script isn't used.
+/// any more, and then finishes in one thread. Each actor passes the gate before each of its rounds,
+/// 200 at least where the front is short. The script isn't used.
 pub fn finish_threaded<R: Threads + Wait + Sync, G: Gate + Sync>(
     rt: &R,
     alloc: Global,

@@ -1,19 +1,19 @@
 -- Passes, sweeps and the resend entry are choices of a net.
 use Rattle.std.proofs.Common.{◌≡◌, ℕ, suc, ◌+◌, ◌<◌, List, [], ◌∷◌, ◌++◌, length, refl, sym, ap, subst, arith, zero-add}
-use Rattle.std.specs.Prelude.{Bool, true, false, slice_index}
+use Rattle.std.specs.Prelude.{Bool, true, false, flat_map, slice_index}
 use Rattle.std.specs.List.{All}
 use Rattle.std.proofs.lemmas.List.{get_or-map}
 use Rattle.std.proofs.lemmas.List.FromFn.{get_or-map-range_with_len, length-map-range_with_len}
 use Rattle.sl_machine.specs.Plan.{HasChoice}
 use Rattle.sl_layout.specs.declared.actor.ActorId.{ActorId}
 use Rattle.sl_layout.specs.declared.actor.ActorId.TheVariants.{Observer, Control, Unit as OfUnit, Host as OfHost}
-use Rattle.sl_parts.specs.Parts.{Parts}
+use Rattle.sl_parts.specs.Parts.{Parts, below}
 use Rattle.sl_layout.specs.Net.{Net, net_of, nobody, actors_of, actor_of, links_into}
 use Rattle.sl_layout.specs.Wiring.{plan_of, actions_of}
 use Rattle.sl_parts.specs.Lists.{Each}
-use Rattle.sl_parts.proofs.Lists.{all-from_each, each-append, each-map, each-flat, each-below}
+use Rattle.sl_parts.proofs.Lists.{all-from_each, each-append, each-map, each-flat, each-below, flat_map_below_more}
 use Rattle.sl_model.specs.World.{Entry}
-use Rattle.sl_model.specs.Schedule.{of_actors, link_entries, first_action, pass_actions, pass_of, sweep_of, sweeps, resend_entry}
+use Rattle.sl_model.specs.Schedule.{of_actors, link_entries, first_action, pass_actions, pass_of, sweep_of, sweeps, resend_entry, passes_of}
 
 abbrev IsChoice : Net → Entry → Type 0
 IsChoice net e = HasChoice (plan_of net) e.0 e.1
@@ -67,3 +67,11 @@ has-actors net made = subst (λ (n : Net). 0 < length n.actors) (sym made) (has-
   where
     has-some : (parts : Parts) → 0 < length (actors_of parts)
     has-some parts = omega arith
+
+-- One actor more, one pass more.
+
+pub actors-next : (net : Net) (f : ℕ → ActorId → List Entry) (n : ℕ) → flat_map (λ a. f a (actor_of net a)) (below (n + 1)) ≡ flat_map (λ a. f a (actor_of net a)) (below n) ++ f n (actor_of net n)
+actors-next net f n = flat_map_below_more (λ a. f a (actor_of net a)) n
+
+pub passes-next : (es : List Entry) (n : ℕ) → passes_of es (n + 1) ≡ passes_of es n ++ es
+passes-next es n = flat_map_below_more (λ i. es) n

@@ -17,10 +17,9 @@ use Rattle.sl_simulation.specs.Messages.{IsMessage}
 use Rattle.sl_world.specs.Scene.{Line, line_at, empty_line, line_put, put_at, put_each}
 use Rattle.sl_proto.specs.Image.{tell_all, told_on, ArePut}
 use Rattle.sl_proto.specs.Spread.{ArePutFrom}
-use Rattle.sl_proto.proofs.Spread.{link_in_put}
+use Rattle.sl_proto.proofs.Spread.{link_in_put, AreApart}
 use Rattle.sl_proto.proofs.Queues.{retold}
 use Rattle.sl_proto.proofs.Lines.{IsLine, line-put}
-use Rattle.sl_parts.proofs.Lists.{Distinct}
 
 abbrev pub LinesAre : Net → Sizes → (ℕ → History) → Losses → (ℕ → ℕ → ℕ) → (ℕ → ℕ) → (ℕ → List Message) → List (Line Msg) → Type 0
 LinesAre net sizes us lost told n base lines = (k : ℕ) → k < length net.links → IsLine net sizes us (link_of net k).from (lost k) (told k) (n k) (base k) (line_at lines k)
@@ -105,7 +104,7 @@ module _ (net : Net) (sizes : Sizes) (us : ℕ → History) (a : ℕ) (lost : Lo
 
 -- Puts of a step, told by the history before it.
 
-pub to-send : (net : Net) (sizes : Sizes) (us : ℕ → History) (a : ℕ) (lost : Losses) (told : ℕ → ℕ → ℕ) (n : ℕ → ℕ) (h : History) (base : ℕ → List Message) (ps : List Put) (xs : List (ℕ × Msg)) → Distinct (map link_in_put ps)
+pub to-send : (net : Net) (sizes : Sizes) (us : ℕ → History) (a : ℕ) (lost : Losses) (told : ℕ → ℕ → ℕ) (n : ℕ → ℕ) (h : History) (base : ℕ → List Message) (ps : List Put) (xs : List (ℕ × Msg)) → AreApart ps
     → Each (λ p. base p.link ≡ put p.link h) ps → Each (λ p. (place k : ℕ) → p.message ≡ DoneMsg place k → told_on p.link h place ≡ told_last lost told n (λ l. put l h) p.link place) ps
     → ArePut net sizes us a h ps xs → AreToSend net sizes us a lost told n base ps xs
 to-send net sizes us a lost told n h base [] [] apart same last send = tt

@@ -1,6 +1,6 @@
 -- How far a run has come along a schedule, in settling and in finishing.
 use Rattle.std.proofs.Common.{◌≡◌, ℕ, zero, suc, ◌+◌, ◌-◌, ◌<◌, List, [], ◌∷◌, ◌++◌, length, refl, sym, ap, subst, ◌∙◌, Option, Some, None, arith, append_assoc, append-nil, get_or, take, drop, take-append-drop}
-use Rattle.std.specs.Prelude.{◌≢◌, true, false}
+use Rattle.std.specs.Prelude.{◌≢◌, Bool, true, false}
 use Rattle.std.proofs.lemmas.Grind.{flat_map-append}
 use Rattle.std.proofs.lemmas.List.{take_more, flat_map_more}
 use Rattle.sl_net.specs.declared.input.Script1.{Script1}
@@ -12,17 +12,17 @@ use Rattle.sl_model.specs.Setup.{Setup}
 use Rattle.sl_model.specs.World.{Entry, run, world, kept_from}
 use Rattle.sl_model.specs.Books.{schedule_of}
 use Rattle.sl_model.specs.Schedule.{settling_pass, sweeps, resend_entry, passes_of, expand_one, expand}
-use Rattle.sl_model.specs.End.{settle, finish, then_from, again_from, sweep_round, after_sweeps, is_collected, rose, IsFin}
-use Rattle.sl_parts.proofs.Lists.{flat_map_below_more}
-use Rattle.sl_model.proofs.Worlds.Trails.{kept-append}
+use Rattle.sl_model.specs.End.{settle, finish, then_from, again_from, sweep_round, after_sweeps, is_collected, rose, Settled, IsFin}
 use Rattle.sl_model.proofs.Finishing.Finished.{append-splits, then-splits}
 use Rattle.sl_world.specs.Scene.{Scene}
 use Rattle.sl_proto.specs.Nodes.{NodeState}
 use Rattle.sl_proto.specs.Standing.{Case, world_of, run_at, StandsFor}
 use Rattle.sl_proto.specs.Runs.{Run, Follows, Goes}
-use Rattle.sl_proto.specs.Rounds.{EndsBy}
+use Rattle.sl_proto.specs.Rounds.{EndsBy, EndsAt}
+use Rattle.sl_proto.specs.Calls.{KeepsStanding, SettlesIn, IsSettledIf}
 use Rattle.sl_proto.specs.Fronts.{FollowsFront, SettlesBy, SettlesTowards, FinishesTowards, Leads, Whatever, SweepsBy, ResendsBy}
-use Rattle.sl_proto.proofs.Trails.{follows-append, follows-goes, goes-append, goes-something}
+use Rattle.sl_proto.proofs.Choices.{passes-next}
+use Rattle.sl_proto.proofs.Trails.{follows-append, kept-whole, follows-goes, goes-append, goes-something}
 
 -- Schedules.
 
@@ -55,13 +55,13 @@ front-longer s lost old new es fs more q g = record {
 passes-more : (es : List Entry) (n d : ℕ) → (more : List Entry) × (passes_of es (n + d) ≡ passes_of es n ++ more)
 passes-more es n zero = let e : n + 0 ≡ n = omega arith in ([], ap (passes_of es) e ∙ sym (append-nil (passes_of es n)))
 passes-more es n (suc d) = let e : n + suc d ≡ (n + d) + 1 = omega arith in let x = passes-more es n d in
-    (x.0 ++ es, ap (passes_of es) e ∙ flat_map_below_more (λ i. es) (n + d) ∙ ap (λ r. r ++ es) x.1 ∙ append_assoc (passes_of es n) x.0 es)
+    (x.0 ++ es, ap (passes_of es) e ∙ passes-next es (n + d) ∙ ap (λ r. r ++ es) x.1 ∙ append_assoc (passes_of es n) x.0 es)
 
 pub front-passes : (s : Setup) (lost : Losses) (old mid new : Run) (es : List Entry) (n count : ℕ) → n < count → Follows s lost old (passes_of es n) mid
     → FollowsFront s lost mid es new → FollowsFront s lost old (passes_of es count) new
 front-passes s lost old mid new es n count h f g = let x = passes-more es (n + 1) (count - (n + 1)) in let e : (n + 1) + (count - (n + 1)) ≡ count = omega (arith, h) in
     front-longer s lost old new (passes_of es (n + 1)) (passes_of es count) x.0 (ap (passes_of es) (sym e) ∙ x.1)
-    (subst (λ xs. FollowsFront s lost old xs new) (sym (flat_map_below_more (λ i. es) n)) (front-after s lost old mid new (passes_of es n) es f g))
+    (subst (λ xs. FollowsFront s lost old xs new) (sym (passes-next es n)) (front-after s lost old mid new (passes_of es n) es f g))
 
 pub front-script : (s : Setup) (lost : Losses) (old mid new : Run) (net : Net) (script : List Script1) (i : ℕ) (d : Script1) → i < length script → Follows s lost old (expand net (take i script)) mid
     → FollowsFront s lost mid (expand_one net (get_or script i d)) new → FollowsFront s lost old (expand net script) new
@@ -114,7 +114,7 @@ kept-front : (s : Setup) (lost : Losses) (old new : Run) (es : List Entry) → F
 kept-front s lost old new es f = let later = kept_from s lost (run s lost old.world f.first) f.rest in record {
   turns = kept_from s lost old.world f.first;
   goes = follows-goes s lost old new f.first f.follows;
-  on = λ xs p. (later, (p ∙ ap (kept_from s lost old.world) f.whole ∙ kept-append s lost old.world f.first f.rest, tt));
+  on = λ xs p. (later, (p ∙ kept-whole s lost old new es f, tt));
 }
 
 kept-leads : (s : Setup) (lost : Losses) (old new : Run) (es : List Entry) → Follows s lost old es new → Leads s lost (IsKept s lost old.world es) old IsNone new
@@ -216,7 +216,7 @@ settles-by s lost w es p = let x = fin-splits s lost w es p in (x.0, x.1.0)
 pub finishing-front : (s : Setup) (lost : Losses) (now new : Run) → Leads s lost (SettlesBy s lost now.world) now Whatever new → Leads s lost (IsFin s lost now.world) now Whatever new
 finishing-front s lost now new a = first-front s lost (IsFin s lost now.world) (SettlesBy s lost now.world) (SweepsBy s lost) now new (fin-splits s lost now.world) a
 
-pub finishing-settles : (s : Setup) (lost : Losses) (fuel : ℕ) (now new : Run) → EndsBy s lost now (settle fuel s lost now.world) new true
+finishing-settles : (s : Setup) (lost : Losses) (fuel : ℕ) (now new : Run) → EndsBy s lost now (settle fuel s lost now.world) new true
     → Leads s lost (IsFin s lost now.world) now (SweepsBy s lost new.world) new
 finishing-settles s lost fuel now new m = first-leads s lost (IsFin s lost now.world) (SettlesBy s lost now.world) (SweepsBy s lost) now new (fin-splits s lost now.world) (settling-leads s lost fuel now new m)
 
@@ -256,7 +256,7 @@ sweeps-lead : (s : Setup) (lost : Losses) (old new : Run) → is_collected s old
 sweeps-lead s lost old new q f = first-leads s lost (SweepsBy s lost old.world) (IsKept s lost old.world (sweeps s.net)) (SweptBy s lost old.world) old new (sweeps-splits s lost old.world q)
     (kept-leads s lost old new (sweeps s.net) f)
 
-pub swept-front : (s : Setup) (lost : Losses) (old swept new : Run) → is_collected s old.world ≡ false → Follows s lost old (sweeps s.net) swept
+swept-front : (s : Setup) (lost : Losses) (old swept new : Run) → is_collected s old.world ≡ false → Follows s lost old (sweeps s.net) swept
     → Leads s lost (SettlesBy s lost swept.world) swept Whatever new → Leads s lost (SweepsBy s lost old.world) old Whatever new
 swept-front s lost old swept new q f a = let P = SweptBy s lost old.world swept.world in
     leads-on s lost (SweepsBy s lost old.world) P Whatever old swept new (sweeps-lead s lost old swept q f)
@@ -288,7 +288,7 @@ resends-splits : (s : Setup) (lost : Losses) (w : World) → Splits s lost w (Re
 resends-splits s lost w es p = let ks = kept_from s lost w (resend_entry s.net ∷ []) in let x = again-splits s lost w (λ v. finish p.fuel s lost v) ks es p.resent in
     (ks, (refl, (x.0, (x.1.0, λ m. record { fuel = p.fuel; finished = x.1.1 m }))))
 
-pub resend-front : (s : Setup) (lost : Losses) (old new : Run) → FollowsFront s lost old (resend_entry s.net ∷ []) new → Leads s lost (ResendsBy s lost old.world) old Whatever new
+resend-front : (s : Setup) (lost : Losses) (old new : Run) → FollowsFront s lost old (resend_entry s.net ∷ []) new → Leads s lost (ResendsBy s lost old.world) old Whatever new
 resend-front s lost old new f = let es = resend_entry s.net ∷ [] in
     first-front s lost (ResendsBy s lost old.world) (IsKept s lost old.world es) (AfterResend s lost old.world) old new (resends-splits s lost old.world) (kept-front s lost old new es f)
 
@@ -322,3 +322,29 @@ finished-towards law net x v u h a = let f = law x.setup x.lost (schedule_of v.b
 pub finished-nothing : FinishingEnds → (net : Net) (x : Case) (v : Scene NodeState Msg) → StandsFor net x v → FinishesTowards x.setup x.lost (run_at x v) (run_at x v)
 finished-nothing law net x v h = let P = IsFin x.setup x.lost (world_of x v) in
     finished-towards law net x v v h (leads-somewhere x.setup x.lost P P (run_at x v) (run_at x v) (leads-none x.setup x.lost P (run_at x v)))
+
+-- a round of finishing: settling sufficed, and then come the turns of the round
+pub finishing-round : (net : Net) (x : Case) (fuel : ℕ) (old now mid new : Scene NodeState Msg) (Q : List Entry → Type 0) (ended : Bool) → ended ≡ true → StandsFor net x now
+    → Leads x.setup x.lost (IsFin x.setup x.lost (world_of x old)) (run_at x old) (IsFin x.setup x.lost (world_of x now)) (run_at x now)
+    → SettlesIn net fuel now mid ended → KeepsStanding net now mid → IsSettledIf net now mid ended
+    → (StandsFor net x mid → Settled x.setup x.lost (world_of x mid) → Leads x.setup x.lost (SweepsBy x.setup x.lost (world_of x mid)) (run_at x mid) Q (run_at x new))
+    → Leads x.setup x.lost (IsFin x.setup x.lost (world_of x old)) (run_at x old) Q (run_at x new)
+finishing-round net x fuel old now mid new Q ended b h a settles stands settled round =
+    let P = IsFin x.setup x.lost (world_of x now) in
+    leads-on x.setup x.lost (IsFin x.setup x.lost (world_of x old)) P Q (run_at x old) (run_at x now) (run_at x new) a
+    (leads-on x.setup x.lost P (SweepsBy x.setup x.lost (world_of x mid)) Q (run_at x now) (run_at x mid) (run_at x new)
+    (finishing-settles x.setup x.lost fuel (run_at x now) (run_at x mid) (subst (EndsAt x now (settle fuel x.setup x.lost (world_of x now)) mid) b (settles x h)))
+    (round (stands x h) (settled x h b)))
+
+-- the sweeps of a round, and then what settling takes
+pub round-front : (net : Net) (x : Case) (v swept u : Scene NodeState Msg) (sweep : List Entry) → StandsFor net x v → sweep ≡ sweeps net → is_collected x.setup (world_of x v) ≡ false
+    → Follows x.setup x.lost (run_at x v) sweep (run_at x swept) → Leads x.setup x.lost (SettlesBy x.setup x.lost (world_of x swept)) (run_at x swept) Whatever (run_at x u)
+    → Leads x.setup x.lost (SweepsBy x.setup x.lost (world_of x v)) (run_at x v) Whatever (run_at x u)
+round-front net x v swept u sweep h e q f a = swept-front x.setup x.lost (run_at x v) (run_at x swept) (run_at x u) q
+    (over (λ es. Follows x.setup x.lost (run_at x v) es (run_at x swept)) sweeps net x.setup.net sweep h.net_is e f) a
+
+-- resending alone
+pub resent-front : (net : Net) (x : Case) (v u : Scene NodeState Msg) (entry : Entry) → StandsFor net x v → entry ≡ resend_entry net → FollowsFront x.setup x.lost (run_at x v) (entry ∷ []) (run_at x u)
+    → Leads x.setup x.lost (ResendsBy x.setup x.lost (world_of x v)) (run_at x v) Whatever (run_at x u)
+resent-front net x v u entry h e f = resend-front x.setup x.lost (run_at x v) (run_at x u)
+    (over (λ es. FollowsFront x.setup x.lost (run_at x v) es (run_at x u)) (λ n. resend_entry n ∷ []) net x.setup.net (entry ∷ []) h.net_is (ap (λ y. y ∷ []) e) f)

@@ -19,7 +19,6 @@ use Rattle.sl_model.specs.declared.message.Message.TheVariants.{Done as DoneMsg}
 use Rattle.sl_model.specs.declared.message.Put.{Put}
 use Rattle.sl_model.specs.declared.message.Step.{Step}
 use Rattle.sl_parts.specs.Lists.{Each}
-use Rattle.sl_parts.proofs.Lists.{each-imp, each-both-of}
 use Rattle.sl_model.specs.History.{History, World, Losses, history, done_of, taken, takes, put, on_link, without_lost}
 use Rattle.sl_model.specs.Setup.{Setup}
 use Rattle.sl_model.specs.World.{IsLossTable, carried}
@@ -36,7 +35,7 @@ use Rattle.sl_world.proofs.LinkLemmas.{link_in_is}
 use Rattle.sl_proto.specs.Image.{tell, tell_all, told_on, told_by, IsLineOf, IsImage}
 use Rattle.sl_proto.specs.Machines.{MachineSimulates}
 use Rattle.sl_proto.specs.Spread.{ArePutFrom}
-use Rattle.sl_proto.proofs.Spread.{IsSpread, step-spread, put-from, one-each}
+use Rattle.sl_proto.proofs.Spread.{IsSpread, step-spread, put-from, each-put, one-each}
 use Rattle.sl_proto.proofs.Queues.{tell_all-append, untold, heard-told, queue-grown}
 use Rattle.sl_proto.proofs.Known.{way-there, told-there}
 use Rattle.sl_proto.proofs.Lines.{IsLine}
@@ -230,9 +229,9 @@ module _ {S : Type 0} (s : Setup) (lost : Losses) (sizes : Sizes) (Stands : Worl
   -- what a Done is told by
   done-told : (w v : World) (a : ℕ) (step : Step) → Turning w v a step → ((k : ℕ) → k < length s.net.links → told_last lost (told_at s.net v) (taken_at s.net v) (put_at s.net w) k ≡ told_last lost (told_at s.net w) (taken_at s.net w) (put_at s.net w) k)
       → Each (λ p. (place k : ℕ) → p.message ≡ DoneMsg place k → told_on p.link (history w a) place ≡ told_last lost (told_at s.net v) (taken_at s.net v) (λ l. put l (history w a)) p.link place) step.puts
-  done-told w v a step t same = each-both-of (λ p. fits_link s.net p.link p.message ≡ true) (λ p. (p.link < length s.net.links) × ((link_of s.net p.link).from ≡ a))
-      (λ p. (place k : ℕ) → p.message ≡ DoneMsg place k → told_on p.link (history w a) place ≡ told_last lost (told_at s.net v) (taken_at s.net v) (λ l. put l (history w a)) p.link place) step.puts
-      (λ p b f place k e. of_put p b f place k e) (t.turns.puts s a (history w a) step t.made) (put-from s.net a step.puts (step-spread s a (history w a) step t.wired t.made).each)
+  done-told w v a step t same = each-put s.net a step.puts (λ p. fits_link s.net p.link p.message ≡ true)
+      (λ p. (place k : ℕ) → p.message ≡ DoneMsg place k → told_on p.link (history w a) place ≡ told_last lost (told_at s.net v) (taken_at s.net v) (λ l. put l (history w a)) p.link place)
+      (step-spread s a (history w a) step t.wired t.made).each (t.turns.puts s a (history w a) step t.made) (λ p b f place k e. of_put p b f place k e)
     where
       of_put : (p : Put) → fits_link s.net p.link p.message ≡ true → (p.link < length s.net.links) × ((link_of s.net p.link).from ≡ a) → (place k : ℕ) → p.message ≡ DoneMsg place k
           → told_on p.link (history w a) place ≡ told_last lost (told_at s.net v) (taken_at s.net v) (λ l. put l (history w a)) p.link place
@@ -274,7 +273,7 @@ module _ {S : Type 0} (s : Setup) (lost : Losses) (sizes : Sizes) (Stands : Worl
       delivered = all-put s.net sizes (history v) a lost (told_at s.net v) (taken_at s.net v) (link_out scene.plan.links a) (put_at s.net w) lines step.puts left.puts placed room long
           (put-from s.net a step.puts spread.each)
           (to-send s.net sizes (history v) a lost (told_at s.net v) (taken_at s.net v) (history w a) (put_at s.net w) step.puts left.puts spread.apart
-          (each-imp (λ p. (p.link < length s.net.links) × ((link_of s.net p.link).from ≡ a)) (λ p. put_at s.net w p.link ≡ put p.link (history w a)) step.puts (λ p f. ap (λ b. put p.link (history w b)) f.1) (put-from s.net a step.puts spread.each))
+          (each-put s.net a step.puts (λ p. fits_link s.net p.link p.message ≡ true) (λ p. put_at s.net w p.link ≡ put p.link (history w a)) spread.each (t.turns.puts s a (history w a) step t.made) (λ p b f. ap (λ b. put p.link (history w b)) f.1))
           (done-told w v a step t same) stands.puts) all
 
       by_line : (l : ℕ) → IsLine s.net sizes (history v) (link_of s.net l).from (lost l) (told_at s.net v l) (taken_at s.net v l) (put_at s.net w l ++ on_link l step.puts) (line_at (put_each (link_out scene.plan.links a) left.puts lines) l)

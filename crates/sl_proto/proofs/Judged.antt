@@ -23,7 +23,6 @@ use Rattle.sl_model.specs.Verdict.{lag_at, judged, place_or_zero}
 use Rattle.sl_model.specs.Accounts.{Account, row_of, behind, lag_by, cause_in, cause_by, floor_by, holds, verdict_by}
 use Rattle.sl_simulation.specs.ObserverImage.{account_of}
 use Rattle.sl_proto.specs.Told.{HasRows, HasAllRows, accounts_of, IsValue}
-use Rattle.sl_simulation.proofs.ObserverAccounts.{not-zero}
 
 -- Walks over the units.
 
@@ -56,7 +55,7 @@ silent-each {A} {B} f n (x ∷ xs) h = by_first (f x) refl (silent-each f (suc n
 -- Rows.
 
 pub row_is_saved : (x : UnitState) (k : ℕ) → 1 ≤ k → saved_of x k ≡ row_of k (account_of x)
-row_is_saved x k p = ap (λ b. if b then None else slice_get x.rows (k - 1)) (not-zero k p)
+row_is_saved x k p = ap (λ b. if b then None else slice_get x.rows (k - 1)) (ne_eqb k 0 (λ e. absurd (omega (arith, e, p))))
 
 -- The floor.
 

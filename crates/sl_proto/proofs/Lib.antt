@@ -9,13 +9,11 @@ pub mod Schedules
 pub mod Sent
 pub mod Fresh
 pub mod Counts
-pub mod NodeTells
 pub mod NodeSteps
 pub mod Trails
 pub mod Endings
 pub mod Standing
 pub mod Fronts
-pub mod Grown
 pub mod FirstNode
 pub mod Choices
 pub mod Judged

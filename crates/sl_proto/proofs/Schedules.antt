@@ -1,10 +1,11 @@
 -- Schedules of a scene that stands for a world.
-use Rattle.std.proofs.Common.{◌≡◌, ℕ, zero, suc, ◌+◌, ◌^◌, ◌<◌, List, [], ◌∷◌, ◌++◌, length, refl, sym, ap, subst, ◌∙◌, Option, Some, None, arith, is_some, length-append, Bool, true, false, cond, drop}
+use Rattle.std.proofs.Common.{◌≡◌, ℕ, zero, suc, ◌+◌, ◌^◌, ◌<◌, List, [], ◌∷◌, ◌++◌, length, refl, sym, ap, subst, ◌∙◌, Option, Some, None, arith, is_some, length-append, Bool, true, false, cond, drop, append_assoc, append-nil}
 use Rattle.std.specs.Prelude.{if◌then◌else◌, slice_index_or, unwrap_or}
 use Rattle.std.specs.Option.{option_and_then}
-use Rattle.std.proofs.lemmas.List.{length-map, get_or-map}
+use Rattle.std.proofs.lemmas.List.{length-map, map-append, get_or-map}
 use Rattle.std.specs.List.{range_with_len}
 use Rattle.sl_machine.specs.Machine.{Rules}
+use Rattle.sl_machine.specs.declared.wiring.Entry.{Entry as BookEntry}
 use Rattle.sl_loss.specs.Loss.{Loss}
 use Rattle.sl_layout.specs.Net.{link_of, choice_of}
 use Rattle.sl_layout.specs.Wiring.{plan_of}
@@ -16,13 +17,52 @@ use Rattle.sl_model.specs.History.{World, Losses, history, taken, put, without_l
 use Rattle.sl_model.specs.Words.{tally}
 use Rattle.sl_model.specs.Setup.{Setup}
 use Rattle.sl_model.specs.World.{Entry, start, next_step, turn, after, run, world, IsLegalFrom, kept_from}
+use Rattle.sl_model.specs.Books.{schedule_of, numbers_of}
 use Rattle.sl_model.specs.Window.{on_way}
 use Rattle.sl_model.specs.Turns.{TakesTurns}
-use Rattle.sl_world.specs.Scene.{Scene, empty_line, new_line, first_scene, turn_of, after_turn, after_all, run_of, kept, last_number}
+use Rattle.sl_world.specs.Scene.{Scene, empty_line, new_line, first_scene, turn_of, after_turn, after_all, run_of, kept, last_number, entry_after}
 use Rattle.sl_world.specs.Legal.{numbered_from}
-use Rattle.sl_world.proofs.BookLaws.{book-after_all}
+use Rattle.sl_world.proofs.BookLaws.{book-after_all, last_number-push, schedule_of-numbered_from}
 use Rattle.sl_proto.specs.Image.{told_by, AreQueued, GoesOn, IsLineOf, IsImage, IsTurned, IsFirst}
+use Rattle.sl_proto.specs.Runs.{grown, IsBookOfTurns}
 use Rattle.sl_proto.proofs.Turned.{Given, turned}
+
+-- Books that grow by turns.
+
+grown-more : (book : List BookEntry) (e : Entry) (es : List Entry) → grown book (e ∷ es) ≡ grown (book ++ entry_after book e.0 e.1 ∷ []) es
+grown-more book e es = let next : BookEntry = entry_after book e.0 e.1 in
+    sym (ap (λ (n : ℕ). (book ++ next ∷ []) ++ numbered_from n es) (last_number-push book e.0 e.1)
+    ∙ append_assoc book (next ∷ []) (numbered_from (last_number book + 1) es))
+
+pub grown-append : (book : List BookEntry) (es fs : List Entry) → grown (grown book es) fs ≡ grown book (es ++ fs)
+grown-append book [] fs = ap (λ (b : List BookEntry). grown b fs) (append-nil book)
+grown-append book (e ∷ es) fs = ap (λ (b : List BookEntry). grown b fs) (grown-more book e es)
+    ∙ grown-append (book ++ entry_after book e.0 e.1 ∷ []) es fs
+    ∙ sym (grown-more book e (es ++ fs))
+
+pub none-numbered : (n : ℕ) (es : List Entry) → numbered_from n es ≡ [] → es ≡ []
+none-numbered n [] h = refl
+none-numbered n (e ∷ es) h = absurd cc
+
+-- Books numbered from 1.
+
+numbers-numbered : (n : ℕ) (es : List Entry) → numbers_of (numbered_from n es) ≡ range_with_len (n + 1) (length es)
+numbers-numbered n [] = refl
+numbers-numbered n (e ∷ es) = ap (λ r. (n + 1) ∷ r) (numbers-numbered (n + 1) es)
+
+length-numbered : (n : ℕ) (es : List Entry) → length (numbered_from n es) ≡ length es
+length-numbered n [] = refl
+length-numbered n (e ∷ es) = ap suc (length-numbered (n + 1) es)
+
+pub numbered_book : (book : List BookEntry) (es : List Entry) → book ≡ numbered_from 0 es → IsBookOfTurns (record { entries = book }) es
+numbered_book book es h = record {
+  schedule = ap schedule_of h ∙ schedule_of-numbered_from 0 es;
+  numbers = ap numbers_of h ∙ numbers-numbered 0 es ∙ ap (range_with_len 1) (sym (ap length h ∙ length-numbered 0 es));
+}
+
+-- a book that grew by numbered entries
+pub schedule-grown : (old new : List BookEntry) (n : ℕ) (es : List Entry) → new ≡ old ++ numbered_from n es → schedule_of new ≡ schedule_of old ++ es
+schedule-grown old new n es h = ap schedule_of h ∙ map-append (λ (e : BookEntry). (e.actor, e.choice)) old (numbered_from n es) ∙ ap (λ r. schedule_of old ++ r) (schedule_of-numbered_from n es)
 
 abbrev no-messages : List Message
 no-messages = []

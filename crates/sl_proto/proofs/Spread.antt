@@ -21,7 +21,7 @@ use Rattle.sl_model.specs.declared.message.Message.TheVariants.{Host as HostMsg,
 use Rattle.sl_model.specs.declared.message.Put.{Put}
 use Rattle.sl_model.specs.declared.message.Step.{Step}
 use Rattle.sl_parts.specs.Lists.{Each, Member}
-use Rattle.sl_parts.proofs.Lists.{each-append, each-imp, each-flat, each-at, distinct-append, distinct-filter, distinct-from, each-filter, distinct-joined, Distinct}
+use Rattle.sl_parts.proofs.Lists.{each-append, each-imp, each-both-of, each-flat, each-at, distinct-append, distinct-filter, distinct-from, each-filter, distinct-joined, Distinct}
 use Rattle.sl_model.specs.History.{History, World, Losses, history, last, stamp_of, taken, on_link}
 use Rattle.sl_model.specs.Setup.{Setup, frames_of}
 use Rattle.sl_model.specs.Frame.{plain_frame, packet_of}
@@ -47,6 +47,10 @@ link_in_put p = p.link
 pub record Spread (net : Net) (a lo hi : ℕ) (ls : List ℕ) : Type 0 where
   pub each : Each (IsFrom net a lo hi) ls
   pub apart : Distinct ls
+
+-- no two are on one link
+abbrev pub AreApart : List Put → Type 0
+AreApart ps = Distinct (map link_in_put ps)
 
 abbrev Puts : Net → ℕ → ℕ → ℕ → List Put → Type 0
 Puts net a lo hi ps = Spread net a lo hi (map link_in_put ps)
@@ -298,6 +302,11 @@ pub put-from : (net : Net) (a : ℕ) (ps : List Put) → Each (IsFrom net a 0 10
 put-from net a [] f = tt
 put-from net a (p ∷ ps) f = ((f.0.is_link, f.0.from), put-from net a ps f.1)
 
+-- what follows of each of these puts, as their links are the actor's
+pub each-put : (net : Net) (a : ℕ) (ps : List Put) (P R : Put → Type 0) → Each (IsFrom net a 0 10) (map link_in_put ps) → Each P ps
+    → ((p : Put) → P p → (p.link < length net.links) × ((link_of net p.link).from ≡ a) → R p) → Each R ps
+each-put net a ps P R from each f = each-both-of P (λ p. (p.link < length net.links) × ((link_of net p.link).from ≡ a)) R ps f each (put-from net a ps from)
+
 -- what is put on a link that is none of these
 pub none-on : (l : ℕ) (ps : List Put) → (Member l (map link_in_put ps) → ⊥) → on_link l ps ≡ []
 none-on l [] ne = refl
@@ -307,7 +316,7 @@ none-on l (p ∷ ps) ne = by_tells (none-on l ps (λ m. ne (inr m))) (eqb_tells 
     by_tells ih (inl q) = absurd (ne (inl (sym q.1)))
     by_tells ih (inr q) = ap (λ b. cond b (p.message ∷ on_link l ps) (on_link l ps)) q.0 ∙ ih
 
-pub one-each : (l : ℕ) (ps : List Put) → Distinct (map link_in_put ps) → length (on_link l ps) ≤ 1
+pub one-each : (l : ℕ) (ps : List Put) → AreApart ps → length (on_link l ps) ≤ 1
 one-each l [] d = omega arith
 one-each l (p ∷ ps) d = by_tells (one-each l ps d.1) (eqb_tells p.link l)
   where

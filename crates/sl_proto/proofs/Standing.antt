@@ -1,45 +1,24 @@
 -- Scenes of nodes that stand for the worlds of their own books, along schedules.
-use Rattle.std.proofs.Common.{◌≡◌, ℕ, suc, ◌+◌, ◌^◌, ◌<◌, List, [], ◌∷◌, ◌++◌, length, refl, sym, ap, subst, ◌∙◌, arith, append-nil}
-use Rattle.std.proofs.lemmas.List.{length-map, map-append}
-use Rattle.std.specs.List.{range_with_len}
-use Rattle.sl_machine.specs.declared.wiring.Entry.{Entry as BookEntry}
+use Rattle.std.proofs.Common.{◌≡◌, ◌+◌, ◌^◌, ◌<◌, List, [], ◌++◌, length, refl, sym, ap, subst, ◌∙◌, arith, append-nil}
+use Rattle.std.proofs.lemmas.List.{length-map}
 use Rattle.sl_layout.specs.Net.{Net}
+use Rattle.sl_layout.specs.Wiring.{plan_of}
 use Rattle.sl_wire.specs.declared.message.Msg.{Msg}
 use Rattle.sl_wire.specs.Sizes.{sizes_of}
 use Rattle.sl_model.specs.History.{Losses}
 use Rattle.sl_model.specs.Setup.{Setup}
 use Rattle.sl_model.specs.World.{Entry, start, run, world, IsLegal, kept_from}
-use Rattle.sl_model.specs.Books.{schedule_of, numbers_of}
+use Rattle.sl_model.specs.Books.{schedule_of}
 use Rattle.sl_world.specs.Scene.{Scene, after_all, last_number}
 use Rattle.sl_world.specs.Legal.{numbered_from}
-use Rattle.sl_world.proofs.BookLaws.{schedule_of-numbered_from}
 use Rattle.sl_proto.specs.Image.{IsImage}
 use Rattle.sl_proto.specs.Meaning.{NodeStands}
 use Rattle.sl_proto.specs.Nodes.{NodeState, node_rules}
-use Rattle.sl_proto.specs.Runs.{Run, Follows, IsBookOfTurns}
+use Rattle.sl_proto.specs.Runs.{Run, Follows}
 use Rattle.sl_proto.specs.Standing.{Case, world_of, run_at, StandsFor}
+use Rattle.sl_proto.specs.Calls.{Keeps}
 use Rattle.sl_proto.proofs.Turned.{Given}
-use Rattle.sl_proto.proofs.Schedules.{all-image, grown-book}
-
--- Books numbered from 1.
-
-numbers-numbered : (n : ℕ) (es : List Entry) → numbers_of (numbered_from n es) ≡ range_with_len (n + 1) (length es)
-numbers-numbered n [] = refl
-numbers-numbered n (e ∷ es) = ap (λ r. (n + 1) ∷ r) (numbers-numbered (n + 1) es)
-
-length-numbered : (n : ℕ) (es : List Entry) → length (numbered_from n es) ≡ length es
-length-numbered n [] = refl
-length-numbered n (e ∷ es) = ap suc (length-numbered (n + 1) es)
-
-pub numbered_book : (book : List BookEntry) (es : List Entry) → book ≡ numbered_from 0 es → IsBookOfTurns (record { entries = book }) es
-numbered_book book es h = record {
-  schedule = ap schedule_of h ∙ schedule_of-numbered_from 0 es;
-  numbers = ap numbers_of h ∙ numbers-numbered 0 es ∙ ap (range_with_len 1) (sym (ap length h ∙ length-numbered 0 es));
-}
-
--- a book that grew by numbered entries
-schedule-grown : (old new : List BookEntry) (n : ℕ) (es : List Entry) → new ≡ old ++ numbered_from n es → schedule_of new ≡ schedule_of old ++ es
-schedule-grown old new n es h = ap schedule_of h ∙ map-append (λ (e : BookEntry). (e.actor, e.choice)) old (numbered_from n es) ∙ ap (λ r. schedule_of old ++ r) (schedule_of-numbered_from n es)
+use Rattle.sl_proto.proofs.Schedules.{all-image, grown-book, schedule-grown}
 
 -- Schedules.
 
@@ -80,3 +59,16 @@ module _ (net : Net) (x : Case) (given : Given x.setup x.lost (sizes_of x.table)
 -- Nothing follows an empty schedule.
 pub follows-none : (s : Setup) (lost : Losses) (old : Run) → Follows s lost old [] old
 follows-none s lost old = record { reached = refl; book = sym (append-nil old.book) }
+
+-- What calls keep: one that takes no turn, and one after another.
+
+pub keeps_none : {T F : Type 0} (scene_of : T → Scene NodeState Msg) (fixed_of : T → F) (net : Net) (t : T) → (scene_of t).plan ≡ plan_of net → Keeps scene_of fixed_of net t t
+keeps_none scene_of fixed_of net t plan = record { plan = plan; observer = λ h. h; stands = λ x st. st; fixed = refl }
+
+pub keeps_on : {T F : Type 0} (scene_of : T → Scene NodeState Msg) (fixed_of : T → F) (net : Net) (old mid new : T) → Keeps scene_of fixed_of net old mid → Keeps scene_of fixed_of net mid new → Keeps scene_of fixed_of net old new
+keeps_on scene_of fixed_of net old mid new one next = record {
+  plan = next.plan;
+  observer = λ h. next.observer (one.observer h);
+  stands = λ x st. next.stands x (one.stands x st);
+  fixed = next.fixed ∙ one.fixed;
+}

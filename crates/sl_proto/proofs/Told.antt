@@ -1,9 +1,9 @@
 -- What a scene of nodes tells is what the world of histories that it stands for says.
-use Rattle.std.proofs.Common.{◌≡◌, ℕ, zero, suc, ◌+◌, ◌-◌, ◌*◌, ◌^◌, ◌<◌, ◌≤◌, List, [], ◌∷◌, ◌++◌, length, refl, sym, ap, subst, ◌∙◌, Option, Some, None, arith, take, get_or, append-nil, append_assoc}
-use Rattle.std.specs.Prelude.{min, ◌&&◌, true, false, Bool, if◌then◌else◌, filter, map, slice_get}
+use Rattle.std.proofs.Common.{◌≡◌, ℕ, zero, suc, ◌+◌, ◌-◌, ◌*◌, ◌^◌, ◌<◌, ◌≤◌, List, [], ◌∷◌, ◌++◌, length, refl, sym, ap, subst, ◌∙◌, Option, Some, None, arith, inl, inr, take, get_or, append-nil, append_assoc}
+use Rattle.std.specs.Prelude.{min, ◌⊎◌, ◌&&◌, true, false, Bool, if◌then◌else◌, filter, cond, map, slice_get}
 use Rattle.std.specs.List.{fold, range_with_len}
 use Rattle.std.proofs.lemmas.List.{get_or-map, take_more}
-use Rattle.std.proofs.lemmas.Option.{slice_get_within, get_or_from_slice_get}
+use Rattle.std.proofs.lemmas.Option.{slice_get_cases, slice_get_within, get_or_from_slice_get}
 use Rattle.sl_machine.specs.declared.wiring.Entry.{Entry as BookEntry}
 use Rattle.sl_layout.specs.declared.actor.ActorId.{ActorId}
 use Rattle.sl_layout.specs.declared.actor.ActorId.TheVariants.{Observer, Control, Unit as OfUnit, Host as OfHost}
@@ -107,8 +107,17 @@ numbers-snoc : (f : NodeState → Option ℕ) (xs : List NodeState) (x : NodeSta
 numbers-snoc f [] x = append-nil (listed (f x))
 numbers-snoc f (y ∷ ys) x = ap (λ r. listed (f y) ++ r) (numbers-snoc f ys x) ∙ sym (append_assoc (listed (f y)) (numbers f ys) (listed (f x)))
 
-pub numbers_next : (f : NodeState → Option ℕ) (xs : List NodeState) (i : ℕ) (x : NodeState) → slice_get xs i ≡ Some x → numbers f (take (i + 1) xs) ≡ numbers f (take i xs) ++ listed (f x)
+numbers_next : (f : NodeState → Option ℕ) (xs : List NodeState) (i : ℕ) (x : NodeState) → slice_get xs i ≡ Some x → numbers f (take (i + 1) xs) ≡ numbers f (take i xs) ++ listed (f x)
 numbers_next f xs i x e = ap (numbers f) (take_more xs i x (slice_get_within xs i x e)) ∙ numbers-snoc f (take i xs) (get_or xs i x) ∙ ap (λ y. numbers f (take i xs) ++ listed (f y)) (get_or_from_slice_get xs i x x e)
+
+-- with what one element more tells
+pub numbers_grow : (f : NodeState → Option ℕ) (xs : List NodeState) (i : ℕ) (ns ms : List ℕ) (more : Option ℕ) → i < length xs → ((x : NodeState) → slice_get xs i ≡ Some x → more ≡ f x)
+    → ns ≡ numbers f (take i xs) → ms ≡ ns ++ listed more → ms ≡ numbers f (take (i + 1) xs)
+numbers_grow f xs i ns ms more low is n m = by_place (slice_get_cases xs i).1
+  where
+    by_place : ((x : NodeState) × (i < length xs) × (slice_get xs i ≡ Some x) × (get_or xs i x ≡ x)) ⊎ ((length xs ≤ i) × (slice_get xs i ≡ None)) → ms ≡ numbers f (take (i + 1) xs)
+    by_place (inl q) = let here = q.2 in m ∙ ap (λ r. r ++ listed more) n ∙ ap (λ o. numbers f (take i xs) ++ listed o) (is q.0 here) ∙ sym (numbers_next f xs i q.0 here)
+    by_place (inr q) = absurd (omega (arith, low, q.0))
 
 -- the sum over fewer numbers that pass a test
 weigh-grows : (f : ℕ → ℕ) (test : ℕ → Bool) (i d : ℕ) → weigh f (filter test (below i)) ≤ weigh f (filter test (below (i + d)))
@@ -116,8 +125,13 @@ weigh-grows f test i zero = let z : i ≡ i + 0 = omega arith in subst (λ n. we
 weigh-grows f test i (suc d) = let z : (i + d) + 1 ≡ i + suc d = omega arith in subst (λ n. weigh f (filter test (below i)) ≤ weigh f (filter test (below n))) z
     (let m = weigh_below_more f test (i + d) in let r = weigh-grows f test i d in omega (arith, m, r))
 
-pub weigh_below_all : (f : ℕ → ℕ) (test : ℕ → Bool) (i n : ℕ) → i ≤ n → weigh f (filter test (below i)) ≤ weigh f (filter test (below n))
+weigh_below_all : (f : ℕ → ℕ) (test : ℕ → Bool) (i n : ℕ) → i ≤ n → weigh f (filter test (below i)) ≤ weigh f (filter test (below n))
 weigh_below_all f test i n p = let z : i + (n - i) ≡ n = omega (arith, p) in subst (λ m. weigh f (filter test (below i)) ≤ weigh f (filter test (below m))) z (weigh-grows f test i (n - i))
+
+-- the sum over the numbers that pass up to i, and over all of them
+pub weigh_below_next : (f : ℕ → ℕ) (test : ℕ → Bool) (i n : ℕ) → i < n
+    → (weigh f (filter test (below (i + 1))) ≡ weigh f (filter test (below i)) + weigh f (cond (test i) (i ∷ []) [])) × (weigh f (filter test (below (i + 1))) ≤ weigh f (filter test (below n)))
+weigh_below_next f test i n p = (weigh_below_more f test i, weigh_below_all f test (i + 1) n (omega (arith, p)))
 
 weigh-most : {A : Type 0} (f g : A → ℕ) (xs : List A) → ((x : A) → f x ≤ g x) → weigh f xs ≤ weigh g xs
 weigh-most f g [] h = omega arith

@@ -9,7 +9,6 @@ use Rattle.sl_model.specs.Setup.{Setup}
 use Rattle.sl_model.specs.World.{Entry, run, kept_from}
 use Rattle.sl_model.specs.Schedule.{settling_pass, sweeps, resend_entry, passes_of, expand_one, expand}
 use Rattle.sl_model.specs.End.{settle, finish, append_to, then_from, again_from, sweep_round, after_sweeps, is_collected, rose}
-use Rattle.sl_parts.proofs.Lists.{flat_map_below_more}
 use Rattle.sl_model.proofs.Worlds.Turns.{run-append}
 use Rattle.sl_model.proofs.Worlds.Trails.{run-kept, kept-append}
 use Rattle.sl_proto.specs.declared.finishing.Round.{Round}
@@ -17,8 +16,10 @@ use Rattle.sl_proto.specs.declared.finishing.Round.TheVariants.{Ended, Again, Sh
 use Rattle.sl_world.specs.Scene.{last_number}
 use Rattle.sl_world.specs.Legal.{numbered_from}
 use Rattle.sl_proto.specs.Runs.{Run, grown, Follows, Goes}
+use Rattle.sl_proto.specs.Fronts.{FollowsFront}
 use Rattle.sl_proto.specs.Rounds.{EndsBy, Rounds}
-use Rattle.sl_proto.proofs.Grown.{grown-append, none-numbered}
+use Rattle.sl_proto.proofs.Choices.{passes-next}
+use Rattle.sl_proto.proofs.Schedules.{grown-append, none-numbered}
 
 -- What follows goes by the entries that it keeps.
 
@@ -31,9 +32,14 @@ follows-append s lost old mid new es fs f g = record {
       ∙ ap (grown old.book) (sym (kept-append s lost old.world es fs));
 }
 
+-- what is kept of a schedule of which a front was taken
+pub kept-whole : (s : Setup) (lost : Losses) (old new : Run) (es : List Entry) (f : FollowsFront s lost old es new)
+    → kept_from s lost old.world es ≡ kept_from s lost old.world f.first ++ kept_from s lost (run s lost old.world f.first) f.rest
+kept-whole s lost old new es f = ap (kept_from s lost old.world) f.whole ∙ kept-append s lost old.world f.first f.rest
+
 pub follows-passes : (s : Setup) (lost : Losses) (old mid new : Run) (es : List Entry) (n : ℕ) → Follows s lost old (passes_of es n) mid → Follows s lost mid es new
     → Follows s lost old (passes_of es (n + 1)) new
-follows-passes s lost old mid new es n f g = subst (λ xs. Follows s lost old xs new) (sym (flat_map_below_more (λ i. es) n)) (follows-append s lost old mid new (passes_of es n) es f g)
+follows-passes s lost old mid new es n f g = subst (λ xs. Follows s lost old xs new) (sym (passes-next es n)) (follows-append s lost old mid new (passes_of es n) es f g)
 
 pub follows-script : (s : Setup) (lost : Losses) (old mid new : Run) (net : Net) (script : List Script1) (i : ℕ) (d : Script1) → i < length script → Follows s lost old (expand net (take i script)) mid
     → Follows s lost mid (expand_one net (get_or script i d)) new → Follows s lost old (expand net (take (i + 1) script)) new

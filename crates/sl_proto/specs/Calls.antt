@@ -1,5 +1,6 @@
 -- What a call over whoever takes turns does, from the scene v before it to the scene u after it, of each case whose world v stands for.
 --     KeepsStanding net v u                u stands for the world of its book
+--     Keeps scene_of fixed_of net old new  what each call keeps: the net's plan, an observer, standing, and what no turn changes
 --     Drives, DrivesFront net v es u       u is after the schedule es, after a front of it
 --     Settles, Finishes net v u            u is after settling, after finishing
 --     SettlesFront, FinishesFront net v u  u is after the first turns of these
@@ -12,6 +13,7 @@
 --     ResendingGoesOn, SweepingGoesOn net v u round     where a further round follows, those that are left are what finishing takes from u
 use Rattle.std.specs.Prelude.{◌≡◌, ℕ, ◌<◌, Bool, true, List}
 use Rattle.sl_layout.specs.Net.{Net}
+use Rattle.sl_layout.specs.Wiring.{plan_of}
 use Rattle.sl_wire.specs.declared.message.Msg.{Msg}
 use Rattle.sl_model.specs.World.{Entry}
 use Rattle.sl_model.specs.End.{settle, finish, Settled, IsFin}
@@ -20,12 +22,19 @@ use Rattle.sl_proto.specs.declared.finishing.Round.{Round}
 use Rattle.sl_proto.specs.declared.finishing.Round.TheVariants.{Again}
 use Rattle.sl_proto.specs.Nodes.{NodeState}
 use Rattle.sl_proto.specs.Runs.{Follows}
-use Rattle.sl_proto.specs.Standing.{Case, world_of, run_at, StandsFor, SettlesTo, FinishesTo}
+use Rattle.sl_proto.specs.Standing.{Case, world_of, run_at, StandsFor, HasObserver, SettlesTo, FinishesTo}
 use Rattle.sl_proto.specs.Fronts.{FollowsFront, SettlesTowards, FinishesTowards, Leads, Whatever, SettlesBy, SweepsBy, ResendsBy}
 use Rattle.sl_proto.specs.Rounds.{EndsAt, RoundAt, Resending, Sweeping}
 
 abbrev pub KeepsStanding : Net → Scene NodeState Msg → Scene NodeState Msg → Type 0
 KeepsStanding net v u = (x : Case) → StandsFor net x v → StandsFor net x u
+
+-- old and new are whoever takes turns, before the call and after it
+pub record Keeps {T F : Type 0} (scene_of : T → Scene NodeState Msg) (fixed_of : T → F) (net : Net) (old new : T) : Type 0 where
+  pub plan : (scene_of new).plan ≡ plan_of net
+  pub observer : HasObserver (scene_of old) → HasObserver (scene_of new)
+  pub stands : KeepsStanding net (scene_of old) (scene_of new)
+  pub fixed : fixed_of new ≡ fixed_of old
 
 abbrev pub Drives : Net → Scene NodeState Msg → List Entry → Scene NodeState Msg → Type 0
 Drives net v es u = (x : Case) → StandsFor net x v → Follows x.setup x.lost (run_at x v) es (run_at x u)

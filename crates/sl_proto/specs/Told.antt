@@ -3,7 +3,7 @@
 --     HasAllRows net o      what the observer has of each unit fits, with no row missing
 --     CanTell net v o       what is asked of a scene v of the net whose observer has the state o
 --     told net count v o    its findings of so many snapshots
-use Rattle.std.specs.Prelude.{◌≡◌, ℕ, ◌<◌, ◌^◌, min, List, map, filter, length, take, Option, Some, None, slice_index}
+use Rattle.std.specs.Prelude.{◌≡◌, ℕ, ◌<◌, ◌^◌, min, List, map, filter, length, take, Option, Some, None, option_map, slice_index}
 use Rattle.std.specs.List.{fold, range_with_len}
 use Rattle.sl_layout.specs.declared.actor.Sort.{Sort}
 use Rattle.sl_layout.specs.declared.actor.Sort.TheVariants.{Cable, Crossbar, Init, Notice}
@@ -18,6 +18,7 @@ use Rattle.sl_model.specs.Words.{numbers, weigh}
 use Rattle.sl_model.specs.Accounts.{Account, finding_by}
 use Rattle.sl_simulation.specs.ObserverImage.{account_of}
 use Rattle.sl_world.specs.Scene.{Scene, line_at}
+use Rattle.sl_proto.specs.declared.node.Traffic.{Traffic}
 use Rattle.sl_proto.specs.Nodes.{NodeState, UnitNode, HostNode}
 
 -- The observer.
@@ -49,6 +50,11 @@ sent_told _ = None
 abbrev pub delivered_told : NodeState → Option ℕ
 delivered_told (HostNode h) = Some h.delivered
 delivered_told _ = None
+
+-- what a node tells of the host that it is
+pub record IsTraffic (s : NodeState) (told : Option Traffic) : Type 0 where
+  pub sent : option_map (λ t. t.sent) told ≡ sent_told s
+  pub delivered : option_map (λ t. t.delivered) told ≡ delivered_told s
 
 -- what a unit dropped; only ingress units drop
 abbrev pub drops_told : NodeState → Drops

@@ -1,5 +1,5 @@
 // Settling and finishing, over whoever takes turns.
-ghost use Rattle.std.specs.Prelude.{◌≡◌, [], ◌∷◌, All, OnOk, IfOk};
+ghost use Rattle.std.specs.Prelude.{◌≡◌, ◌<◌, ◌^◌, [], ◌∷◌, All, OnOk, IfOk, length};
 ghost use Rattle.sl_machine.specs.Plan.{HasChoice};
 ghost use Rattle.sl_layout.specs.Net.{Net};
 ghost use Rattle.sl_layout.specs.Wiring.{plan_of};
@@ -9,7 +9,7 @@ ghost use Rattle.sl_model.specs.Schedule.{settling_pass, sweeps, resend_entry};
 ghost use Rattle.sl_model.specs.End.{rose};
 ghost use Rattle.sl_proto.specs.Standing.{Case, world_of, StandsFor, HasObserver};
 ghost use Rattle.sl_proto.specs.Rounds.{HasReached, TellsCollected};
-ghost use Rattle.sl_proto.specs.Calls.{KeepsStanding, Settles, SettlesFront, Finishes};
+ghost use Rattle.sl_proto.specs.Calls.{Keeps, Settles, SettlesFront, Finishes};
 ghost use Rattle.sl_proto.specs.Calls.{FinishesFront, SettlesIn, IsSettledIf, SettlingLeads};
 ghost use Rattle.sl_proto.specs.Calls.{ResendsRound, ResendingLeads, ResendingGoesOn};
 ghost use Rattle.sl_proto.specs.Calls.{SweepsRound, SweepingLeads, SweepingGoesOn, FinishesIn};
@@ -101,10 +101,7 @@ fn settle_within<T: Taker>(
     requires plan { (T.scene taker.old).plan ≡ plan_of net.now }
     requires pass { pass.now ≡ settling_pass net.now }
     requires links { links.now ≡ links_of (plan_of net.now) pass.now }
-    ensures plan { (T.scene taker.new).plan ≡ plan_of net.now }
-    ensures observer { HasObserver (T.scene taker.old) → HasObserver (T.scene taker.new) }
-    ensures stands { KeepsStanding net.now (T.scene taker.old) (T.scene taker.new) }
-    ensures fixed { T.fixed taker.new ≡ T.fixed taker.old }
+    ensures keeps { Keeps T.scene T.fixed net.now taker.old taker.new }
     ensures ends { IfOk result (SettlesIn net.now fuel (T.scene taker.old) (T.scene taker.new)) }
     ensures settled { IfOk result (IsSettledIf net.now (T.scene taker.old) (T.scene taker.new)) }
     ensures front { SettlingLeads net.now (T.scene taker.old) (T.scene taker.new) }
@@ -127,10 +124,7 @@ fn settle_within<T: Taker>(
 /// fill any memory, and are answered so.
 fn settle_with<T: Taker>(alloc: Global, net: &Net, taker: &mut T, fuel: u64) -> Result<(), Memory>
     requires plan { (T.scene taker.old).plan ≡ plan_of net.now }
-    ensures plan { (T.scene taker.new).plan ≡ plan_of net.now }
-    ensures observer { HasObserver (T.scene taker.old) → HasObserver (T.scene taker.new) }
-    ensures stands { KeepsStanding net.now (T.scene taker.old) (T.scene taker.new) }
-    ensures fixed { T.fixed taker.new ≡ T.fixed taker.old }
+    ensures keeps { Keeps T.scene T.fixed net.now taker.old taker.new }
     ensures settles { OnOk result (Settles net.now (T.scene taker.old) (T.scene taker.new)) }
     ensures front { SettlesFront net.now (T.scene taker.old) (T.scene taker.new) }
 {
@@ -148,10 +142,7 @@ fn settle_with<T: Taker>(alloc: Global, net: &Net, taker: &mut T, fuel: u64) -> 
 /// Resends, and answers whether that did something.
 fn resend<T: Taker>(net: &Net, taker: &mut T) -> Result<Round, Memory>
     requires plan { (T.scene taker.old).plan ≡ plan_of net.now }
-    ensures plan { (T.scene taker.new).plan ≡ plan_of net.now }
-    ensures observer { HasObserver (T.scene taker.old) → HasObserver (T.scene taker.new) }
-    ensures stands { KeepsStanding net.now (T.scene taker.old) (T.scene taker.new) }
-    ensures fixed { T.fixed taker.new ≡ T.fixed taker.old }
+    ensures keeps { Keeps T.scene T.fixed net.now taker.old taker.new }
     ensures round { IfOk result (ResendsRound net.now (T.scene taker.old) (T.scene taker.new)) }
     ensures front { ResendingLeads net.now (T.scene taker.old) (T.scene taker.new) }
     ensures again { IfOk result (ResendingGoesOn net.now (T.scene taker.old) (T.scene taker.new)) }
@@ -180,10 +171,7 @@ fn take_round<T: Taker>(
     requires pass { pass.now ≡ settling_pass net.now }
     requires links { links.now ≡ links_of (plan_of net.now) pass.now }
     requires sweep { sweep.now ≡ sweeps net.now }
-    ensures plan { (T.scene taker.new).plan ≡ plan_of net.now }
-    ensures observer { HasObserver (T.scene taker.new) }
-    ensures stands { KeepsStanding net.now (T.scene taker.old) (T.scene taker.new) }
-    ensures fixed { T.fixed taker.new ≡ T.fixed taker.old }
+    ensures keeps { Keeps T.scene T.fixed net.now taker.old taker.new }
     ensures round { IfOk result (SweepsRound net.now fuel (T.scene taker.old) (T.scene taker.new)) }
     ensures front { SweepingLeads net.now (T.scene taker.old) (T.scene taker.new) }
     ensures again { IfOk result (SweepingGoesOn net.now (T.scene taker.old) (T.scene taker.new)) }
@@ -217,10 +205,7 @@ fn finish_within<T: Taker>(
     requires pass { pass.now ≡ settling_pass net.now }
     requires links { links.now ≡ links_of (plan_of net.now) pass.now }
     requires sweep { sweep.now ≡ sweeps net.now }
-    ensures plan { (T.scene taker.new).plan ≡ plan_of net.now }
-    ensures observer { HasObserver (T.scene taker.new) }
-    ensures stands { KeepsStanding net.now (T.scene taker.old) (T.scene taker.new) }
-    ensures fixed { T.fixed taker.new ≡ T.fixed taker.old }
+    ensures keeps { Keeps T.scene T.fixed net.now taker.old taker.new }
     ensures ends { IfOk result (FinishesIn net.now fuel (T.scene taker.old) (T.scene taker.new)) }
     ensures front { FinishingLeads net.now (T.scene taker.old) (T.scene taker.new) }
 {
@@ -243,10 +228,7 @@ fn finish_within<T: Taker>(
 fn finish_with<T: Taker>(alloc: Global, net: &Net, taker: &mut T, fuel: u64) -> Result<(), Memory>
     requires plan { (T.scene taker.old).plan ≡ plan_of net.now }
     requires observer { HasObserver (T.scene taker.old) }
-    ensures plan { (T.scene taker.new).plan ≡ plan_of net.now }
-    ensures observer { HasObserver (T.scene taker.new) }
-    ensures stands { KeepsStanding net.now (T.scene taker.old) (T.scene taker.new) }
-    ensures fixed { T.fixed taker.new ≡ T.fixed taker.old }
+    ensures keeps { Keeps T.scene T.fixed net.now taker.old taker.new }
     ensures finishes { OnOk result (Finishes net.now (T.scene taker.old) (T.scene taker.new)) }
     ensures front { FinishesFront net.now (T.scene taker.old) (T.scene taker.new) }
 {
@@ -268,10 +250,7 @@ fn finish_with<T: Taker>(alloc: Global, net: &Net, taker: &mut T, fuel: u64) -> 
 /// that were taken are the first of those that settling takes.
 pub fn settle<T: Taker>(alloc: Global, net: &Net, taker: &mut T) -> Result<(), Memory>
     requires plan { (T.scene taker.old).plan ≡ plan_of net.now }
-    ensures plan { (T.scene taker.new).plan ≡ plan_of net.now }
-    ensures observer { HasObserver (T.scene taker.old) → HasObserver (T.scene taker.new) }
-    ensures stands { KeepsStanding net.now (T.scene taker.old) (T.scene taker.new) }
-    ensures fixed { T.fixed taker.new ≡ T.fixed taker.old }
+    ensures keeps { Keeps T.scene T.fixed net.now taker.old taker.new }
     ensures settles { OnOk result (Settles net.now (T.scene taker.old) (T.scene taker.new)) }
     ensures front { SettlesFront net.now (T.scene taker.old) (T.scene taker.new) }
 {
@@ -284,12 +263,28 @@ pub fn settle<T: Taker>(alloc: Global, net: &Net, taker: &mut T) -> Result<(), M
 pub fn finish<T: Taker>(alloc: Global, net: &Net, taker: &mut T) -> Result<(), Memory>
     requires plan { (T.scene taker.old).plan ≡ plan_of net.now }
     requires observer { HasObserver (T.scene taker.old) }
-    ensures plan { (T.scene taker.new).plan ≡ plan_of net.now }
-    ensures observer { HasObserver (T.scene taker.new) }
-    ensures stands { KeepsStanding net.now (T.scene taker.old) (T.scene taker.new) }
-    ensures fixed { T.fixed taker.new ≡ T.fixed taker.old }
+    ensures keeps { Keeps T.scene T.fixed net.now taker.old taker.new }
     ensures finishes { OnOk result (Finishes net.now (T.scene taker.old) (T.scene taker.new)) }
     ensures front { FinishesFront net.now (T.scene taker.old) (T.scene taker.new) }
 {
     finish_with(alloc, net, taker, u64::MAX)
+}
+
+/// Ends a run: finishes, and answers how many turns its book had before. A book of 2^40 entries
+/// would fill any memory, so it is answered as want of memory.
+pub fn end_run<T: Taker>(alloc: Global, net: &Net, taker: &mut T) -> Result<u64, Memory>
+    requires plan { (T.scene taker.old).plan ≡ plan_of net.now }
+    requires observer { HasObserver (T.scene taker.old) }
+    ensures front { IfOk result (λ front. front ≡ length (T.scene taker.old).book) }
+    ensures few { OnOk result (length (T.scene taker.new).book < 2 ^ 40) }
+    ensures keeps { Keeps T.scene T.fixed net.now taker.old taker.new }
+    ensures finishes { OnOk result (Finishes net.now (T.scene taker.old) (T.scene taker.new)) }
+    ensures towards { FinishesFront net.now (T.scene taker.old) (T.scene taker.new) }
+{
+    let front = taker.entries();
+    finish(alloc, net, taker)?;
+    if taker.entries() >= 1 << 40 {
+        return Err(Memory);
+    }
+    Ok(front)
 }

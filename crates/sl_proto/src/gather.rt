@@ -1,6 +1,6 @@
 // The findings of a finished world of nodes.
 ghost use Rattle.std.specs.Prelude.{◌≡◌, ◌<◌, ◌^◌, [], ◌∷◌, ◌++◌, length, cond, IfOk, OnOk, Some};
-ghost use Rattle.std.specs.Prelude.{slice_get};
+ghost use Rattle.std.specs.Prelude.{option_map, slice_get};
 ghost use Rattle.sl_layout.specs.Net.{same_sort, link_of};
 ghost use Rattle.sl_net.specs.Input.{Input};
 ghost use Rattle.sl_wire.specs.declared.message.Msg.{Msg};
@@ -11,6 +11,7 @@ ghost use Rattle.sl_model.specs.Setup.{setup_of};
 ghost use Rattle.sl_model.specs.Books.{schedule_of};
 ghost use Rattle.sl_model.specs.End.{IsFinished};
 ghost use Rattle.sl_model.specs.Findings.{findings};
+ghost use Rattle.sl_simulation.specs.ObserverImage.{IsObserverOf};
 ghost use Rattle.sl_world.specs.Scene.{Scene};
 ghost use Rattle.sl_world.specs.World.{scene};
 ghost use Rattle.sl_proto.specs.Nodes.{NodeState, ObserverNode, node_state};
@@ -18,7 +19,7 @@ ghost use Rattle.sl_proto.specs.Standing.{case_of, world_of, StandsFor};
 ghost use Rattle.sl_proto.specs.Told.{sent_told, delivered_told, drops_told, all_drops};
 ghost use Rattle.sl_proto.specs.Told.{lost_told, all_lost, HasAllRows, CanTell, told};
 
-use crate::node::Node;
+use crate::node::{Node, Traffic};
 use crate::taker::Taker;
 use crate::verdicts::finding_list;
 use sl_machine::Memory;
@@ -28,26 +29,6 @@ use sl_observe::Observer;
 use sl_simulation::{observers_give_findings, observers_tell};
 use sl_world::World;
 use std::alloc::Global;
-
-/// How many frames a host sent.
-fn sent_by(node: &Node) -> Option<u64>
-    ensures { result ≡ sent_told (node_state node.now) }
-{
-    match node {
-        Node::Host(host) => Some(host.sent()),
-        _ => None,
-    }
-}
-
-/// How many frames a host took.
-fn delivered_to(node: &Node) -> Option<u64>
-    ensures { result ≡ delivered_told (node_state node.now) }
-{
-    match node {
-        Node::Host(host) => Some(host.delivered()),
-        _ => None,
-    }
-}
 
 /// What a unit dropped. An egress unit drops nothing.
 fn drops_at(node: &Node) -> Drops
@@ -70,38 +51,43 @@ fn drops_at(node: &Node) -> Drops
     }
 }
 
-/// Adds a count, where there is one.
-fn add_told(counts: &mut Vec<u64>, told: Option<u64>) -> Result<(), Memory>
-    ensures { OnOk result (counts.new.items ≡ counts.old.items ++ listed told) }
+/// Adds what a host sent and took, where there is one.
+fn add_traffic(
+    sent: &mut Vec<u64>,
+    delivered: &mut Vec<u64>,
+    told: Option<Traffic>,
+) -> Result<(), Memory>
+    ensures sent { OnOk result
+        (sent.new.items ≡ sent.old.items ++ listed (option_map (λ t. t.sent) told)) }
+    ensures delivered { OnOk result
+        (delivered.new.items
+        ≡ delivered.old.items ++ listed (option_map (λ t. t.delivered) told)) }
 {
-    match told {
-        Some(count) => Ok(counts.push(count)?),
-        None => Ok(()),
+    if let Some(traffic) = told {
+        sent.push(traffic.sent)?;
+        delivered.push(traffic.delivered)?;
     }
+    Ok(())
 }
 
-/// What the hosts sent, one count for each in order.
-fn sent(alloc: Global, world: &World<Node>, actors: u32) -> Result<Counts, Memory>
-    requires { actors ≡ length (scene world.now).states }
-    ensures { IfOk result (λ counts. counts ≡ numbers sent_told (scene world.now).states) }
+/// What the hosts sent, and what they took, one count for each in order.
+pub fn count_traffic<T: Taker>(
+    alloc: Global,
+    taker: &T,
+    actors: u32,
+) -> Result<(Counts, Counts), Memory>
+    requires { actors ≡ length (T.scene taker.now).states }
+    ensures sent { IfOk result
+        (λ counts. counts.0 ≡ numbers sent_told (T.scene taker.now).states) }
+    ensures delivered { IfOk result
+        (λ counts. counts.1 ≡ numbers delivered_told (T.scene taker.now).states) }
 {
-    let mut items = Vec::new(alloc);
+    let mut sent = Vec::new(alloc);
+    let mut delivered = Vec::new(alloc);
     for actor in 0..actors {
-        add_told(&mut items, sent_by(world.machine(actor)))?;
+        add_traffic(&mut sent, &mut delivered, taker.traffic(actor))?;
     }
-    Ok(Counts { items })
-}
-
-/// What the hosts took, one count for each in order.
-fn delivered(alloc: Global, world: &World<Node>, actors: u32) -> Result<Counts, Memory>
-    requires { actors ≡ length (scene world.now).states }
-    ensures { IfOk result (λ counts. counts ≡ numbers delivered_told (scene world.now).states) }
-{
-    let mut items = Vec::new(alloc);
-    for actor in 0..actors {
-        add_told(&mut items, delivered_to(world.machine(actor)))?;
-    }
-    Ok(Counts { items })
+    Ok((Counts { items: sent }, Counts { items: delivered }))
 }
 
 /// What the units dropped.
@@ -166,6 +152,7 @@ fn tell(
     ensures { IfOk result (λ f. f ≡ told net.now 0 (scene world.now) observer.now.state) }
 {
     let actors = net.actors().len() as u32;
+    let (sent, delivered) = count_traffic(alloc, world, actors)?;
     Ok(Findings {
         issued: observer.issued(),
         floor: observer.floor(),
@@ -173,8 +160,8 @@ fn tell(
         list: FindingList {
             items: Vec::new(alloc),
         },
-        sent: sent(alloc, world, actors)?,
-        delivered: delivered(alloc, world, actors)?,
+        sent,
+        delivered,
         drops: drops(world, actors),
         lost: Lost {
             cable: lost_of(net, world, Sort::Cable),
@@ -197,8 +184,8 @@ pub fn observer_of<'a>(input: &Input, world: &'a World<Node>) -> &'a Observer
     world.observer()
 }
 
-/// What a finished world of nodes of an input tells, as in `findings`, but for the list of findings,
-/// which is empty.
+/// What a finished world of nodes of an input tells, as in `findings`, but for the list of
+/// findings, which is empty.
 pub fn findings_but_list(
     alloc: Global,
     input: &Input,
@@ -240,13 +227,17 @@ pub fn findings(alloc: Global, input: &Input, world: &World<Node>) -> Result<Fin
     Ok(findings)
 }
 
-/// In a scene of an input's nodes that stands for the world of its book, the observer has every row
-/// that was collected; and where that world is finished, what the scene tells are the findings of
-/// its book.
+/// In a scene of an input's nodes that stands for the world of its book, the observer's node is
+/// that of the world, and has every row that was collected; and where that world is finished, what
+/// the scene tells are the findings of its book.
 pub fn nodes_tell_findings()
     ensures rows { (i : Input) (lost : Losses) (v : Scene NodeState Msg) (o : ObserverState)
         → StandsFor i.net (case_of i lost) v
         → slice_get v.states 0 ≡ Some (ObserverNode o) → HasAllRows i.net o }
+    ensures observed { (i : Input) (lost : Losses) (v : Scene NodeState Msg) (o : ObserverState)
+        → StandsFor i.net (case_of i lost) v
+        → slice_get v.states 0 ≡ Some (ObserverNode o)
+        → IsObserverOf i.net i.snapshot (world_of (case_of i lost) v) o }
     ensures told { (i : Input) (lost : Losses) (v : Scene NodeState Msg) (o : ObserverState)
         → StandsFor i.net (case_of i lost) v
         → slice_get v.states 0 ≡ Some (ObserverNode o) → length v.book < 2 ^ 40

@@ -16,6 +16,7 @@ ghost use Rattle.sl_model.specs.History.{History, Losses, history, on_link};
 ghost use Rattle.sl_model.specs.Setup.{Setup};
 ghost use Rattle.sl_model.specs.Knowledge.{observer, dumped, known};
 ghost use Rattle.sl_model.specs.World.{Entry, next_step, world};
+ghost use Rattle.sl_model.specs.Books.{schedule_of};
 ghost use Rattle.sl_simulation.specs.Messages.{AreSent};
 ghost use Rattle.sl_proto.specs.Image.{told_on, told_by, ArePut};
 ghost use Rattle.sl_proto.specs.Spread.{ArePutFrom};
@@ -71,10 +72,12 @@ pub fn dones_told_what_is_known()
     dones_tell_dumps()
 }
 
-/// A book that grows by turns, and then by more, grows by these one after the other. What grows
-/// from an empty book is numbered from 1.
+/// A book that grows by turns, and then by more, grows by these one after the other. Its schedule
+/// grows by the same turns. What grows from an empty book is numbered from 1.
 pub fn books_grow_by_turns()
     ensures append { (book : List BookEntry) (es fs : List Entry)
         → grown (grown book es) fs ≡ grown book (es ++ fs) }
+    ensures schedule { (book : List BookEntry) (es : List Entry)
+        → schedule_of (grown book es) ≡ schedule_of book ++ es }
     ensures numbers { (es : List Entry) → IsBookOfTurns (record { entries = grown [] es }) es }
 {}

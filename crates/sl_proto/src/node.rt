@@ -3,6 +3,7 @@
 ghost use Rattle.std.specs.Prelude.{◌≡◌, ◌<◌, ◌≤◌, [], Some, None, true, OnOk, OnErr};
 ghost use Rattle.sl_machine.specs.Machine.{IsChoice, is_fitting};
 ghost use Rattle.sl_proto.specs.Nodes.{node_state, node_rules, node_counts, node_ready};
+ghost use Rattle.sl_proto.specs.Told.{IsTraffic};
 
 use sl_control::Control;
 use sl_host::Host;
@@ -11,6 +12,13 @@ use sl_observe::Observer;
 use sl_unit::Unit;
 use sl_wire::Msg;
 
+/// How many frames a host sent, and how many it took.
+#[derive(Clone, Copy, Debug, PartialEq, Eq)]
+pub struct Traffic {
+    pub sent: u64,
+    pub delivered: u64,
+}
+
 /// A node of a net: the machine of one of its actors. A turn of it is its machine's turn.
 #[derive(Drop)]
 pub enum Node {
@@ -18,6 +26,21 @@ pub enum Node {
     Control(Control),
     Unit(Unit),
     Host(Host),
+}
+
+impl Node {
+    /// How many frames it sent and took, where it is a host.
+    pub fn traffic(&self) -> Option<Traffic>
+        ensures { IsTraffic (node_state self.now) result }
+    {
+        match self {
+            Node::Host(host) => Some(Traffic {
+                sent: host.sent(),
+                delivered: host.delivered(),
+            }),
+            _ => None,
+        }
+    }
 }
 
 // Most turns are of units. Those of other machines stand apart, so that one comparison tells.

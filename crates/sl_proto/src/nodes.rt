@@ -1,5 +1,6 @@
-// Laws of the nodes of a net: they follow the steps of histories, so that a scene of them stands for
-// a world. The functions do nothing: their contracts are the laws, and the proofs are in proofs/.
+// Laws of the nodes of a net: they follow the steps of histories, so that a scene of them stands
+// for a world. The functions do nothing: their contracts are the laws, and the proofs are in
+// proofs/.
 ghost use Rattle.std.specs.Prelude.{◌≡◌, ℕ, ◌+◌, ◌^◌, ◌<◌, List, length, Option, Some, slice_get};
 ghost use Rattle.sl_machine.specs.Plan.{IsSound};
 ghost use Rattle.sl_loss.specs.Loss.{Loss};
@@ -78,9 +79,9 @@ pub fn nodes_start()
     worlds_take_turns()
 }
 
-/// A scene of nodes that begins with nothing done stands, after any schedule, for the world of whole
-/// histories of this schedule. It is legal in both or in neither; the entries that are kept are
-/// the same, and the book has these, numbered from 1.
+/// A scene of nodes that begins with nothing done stands, after any schedule, for the world of
+/// whole histories of this schedule. It is legal in both or in neither; the entries that are kept
+/// are the same, and the book has these, numbered from 1.
 pub fn nodes_stand_for_histories()
     ensures image { (x : Case) (f : FirstNodes x) (es : List Entry) → length es < 2 ^ 40
         → IsImageOf x (world x.setup x.lost es) (after_all node_rules (scene_of f) es) }

@@ -10,7 +10,7 @@ ghost use Rattle.sl_proto.specs.Standing.{case_of, StandsFor, HasObserver};
 ghost use Rattle.sl_proto.specs.RunBook.{CanRun, IsFirstScene, IsRunBook};
 
 use crate::build::build_world;
-use crate::finishing::finish;
+use crate::finishing::end_run;
 use crate::laws::books_grow_by_turns;
 use crate::losses::make_losses;
 use crate::node::Node;
@@ -74,11 +74,6 @@ pub fn run_script<T: Taker>(alloc: Global, input: &Input, taker: &mut T) -> Resu
     worlds_take_turns();
     books_grow_by_turns();
     drive_script(alloc, &input.net, taker, input.script.as_slice())?;
-    let front = taker.entries();
-    finish(alloc, &input.net, taker)?;
-    // A book of 2^40 entries would fill any memory.
-    if taker.entries() >= 1 << 40 {
-        return Err(Memory);
-    }
+    let front = end_run(alloc, &input.net, taker)?;
     Ok(front)
 }

@@ -4,8 +4,7 @@ ghost use Rattle.sl_machine.specs.Plan.{HasChoice};
 ghost use Rattle.sl_layout.specs.Wiring.{plan_of};
 ghost use Rattle.sl_model.specs.Schedule.{pass, passes_of, expand_one, expand};
 ghost use Rattle.sl_world.specs.Scene.{links_of};
-ghost use Rattle.sl_proto.specs.Standing.{HasObserver};
-ghost use Rattle.sl_proto.specs.Calls.{KeepsStanding, Drives, DrivesFront};
+ghost use Rattle.sl_proto.specs.Calls.{Keeps, Drives, DrivesFront};
 ghost use Rattle.sl_proto.specs.Script.{IsScriptEntry};
 
 use crate::schedule::{pass_of, passes_are_choices};
@@ -25,10 +24,7 @@ fn drive_passes<T: Taker>(
     requires plan { (T.scene taker.old).plan ≡ plan_of net.now }
     requires choices { All (λ e. HasChoice (plan_of net.now) e.0 e.1) once.now }
     requires links { links.now ≡ links_of (plan_of net.now) once.now }
-    ensures plan { (T.scene taker.new).plan ≡ plan_of net.now }
-    ensures observer { HasObserver (T.scene taker.old) → HasObserver (T.scene taker.new) }
-    ensures stands { KeepsStanding net.now (T.scene taker.old) (T.scene taker.new) }
-    ensures fixed { T.fixed taker.new ≡ T.fixed taker.old }
+    ensures keeps { Keeps T.scene T.fixed net.now taker.old taker.new }
     ensures follows { OnOk result
         (Drives net.now (T.scene taker.old) (passes_of once.now count) (T.scene taker.new)) }
     ensures front { DrivesFront net.now (T.scene taker.old) (passes_of once.now count)
@@ -53,10 +49,7 @@ fn drive_entry<T: Taker>(
     requires choices { All (λ e. HasChoice (plan_of net.now) e.0 e.1) once.now }
     requires links { links.now ≡ links_of (plan_of net.now) once.now }
     requires entry { IsScriptEntry net.now entry }
-    ensures plan { (T.scene taker.new).plan ≡ plan_of net.now }
-    ensures observer { HasObserver (T.scene taker.old) → HasObserver (T.scene taker.new) }
-    ensures stands { KeepsStanding net.now (T.scene taker.old) (T.scene taker.new) }
-    ensures fixed { T.fixed taker.new ≡ T.fixed taker.old }
+    ensures keeps { Keeps T.scene T.fixed net.now taker.old taker.new }
     ensures follows { OnOk result
         (Drives net.now (T.scene taker.old) (expand_one net.now entry) (T.scene taker.new)) }
     ensures front { DrivesFront net.now (T.scene taker.old) (expand_one net.now entry)
@@ -81,10 +74,7 @@ fn drive_entries<T: Taker>(
     requires choices { All (λ e. HasChoice (plan_of net.now) e.0 e.1) once.now }
     requires links { links.now ≡ links_of (plan_of net.now) once.now }
     requires entries { All (IsScriptEntry net.now) script.now }
-    ensures plan { (T.scene taker.new).plan ≡ plan_of net.now }
-    ensures observer { HasObserver (T.scene taker.old) → HasObserver (T.scene taker.new) }
-    ensures stands { KeepsStanding net.now (T.scene taker.old) (T.scene taker.new) }
-    ensures fixed { T.fixed taker.new ≡ T.fixed taker.old }
+    ensures keeps { Keeps T.scene T.fixed net.now taker.old taker.new }
     ensures follows { OnOk result
         (Drives net.now (T.scene taker.old) (expand net.now script.now) (T.scene taker.new)) }
     ensures front { DrivesFront net.now (T.scene taker.old) (expand net.now script.now)
@@ -108,10 +98,7 @@ pub fn drive_script<T: Taker>(
 ) -> Result<(), Memory>
     requires plan { (T.scene taker.old).plan ≡ plan_of net.now }
     requires entries { All (IsScriptEntry net.now) script.now }
-    ensures plan { (T.scene taker.new).plan ≡ plan_of net.now }
-    ensures observer { HasObserver (T.scene taker.old) → HasObserver (T.scene taker.new) }
-    ensures stands { KeepsStanding net.now (T.scene taker.old) (T.scene taker.new) }
-    ensures fixed { T.fixed taker.new ≡ T.fixed taker.old }
+    ensures keeps { Keeps T.scene T.fixed net.now taker.old taker.new }
     ensures follows { OnOk result
         (Drives net.now (T.scene taker.old) (expand net.now script.now) (T.scene taker.new)) }
     ensures front { DrivesFront net.now (T.scene taker.old) (expand net.now script.now)

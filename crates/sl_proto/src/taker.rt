@@ -7,9 +7,10 @@ ghost use Rattle.sl_wire.specs.declared.message.Msg.{Msg};
 ghost use Rattle.sl_world.specs.Scene.{Scene, turn_of, after_turn, after_all, links_of, IsFront};
 ghost use Rattle.sl_proto.specs.Nodes.{NodeState, ObserverNode, node_rules};
 ghost use Rattle.sl_proto.specs.Standing.{HasObserver};
-ghost use Rattle.sl_proto.specs.Calls.{KeepsStanding, Drives, DrivesFront};
+ghost use Rattle.sl_proto.specs.Told.{IsTraffic};
+ghost use Rattle.sl_proto.specs.Calls.{Keeps, Drives, DrivesFront};
 
-use crate::node::Node;
+use crate::node::{Node, Traffic};
 use crate::nodes::nodes_follow_their_books;
 use sl_machine::Memory;
 use sl_net::Net;
@@ -68,6 +69,12 @@ pub trait Taker {
         requires { HasObserver (scene self.now) }
         ensures { slice_get (scene self.now).states 0 ≡ Some (ObserverNode result.now.state) };
 
+    /// How many frames an actor sent and took, where it is a host.
+    fn traffic(&self, actor: u32) -> Option<Traffic>
+        requires { actor < length (scene self.now).states }
+        ensures { (s : NodeState) → slice_get (scene self.now).states actor ≡ Some s
+            → IsTraffic s result };
+
     /// How many turns its book has.
     fn entries(&self) -> u64
         ensures { result ≡ length (scene self.now).book };
@@ -102,6 +109,10 @@ impl Taker for World<Node> {
         }
     }
 
+    fn traffic(&self, actor: u32) -> Option<Traffic> {
+        self.machine(actor).traffic()
+    }
+
     fn entries(&self) -> u64 {
         self.book().entries.len() as u64
     }
@@ -109,8 +120,8 @@ impl Taker for World<Node> {
 
 /// Takes the turns of a whole schedule; after want of memory, those of a front of it. Where the
 /// nodes stand for the world of their book, they go on to stand for that of their book, which has
-/// the turns of the schedule that aren't idle besides. Where the links of the schedule's entries are
-/// given, they are not looked up once more.
+/// the turns of the schedule that aren't idle besides. Where the links of the schedule's entries
+/// are given, they are not looked up once more.
 pub fn drive<T: Taker>(
     net: &Net,
     taker: &mut T,
@@ -124,12 +135,9 @@ pub fn drive<T: Taker>(
     ensures ok { OnOk result
         (T.scene taker.new ≡ after_all node_rules (T.scene taker.old) schedule.now) }
     ensures front { IsFront node_rules (T.scene taker.old) schedule.now (T.scene taker.new) }
-    ensures plan { (T.scene taker.new).plan ≡ plan_of net.now }
     ensures book { length (T.scene taker.new).book ≤ length
         (T.scene taker.old).book + length schedule.now }
-    ensures observer { HasObserver (T.scene taker.old) → HasObserver (T.scene taker.new) }
-    ensures stands { KeepsStanding net.now (T.scene taker.old) (T.scene taker.new) }
-    ensures fixed { T.fixed taker.new ≡ T.fixed taker.old }
+    ensures keeps { Keeps T.scene T.fixed net.now taker.old taker.new }
     ensures follows { OnOk result
         (Drives net.now (T.scene taker.old) schedule.now (T.scene taker.new)) }
     ensures follows_front { DrivesFront net.now (T.scene taker.old) schedule.now
@@ -155,10 +163,7 @@ pub fn drive_within<T: Taker>(
     ensures ok { OnOk result
         (T.scene taker.new ≡ after_all node_rules (T.scene taker.old) schedule.now) }
     ensures front { IsFront node_rules (T.scene taker.old) schedule.now (T.scene taker.new) }
-    ensures plan { (T.scene taker.new).plan ≡ plan_of net.now }
-    ensures observer { HasObserver (T.scene taker.old) → HasObserver (T.scene taker.new) }
-    ensures stands { KeepsStanding net.now (T.scene taker.old) (T.scene taker.new) }
-    ensures fixed { T.fixed taker.new ≡ T.fixed taker.old }
+    ensures keeps { Keeps T.scene T.fixed net.now taker.old taker.new }
     ensures follows { OnOk result
         (Drives net.now (T.scene taker.old) schedule.now (T.scene taker.new)) }
     ensures follows_front { DrivesFront net.now (T.scene taker.old) schedule.now

@@ -1,6 +1,6 @@
 -- Lists that are made one element after the other.
-use Rattle.std.proofs.Common.{◌≡◌, ℕ, zero, suc, ◌+◌, ◌<◌, List, [], ◌∷◌, ◌++◌, length, map, take, refl, sym, ap, ◌∙◌, Option, Some, arith, add-one, append_assoc, append-nil}
-use Rattle.std.specs.Prelude.{slice_index, slice_get}
+use Rattle.std.proofs.Common.{◌≡◌, ℕ, ◌+◌, ◌<◌, List, [], ◌∷◌, ◌++◌, length, map, take, refl, sym, ap, ◌∙◌, Option, arith, append_assoc}
+use Rattle.std.specs.Prelude.{slice_index}
 use Rattle.std.proofs.lemmas.List.{map_more}
 use Rattle.std.specs.List.{range_with_len}
 use Rattle.std.proofs.lemmas.List.FromFn.{map-range_with_len_more}
@@ -12,14 +12,6 @@ next-of f xs i ys y h e q = ap (λ zs. zs ++ y ∷ []) e ∙ ap (λ z. map f (ta
 
 pub next-number : {B : Type 0} (f : ℕ → B) (n : ℕ) (ys : List B) (y : B) → ys ≡ map f (range_with_len 1 n) → y ≡ f (n + 1) → ys ++ y ∷ [] ≡ map f (range_with_len 1 (n + 1))
 next-number f n ys y e q = ap (λ zs. zs ++ y ∷ []) e ∙ ap (λ z. map f (range_with_len 1 n) ++ z ∷ []) q ∙ sym (map-range_with_len_more f 1 n (n + 1) (omega arith))
-
-numbers-take : {A : Type 0} (f : A → Option ℕ) (xs : List A) (i : ℕ) (x : A) → slice_get xs i ≡ Some x → numbers f (take (suc i) xs) ≡ numbers f (take i xs) ++ listed (f x)
-numbers-take f [] i x e = absurd (cc)
-numbers-take f (y ∷ ys) zero x e = let q : y ≡ x = cc in append-nil (listed (f y)) ∙ ap (λ z. listed (f z)) q
-numbers-take f (y ∷ ys) (suc i) x e = ap (λ ns. listed (f y) ++ ns) (numbers-take f ys i x e) ∙ sym (append_assoc (listed (f y)) (numbers f (take i ys)) (listed (f x)))
-
-pub numbers-next : {A : Type 0} (f : A → Option ℕ) (xs : List A) (i : ℕ) (x : A) (ns ms : List ℕ) → slice_get xs i ≡ Some x → ns ≡ numbers f (take i xs) → ms ≡ ns ++ listed (f x) → ms ≡ numbers f (take (i + 1) xs)
-numbers-next f xs i x ns ms e n m = m ∙ ap (λ ns. ns ++ listed (f x)) n ∙ sym (numbers-take f xs i x e) ∙ sym (ap (λ k. numbers f (take k xs)) (add-one i))
 
 pub numbers-map : {A B : Type 0} (f : B → Option ℕ) (g : A → B) (xs : List A) → numbers f (map g xs) ≡ numbers (λ x. f (g x)) xs
 numbers-map f g [] = refl

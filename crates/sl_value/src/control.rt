@@ -129,9 +129,9 @@ impl ValueControl {
 
     /// The value that is kept of a unit, by its place among the units, for a number. None where the
     /// number is 0, where the unit is not of this device, and where the number is above the one up
-    /// to which the unit's rows are collected: `values_are_none_exactly` says so of each control plane
-    /// from its first state on, whatever turns it took, and `values_are_those_collected` which value
-    /// there is of one that stands for its history.
+    /// to which the unit's rows are collected: `values_are_none_exactly` says so of each control
+    /// plane from its first state on, whatever turns it took, and `values_are_those_collected`
+    /// which value there is of one that stands for its history.
     pub fn value(&self, unit: u32, k: u64) -> Option<Whole>
         ensures { result ≡ value_in self.now.state.kept unit k }
     {

@@ -31,8 +31,8 @@ pub fn values_are_counts()
 }
 
 /// A control plane that keeps values, whatever turns it took and whatever messages came: it has no
-/// value of a unit for a number exactly where the number is 0 or above the one up to which the unit's
-/// rows are collected, or where it doesn't serve the unit.
+/// value of a unit for a number exactly where the number is 0 or above the one up to which the
+/// unit's rows are collected, or where it doesn't serve the unit.
 pub fn values_are_none_exactly()
     ensures none { (net : Net) (a : ℕ) (sizes : Sizes) (ts : List (Turn Msg)) (unit k : ℕ)
         → IsNet net

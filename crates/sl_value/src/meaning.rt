@@ -52,7 +52,8 @@ pub fn values_change_no_turn()
 {}
 
 /// Each turn of a node that keeps values does the step of its actor, and is idle where this has
-/// none; and what control planes keep goes on to be the values of the histories that they were told.
+/// none; and what control planes keep goes on to be the values of the histories that they were
+/// told.
 pub fn values_follow()
     ensures { (x : Case) → IsRunnable x.setup x.table x.lost
         → FollowHistories x.setup x.lost (sizes_of x.table)

@@ -5,11 +5,9 @@ ghost use Rattle.sl_model.specs.Losses.{losses};
 ghost use Rattle.sl_model.specs.Setup.{setup_of};
 ghost use Rattle.sl_model.specs.Books.{schedule_of};
 ghost use Rattle.sl_model.specs.Findings.{findings};
-ghost use Rattle.sl_model.specs.Words.{listed, numbers};
 ghost use Rattle.sl_proto.specs.Standing.{case_of, StandsFor, HasObserver};
-ghost use Rattle.sl_proto.specs.Told.{sent_told, delivered_told};
 ghost use Rattle.sl_proto.specs.RunBook.{CanRun, IsRunBook};
-ghost use Rattle.sl_value.specs.Nodes.{plain, plain_scene, value_node_state};
+ghost use Rattle.sl_value.specs.Nodes.{plain_scene, value_node_state};
 ghost use Rattle.sl_value.specs.Verdicts.{value_list};
 ghost use Rattle.sl_value.specs.Controls.{controls_in, AreControls, IsAnswered};
 
@@ -22,7 +20,7 @@ use crate::world::ValueWorld;
 use sl_machine::{Book, Memory};
 use sl_model::{Counts, finished_verdicts_are_known, worlds_are_in_window};
 use sl_net::{Input, nets_are_wired};
-use sl_proto::{Node, Taker, nodes_tell_findings, run_script};
+use sl_proto::{Taker, count_traffic, nodes_tell_findings, run_script};
 use std::alloc::Global;
 
 /// What a run leaves: its book, how many of its entries come before finishing, a finding for each
@@ -53,62 +51,6 @@ fn finished_world(alloc: Global, input: &Input) -> Result<(ValueWorld<'_>, u64),
     let mut world = ValueWorld::new(alloc, input)?;
     let front = run_script(alloc, input, &mut world)?;
     Ok((world, front))
-}
-
-/// How many frames a host sent.
-fn sent_by(node: &ValueNode) -> Option<u64>
-    ensures { result ≡ sent_told (plain (value_node_state node.now)) }
-{
-    match node {
-        ValueNode::Node(Node::Host(host)) => Some(host.sent()),
-        _ => None,
-    }
-}
-
-/// How many frames a host took.
-fn delivered_to(node: &ValueNode) -> Option<u64>
-    ensures { result ≡ delivered_told (plain (value_node_state node.now)) }
-{
-    match node {
-        ValueNode::Node(Node::Host(host)) => Some(host.delivered()),
-        _ => None,
-    }
-}
-
-/// Adds a count, where there is one.
-fn add_told(counts: &mut Vec<u64>, told: Option<u64>) -> Result<(), Memory>
-    ensures { OnOk result (counts.new.items ≡ counts.old.items ++ listed told) }
-{
-    match told {
-        Some(count) => Ok(counts.push(count)?),
-        None => Ok(()),
-    }
-}
-
-/// What the hosts sent, one count for each in order.
-fn sent(alloc: Global, world: &ValueWorld, actors: u32) -> Result<Counts, Memory>
-    requires { actors ≡ length world.now.scene.states }
-    ensures { IfOk result
-        (λ counts. counts ≡ numbers (λ s. sent_told (plain s)) world.now.scene.states) }
-{
-    let mut items = Vec::new(alloc);
-    for actor in 0..actors {
-        add_told(&mut items, sent_by(world.node(actor)))?;
-    }
-    Ok(Counts { items })
-}
-
-/// What the hosts took, one count for each in order.
-fn delivered(alloc: Global, world: &ValueWorld, actors: u32) -> Result<Counts, Memory>
-    requires { actors ≡ length world.now.scene.states }
-    ensures { IfOk result
-        (λ counts. counts ≡ numbers (λ s. delivered_told (plain s)) world.now.scene.states) }
-{
-    let mut items = Vec::new(alloc);
-    for actor in 0..actors {
-        add_told(&mut items, delivered_to(world.node(actor)))?;
-    }
-    Ok(Counts { items })
 }
 
 /// Adds a node that is a control plane.
@@ -169,8 +111,7 @@ pub fn run_values(alloc: Global, input: &Input) -> Result<ValueRun, Memory>
     world.is_run();
     let list = list(alloc, &world, world.observer(), input.snapshot.count)?;
     let actors = input.net.actors().len() as u32;
-    let sent = sent(alloc, &world, actors)?;
-    let delivered = delivered(alloc, &world, actors)?;
+    let (sent, delivered) = count_traffic(alloc, &world, actors)?;
     let (nodes, book) = world.into_parts();
     let controls = controls(alloc, nodes)?;
     Ok(ValueRun {

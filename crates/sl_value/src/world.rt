@@ -1,5 +1,5 @@
 // The world of nodes that keep values, as one that takes turns of nodes.
-ghost use Rattle.std.specs.Prelude.{◌≡◌, ◌<◌, IfOk, Some, length, map, slice_get};
+ghost use Rattle.std.specs.Prelude.{◌≡◌, ◌<◌, IfOk, length, map};
 ghost use Rattle.sl_machine.specs.Fit.{HasCounts};
 ghost use Rattle.sl_layout.specs.Wiring.{plan_of};
 ghost use Rattle.sl_proto.specs.Nodes.{node_state, node_counts};
@@ -14,7 +14,7 @@ use crate::whole::Whole;
 use sl_machine::{Book, Memory};
 use sl_net::{Input, Net};
 use sl_observe::Observer;
-use sl_proto::{Node, Taker, build_nodes, make_losses, nodes_start};
+use sl_proto::{Node, Taker, Traffic, build_nodes, make_losses, nodes_start};
 use sl_world::{Turn, World, every_schedule};
 use std::alloc::Global;
 use std::marker::Model;
@@ -129,14 +129,6 @@ impl<'a> ValueWorld<'a> {
         }
     }
 
-    /// The node of an actor.
-    pub fn node(&self, actor: u32) -> &ValueNode
-        requires { actor < length self.now.scene.states }
-        ensures { slice_get self.now.scene.states actor ≡ Some (value_node_state result.now) }
-    {
-        self.world.machine(actor)
-    }
-
     /// Its nodes and its book.
     pub fn into_parts(self) -> (Vec<ValueNode>, Book)
         ensures nodes { map value_node_state result.0.items ≡ self.entry.scene.states }
@@ -174,6 +166,13 @@ impl<'a> Taker for ValueWorld<'a> {
         match self.world.machine(0) {
             ValueNode::Node(Node::Observer(observer)) => observer,
             _ => unreachable!(),
+        }
+    }
+
+    fn traffic(&self, actor: u32) -> Option<Traffic> {
+        match self.world.machine(actor) {
+            ValueNode::Node(node) => node.traffic(),
+            ValueNode::Control(_) => None,
         }
     }
 

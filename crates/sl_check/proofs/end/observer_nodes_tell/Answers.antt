@@ -1,13 +1,12 @@
 use Rattle.sl_model.specs.Losses.{losses}
 use Rattle.sl_model.specs.Books.{schedule_of}
 use Rattle.sl_proto.specs.Standing.{case_of}
-use Rattle.sl_proto.proofs.Endings.{stands-first}
 use Rattle.sl_check.proofs.end.observer_nodes_tell.Goals as goal
 
 pub returns : goal.returns
 returns c i v o stands first =
     let x = case_of i (losses i) in
-    let is = stands-first i.net x v o (c.nets_are_wired.ensures i.net stands.runnable.net).observer stands first in
+    let is = c.nodes_tell_findings.ensures.observed i (losses i) v o stands first in
     record {
       floor = c.observers_tell.ensures.floor x.setup x.lost x.table (schedule_of v.book) o is;
       issued = c.observers_tell.ensures.issued x.setup x.lost x.table (schedule_of v.book) o is;

@@ -1,4 +1,4 @@
-use Rattle.std.proofs.Common.{◌≡◌, sym, subst, ap, arith}
+use Rattle.std.proofs.Common.{◌≡◌, sym, subst, ap}
 use Rattle.sl_layout.specs.Net.{Net}
 use Rattle.sl_net.specs.Input.{Input}
 use Rattle.sl_model.specs.Losses.{losses}
@@ -10,12 +10,12 @@ pub returns : goal.returns
 returns c =
     let i = c.args.input.now in
     let x = case_of i (losses i) in
-    let t = scene c.finish.new.taker in
+    let t = scene c.end_run.new.taker in
     let net : c.input.inside.net ≡ i.net = ap (λ (i : Input). i.net) c.input.view_is in
     let first : StandsFor c.input.inside.net x (scene c.args.world) = subst (λ (net : Net). StandsFor net x (scene c.args.world)) (sym net) c.requires.stands in
     record {
-      finishing = c.in_ok-finish.ensures.finishes x c.requires.window first;
-      stands = subst (λ (net : Net). StandsFor net x t) net (c.finish.ensures.stands x first);
-      few = omega arith;
-      front_is = c.entries-front.ensures;
+      finishing = c.in_ok-front.ensures.finishes x c.requires.window first;
+      stands = subst (λ (net : Net). StandsFor net x t) net (c.end_run.ensures.keeps.stands x first);
+      few = c.in_ok-front.ensures.few;
+      front_is = c.in_ok-front.ensures.front;
     }

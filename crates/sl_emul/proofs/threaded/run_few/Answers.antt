@@ -11,7 +11,7 @@ returns g c =
     let came = c.in_ok-world.ensures in
     record {
       run = IfOk-weaker c.finish_run.result _ _
-          (λ r done. has-ended i (losses i) (scene c.in_ok-world.world) _ _ done c.runs_are_bounded.ensures c.cuts_are_consistent.ensures c.requires.can.net came.stands came.front came.rest)
+          (λ r done. has-ended i (losses i) (scene c.in_ok-world.world) _ _ done c.books_grow_by_turns.ensures.schedule c.runs_are_bounded.ensures c.cuts_are_consistent.ensures c.requires.can.net came.stands came.front came.rest)
           c.finish_run.ensures;
       passed = IfOk-weaker c.finish_run.result _ _ (λ r done few. came.passed (subst (λ (n : ℕ). n < 2 ^ 27) done.front_is few)) c.finish_run.ensures;
     }

@@ -1,21 +1,19 @@
-use Rattle.std.proofs.Common.{◌≡◌, ◌<◌}
-use Rattle.sl_layout.specs.Wiring.{plan_of}
+use Rattle.std.proofs.Common.{◌<◌}
 use Rattle.sl_model.specs.End.{IsFin}
-use Rattle.sl_proto.specs.Standing.{Case, world_of, run_at, StandsFor, HasObserver}
+use Rattle.sl_proto.specs.Standing.{Case, world_of, run_at, StandsFor}
+use Rattle.sl_proto.specs.Calls.{Keeps}
 use Rattle.sl_proto.specs.Fronts.{Leads}
 use Rattle.sl_proto.proofs.Endings.{IsFinishingAt}
 use Rattle.sl_proto.proofs.finishing.finish_within.Given as goal
 
 abbrev pub invariant-loop-left : goal.invariant-loop-left
 invariant-loop-left g l =
+    let scene = g.T.Taker.scene in
     record {
-      plan : (g.T.Taker.scene l.taker).plan ≡ plan_of l.net;
-      observer : HasObserver (g.T.Taker.scene l.taker);
-      fixed : g.T.Taker.fixed l.taker ≡ g.T.Taker.fixed l.fn.taker;
-      stands : (x : Case) → StandsFor l.net x (g.T.Taker.scene l.fn.taker) → StandsFor l.net x (g.T.Taker.scene l.taker);
-      finishing : (x : Case) → 0 < x.setup.window → StandsFor l.net x (g.T.Taker.scene l.fn.taker) → IsFinishingAt x l.fuel (g.T.Taker.scene l.fn.taker) l.left (g.T.Taker.scene l.taker);
-      leads : (x : Case) → 0 < x.setup.window → StandsFor l.net x (g.T.Taker.scene l.fn.taker)
-          → Leads x.setup x.lost (IsFin x.setup x.lost (world_of x (g.T.Taker.scene l.fn.taker))) (run_at x (g.T.Taker.scene l.fn.taker)) (IsFin x.setup x.lost (world_of x (g.T.Taker.scene l.taker))) (run_at x (g.T.Taker.scene l.taker));
+      keeps : Keeps scene g.T.Taker.fixed l.net l.fn.taker l.taker;
+      finishing : (x : Case) → 0 < x.setup.window → StandsFor l.net x (scene l.fn.taker) → IsFinishingAt x l.fuel (scene l.fn.taker) l.left (scene l.taker);
+      leads : (x : Case) → 0 < x.setup.window → StandsFor l.net x (scene l.fn.taker)
+          → Leads x.setup x.lost (IsFin x.setup x.lost (world_of x (scene l.fn.taker))) (run_at x (scene l.fn.taker)) (IsFin x.setup x.lost (world_of x (scene l.taker))) (run_at x (scene l.taker));
     }
 
 abbrev pub decreases-loop-left : goal.decreases-loop-left

@@ -10,6 +10,9 @@ pub returns-clause-rows : goal.returns-clause-rows
 returns-clause-rows c i lost v o h here = let watched = observed_as c.worlds_take_turns.ensures i lost v h o here in
     subst (HasAllRows i.net) (sym watched) (has-collected i.net i.snapshot (world (setup_of i) lost (schedule_of v.book)) (c.nets_are_wired.ensures i.net h.runnable.net))
 
+pub returns-clause-observed : goal.returns-clause-observed
+returns-clause-observed c i lost v o h here = observed_as c.worlds_take_turns.ensures i lost v h o here
+
 pub returns-clause-told : goal.returns-clause-told
 returns-clause-told c i lost v o h here book finished =
     let s = setup_of i in

@@ -29,7 +29,7 @@ use Rattle.sl_proto.specs.Nodes.{NodeState, ObserverNode, ControlNode, UnitNode,
 use Rattle.sl_proto.proofs.Queues.{retold, untold}
 use Rattle.sl_proto.proofs.Sent.{put-by-told, put-by-any}
 use Rattle.sl_proto.proofs.NodeSteps.{stands-here, leaves, does}
-use Rattle.sl_proto.proofs.NodeTells.{none-past, takes-none, observer-within, host-within, does-put, step-dones, told-known}
+use Rattle.sl_proto.proofs.Known.{none-past, takes-none, observer-within, host-within, does-put, step-dones, told-known}
 use Rattle.sl_proto.proofs.nodes.nodes_follow.Goals as goal
 
 pub returns : goal.returns

@@ -4,8 +4,7 @@ use Rattle.sl_model.specs.World.{kept}
 use Rattle.sl_proto.specs.Meaning.{NodeStands}
 use Rattle.sl_proto.specs.Nodes.{node_rules}
 use Rattle.sl_proto.specs.Standing.{scene_of}
-use Rattle.sl_proto.proofs.Standing.{numbered_book}
-use Rattle.sl_proto.proofs.Schedules.{first-image, all-image, same-kept, grown-book, legal-run, run-legal}
+use Rattle.sl_proto.proofs.Schedules.{first-image, all-image, same-kept, grown-book, legal-run, run-legal, numbered_book}
 use Rattle.sl_proto.proofs.nodes.nodes_stand_for_histories.Goals as goal
 
 pub returns-clause-image : goal.returns-clause-image

@@ -1,8 +1,7 @@
 use Rattle.std.proofs.Common.{[], arith}
 use Rattle.sl_model.specs.World.{kept}
 use Rattle.sl_proto.specs.Machines.{scene_begun}
-use Rattle.sl_proto.proofs.Standing.{numbered_book}
-use Rattle.sl_proto.proofs.Schedules.{first-image, all-image, same-kept, grown-book, legal-run, run-legal}
+use Rattle.sl_proto.proofs.Schedules.{first-image, all-image, same-kept, grown-book, legal-run, run-legal, numbered_book}
 use Rattle.sl_proto.proofs.scenes.machines_stand_for_histories.Goals as goal
 
 pub returns-clause-image : goal.returns-clause-image

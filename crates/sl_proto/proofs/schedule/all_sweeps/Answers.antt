@@ -1,9 +1,8 @@
-use Rattle.sl_parts.proofs.Lists.{flat_map_below_more}
 use Rattle.sl_model.specs.Schedule.{sweep_of}
-use Rattle.sl_layout.specs.Net.{actor_of}
 use Rattle.std.proofs.Common.{arith}
 use Rattle.std.proofs.lemmas.Grind.{common_steps}
+use Rattle.sl_proto.proofs.Choices.{actors-next}
 use Rattle.sl_proto.proofs.schedule.all_sweeps.Goals as goal
 
 pub loop-actor-preserved : goal.loop-actor-preserved
-loop-actor-preserved c = rw (flat_map_below_more (λ a. sweep_of c.args.net.now a (actor_of c.args.net.now a)) c.loop-actor.actor) (rw c.sweeps.ensures (grind (arith, common_steps)))
+loop-actor-preserved c = rw (actors-next c.args.net.now (sweep_of c.args.net.now) c.loop-actor.actor) (rw c.sweeps.ensures (grind (arith, common_steps)))

@@ -9,14 +9,12 @@ use Rattle.sl_model.specs.Findings.{findings}
 use Rattle.sl_model.specs.Losses.{losses}
 use Rattle.sl_model.specs.Setup.{setup_of}
 use Rattle.sl_model.specs.World.{world}
-use Rattle.sl_proto.specs.Told.{sent_told, delivered_told}
 use Rattle.sl_value.specs.Valued.{ValueState}
 use Rattle.sl_value.specs.Nodes.{plain, plain_scene}
 use Rattle.sl_value.specs.Run.{IsValueRun}
 use Rattle.sl_value.specs.Verdicts.{value_finding}
 use Rattle.sl_value.specs.Controls.{controls_in, AreControls, IsAnswered}
 use Rattle.sl_value.specs.Outcome.{CanList}
-use Rattle.sl_value.proofs.Listed.{numbers-map}
 use Rattle.sl_value.proofs.ControlList.{are-controls}
 use Rattle.sl_value.proofs.Outcomes.{can-list, answered}
 use Rattle.sl_value.proofs.run.run_values.Goals as goal
@@ -54,7 +52,7 @@ returns-clause-sent c =
     let i = c.args.input.now in
     let w = c.in_ok-world.world in
     let e = c.in_ok-world.ensures in
-    c.in_ok-sent.ensures ∙ sym (numbers-map sent_told plain w.scene.states)
+    c.in_ok-sent.ensures.sent
     ∙ ap (λ (f : Findings). f.sent) (c.nodes_tell_findings.ensures.told i (losses i) (plain_scene w.scene) c.observer.result.now.state e.stands c.observer.ensures e.few e.book.ended.finished)
     ∙ ap (λ (b : List Entry). (findings (setup_of i) (losses i) (schedule_of b)).sent) (sym c.into_parts-nodes.ensures.book)
 
@@ -63,7 +61,7 @@ returns-clause-delivered c =
     let i = c.args.input.now in
     let w = c.in_ok-world.world in
     let e = c.in_ok-world.ensures in
-    c.in_ok-delivered.ensures ∙ sym (numbers-map delivered_told plain w.scene.states)
+    c.in_ok-sent.ensures.delivered
     ∙ ap (λ (f : Findings). f.delivered) (c.nodes_tell_findings.ensures.told i (losses i) (plain_scene w.scene) c.observer.result.now.state e.stands c.observer.ensures e.few e.book.ended.finished)
     ∙ ap (λ (b : List Entry). (findings (setup_of i) (losses i) (schedule_of b)).delivered) (sym c.into_parts-nodes.ensures.book)
 

@@ -1,8 +1,0 @@
-use Rattle.std.proofs.Common.{◌≡◌, take}
-use Rattle.sl_model.specs.Words.{numbers}
-use Rattle.sl_proto.specs.Told.{sent_told}
-use Rattle.sl_value.specs.Nodes.{plain}
-use Rattle.sl_value.proofs.run.sent.Given as goal
-
-abbrev pub invariant-loop-actor : goal.invariant-loop-actor
-invariant-loop-actor l = l.items.items ≡ numbers (λ s. sent_told (plain s)) (take l.actor l.world.scene.states)

@@ -1,39 +1,28 @@
 """What happened to a snapshot, in words: its verdict in a sentence, and the turns that led to it."""
 
+from bisect import bisect_left, bisect_right
 from dataclasses import dataclass
 
+from .channels import LATE, LOST, ROOT, Channels, a_number, channel_name, joined, others_in_words, way_name
+from .nets import port_of
+
 MOST_STEPS = 6
+# Of so many channels of a unit that skipped a number, the turns in which something was lost are shown together.
+MOST_KEYS = 3
+# As many saved entries as an input may let a packet be credited to.
+MOST_CREDITS = 4
 
 
 @dataclass
 class Step:
-    """A step of a story: a turn's place, None for the end of the run, what happened, and the message or the other
-    snapshot that it speaks of."""
+    """A step of a story: a turn's place, None for the end of the run, what happened, the message or the other snapshot
+    that it speaks of, and the link."""
 
     place: int
     words: str
     message: int = None
     snapshot: int = None
-
-
-def sentence(world, verdict):
-    """The verdict on an issued snapshot in a sentence."""
-    v, k = verdict, verdict.number
-    if v.verdict == "skipped":
-        turn = skipping(world, v)
-        return f"At turn {turn.place + 1} {v.unit} goes from {turn.before} to {turn.id}: it saves nothing for {k}."
-    if v.verdict == "miscredited":
-        turn = crediting(world, v)
-        sent = f"a packet that {turn.took.link.source} sent when it was at {turn.took.stamp}"
-        return f"At turn {turn.place + 1} {v.unit}, at {turn.id} already, takes {sent}: it is missing from {k}."
-    if v.verdict == "pending" and v.channel == "id":
-        return f"At the end {v.unit} is still at {v.other}: the snapshot has not reached it."
-    if v.verdict == "pending":
-        sender = world.net.sender(v.unit, v.channel)
-        last = f"the last number that came from {sender}" if v.other else f"no number came from {sender}"
-        last += f" is {v.other}" if v.other else ""
-        return f"To {v.unit} {last} ({v.channel}): what is still on its way from before the cut is not known."
-    return "No unit took before the cut what was sent after it."
+    link: object = None
 
 
 def skipping(world, verdict):
@@ -58,12 +47,22 @@ def name_of(world, message):
     return f"{words} {message.stamp}" if message.stamp is not None else words
 
 
+def sent_over(message):
+    """The channel of a message in words; nothing of an initiation, whose name tells it."""
+    return "" if message.link.sort == "init" else f" {way_name(message.link)}"
+
+
+def carried(message):
+    """The number that a packet carries, in words; nothing of other messages, whose name tells it."""
+    return f", which carries the number {message.stamp}" if message.kind == "data" else ""
+
+
 def listed(units):
     """Some units in words: the first two, and how many more."""
     names = [*dict.fromkeys(units)]
     if len(names) > 3:
         return f"{names[0]}, {names[1]} and {len(names) - 2} more units"
-    return " and ".join([", ".join(names[:-1]), names[-1]] if names[1:] else names)
+    return joined(names)
 
 
 def of_retries(used, allowed):
@@ -90,18 +89,13 @@ class Stories:
                 self.issues[count] = turn
             elif turn.actor == "observer" and turn.choice == "resend":
                 self.resends.setdefault(count, []).append(turn)
-        at_fault = {s.unit for s in snapshots if s.verdict == "skipped"}
-        lagging = any(s.verdict == "pending" for s in snapshots)
-        self.coming, self.lost, self.lost_inits = {}, {}, {}
-        for message in world.messages:
-            if message.stamp is None or message.link.sort not in ("init", "cable", "crossbar"):
-                continue
-            if message.lost and message.kind == "init":
-                self.lost_inits.setdefault((message.link.target, message.stamp), message)
-            if message.link.target in at_fault:
-                self.coming.setdefault((message.link.target, message.stamp), []).append(message)
-            if lagging and message.lost:
-                self.lost.setdefault(message.link.spelling, []).append(message)
+        silent = {s.unit for s in snapshots if s.verdict == "skipped" or s.verdict == "pending"}
+        self.channels = Channels(world, silent, lambda message: name_of(world, message))
+        self.lost = {}
+        if any(s.verdict == "pending" for s in snapshots):
+            for message in world.messages:
+                if message.lost and message.stamp is not None and message.link.sort in ("init", "cable", "crossbar"):
+                    self.lost.setdefault(message.link.spelling, []).append(message)
 
     def fault(self, verdict):
         """The place of the turn, and the message, that a failed snapshot failed by; None where there is none."""
@@ -130,38 +124,148 @@ class Stories:
         places += [p for p in [*(s.place for s in steps), place] if p is not None and self.world.turns[p].actor in actors]
         return actors, sorted(places)
 
+    def keys(self, verdict):
+        """The places of the few turns that show how a failed or pending snapshot came about, in order."""
+        places = {self.cause(verdict)[1], self.fault(verdict)[0]}
+        if verdict.verdict == "miscredited":
+            places.add(self.moved_on(verdict).place)
+        if verdict.verdict == "skipped":
+            told = [r.message or r.root for r in self.reasons(verdict)]
+            places |= {m.put.place for m in [m for m in told if m is not None][:MOST_KEYS]}
+        return sorted(place for place in places if place is not None)
+
     def cause(self, verdict):
         """What a failed or pending snapshot came of, in a sentence, with the places of its turn and its message; None
         for what isn't known."""
-        step = None
         if verdict.verdict == "skipped":
-            found = [s for s in self.skipped(verdict)[:-1] if s.message is not None]
-            kept = [self.world.messages[s.message] for s in found]
-            ranks = [(not m.lost, m.kind != "init", place) for place, m in enumerate(kept)]
-            step = found[min(ranks)[2]] if ranks else self.skipped(verdict)[0]
-            if step.message is None:
-                return step.words, None, None
-        elif verdict.verdict == "miscredited":
-            sent, _, on, _ = self.miscredited(verdict)
-            name = name_of(self.world, crediting(self.world, verdict).took)
-            put = self.world.messages[sent.message]
-            words = f"At turn {sent.place + 1} {put.link.source} sends {verdict.unit} the {name}; at turn {on.place + 1} {on.words}"
-            return words, sent.place, sent.message
-        elif verdict.verdict == "pending":
-            found = self.lags(verdict.number, verdict.unit, verdict.channel, verdict.other, [])
-            step = next((s for s in found if s.message is not None), found[0] if found else None)
-        if step is None:
+            first, *_ = self.unheard(verdict)
+            return (first.words if first.place is None else f"At turn {first.place + 1} {first.words}"), first.place, first.message
+        if verdict.verdict == "miscredited":
+            return self.overtaken(verdict)
+        if verdict.verdict != "pending" or not self.first_lags(verdict):
             return None, None, None
-        return (step.words if step.place is None else f"At turn {step.place + 1} {step.words}"), step.place, step.message
+        step, *behind = self.first_lags(verdict)
+        words = step.words if step.place is None else f"At turn {step.place + 1} {step.words}"
+        return " ".join([words, *(s.words for s in behind)]), step.place, step.message
+
+    def others(self, verdict):
+        """Why the other channels of a unit that skipped a number, or isn't at it yet, brought none, in a sentence; None
+        where there is nothing to say."""
+        k, unit = verdict.number, verdict.unit
+        if verdict.verdict == "skipped":
+            first, *rest = self.reasons(verdict)
+            if first.rank > ROOT:
+                return None
+            return others_in_words(k, rest) if rest else self.no_other(unit)
+        if verdict.verdict != "pending" or verdict.channel != "id":
+            return None
+        told = {s.link for s in self.first_lags(verdict)}
+        rest = [r for r in self.reasons(verdict) if r.link not in told]
+        return others_in_words(k, rest) if rest else self.no_other(unit)
+
+    def no_other(self, unit):
+        """That one channel is all that a unit has, in a sentence."""
+        host = self.world.net.port_host.get(port_of(unit.partition(" ")[2])) if unit.startswith("in ") else None
+        return f"{unit} has no other channel" + (f": no numbers come from host {host}." if host else ".")
 
     def whys(self, verdict):
         """What is said of a snapshot: the sentence that comes first is what it came of, where that is known; then what
-        that led to, and what else would have failed it."""
+        that led to, and what else failed it, or would have."""
         if verdict.verdict == "not issued":
             return [self.not_issued(verdict)]
         besides = self.besides(verdict)
         last = f"At turn {besides.place + 1} {besides.words}" if besides else None
-        return [words for words in (self.cause(verdict)[0], sentence(self.world, verdict), last) if words]
+        first = " ".join(words for words in (self.cause(verdict)[0], self.others(verdict)) if words)
+        return [words for words in (first, self.sentence(verdict), self.more(verdict), last) if words]
+
+    def sentence(self, verdict):
+        """The verdict on an issued snapshot in a sentence."""
+        v, k, world = verdict, verdict.number, self.world
+        if v.verdict == "skipped":
+            return f"At turn {skipping(world, v).place + 1} {self.gone_over(v)}"
+        if v.verdict == "miscredited":
+            return f"At turn {crediting(world, v).place + 1} {self.too_late(v)}"
+        if v.verdict == "pending" and v.channel == "id":
+            return f"At the end of the run {v.unit} is still at {v.other}: {a_number(k)} has not come to it."
+        if v.verdict == "pending":
+            link, turn = world.net.links[f"{v.unit} {v.channel}"], world.crossing(v.unit, k)
+            last = f"the last number that came from there is {v.other}" if v.other else "no number came from there"
+            since = f", since turn {turn.place + 1}" if world.ids[v.unit] == k else f" (it reached {k} at turn {turn.place + 1})"
+            words = f"{v.unit} is at {world.ids[v.unit]} itself{since}, but waits for {a_number(k)} {channel_name(link)}: {last}."
+            return f"{words} So it isn't known which packets from before the cut are still to come."
+        return "No unit took before the cut what was sent after it."
+
+    def more(self, verdict):
+        """Which other turns failed the snapshot, or which other units wait, in a sentence; None where there are none."""
+        k, world, found = verdict.number, self.world, []
+        if verdict.verdict == "pending":
+            waiting = [u for u in world.net.units if u != verdict.unit and world.lag(u, k) is not None]
+            return f"{listed(waiting)} {'wait' if waiting[1:] else 'waits'} too." if waiting else None
+        if verdict.verdict not in ("skipped", "miscredited"):
+            return None
+        first = self.fault(verdict)[0]
+        skips = [t for t in world.skips(k) if t.place != first]
+        late = [t for t in world.late(k) if t.place != first]
+        if skips:
+            found.append(f"{self.turns_in_words(skips)} {'go' if skips[1:] else 'goes'} over {k} too.")
+        if late:
+            what = "more packets come too late and are" if late[1:] else "more packet comes too late and is"
+            found.append(f"{len(late)} {what} missing from snapshot {k}: to {self.turns_in_words(late)}.")
+        return " ".join(found) or None
+
+    @staticmethod
+    def turns_in_words(turns):
+        """Units with their turns: the first few, and how many more."""
+        few = [f"{t.actor} (turn {t.place + 1})" for t in turns[:MOST_STEPS]]
+        return joined([*few, f"{len(turns) - MOST_STEPS} more"] if turns[MOST_STEPS:] else few)
+
+    def right(self, verdict):
+        """What should have happened for the snapshot to be right, in a sentence; None where it is, or was not issued."""
+        told = {"skipped": self.right_of_skipped, "miscredited": self.right_of_miscredited, "pending": self.right_of_pending}
+        if verdict.verdict not in told:
+            return None
+        words = f"It would have been right if {told[verdict.verdict](verdict)}"
+        others = len(self.world.skips(verdict.number)) + len(self.world.late(verdict.number)) - 1
+        if verdict.verdict == "pending" or not others:
+            return f"{words}."
+        return f"{words}; and if the {f'{others} other turns' if others > 1 else 'other turn'} named above had not failed it too."
+
+    def right_of_skipped(self, verdict):
+        k, unit, turn = verdict.number, verdict.unit, skipping(self.world, verdict)
+        first, saved = self.reasons(verdict)[0], f"{unit} would have saved its counters for snapshot {k}"
+        if first.rank == LOST:
+            name = name_of(self.world, first.message)
+            return f"the {name}, lost at turn {first.place + 1}, had come to {unit} before turn {turn.place + 1}: {saved}"
+        if first.rank == LATE:
+            name = name_of(self.world, first.message)
+            return f"the {name}, sent at turn {first.place + 1}, had come to {unit} before turn {turn.place + 1}: {saved}"
+        if first.rank == ROOT:
+            root, sender = first.root, first.link.source
+            words = f"the {name_of(self.world, root)} to {root.link.target}, lost at turn {root.put.place + 1}, had come"
+            return f"{words}, and so {a_number(k)} from {sender} to {unit} before turn {turn.place + 1}: {saved}"
+        return f"{a_number(k)} had come to {unit} before turn {turn.place + 1}: {saved}"
+
+    def right_of_miscredited(self, verdict):
+        k, unit, turn = verdict.number, verdict.unit, crediting(self.world, verdict)
+        saved = bisect_right(self.world.adopting[unit], turn.place, key=lambda t: t.place)
+        needed, credits = saved - bisect_left(self.world.adopted[unit], k), self.source.snapshot["credits"]
+        words = f"the packet had come to {unit} before turn {self.moved_on(verdict).place + 1}"
+        return f"{words}, or with credits = {needed} in place of {credits}" if needed <= MOST_CREDITS else words
+
+    def right_of_pending(self, verdict):
+        k, unit = verdict.number, verdict.unit
+        links = self.world.net.links
+        ways = self.channels.links(unit) if verdict.channel == "id" else [links[f"{unit} {verdict.channel}"]]
+        message = self.cause(verdict)[2]
+        over = channel_name(ways[0]) if len(ways) == 1 else "to it"
+        if message is None:
+            words = f"{a_number(k)} had come {over}"
+        else:
+            m = self.world.messages[message]
+            words = f"the {name_of(self.world, m)} to {m.link.target}, lost at turn {m.put.place + 1}, had come"
+            words += "" if m.link in ways else f", and so {a_number(k)} to {unit}"
+            words += f", or a later message with {k}{'' if verdict.channel == 'id' else ' or more'} {over}"
+        return f"{words}: then {unit} would not wait" + (", but the snapshot could not be consistent" if self.besides(verdict) else "")
 
     def besides(self, verdict):
         """Of a pending snapshot, the first turn that would fail it once nothing waited: it went over the number, or took
@@ -170,13 +274,13 @@ class Stories:
         skips, late = (self.world.skips(k), self.world.late(k)) if verdict.verdict == "pending" else ([], [])
         if late and not skips:
             name = name_of(self.world, late[0].took)
-            words = f"the {name} comes to {late[0].actor} too late and is missing from {k}"
+            words = f"the {name} comes to {late[0].actor} too late and is missing from snapshot {k}"
             return Step(late[0].place, f"{words}: the snapshot could not become consistent any more.")
         if not skips:
             return None
         first = skips[0]
         others = [t.actor for t in skips[1:]]
-        words = f"{first.actor} goes from {first.before} to {first.id} and saves nothing for {k}"
+        words = f"{first.actor} goes from {first.before} to {first.id} and saves nothing for snapshot {k}"
         words += f", and so {'do' if others[1:] else 'does'} {listed(others)}" if others else ""
         return Step(first.place, f"{words}: the snapshot could not become consistent any more.")
 
@@ -202,75 +306,129 @@ class Stories:
             Step(last[0].place, f"{last[1]} is the last unit to reach {k}."),
         ]
 
-    def skipped(self, verdict):
-        k, turn = verdict.number, skipping(self.world, verdict)
-        found = []
-        for message in self.coming.get((verdict.unit, k), []):
-            if message.put.place >= turn.place:
-                continue
-            what = f"{message.link.source} sends {verdict.unit} the {name_of(self.world, message)}"
-            what += "" if message.kind != "data" else f", which carries the number {k}"
-            if message.lost:
-                found.append(Step(message.put.place, f"{what}: it is lost on the way.", message.place))
-            else:
-                when = "it has not come when the next one does" if message.take is None else f"it comes at turn {message.take.place + 1} only"
-                found.append(Step(message.put.place, f"{what}: {when}.", message.place))
-        if not found:
-            found = self.unheard(verdict.unit, k, turn)
-        more = len(found) - MOST_STEPS
-        found = found[:MOST_STEPS]
-        if more > 0:
-            found[-1].words += f" ({more} more {'messages' if more > 1 else 'message'} with {k} did not come in time.)"
-        took = turn.took
-        words = f"{verdict.unit} is at {turn.before} and takes the {name_of(self.world, took)} from {took.link.source}"
-        words += f", which carries {turn.id}" if took.kind == "data" else ""
-        found.append(Step(turn.place, f"{words}: it goes to {turn.id} at once, and saves nothing for {k}.", took.place))
+    # Of a skipped snapshot.
+
+    def reasons(self, verdict):
+        """Why each channel of the unit brought it no message with the number in time: the one that tells most comes first."""
+        k, turns = verdict.number, self.world.turns
+        if verdict.verdict == "skipped":
+            return self.channels.reasons(verdict.unit, k, k, skipping(self.world, verdict).place)
+        return self.channels.reasons(verdict.unit, k, self.world.issued, len(turns))
+
+    def unheard(self, verdict):
+        """Why a unit had no message with the number: a step for each of its channels, that which tells most first."""
+        k, unit = verdict.number, verdict.unit
+        first, *rest = self.reasons(verdict)
+        found = [self.first_reason(unit, k, first)]
+        if first.rank > ROOT:
+            found = [Step(None, others_in_words(k, [first, *rest], "Until then {} doesn't come"))]
+        for reason in rest if first.rank <= ROOT else [first, *rest]:
+            words = f"{a_number(k).capitalize()} doesn't come to {unit} {channel_name(reason.link)}: {reason.told}."
+            message = reason.message or reason.root
+            found.append(Step(reason.place, words, None if message is None else message.place, link=reason.link))
         return found
 
-    def unheard(self, unit, k, turn):
-        """Why nothing with the number k was on its way to a unit before this turn."""
-        found = [Step(turn.place, f"Until then nothing with the number {k} was on its way to {unit}.")]
-        for channel in self.world.net.channels(unit):
-            sender = self.world.net.sender(unit, channel)
-            message = self.lost_inits.get((sender, k))
-            if message is not None and message.put.place < turn.place and len(found) < MOST_STEPS:
-                words = f"{message.link.source} sends {sender}, from which {unit} would hear of {k}, the initiation {k}"
-                found.append(Step(message.put.place, f"{words}: it is lost on the way.", message.place))
-        return found
+    def sends(self, message, how=""):
+        """That a message is sent, in words, with what is said of its sender."""
+        return f"{message.link.source}{how} sends the {name_of(self.world, message)}{sent_over(message)} to {message.link.target}"
+
+    def first_reason(self, unit, k, reason):
+        """The reason that tells most, as what happened in its turn."""
+        if reason.rank == ROOT:
+            m = reason.root
+            words = f"{self.sends(m)}: it is lost on the way."
+            clause = reason.clause.replace("that unit", f"{reason.link.source}, from which {unit} would hear of {k},", 1)
+            return Step(m.put.place, f"{words} {clause}.", m.place, link=reason.link)
+        m = reason.message
+        if m is None:
+            return None
+        words = f"{self.sends(m)}{carried(m)}"
+        if not m.lost:
+            when = "it has not come when the next one does" if m.take is None else f"it comes at turn {m.take.place + 1} only"
+            return Step(m.put.place, f"{words}: {when}.", m.place, link=reason.link)
+        turns = self.world.turns
+        more = len(self.channels.carrying(m.link, k, k, len(turns))) - 1
+        end = f", and {more} more with {k} too" if more > 0 else ""
+        return Step(m.put.place, f"{words}: it is lost on the way{end}.", m.place, link=reason.link)
+
+    def gone_over(self, verdict):
+        """What the unit does in the turn in which it goes over the number."""
+        turn, unit, k = skipping(self.world, verdict), verdict.unit, verdict.number
+        took = turn.took
+        words = f"{unit} is at {turn.before} and takes the {name_of(self.world, took)} from {took.link.source}{carried(took)}"
+        return f"{words}: it goes to {turn.id} at once, and saves nothing for snapshot {k}."
+
+    def skipped(self, verdict):
+        turn = skipping(self.world, verdict)
+        found = [step for step in self.unheard(verdict) if step.place is not None]
+        return [*found, Step(turn.place, self.gone_over(verdict), turn.took.place)]
+
+    # Of a miscredited one.
+
+    def moved_on(self, verdict):
+        """The turn from which on the unit could not credit the packet to the number any more: it saved so many above it."""
+        unit = verdict.unit
+        place = bisect_left(self.world.adopted[unit], verdict.number) + self.source.snapshot["credits"]
+        return self.world.adopting[unit][place]
+
+    def overtaken(self, verdict):
+        """Which packet was sent, and what moved its unit on before it came, in a sentence, with the packet's place."""
+        k, turn, on = verdict.number, crediting(self.world, verdict), self.moved_on(verdict)
+        packet, took = turn.took, on.took
+        words = f"At turn {packet.put.place + 1} {self.sends(packet, f', still at {packet.stamp},')}. "
+        words += f"Before it comes, at turn {on.place + 1}, {verdict.unit} takes the {name_of(self.world, took)} {channel_name(took.link)}{carried(took)}: "
+        words += f"it goes on from {on.before} to {on.id}. Snapshot {k} was issued at turn {self.issues[k].place + 1}, snapshot {on.id} at turn {self.issues[on.id].place + 1}."
+        return words, packet.put.place, packet.place
+
+    def too_late(self, verdict):
+        """What the unit does in the turn in which the packet comes."""
+        turn, k, credits = crediting(self.world, verdict), verdict.number, self.source.snapshot["credits"]
+        to = f"snapshot {verdict.other} alone" if credits == 1 else f"its last {credits} saved snapshots, {verdict.other} and above"
+        return f"the {name_of(self.world, turn.took)} comes to {verdict.unit}, which is at {turn.id} already and can credit it to {to}: so it is missing from snapshot {k}."
 
     def miscredited(self, verdict):
-        world, k, turn = self.world, verdict.number, crediting(self.world, verdict)
-        packet, unit, credits = turn.took, verdict.unit, self.source.snapshot["credits"]
-        name = name_of(world, packet)
-        reached, on = world.crossing(unit, k), world.crossing(unit, verdict.other)
-        to = f"its last saved number, {verdict.other}, alone" if credits == 1 else f"its last {credits} saved numbers, {verdict.other} and above"
-        return [
-            Step(
-                packet.put.place,
-                f"{packet.link.source} is at {packet.stamp}, so it has not reached {k}, and sends {unit} the {name}. "
-                f"It belongs to {k} as a packet in flight.",
-                packet.place,
-            ),
+        world, k, turn, on = self.world, verdict.number, crediting(self.world, verdict), self.moved_on(verdict)
+        packet, unit = turn.took, verdict.unit
+        reached = world.crossing(unit, k)
+        words = f"{self.sends(packet, f' is at {packet.stamp}, so it has not reached {k}, and')}. "
+        moved = f"{unit} takes the {name_of(world, on.took)} {channel_name(on.took.link)}{carried(on.took)}"
+        found = [
+            Step(packet.put.place, f"{words}It belongs to snapshot {k} as a packet in flight.", packet.place),
             Step(reached.place, f"{unit} reaches {k} and saves its counters."),
-            Step(on.place, f"{unit} goes on to {verdict.other}, before the packet has come."),
-            Step(
-                turn.place,
-                f"The {name} comes, too late: {unit} is at {turn.id} and can credit it to {to}. So it is missing from {k}.",
-                packet.place,
-            ),
+            Step(on.place, f"{moved}: it goes on from {on.before} to {on.id}, before the packet has come.", on.took.place),
+            Step(turn.place, f"{self.too_late(verdict)[0].upper()}{self.too_late(verdict)[1:]}", packet.place),
         ]
+        return [*found, Step(self.issues[on.id].place, f"The observer issues snapshot {on.id}.")]
+
+    # Of a pending one.
 
     def pending(self, verdict):
-        k, source = verdict.number, self.source
-        found = self.lags(k, verdict.unit, verdict.channel, verdict.other, [])
+        k, source, unit = verdict.number, self.source, verdict.unit
+        found = self.lags(k, unit, verdict.channel, verdict.other, [])
+        if verdict.channel != "id":
+            found.append(Step(self.world.crossing(unit, k).place, f"{unit} reaches {k} itself, and saves its counters."))
         resends = sum(len(turns) for turns in self.resends.values())
         for turn in self.resends.get(k, [])[:MOST_STEPS]:
-            found.append(Step(turn.place, f"The observer begins {k} once more, as the snapshot isn't collected."))
+            found.append(Step(turn.place, f"The observer begins snapshot {k} once more, as it isn't collected."))
         besides = self.besides(verdict)
         found += [besides] if besides else []
         words = of_retries(resends, source.snapshot["retries"])
-        found.append(Step(None, f"The run ends while {verdict.unit} still waits; {words}."))
+        found.append(Step(None, f"The run ends, after turn {len(self.world.turns)}, while {self.waiting(verdict)}; {words}."))
         return found
+
+    def waiting(self, verdict):
+        """What the unit waits for, in words."""
+        k, unit = verdict.number, verdict.unit
+        if verdict.channel == "id":
+            return f"{unit} is still at {verdict.other} and waits for {a_number(k)}"
+        link = self.world.net.links[f"{unit} {verdict.channel}"]
+        return f"{unit} still waits for {a_number(k)} {channel_name(link)}"
+
+    def first_lags(self, verdict):
+        """Of why a unit lags, the first step with a message, and behind it the units that lag by that."""
+        found = self.lags(verdict.number, verdict.unit, verdict.channel, verdict.other, [])
+        place = next((i for i, s in enumerate(found) if s.message is not None), 0)
+        return [*found[place : place + 1], *(s for s in found[:place] if s.place is None)]
 
     def lags(self, k, unit, channel, number, seen):
         """Why a unit, or one of its channels, stays below k: what was lost on the way, or the sender that lags itself."""
@@ -283,9 +441,8 @@ class Stories:
         for link in links:
             for message in self.lost.get(link.spelling, []):
                 if message.stamp >= k:
-                    words = f"{link.source} sends {unit} the {name_of(world, message)}"
-                    words += f", which carries {message.stamp}" if message.kind == "data" else ""
-                    found.append(Step(message.put.place, f"{words}: it is lost.", message.place))
+                    words = f"{self.sends(message)}{carried(message)}"
+                    found.append(Step(message.put.place, f"{words}: it is lost.", message.place, link=link))
         found.sort(key=lambda step: step.place)
         more = len(found) - MOST_STEPS
         found = found[:MOST_STEPS]
@@ -295,7 +452,8 @@ class Stories:
             for link in links:
                 behind = world.lag(link.source, k) if link.source in world.ids else None
                 if behind is not None and behind[0] == "id" and link.source not in seen and len(seen) < 8:
-                    found.append(Step(None, f"{link.source}, from which {unit} would hear of {k}, is still at {behind[1]} itself."))
+                    words = f"{link.source}, from which {unit} would hear of {k}, is still at {behind[1]} itself."
+                    found.append(Step(None, words, link=link))
                     found += self.lags(k, link.source, *behind, [*seen, unit])
                     break
         return found or [step for link in links for step in self.unsent(k, unit, link)][:MOST_STEPS]
@@ -312,12 +470,15 @@ class Stories:
         return [
             Step(
                 m.put.place,
-                f"{m.link.source} sends {m.link.target} the {name_of(self.world, m)}: it is lost, and {sender} sends {unit} no probe.",
+                f"{self.sends(m)}: it is lost, and so {sender} sends no probe to {unit}.",
                 m.place,
+                link=link,
             )
             for m in lost
             if m.kind != "data"
         ]
+
+    # Of one that was not issued.
 
     def held(self, verdict):
         """What kept the observer from issuing."""

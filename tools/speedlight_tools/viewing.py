@@ -224,6 +224,8 @@ class Run:
                     "line": s.line,
                     "unit": self.actors.get(s.unit, -1) if s.unit else -1,
                     "whys": stories.whys(s),
+                    "right": stories.right(s),
+                    "keys": stories.keys(s),
                     "causeTurn": begun,
                     "causeMessage": carried,
                     "turn": place,

@@ -10,6 +10,7 @@ import re
 import sys
 import tempfile
 import unittest
+from html import escape
 from pathlib import Path
 
 from shared import EXAMPLES, TOP, accepted, run
@@ -22,13 +23,15 @@ from speedlight_tools import program
 from speedlight_tools.inputs import read_input
 from speedlight_tools.replay import replay
 from speedlight_tools.reports import read_report
-from speedlight_tools.stories import Stories, of_retries
+from speedlight_tools.stories import Stories
 
 # Runs beside those of the examples: their inputs by the parameters of tools/topology.
 NETS = {
     "leaf_spine_with_losses": "leaf-spine --hosts 2 --count 20 --snapshots 8 --every 3 --bits 3 --window 3 --loss-cable 20 --loss-init 60 --seed 3",
     "line": "line --switches 3 --count 12 --snapshots 5 --every 2 --window 3 --loss-crossbar 30 --loss-notice 100 --seed 2",
     "ring": "ring --switches 4 --count 9 --snapshots 6 --every 2 --window 2 --loss-init 250 --retries 1 --seed 5",
+    "ring_of_window_3": "ring --switches 4 --count 40 --window 3 --bits 2 --snapshots 4 --loss-init 90 --every 1 --seed 2",
+    "fat_tree": "fat-tree --arity 4 --count 6 --snapshots 5 --every 2 --bits 3 --window 3 --loss-cable 10 --loss-init 40 --seed 4",
 }
 PICTURES = {
     "view": ("leaf_spine_with_losses", "#snapshot=5", 1280, 800, "light", ""),
@@ -46,18 +49,23 @@ STORIES = {
     ],
     "lost_initiation": [
         [0, "The observer issues snapshot 1."],
-        [1, "control a sends in a.0 the initiation 1: it is lost on the way."],
-        [4, "in a.0 is at 0 and takes the initiation 2 from control a: it goes to 2 at once, and saves nothing for 1."],
+        [1, "control a sends the initiation 1 to in a.0: it is lost on the way."],
+        [4, "in a.0 is at 0 and takes the initiation 2 from control a: it goes to 2 at once, and saves nothing for snapshot 1."],
     ],
     "too_late_packet": [
-        [1, "in a.0 is at 0, so it has not reached 1, and sends out a.1 the packet 0 from h0 to h1. It belongs to 1 as a packet in flight."],
+        [
+            1,
+            "in a.0 is at 0, so it has not reached 1, and sends the packet 0 from h0 to h1 over x0 to out a.1. "
+            "It belongs to snapshot 1 as a packet in flight.",
+        ],
         [2, "The observer issues snapshot 1."],
+        [3, "The observer issues snapshot 2."],
         [8, "out a.1 reaches 1 and saves its counters."],
-        [9, "out a.1 goes on to 2, before the packet has come."],
+        [9, "out a.1 takes the probe 2 over x1 from in a.1: it goes on from 1 to 2, before the packet has come."],
         [
             10,
-            "The packet 0 from h0 to h1 comes, too late: out a.1 is at 2 and can credit it to its last saved number, 2, alone. "
-            "So it is missing from 1.",
+            "The packet 0 from h0 to h1 comes to out a.1, which is at 2 already and can credit it to snapshot 2 alone: so it is "
+            "missing from snapshot 1.",
         ],
     ],
     "two_in_flight": [
@@ -68,20 +76,34 @@ STORIES = {
 }
 
 
-# Why the first snapshot of some examples failed or isn't finished: the banner has the first sentence, and the rest below.
+# Why the first snapshot of some examples failed or isn't finished: the banner has the first sentences, and the rest below.
 WHYS = {
     "lost_initiation": [
-        "At turn 2 control a sends in a.0 the initiation 1: it is lost on the way.",
-        "At turn 5 in a.0 goes from 0 to 2: it saves nothing for 1.",
+        "At turn 2 control a sends the initiation 1 to in a.0: it is lost on the way. in a.0 has no other channel: no numbers come "
+        "from host h0.",
+        "At turn 5 in a.0 is at 0 and takes the initiation 2 from control a: it goes to 2 at once, and saves nothing for snapshot 1.",
+        "out a.0 (turn 6) goes over 1 too.",
     ],
     "too_late_packet": [
-        "At turn 2 in a.0 sends out a.1 the packet 0 from h0 to h1; at turn 10 out a.1 goes on to 2, before the packet has come.",
-        "At turn 11 out a.1, at 2 already, takes a packet that in a.0 sent when it was at 0: it is missing from 1.",
+        "At turn 2 in a.0, still at 0, sends the packet 0 from h0 to h1 over x0 to out a.1. Before it comes, at turn 10, out a.1 takes "
+        "the probe 2 over x1 from in a.1: it goes on from 1 to 2. Snapshot 1 was issued at turn 3, snapshot 2 at turn 4.",
+        "At turn 11 the packet 0 from h0 to h1 comes to out a.1, which is at 2 already and can credit it to snapshot 2 alone: so it is "
+        "missing from snapshot 1.",
     ],
     "dead_cable": [
-        "At turn 10 out b.0 sends in a.1 the probe 1: it is lost.",
-        "To in a.1 no number came from out b.0 (cable): what is still on its way from before the cut is not known.",
+        "At turn 10 out b.0 sends the probe 1 over the cable to in a.1: it is lost.",
+        "in a.1 is at 1 itself, since turn 5, but waits for a 1 over the cable from out b.0: no number came from there. So it isn't "
+        "known which packets from before the cut are still to come.",
+        "in b.0 waits too.",
     ],
+}
+# What would have been right.
+RIGHT = {
+    "lost_initiation": "It would have been right if the initiation 1, lost at turn 2, had come to in a.0 before turn 5: in a.0 would have "
+    "saved its counters for snapshot 1; and if the other turn named above had not failed it too.",
+    "too_late_packet": "It would have been right if the packet had come to out a.1 before turn 10, or with credits = 2 in place of 1.",
+    "dead_cable": "It would have been right if the probe 1 to in a.1, lost at turn 10, had come, or a later message with 1 or more over the "
+    "cable from out b.0: then in a.1 would not wait.",
 }
 TITLES = {"consistent": ": consistent", "pending": ": not finished (pending)", "not issued": ": not begun (not issued)"}
 
@@ -146,22 +168,10 @@ class Words(unittest.TestCase):
             words = json.loads(gzip.decompress(base64.b64decode(re.search(r'id="words">(.*?)</script>', run("view", *given)[1])[1])))
             self.assertEqual(words["snapshots"][0]["whys"], WHYS.get(name, ["No unit took before the cut what was sent after it."]))
             drawn = re.findall(r"<text [^>]*>([^<]*)<", run("diagram", *given)[1])
-            said = " ".join(words["snapshots"][0]["whys"])
+            self.assertEqual(words["snapshots"][0]["right"], RIGHT.get(name))
+            said = escape(" ".join([*words["snapshots"][0]["whys"], *([RIGHT[name]] if name in RIGHT else [])]))
             self.assertTrue(" ".join(drawn[1:]).startswith(said), drawn[:4])
             self.assertEqual([[place, said] for place, said, *_ in words["snapshots"][-1 if name == "dead_cable" else 0]["steps"]], STORIES[name])
-
-
-    def test_retries_in_words(self):
-        cases = {
-            (0, 0): "the input allows no retries",
-            (0, 1): "the one retry was not used",
-            (1, 1): "the one retry is used up",
-            (1, 3): "1 of 3 retries was used",
-            (2, 3): "2 of 3 retries were used",
-            (3, 3): "all 3 retries are used up",
-        }
-        for (used, allowed), words in cases.items():
-            self.assertEqual(of_retries(used, allowed), words)
 
 
 @unittest.skipIf(lack(), lack())
@@ -193,7 +203,7 @@ class Page(unittest.TestCase):
 
     def verdicts(self, path, report, world):
         """The strip, and of some snapshots the sentence, the cut, the counts and what was in flight."""
-        code = "return [...document.querySelectorAll('#snapshots button')].map(b => [b.title, b.getAttribute('aria-label')])"
+        code = "return [...document.querySelectorAll('#snapshots button')].map(b => [b.dataset.tip, b.getAttribute('aria-label')])"
         shown = self.browser.run(code)
         wanted = [[s.line, f"snapshot {s.number}, {s.verdict}"] for s in report.snapshots]
         self.assertEqual(shown, wanted[: len(shown)])
@@ -215,7 +225,10 @@ class Page(unittest.TestCase):
             if whys[1:]:
                 self.assertEqual(self.browser.text("#verdict .then"), " ".join(whys[1:]))
             self.assertEqual(stories.besides(s) is not None, "could not become consistent any more" in told)
-            rows = self.browser.rows()
+            if stories.right(s):
+                self.assertEqual(self.browser.text("#verdict .right"), stories.right(s))
+            late = self.lates(s, world)
+            rows = self.browser.rows(1 if late else 0)
             units = sorted(world.net.units, key=lambda unit: unit != s.unit)
             mark = " waiting" if s.verdict == "pending" else " at fault"
             self.assertEqual([row[0] for row in rows], [unit + mark if unit == s.unit else unit for unit in units])
@@ -230,6 +243,16 @@ class Page(unittest.TestCase):
                 self.assertNotIn("fault", panel)
                 self.assertNotIn("failed", told)
         self.cut_in_the_net(report, world)
+
+    def lates(self, s, world):
+        """The packets that came too late, each with its turns, which are links; how many they are."""
+        late = world.late(s.number)
+        if not late:
+            return 0
+        self.assertIn(f"Packets that came too late, missing from snapshot {s.number}: {len(late)}", self.browser.text("#panel"))
+        wanted = [[t.actor, str(t.took.put.place + 1), str(t.place + 1)] for t in late]
+        self.assertEqual([row[1:] for row in self.browser.rows()], wanted[:500])
+        return len(late)
 
     def counts(self, s, rows, crossings, world):
         for row, counts, crossing in zip(rows, s.counts, crossings):
@@ -386,35 +409,91 @@ class Page(unittest.TestCase):
             self.browser.open(page, "#snapshot=1")
             self.assertEqual(self.browser.text("#verdict .why"), f"Why: {first}")
             self.assertEqual(self.browser.text("#verdict .then"), " ".join(rest))
+            self.assertEqual(self.browser.text("#verdict .right"), RIGHT[name])
             sizes = self.browser.run("return ['.why', '.then', '.line'].map(n => parseFloat(getComputedStyle(document.querySelector('#verdict ' + n)).fontSize))")
             self.assertEqual(sizes, sorted(set(sizes), reverse=True))
-            titles = self.browser.run("return [...document.querySelectorAll('#verdict abbr')].map(a => [a.textContent, a.title])")
-            self.assertTrue(all(title for _, title in titles))
-            self.assertEqual([word for word, _ in titles], [word for word in re.findall(r"initiation|probe|cable", " ".join([first, *rest]))])
+            tips = self.browser.run("return [...document.querySelectorAll('#verdict abbr')].map(a => [a.textContent, a.dataset.tip])")
+            self.assertTrue(all(said for _, said in tips))
+            whole = " ".join([first, *rest, RIGHT[name]])
+            self.assertEqual([word for word, _ in tips], re.findall(r"initiation|probe|(?<=the )cable|(?<=over )x\d", whole))
+            turns = self.browser.run("return [...document.querySelectorAll('#verdict .inline:not(.unit-name)')].map(b => b.textContent)")
+            self.assertEqual(turns, re.findall(r"turn \d+", whole))
+            self.browser.click("#verdict .inline:not(.unit-name)")
+            self.assertTrue(self.browser.text("#now").startswith(f"{turns[0]} of"))
+            self.assertIn(f"T{turns[0][1:]}: ", self.browser.text("#panel"))
+            self.browser.click("#to-story")
+            self.assertIn("What happened, in order", self.browser.text("#panel"))
+            self.browser.click('#tabs [data-tab="unit"]')
+            unit = re.search(r"(in|out) \w+\.\d", self.browser.text("#verdict code"))[0]
+            self.assertIn(f"{unit}, after {turns[0]}, {'waiting' if name == 'dead_cable' else 'at fault in snapshot 1'}", self.browser.text("#panel h2"))
 
-    def test_the_turn_at_fault_is_in_the_middle(self):
-        """And what it came of is in view, or has a mark at the edge that leads to it."""
-        _, page, report, world = built("leaf_spine_with_losses", self.folder.name, self.program)
+    def test_the_turns_of_a_failure_are_seen_together(self):
+        """What lies between them is folded where there is no room for it; a turn in it, or a click, opens it."""
+        _, page, report, world = built("ring_of_window_3", self.folder.name, self.program)
         self.browser.open(page)
-        stories = Stories(world, read_input(Path(self.folder.name) / "leaf_spine_with_losses.toml"), report.snapshots)
-        high = self.browser.run("return document.getElementById('plot').clientHeight")
-        told = 0
+        stories = Stories(world, read_input(Path(self.folder.name) / "ring_of_window_3.toml"), report.snapshots)
+        heights = "return arguments[0].map(turn => speedlight.heightOf(turn))"
         for s in report.snapshots:
-            if s.verdict == "consistent":
-                continue
             self.browser.click(f'#snapshots [data-snapshot="{s.number}"]')
-            fault, cause = stories.fault(s)[0], stories.cause(s)[1]
-            heights = [self.browser.run("return speedlight.heightOf(arguments[0])", turn) for turn in (fault, cause)]
-            if 0 <= heights[1] <= high:
-                self.assertTrue(0 <= heights[0] <= high, heights)
-                continue
-            self.assertAlmostEqual(heights[0], self.browser.run("return document.getElementById('plot').clientHeight") / 2, delta=2)
-            self.assertEqual(self.browser.run("return speedlight.edges()"), [f"↑ lost at turn {cause + 1}"])
-            told += 1
-        self.assertGreater(told, 0)
+            keys, folds = stories.keys(s), self.browser.run("return speedlight.folds()")
+            high = self.browser.run("return document.getElementById('plot').clientHeight")
+            self.assertEqual(bool(folds), s.verdict != "consistent")
+            self.assertTrue(all(0 <= height <= high for height in self.browser.run(heights, keys)))
+            self.assertFalse([key for key in keys for a, b in folds if a <= key < b])
+            self.assertEqual(self.browser.run("return speedlight.edges()"), [])
+        self.browser.click('#snapshots [data-snapshot="1"]')
+        start, end = self.browser.run("return speedlight.folds()[0]")
+        inside = (start + end) // 2
+        self.browser.point("#plot", 300, self.browser.run("return speedlight.heightOf(arguments[0])", inside))
+        self.assertIn(f"turns {start + 1} to {end} are folded", self.browser.text("#tip"))
+        self.browser.find(f"turn {inside + 1}")
+        opened = self.browser.run("return speedlight.folds()")
+        self.assertFalse([1 for a, b in opened if a <= inside < b])
+        self.browser.run("document.activeElement.blur()")
+        self.browser.key("z")
+        self.assertEqual(self.browser.run("return speedlight.folds()"), [])
+        self.browser.key("z")
+        self.assertEqual(self.browser.run("return speedlight.folds()"), opened)
+        self.browser.point("#plot", 300, self.browser.run("return speedlight.heightOf(arguments[0])", sum(opened[0]) // 2), click=True)
+        self.assertEqual(self.browser.run("return speedlight.folds()"), opened[1:])
         _, page, _, world = built("too_late_packet", self.folder.name, self.program)
         self.browser.open(page, "#snapshot=1")
-        self.assertEqual(self.browser.run("return speedlight.edges()"), [])
+        self.assertEqual(self.browser.run("return [speedlight.edges(), speedlight.folds()]"), [[], []])
+        self.assertEqual(self.browser.told(), [])
+
+    def test_tips_words_and_colours(self):
+        """The page has its own tips, the help opens at its top and has a glossary, and what failed has one colour."""
+        _, page, report, _ = built("ring_of_window_3", self.folder.name, self.program)
+        self.browser.open(page)
+        self.assertEqual({"skipped", "miscredited"}, {s.verdict for s in report.snapshots} - {"consistent"})
+        self.assertEqual(self.browser.run("return document.querySelectorAll('body [title]').length"), 0)
+        colours = "return [...new Set([...document.querySelectorAll('#snapshots .skipped, #snapshots .miscredited')].map(b => getComputedStyle(b).color))].length"
+        self.assertEqual(self.browser.run(colours), 1)
+        for place, part in (("#verdict abbr", "the channel over the crossbar"), ("#fold", "Folds what lies"), ("#help-open", "Keys")):
+            self.browser.point(place)
+            self.assertIn(part, self.browser.text("#tip"))
+            inside = "const b = document.getElementById('tip').getBoundingClientRect(); return b.left >= 0 && b.right <= innerWidth && b.top >= 0 && b.bottom <= innerHeight"
+            self.assertTrue(self.browser.run(inside))
+        self.browser.size(1280, 500)
+        self.browser.click("#help-open")
+        self.assertEqual(self.browser.run("return document.getElementById('help').scrollTop"), 0)
+        for word in ("initiation", "probe", "x0", "Ring", "no cut 5", "cut 5?"):
+            self.assertIn(word, self.browser.run("return [...document.querySelectorAll('#glossary dt')].map(d => d.textContent)"))
+        self.browser.size(1280, 800)
+        self.assertEqual(self.browser.told(), [])
+
+    def test_small_text_is_left_out(self):
+        """Of a large net too: what is written in the picture has ten pixels, numbers nine, or isn't there; the unit at fault has its name."""
+        code = """return [...document.querySelectorAll('#picture text')].filter(t => t.textContent && t.style.display !== 'none' && parseFloat(getComputedStyle(t).fontSize))
+            .map(t => [t.textContent, parseFloat(getComputedStyle(t).fontSize) * t.getScreenCTM().a])"""
+        for name in ("fat_tree", "ring_of_window_3", "leaf_spine_with_losses"):
+            page, report = built(name, self.folder.name, self.program)[1:3]
+            self.browser.open(page)
+            drawn = self.browser.run(code)
+            self.assertEqual([(said, size) for said, size in drawn if size < (8.9 if said.isdecimal() else 9.9)], [], name)
+            unit = next(s.unit for s in report.snapshots if s.unit)
+            self.assertIn(unit, [said for said, _ in drawn])
+            self.assertEqual(self.browser.told(), [])
 
     def test_nothing_is_cut_off_or_stretched(self):
         """The head, the rows, and the port names of some nets, which lie on no unit and on no other name; sizes change."""

@@ -6,6 +6,19 @@ function tip(event, said) {
   place.style.left = `${Math.min(event.clientX + 14, innerWidth - place.offsetWidth - 8)}px`;
   place.style.top = `${Math.min(event.clientY + 14, innerHeight - place.offsetHeight - 8)}px`;
 }
+// The tips of what stands in the page: where the mouse is, or what the keys have reached.
+let tipped = null;
+function pointed(event) {
+  const over = event.target.closest ? event.target.closest("[data-tip]") : null;
+  if (over === tipped) return;
+  tipped = over;
+  if (!over) return tip(null);
+  const box = over.getBoundingClientRect();
+  tip({ clientX: box.left - 6, clientY: box.bottom - 8 }, over.dataset.tip);
+}
+for (const name of ["mouseover", "focusin"]) document.addEventListener(name, pointed);
+for (const name of ["focusout", "click"]) document.addEventListener(name, () => { tipped = null; tip(null); });
+for (const element of document.querySelectorAll("[data-tip]")) element.setAttribute("aria-description", element.dataset.tip);
 function nearest(x, y) {
   let best = 7, found = -1;
   for (const [m, x1, y1, x2, y2] of segments) {
@@ -20,9 +33,12 @@ plot.addEventListener("mousemove", (event) => {
   const edge = edgeAt(event.offsetX, event.offsetY);
   plot.style.cursor = edge ? "pointer" : "";
   if (edge) return tip(event, `${edge.said}\nA click leads there.`);
+  const named = labels.find(({ box: [l, t, r, b] }) => event.offsetX >= l && event.offsetX <= r && event.offsetY >= t && event.offsetY <= b);
+  if (named) return tip(event, labelMeaning(named.said));
   const m = event.offsetX > view.gutter - 10 ? nearest(event.offsetX, event.offsetY) : -1;
-  const { k, y } = d3.zoomTransform(plot), t = Math.floor((event.offsetY - y) / k);
-  if (m >= 0) tip(event, `${messageName(m)}\non ${links[column.link[m]].spelling}\nput at turn ${put[m] + 1}, ${isLost(m) ? "lost" : column.take[m] < 0 ? "never taken" : `taken at turn ${column.take[m] + 1}`}`);
+  const { k, y } = d3.zoomTransform(plot), t = Math.floor(turnOf((event.offsetY - y) / k)), fold = foldAt(t);
+  if (fold) tip(event, `turns ${fold.from + 1} to ${fold.to} are folded\nA click shows them.`);
+  else if (m >= 0) tip(event, `${messageName(m)}\non ${links[column.link[m]].spelling}\nput at turn ${put[m] + 1}, ${isLost(m) ? "lost" : column.take[m] < 0 ? "never taken" : `taken at turn ${column.take[m] + 1}`}`);
   else if (t >= 0 && t < T && k >= 3) tip(event, `turn ${t + 1}: ${turnName(t)}\n${nameOf(actor[t])} ${choiceMeaning(turnName(t))}`);
   else tip(null);
 });
@@ -33,8 +49,9 @@ plot.addEventListener("click", (event) => {
   if (edge) { change({ turn: edge.turn + 1 }); return show(edge.turn + 1); }
   const m = event.offsetX > view.gutter - 10 ? nearest(event.offsetX, event.offsetY) : -1;
   if (m >= 0 && column.packet[m] >= 0) return change({ packet: column.packet[m], tab: "packet" });
-  const { k, y } = d3.zoomTransform(plot), t = Math.floor((event.offsetY - y) / k);
-  if (t >= 0 && t < T) change({ turn: t + 1, tab: "turn" });
+  const { k, y } = d3.zoomTransform(plot), t = Math.floor(turnOf((event.offsetY - y) / k)), fold = foldAt(t);
+  if (fold) setFolds(folds.filter((other) => other !== fold));
+  else if (t >= 0 && t < T) change({ turn: t + 1, tab: "turn" });
 });
 
 // Finding.
@@ -93,12 +110,12 @@ const keys = {
   PageDown: () => step(100), PageUp: () => step(-100), Home: () => step(-T), End: () => step(T), " ": () => play(!playing),
   "]": () => state.snapshot < K && choose(state.snapshot + 1), "[": () => state.snapshot > 1 && choose(state.snapshot - 1),
   n: () => { for (let i = 1; i <= K; i++) { const k = ((state.snapshot + i - 1) % K) + 1; if (failed(k)) return choose(k); } },
-  "+": () => zoomBy(1.5), "=": () => zoomBy(1.5), "-": () => zoomBy(1 / 1.5), f: () => setView(zoom.scaleExtent()[0], T / 2),
-  o: () => $("focus").click(), c: () => $("control").click(), "/": () => $("search").focus(), "?": () => $("help").showModal(), Escape: () => change({ packet: -1, unit: -1 }),
+  "+": () => zoomBy(1.5), "=": () => zoomBy(1.5), "-": () => zoomBy(1 / 1.5), f: () => { setFolds([]); setView(zoom.scaleExtent()[0], T / 2); },
+  o: () => $("focus").click(), z: () => $("fold").click(), c: () => $("control").click(), "/": () => $("search").focus(), "?": help, Escape: () => change({ packet: -1, unit: -1 }),
 };
 function zoomBy(by) {
-  const { k, y } = d3.zoomTransform(plot), h = plot.clientHeight, at = y + (state.turn - 0.5) * k;
-  const centre = at > 0 && at < h ? state.turn - 0.5 : (h / 2 - y) / k;
+  const { k, y } = d3.zoomTransform(plot), h = plot.clientHeight, row = rowOf(state.turn - 0.5), at = y + row * k;
+  const centre = at > 0 && at < h ? row : (h / 2 - y) / k;
   const next = Math.max(zoom.scaleExtent()[0], Math.min(zoom.scaleExtent()[1], k * by));
   setView(next, centre);
 }
@@ -115,9 +132,11 @@ $("zoom-in").onclick = () => zoomBy(1.5); $("zoom-out").onclick = () => zoomBy(1
 $("columns-out").onclick = () => { view.wide = Math.min(6, view.wide * 1.25); asked = true; };
 $("columns-in").onclick = () => { view.wide = Math.max(0.2, view.wide / 1.25); asked = true; };
 $("control").onclick = () => { change({ control: !state.control }); $("control").setAttribute("aria-pressed", String(state.control)); };
+$("fold").onclick = () => { setFolds(folds.length ? [] : foldsOf(state.snapshot)); show(state.turn, true); };
 $("focus").onclick = () => { focus(!state.focus); show(state.turn); };
 $("only-failed").onchange = () => { state.onlyFailed = $("only-failed").checked; state.shown = 0; strip(); };
-$("help-open").onclick = () => $("help").showModal();
+function help() { $("help").showModal(); $("help").scrollTop = 0; }
+$("help-open").onclick = help;
 for (const tab of $("tabs").children) tab.onclick = () => { change({ tab: tab.dataset.tab }); shownPanel = ""; };
 for (const button of $("switch").children) button.onclick = () => part(button.dataset.show);
 function part(name) {
@@ -192,11 +211,11 @@ new ResizeObserver(() => {
   if (state.tab === "unit") shownPanel = "";
   if (window.speedlight && window.speedlight.ready) draw(); else asked = true;
 }).observe(plot);
-window.addEventListener("hashchange", () => { const next = readAddress(); change(next); if (next.snapshot) showStrip(next.snapshot); show(state.turn); });
+window.addEventListener("hashchange", () => { const next = readAddress(); change(next); setFolds([]); if (next.snapshot) showStrip(next.snapshot); show(state.turn); });
 // For those who drive the page: where a message and a turn are drawn in the diagram, how often it was drawn, and
 // the marks at its edges.
-function middleOf(m) { const { k, y } = d3.zoomTransform(plot), [x1, y1, x2, y2] = endsOf(m, (turn) => y + (turn + 0.5) * k, k); return [(x1 + x2) / 2, (y1 + y2) / 2]; }
-window.speedlight = { state, words, column, change, show, middleOf, frames: () => frames, edges: () => edges.map((edge) => edge.said), heightOf: (t) => { const { k, y } = d3.zoomTransform(plot); return y + (t + 0.5) * k; }, ready: false };
+function middleOf(m) { const { k, y } = d3.zoomTransform(plot), [x1, y1, x2, y2] = endsOf(m, (turn) => y + rowOf(turn + 0.5) * k, k); return [(x1 + x2) / 2, (y1 + y2) / 2]; }
+window.speedlight = { state, words, column, change, show, middleOf, frames: () => frames, edges: () => edges.map((edge) => edge.said), heightOf: (t) => { const { k, y } = d3.zoomTransform(plot); return y + rowOf(t + 0.5) * k; }, folds: () => folds.map(({ from, to }) => [from, to]), ready: false };
 
 theme(wish.matches ? "dark" : "light");
 head();
@@ -217,7 +236,7 @@ $("loading").hidden = true;
 if (innerWidth <= 700) { $("marks").open = false; $("search").placeholder = "Find"; }
 verdictBanner();
 extents();
-setView(Math.max(zoom.scaleExtent()[0], 17), state.turn - 0.5);
+setView(Math.max(zoom.scaleExtent()[0], 17), rowOf(state.turn - 0.5));
 if (plot.clientHeight) atOnce();
 view.high = plot.clientHeight;
 requestAnimationFrame((now) => { frame(now); window.speedlight.ready = true; });

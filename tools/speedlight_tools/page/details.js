@@ -4,12 +4,15 @@ function made(name, attributes = {}, ...inside) {
   for (const [key, value] of Object.entries(attributes)) {
     if (key === "onclick") element.addEventListener("click", value);
     else if (key === "class") element.className = value;
+    else if (key === "title") { if (value) { element.dataset.tip = value; element.setAttribute("aria-description", value); } }
     else element.setAttribute(key, value);
   }
   element.append(...inside.filter((part) => part !== null && part !== undefined));
   return element;
 }
-const toTurn = (place, text) => made("button", { class: "go short", title: `Go to turn ${place + 1}`, onclick: () => { change({ turn: place + 1 }); show(place + 1); } }, text || `turn ${place + 1}`);
+const goTo = (place) => { change({ turn: place + 1, tab: "turn" }); show(place + 1); };
+const toTurn = (place, text) => made("button", { class: "go short", title: `Go to turn ${place + 1}, and say what it did`, onclick: () => goTo(place) }, text || `turn ${place + 1}`);
+const toSnapshot = (k, text) => made("button", { class: "go short", onclick: () => choose(k) }, text || `snapshot ${k}`);
 const toPacket = (p, text) => made("button", { class: "go", onclick: () => change({ packet: p, tab: "packet" }) }, text || packetName(p));
 const toUnit = (who) => made("button", { class: nameOf(who).length > 12 ? "go" : "go short", onclick: () => change({ unit: who, tab: "unit" }) }, nameOf(who));
 
@@ -19,10 +22,17 @@ const MEANING = {
   notice: "a notice: a unit tells its control plane that a number changed", poll: "a poll: a control plane asks a unit for its registers", dump: "a dump: a unit answers a poll with its registers",
   Begin: "a Begin: the observer asks a control plane to begin a snapshot", Done: "a Done: a control plane reports to the observer what it collected", cable: "the channel over the cable, from the unit at its other end",
 };
-function explained(text) {
-  const made2 = (word, title) => made("abbr", { title }, word);
-  const ofCrossbar = (word) => `the channel over the crossbar inside the switch, from the ingress unit of port ${word.slice(1)}`;
-  return text.split(/\b(initiation|probe|notice|poll|dump|Begin|Done|(?<=\()cable|(?<=\()x\d+)\b/).map((part, i) => (i % 2 ? made2(part, MEANING[part] || ofCrossbar(part)) : part));
+// A sentence with its turns as links and its words explained; `own` is a turn that stands beside it already.
+function explained(text, own) {
+  const ofCrossbar = (word) => `${word}: the channel over the crossbar inside the switch, from the ingress unit of port ${word.slice(1)}`;
+  return text.split(/\b(turn \d+|(?:in|out) [\w-]+\.\d+|initiation|probe|notice|poll|dump|Begin|Done|(?<=over the )cable|(?<=over )x\d+)\b/).map((part, i) => {
+    if (i % 2 === 0) return part;
+    const who = actorOf.get(part);
+    if (who !== undefined) return made("button", { class: "inline unit-name", title: `Say more of unit ${part}`, onclick: () => change({ unit: who, tab: "unit" }) }, part);
+    const turn = /^turn (\d+)$/.exec(part);
+    if (!turn) return made("abbr", { title: MEANING[part] || ofCrossbar(part), tabindex: 0 }, part);
+    return Number(turn[1]) - 1 === own ? part : made("button", { class: "inline", title: `Go to ${part}, and say what it did`, onclick: () => goTo(Number(turn[1]) - 1) }, part);
+  });
 }
 // What a choice of an actor is, as the trace spells it.
 function choiceMeaning(name) {
@@ -71,7 +81,7 @@ function showStrip(k) {
 
 function titleOf(k) {
   const { verdict } = words.snapshots[k - 1];
-  return { consistent: `Snapshot ${k}: consistent`, pending: `Snapshot ${k}: not finished (pending)`, "not issued": `Snapshot ${k}: not begun (not issued)` }[verdict] || `Snapshot ${k} failed: ${verdict}`;
+  return { consistent: `Snapshot ${k}: consistent`, pending: `Snapshot ${k}: not finished (pending)`, "not issued": `Snapshot ${k}: not begun (not issued)` }[verdict] || `Snapshot ${k} failed: ${verdict} (${{ skipped: "a unit went over its number", miscredited: "a packet came too late for it" }[verdict]})`;
 }
 // What is said of the unit that the verdict names.
 const waits = (told) => told.verdict === "pending" || told.verdict === "not issued";
@@ -94,6 +104,7 @@ function verdictBanner() {
   const [first, ...more] = told.whys;
   const why = made("p", { class: "why" }, told.verdict === "consistent" ? "" : made("b", {}, "Why: "), ...explained(first));
   const then = more.length ? [made("p", { class: "then" }, ...explained(more.join(" ")))] : [];
+  if (told.right) then.push(made("p", { class: "right" }, ...explained(told.right)));
   const line = made("p", { class: "line" }, "In the report: ", made("code", {}, told.line), " ");
   for (const turn of new Set([told.causeTurn, told.turn])) if (turn !== null) line.append(toTurn(turn, `show turn ${turn + 1}`));
   place.append(why, ...then, line);
@@ -103,7 +114,7 @@ function verdictBanner() {
 let shownPanel = "";
 function panel() {
   for (const tab of $("tabs").children) tab.setAttribute("aria-selected", String(tab.dataset.tab === state.tab));
-  const key = [state.tab, state.tab === "snapshot" ? state.snapshot : "", state.tab === "packet" ? state.packet : "", state.unit, state.tab === "poll" ? state.poll : "", state.turn].join();
+  const key = [state.tab, state.tab === "snapshot" ? state.snapshot : "", state.tab === "packet" ? state.packet : "", state.tab === "unit" || state.tab === "turn" ? state.snapshot : "", state.unit, state.tab === "poll" ? state.poll : "", state.turn].join();
   if (key === shownPanel) return;
   const again = shownPanel.split(",")[0] === state.tab;
   shownPanel = key;
@@ -155,13 +166,14 @@ function snapshotPanel() {
   const story = made("ol", { class: "story" });
   told.steps.forEach(([place, said, message, snapshot]) => {
     const isFault = told.verdict !== "consistent" && (place === told.turn || (told.turn === null && place === null));
-    const item = made("li", isFault ? { class: "fault" } : {}, place === null ? made("span", { class: "dim" }, snapshot ? "" : "at the end ") : toTurn(place), made("span", { class: "words" }, " ", ...explained(said), " "));
+    const item = made("li", isFault ? { class: "fault" } : {}, place === null ? made("span", { class: "dim" }, snapshot ? "" : "at the end ") : toTurn(place), made("span", { class: "words" }, " ", ...explained(said, place), " "));
     if (message !== null && column.packet[message] >= 0) item.append(toPacket(column.packet[message], "follow the packet"));
-    if (snapshot) item.append(made("button", { class: "go", onclick: () => choose(snapshot) }, `snapshot ${snapshot}`));
+    if (snapshot) item.append(toSnapshot(snapshot));
     story.append(item);
   });
   parts.push(story);
   if (told.verdict === "not issued") return parts;
+  parts.push(...latePart(k));
   if (told.verdict === "consistent") {
     parts.push(made("h2", {}, "Values: what each unit had counted before the cut"));
     const rows = words.units.map((who, place) => {
@@ -192,6 +204,16 @@ function snapshotPanel() {
   }
   return parts;
 }
+// Of a snapshot that failed, the packets that came too late for it, each with its turns.
+function latePart(k) {
+  const late = failed(k) ? lateOf(k) : [];
+  if (!late.length) return [];
+  const rows = late.slice(0, MOST_LATE).map((m) => [toPacket(column.packet[m]), made("span", {}, toUnit(links[column.link[m]].target)), toTurn(put[m], String(put[m] + 1)), toTurn(column.take[m], String(column.take[m] + 1))]);
+  const parts = [made("h2", {}, `Packets that came too late, missing from snapshot ${k}: ${late.length}`), table(["packet", "to", "sent at turn", "came at turn"], rows)];
+  if (late.length > MOST_LATE) parts.push(made("p", { class: "dim" }, `and ${late.length - MOST_LATE} more`));
+  return parts;
+}
+const MOST_LATE = 500;
 function wordsOf(m) {
   const inside = [column.packet[m] >= 0 ? toPacket(column.packet[m], messageName(m)) : messageName(m)];
   return made("span", {}, ...inside, ` on ${links[column.link[m]].spelling}`, isLost(m) ? made("span", { class: "bad" }, " lost") : "");
@@ -199,7 +221,8 @@ function wordsOf(m) {
 function turnPanel() {
   const t = state.turn - 1;
   if (t < 0) return [made("h2", {}, "Before the first turn"), made("p", {}, "Nothing was sent yet. Step on with →.")];
-  const parts = [made("h2", {}, `Turn ${t + 1}: `, made("code", { title: choiceMeaning(turnName(t)) }, turnName(t))), made("p", { class: "dim" }, `${nameOf(actor[t])} ${choiceMeaning(turnName(t))}.`)];
+  const back = state.snapshot ? [made("p", {}, made("button", { class: "go", id: "to-story", onclick: () => change({ tab: "snapshot" }) }, `‹ what happened to snapshot ${state.snapshot}`))] : [];
+  const parts = [...back, made("h2", {}, `Turn ${t + 1}: `, made("code", { title: choiceMeaning(turnName(t)) }, turnName(t))), made("p", { class: "dim" }, `${nameOf(actor[t])} ${choiceMeaning(turnName(t))}.`)];
   const who = actor[t];
   if (unitOf.has(who)) {
     const before = idAt(who, t);
@@ -233,17 +256,24 @@ function packetPanel() {
   parts.push(made("p", {}, made("b", end === "delivered" ? {} : { class: "bad" }, `End: ${endWords[end]}`), at < 0 ? "" : made("span", {}, " at ", toTurn(at))));
   const cuts = new Set();
   for (let i = ofPacket.start[p]; i < ofPacket.start[p + 1]; i++) { const m = ofPacket.items[i]; for (let k = column.stamp[m] + 1; column.across[m] >= k && k <= K; k++) cuts.add(k); }
-  if (cuts.size) parts.push(made("p", {}, "In flight across the cut of ", ...[...cuts].slice(0, 20).map((k) => made("button", { class: "go", onclick: () => choose(k) }, `snapshot ${k}`))));
+  if (cuts.size) parts.push(made("p", {}, "In flight across the cut of ", ...[...cuts].slice(0, 20).map((k) => toSnapshot(k))));
   return parts;
 }
+// The unit that is chosen; where none is, the one at fault, or that waits.
+function unitShown() {
+  if (state.unit >= 0 || !state.snapshot) return state.unit;
+  const told = words.snapshots[state.snapshot - 1];
+  return told.verdict === "consistent" ? -1 : told.unit;
+}
 function unitPanel() {
-  const who = state.unit;
+  const who = unitShown();
   if (who < 0) return [made("p", {}, "No unit is chosen. Click one in the net, or find one: in a.0.")];
-  const place = unitOf.get(who), now = state.turn, t = lastTurn(who, now);
-  const parts = [made("h2", {}, `${nameOf(who)}, after turn ${now}`)];
+  const place = unitOf.get(who), now = state.turn, t = lastTurn(who, now), told = state.snapshot ? words.snapshots[state.snapshot - 1] : null;
+  const mark = told && told.verdict !== "consistent" && told.unit === who ? made("span", { class: waits(told) ? "pending" : "bad" }, `, ${standing(told)}${waits(told) ? "" : ` in snapshot ${state.snapshot}`}`) : "";
+  const parts = [made("h2", {}, `${nameOf(who)}, after turn ${now}`, mark)];
   parts.push(table(["number", "packets counted", "bytes"], [[String(t < 0 ? 0 : column.id[t]), String(t < 0 ? 0 : column.packets[t]), String(t < 0 ? 0 : column.bytes[t])]]));
   parts.push(chart(who));
-  parts.push(made("h2", {}, "Last-seen numbers"));
+  parts.push(made("h2", {}, made("abbr", { title: "Of each channel, the last number that came over it. A snapshot is complete where its unit and all its channels have reached it.", tabindex: 0 }, "Last-seen numbers")));
   const seen = links.map((link, i) => [link, i]).filter(([link]) => link.target === who && ["cable", "crossbar", "init"].includes(link.sort)).map(([link, i]) => {
     const from = column.seenStart[i], end = lower(from, column.seenStart[i + 1], now, (j) => column.seenTurn[j]);
     return [shortName(link), end === from ? "0" : String(column.seenNumber[end - 1]), end === from ? "–" : toTurn(column.seenTurn[end - 1], String(column.seenTurn[end - 1] + 1))];
@@ -251,7 +281,7 @@ function unitPanel() {
   parts.push(table(["channel", "number", "since"], seen));
   const ring = words.settings.ring, from = column.saveStart[place], to = lower(from, column.saveStart[place + 1], now, (j) => column.saveTurn[j]);
   const id = t < 0 ? 0 : column.id[t];
-  parts.push(made("h2", {}, `Ring: ${ring} ${ring === 1 ? "slot" : "slots"}`));
+  parts.push(made("h2", {}, made("abbr", { title: "The slots in which the unit saves its counters, one for each number; a newer number takes the slot of the oldest.", tabindex: 0 }, "Ring"), `: ${ring} ${ring === 1 ? "slot" : "slots"}`));
   const credits = new Map();
   const lastCredit = lower(column.creditStart[place], column.creditStart[place + 1], now, (j) => column.creditTurn[j]);
   for (let j = lastCredit - 1; j >= column.creditStart[place] && j > lastCredit - 20000; j--) {

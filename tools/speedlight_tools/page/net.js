@@ -19,7 +19,7 @@ function drawNet() {
     layers.names.append("text").attr("class", "name").attr("x", x).attr("y", y - 4).text(device.name);
     const control = layers.names.append("text").attr("class", "told").attr("data-device", device.name).attr("x", x).attr("y", y + 12);
     control.append("tspan");
-    control.append("title").text(`Messages on the way to or from the control plane of ${device.name}.`);
+    control.attr("data-tip", `Messages on the way to or from the control plane of ${device.name}.`);
     places[`control ${device.name}`] = [x, y];
     device.ports.forEach((p, i) => {
       const a = angles[i];
@@ -57,14 +57,44 @@ function drawNet() {
     if (named) layers.over.append("text").attr("class", "side").attr("x", x).attr("y", y).text(one.text);
     layers.over.append("text").attr("class", "value").attr("data-value", nameOf(one.who)).attr("x", x).attr("y", y);
   }
-  const zoomNet = d3.zoom().scaleExtent([0.3, 12]).on("zoom", () => sheetOfNet.attr("transform", d3.event.transform));
+  layers.over.append("text").attr("class", "culprit");
+  const zoomNet = d3.zoom().scaleExtent([0.3, 30]).on("zoom", () => { sheetOfNet.attr("transform", d3.event.transform); scaleNames(d3.event.transform.k); });
   svg.call(zoomNet).on("dblclick.zoom", null);
   $("net-fit").onclick = () => svg.call(zoomNet.transform, d3.zoomIdentity);
 }
-// Names and numbers are larger in a net that has little room.
-function scaleNames() {
-  const picture = $("picture"), { width, height } = picture.viewBox.baseVal, scale = Math.min(picture.clientWidth / width, picture.clientHeight / height);
-  picture.style.setProperty("--grow", scale > 0 ? Math.min(1.5, Math.max(1, 0.85 / scale)) : 1);
+// The least sizes of names and numbers on the screen, and of each kind its own size and the largest that it has room for. What
+// would be smaller is left out: it is there once the net is larger.
+const LEAST_TEXT = 10, HIGHEST = column.id.reduce((most, id) => Math.max(most, id), 0);
+const least = (count, of) => { let found = Infinity; for (let i = 0; i < count; i++) found = Math.min(found, of(i)); return found; };
+const TEXTS = {
+  name: [15, least(words.devices.length, (i) => (2 * (words.layout.devices[words.devices[i].name][2] - 14)) / (0.7 * words.devices[i].name.length))],
+  host: [12, least(words.hosts.length, (i) => Math.min(20, (Math.max(34, 9 * words.hosts[i].name.length + 12) - 4) / (0.65 * words.hosts[i].name.length)))],
+  number: [9.5, HIGHEST < 10 ? 16.5 : 13.5], long: [9.5, 10.5], side: [9.5, 11], value: [10, 12], told: [9.5, 12], badge: [10, 16],
+};
+let zoomed1 = 1;
+function scaleNames(by = zoomed1) {
+  zoomed1 = by;
+  const picture = $("picture"), { width, height } = picture.viewBox.baseVal, scale = by * Math.min(picture.clientWidth / width, picture.clientHeight / height);
+  if (!(scale > 0)) return;
+  for (const [kind, [own, most]] of Object.entries(TEXTS)) {
+    const needed = (kind === "number" || kind === "long" ? LEAST_TEXT - 1 : LEAST_TEXT) / scale;
+    picture.style.setProperty(`--${kind}`, `${needed <= most ? Math.max(own, needed) : 0}px`);
+  }
+  picture.style.setProperty("--ring", `${Math.max(13, 7 / scale)}px`);
+  nameCulprit(scale);
+}
+// The name of the unit at fault, or that waits, where the names of units have no room.
+let culprit = -1;
+function nameCulprit(scale) {
+  const isNamed = U <= 24 && LEAST_TEXT / scale <= TEXTS.side[1];
+  const text = svg.select(".culprit"), there = culprit >= 0 && !isNamed ? places[nameOf(culprit)] : null;
+  text.style("display", there ? null : "none");
+  if (!there) return;
+  // Away from its switch.
+  const size = 12 / scale, [x, y] = words.layout.devices[deviceOf(culprit)], far = Math.max(1, Math.hypot(there[0] - x, there[1] - y));
+  const dx = (there[0] - x) / far, dy = (there[1] - y) / far, off = Math.max(13, 7 / scale) + 0.4 * size;
+  const anchor = dx > 0.5 ? "start" : dx < -0.5 ? "end" : "middle";
+  text.text(nameOf(culprit)).attr("x", there[0] + dx * off).attr("y", there[1] + dy * (off + 0.3 * size)).style("text-anchor", anchor).style("font-size", `${size}px`).style("stroke-width", `${size / 3}px`);
 }
 // The middle handle of a link inside a switch, which goes around the name of the switch.
 function around([x, y, r], x1, y1, x2, y2) {
@@ -162,6 +192,9 @@ function updateNet() {
   if (key === drawnNet) return;
   drawnNet = key;
   $("net-turn").textContent = now;
+  culprit = told && told.verdict !== "consistent" ? told.unit : -1;
+  svg.select(".culprit").attr("class", `culprit ${told && waits(told) ? "waits" : "failed"}`);
+  scaleNames();
   const acting = now ? actor[now - 1] : -1;
   svg.selectAll(".unit").each(function (_, place) {
     const who = actorOf.get(this.dataset.unit), id = idAt(who, now), unit = unitOf.get(who);

@@ -75,9 +75,52 @@ function layColumns() {
   view.xs.fill(NaN);
   view.shown.forEach((who, place) => { view.xs[who] = view.gutter + view.pan + (place + 0.5) * view.width; });
 }
+// Long stretches of turns may be folded: each then stands in the room of FOLD rows. A row is a turn's place without what is folded.
+const FOLD = 2;
+let folds = [];
+function rowOf(turn) {
+  let less = 0;
+  for (const { from, to } of folds) {
+    if (turn <= from) break;
+    if (turn < to) return from - less + ((turn - from) * FOLD) / (to - from);
+    less += to - from - FOLD;
+  }
+  return turn - less;
+}
+function turnOf(row) {
+  let less = 0;
+  for (const { from, to } of folds) {
+    if (row < from - less) break;
+    if (row < from - less + FOLD) return from + ((row - from + less) * (to - from)) / FOLD;
+    less += to - from - FOLD;
+  }
+  return row + less;
+}
+const foldAt = (turn) => folds.find(({ from, to }) => turn >= from && turn < to);
+// What isn't folded of these turns.
+function stretches(from, to) {
+  const found = [];
+  for (const fold of folds) if (fold.to > from && fold.from < to) { if (fold.from > from) found.push([from, fold.from]); from = fold.to; }
+  return from < to ? [...found, [from, to]] : found;
+}
+function setFolds(next) {
+  folds = next.filter(({ from, to }) => to - from > 2 * FOLD);
+  $("fold").setAttribute("aria-pressed", String(folds.length > 0));
+  $("fold").disabled = !folds.length && !foldsOf(state.snapshot).length;
+  extents();
+  asked = true;
+}
+// Between the turns by which a snapshot failed all but a few rows is folded: as many stand around each as there is room for.
+function foldsOf(k) {
+  const keys = k ? words.snapshots[k - 1].keys : [], room = Math.max(plot.clientHeight, 200) / 14;
+  const around = Math.max(1, Math.min(6, Math.floor(((room - FOLD * (keys.length - 1)) / keys.length - 1) / 2)));
+  return keys.slice(1).map((key, i) => ({ from: keys[i] + around + 1, to: key - around })).filter(({ from, to }) => to - from > 2 * FOLD);
+}
+// Opens what is folded around a turn.
+const opened = (turn) => setFolds(folds.flatMap((fold) => (turn >= fold.from && turn < fold.to ? [{ from: fold.from, to: turn - 3 }, { from: turn + 4, to: fold.to }] : [fold])));
 function extents() {
-  const w = Math.max(1, plot.clientWidth), h = Math.max(1, plot.clientHeight);
-  zoom.extent([[0, 0], [w, h]]).translateExtent([[-Infinity, -1.5], [Infinity, T + 1.5]]).scaleExtent([Math.min(1, (h / (T + 3))), 44]);
+  const w = Math.max(1, plot.clientWidth), h = Math.max(1, plot.clientHeight), high = rowOf(T);
+  zoom.extent([[0, 0], [w, h]]).translateExtent([[-Infinity, -1.5], [Infinity, high + 1.5]]).scaleExtent([Math.min(1, (h / (high + 3))), 44]);
 }
 function setView(k, centre) {
   extents();
@@ -85,33 +128,32 @@ function setView(k, centre) {
   plotted.call(zoom.transform, d3.zoomIdentity.translate(view.lastX, h / 2 - centre * k).scale(k));
   plotted.call(zoom.translateBy, 0, 0);
 }
-// Brings the turn that a snapshot failed by into the middle, and the turn that it came of into view where both fit; of a
+// Brings the turns by which a snapshot failed into view, with what lies between folded where there is no room for it; of a
 // consistent one, its whole cut where it fits.
 function lookAt(k) {
-  const told = words.snapshots[k - 1], h = plot.clientHeight;
+  const told = words.snapshots[k - 1], h = plot.clientHeight, isWhole = told.verdict === "consistent";
+  const keys = isWhole ? words.units.map((who, place) => cutOf(k, place)) : told.keys, from = Math.min(...keys), to = Math.max(...keys);
+  const fits = () => (rowOf(to) - rowOf(from) + 3) * 12 <= h;
+  setFolds([]);
   if (!h) return;
   show(state.turn);
-  const { k: row } = d3.zoomTransform(plot), both = (a, b) => setView(Math.max(12, Math.min(row, h / (Math.abs(a - b) + 3))), (a + b + 1) / 2);
-  const fits = (a, b) => (Math.abs(a - b) + 3) * 12 <= h;
-  if (told.turn !== null) {
-    const other = told.causeTurn === null ? told.turn : told.causeTurn;
-    if (Math.abs(other - told.turn) * row > h / 2 - 24 && fits(other, told.turn)) both(other, told.turn);
-    else setView(row, told.turn + 0.5);
-  } else if (told.verdict === "consistent") {
-    const cuts = words.units.map((who, place) => cutOf(k, place)), from = Math.min(...cuts), to = Math.max(...cuts);
-    if (fits(from, to)) both(from, to);
-    else show(state.turn, true);
-  }
+  if (!keys.length) return;
+  if (!isWhole && !fits()) setFolds(foldsOf(k));
+  const row = Math.max(17, d3.zoomTransform(plot).k), middle = (rowOf(from) + rowOf(to) + 1) / 2, near = rowOf(to) - rowOf(from);
+  if (told.turn !== null && (near * row <= h / 2 - 24 || !fits())) setView(row, rowOf(told.turn) + 0.5);
+  else if (fits()) setView(Math.max(12, Math.min(row, h / (near + 3))), middle);
+  else show(state.turn, true);
 }
 // Brings a turn into view, where it isn't, and the column of the unit at fault.
 function show(turn, force) {
   if (!plot.clientHeight) return;
+  if (foldAt(turn - 1)) opened(turn - 1);
   layColumns();
   const told = state.snapshot ? words.snapshots[state.snapshot - 1] : null, who = told && told.turn === turn - 1 ? told.unit : turn ? actor[turn - 1] : -1;
   const x = who >= 0 ? view.xs[who] : NaN, right = plot.clientWidth - 90;
   if (x < view.gutter || x > right) { view.pan += (view.gutter + right) / 2 - x; layColumns(); }
-  const { k, y } = d3.zoomTransform(plot), at = y + (turn - 0.5) * k, h = plot.clientHeight;
-  if (force || at < h * 0.06 || at > h * 0.94) setView(k, turn - 0.5);
+  const { k, y } = d3.zoomTransform(plot), middle = rowOf(turn - 1) + 0.5, at = y + middle * k, h = plot.clientHeight;
+  if (force || at < h * 0.06 || at > h * 0.94) setView(k, middle);
 }
 const MANY = 4000;
 function drawHeads() {
@@ -139,15 +181,15 @@ let segments = [];
 function drawTime() {
   const [w, h, context] = sized(plot), c = colours();
   const { k, y } = d3.zoomTransform(plot), xs = view.xs;
-  const at = (turn) => y + (turn + 0.5) * k;
-  const from = Math.max(0, Math.floor(-y / k)), to = Math.min(T, Math.ceil((h - y) / k));
-  segments = [];
+  const at = (turn) => y + rowOf(turn + 0.5) * k, edge = (turn) => y + rowOf(turn) * k;
+  const from = Math.max(0, Math.floor(turnOf(-y / k))), to = Math.min(T, Math.ceil(turnOf((h - y) / k)));
+  segments = []; labels = [];
   context.fillStyle = c.paper; context.fillRect(0, 0, w, h);
   const left = view.gutter - 10;
   context.save();
   context.beginPath(); context.rect(left, 0, w - left, h); context.clip();
   const s = state.snapshot, told = s ? words.snapshots[s - 1] : null, isWhole = told && told.verdict === "consistent";
-  const cut = s && told.verdict !== "not issued" ? (who) => { const turn = cutOf(s, unitOf.get(who)); return turn < 0 ? y + T * k + 6 : y + turn * k; } : null;
+  const cut = s && told.verdict !== "not issued" ? (who) => { const turn = cutOf(s, unitOf.get(who)); return turn < 0 ? edge(T) + 6 : edge(turn); } : null;
   const units = view.shown.filter((who) => unitOf.has(who)), half = view.width * 0.28;
   const along = (height) => { context.beginPath(); units.forEach((who, i) => { const x = xs[who], v = clamp(height(who)); i ? context.lineTo(x - half, v) : context.moveTo(x - half, v); context.lineTo(x + half, v); }); };
   const clamp = (v) => Math.max(-1e5, Math.min(1e5, v));
@@ -157,8 +199,9 @@ function drawTime() {
     context.fillStyle = isWhole ? c.shade : c["shade-failed"]; context.fill();
   }
   if (state.turn) { const v = at(state.turn - 1), tall = Math.max(2, k); context.fillStyle = c.now; context.fillRect(left, v - tall / 2, w, tall); }
-  for (const who of view.shown) { context.strokeStyle = unitOf.has(who) ? c.line : c.faint; context.lineWidth = 1.2; context.beginPath(); context.moveTo(xs[who], Math.max(0, y)); context.lineTo(xs[who], Math.min(h, y + T * k)); context.stroke(); }
-  const few = to - from <= MANY;
+  for (const fold of folds) { context.fillStyle = c.faint; context.fillRect(left, edge(fold.from) + 1, w, FOLD * k - 2); }
+  for (const who of view.shown) { context.strokeStyle = unitOf.has(who) ? c.line : c.faint; context.lineWidth = 1.2; context.beginPath(); context.moveTo(xs[who], Math.max(0, y)); context.lineTo(xs[who], Math.min(h, edge(T))); context.stroke(); }
+  const few = rowOf(to) - rowOf(from) <= MANY;
   if (few) { context.globalAlpha = isNarrowed(told) ? 0.3 : 1; arrows(context, c, from, to, k, at); context.globalAlpha = 1; }
   else density(context, c, from, to, k, y, h);
   for (const [look, marked] of marks(s, told)) marksOf(context, c, look, marked, k, at, h, few);
@@ -168,7 +211,7 @@ function drawTime() {
   }
   const found = readingOf(state.poll);
   if (found && units.length) {
-    along((who) => y + found.of.get(who) * k);
+    along((who) => edge(found.of.get(who)));
     context.setLineDash([2, 3]); context.strokeStyle = c.poll; context.lineWidth = 2.2; context.stroke(); context.setLineDash([]);
   }
   if (few && k >= 5) dots(context, c, from, to, k, at, s, told);
@@ -239,7 +282,10 @@ function each(from, to, call) {
 }
 function arrows(context, c, from, to, k, at) {
   const paths = { collect: [], spread: [], data: [] };
-  each(from, to, (m) => { const link = links[column.link[m]]; if (!Number.isNaN(view.xs[link.source]) && !Number.isNaN(view.xs[link.target])) paths[colourOf[kindOf(m)]].push(m); });
+  const drawn = new Set(), isFolded = (m) => foldAt(put[m]) && (column.take[m] < 0 || foldAt(column.take[m]));
+  const add = (m) => { const link = links[column.link[m]]; if (!Number.isNaN(view.xs[link.source]) && !Number.isNaN(view.xs[link.target])) paths[colourOf[kindOf(m)]].push(m); };
+  if (!folds.length) each(from, to, add);
+  else for (const [a, b] of stretches(from, to)) each(a, b, (m) => { if (!drawn.has(m) && !isFolded(m)) add(m); drawn.add(m); });
   for (const name of ["collect", "spread", "data"]) {
     context.strokeStyle = context.fillStyle = c[name]; context.lineWidth = name === "collect" ? 1 : k >= 5 ? 1.5 : 1;
     const crosses = [], tips = [];
@@ -265,7 +311,7 @@ function density(context, c, from, to, k, y, h) {
     sheet = { canvas, context: canvas.getContext("2d") };
     sheet.image = sheet.context.createImageData(width, high); sheet.pixels = new Uint32Array(sheet.image.data.buffer);
   }
-  const key = [from, to, k, y, ...view.shown].join();
+  const key = [from, to, k, y, folds.length, ...view.shown].join();
   if (sheet.key !== key) { sheet.key = key; fill(c, from, to, k, y, high, width); }
   context.imageSmoothingEnabled = false;
   context.drawImage(sheet.canvas, view.gutter + view.pan + view.width * 0.2, 0, view.shown.length * view.width, high);
@@ -279,7 +325,7 @@ function fill(c, from, to, k, y, high, width) {
   for (let t = from; t < to; t++) {
     const place = columnOf[actor[t]];
     if (place < 0) continue;
-    const row = (y + (t + 0.5) * k) | 0;
+    const row = (y + rowOf(t + 0.5) * k) | 0;
     if (row < 0 || row >= high) continue;
     const m = took[t], kind = m >= 0 ? kindOf(m) : -1, cell = row * width + place;
     if (kind <= KIND.frame && kind >= 0) pixels[cell] = pixels[cell + 1] = shades[kind];
@@ -289,7 +335,7 @@ function fill(c, from, to, k, y, high, width) {
 }
 function dots(context, c, from, to, k, at, s, told) {
   const r = Math.min(4, k / 3.2);
-  for (let t = from; t < to; t++) {
+  for (const [a, b] of stretches(from, to)) for (let t = a; t < b; t++) {
     const who = actor[t], x = view.xs[who], y = at(t);
     if (Number.isNaN(x)) continue;
     const unit = unitOf.get(who);
@@ -308,7 +354,9 @@ function spotsOf(told) {
   const isPending = told.verdict === "pending", lost = isPending && told.message !== null, spots = [];
   const more = told.verdict === "miscredited" ? lateOf(state.snapshot).length - 1 : 0;
   const said = { skipped: `skips ${state.snapshot}`, miscredited: more > 0 && isNarrowed(told) ? `too late, and ${more} more` : "too late", pending: lost ? "lost here" : "waits" }[told.verdict];
+  if (told.verdict === "miscredited") for (const turn of told.keys.slice(1, -1)) spots.push({ turn, who: told.unit, said: `moved on to ${column.id[turn]}`, cross: false, colour: "fault" });
   spots.push({ turn: told.turn, who: lost ? ends(told.message) : told.unit, said, cross: lost && isHidden(told.message), colour: isPending && !lost ? "pending" : "fault" });
+  for (const [, , lost] of told.steps) if (lost !== null && lost !== told.causeMessage && isLost(lost) && told.keys.includes(put[lost])) spots.push({ turn: put[lost], who: ends(lost), said: "lost too", cross: isHidden(lost), colour: "fault" });
   const m = told.causeMessage;
   if (m !== null && told.causeTurn !== null && told.causeTurn !== told.turn) spots.push({ turn: told.causeTurn, who: ends(m), said: isLost(m) ? "lost here" : "sent here", cross: isLost(m) && isHidden(m), colour: "fault" });
   return spots;
@@ -323,6 +371,18 @@ function spotMark(context, c, spot, here) {
   here.taken.push([x - 11, y - 11, x + 11, y + 11]);
   label(context, spot.said, [[x, y]], c[spot.colour], c.paper, here);
 }
+// The labels that are drawn, and what each means.
+let labels = [];
+function labelMeaning(said) {
+  const k = state.snapshot;
+  if (/^no cut/.test(said)) return `Snapshot ${k} failed: the line goes through the turns in which the units reached ${k} or went over it, and that is no cut.`;
+  if (/^cut .*\?$/.test(said)) return `Snapshot ${k} isn't finished: the line goes through the turns in which the units reached ${k}, and one or a channel of it hasn't.`;
+  if (/^cut/.test(said)) return `Cut ${k}: the turns in which the units reached ${k}. What they counted before are the snapshot's values.`;
+  if (/^skips/.test(said)) return `The unit goes over ${k} and saves nothing for it.`;
+  if (/^too late/.test(said)) return `A packet from before ${k} comes when its unit can't credit it to ${k} any more.`;
+  if (/^moved on/.test(said)) return "Here the unit goes on to a newer number, before the packet has come.";
+  return { "lost here": "The message is lost on its way.", "lost too": "A message is lost that would have brought the number over another channel.", "sent here": "The message is sent here.", waits: `The unit still waits for ${k} at the end.` }[said] || said;
+}
 // Writes a label where it covers least, beside one of its anchors or above or below it.
 const PLACES = [[1, 0], [-1, 0], [1, 1], [1, -1], [-1, 1], [-1, -1], [0, 1], [0, -1], [1, 2], [1, -2], [-1, 2], [-1, -2], [0, 2], [0, -2]];
 function label(context, said, anchors, fill, ink, here, edge) {
@@ -336,10 +396,11 @@ function label(context, said, anchors, fill, ink, here, edge) {
     for (const other of here.taken) if (meets(other, box)) cost += 200;
     for (const [m, x1, y1, x2, y2] of near) if (through({ x1, y1, x2, y2 }, m >= 0 && isLost(m) ? [l - 6, t - 6, l + wide + 6, t + high + 6] : box)) cost += 12;
     for (const who of view.shown) { const at = view.xs[who]; if (at > l && at < l + wide) cost += 1; }
-    if (here.k >= 5) for (let n = Math.max(here.from, Math.floor((t - 6 - here.y) / here.k)); n < Math.min(here.to, (t + high + 6 - here.y) / here.k); n++) { const at = view.xs[actor[n]]; if (at > l - 6 && at < l + wide + 6) cost += 25; }
+    if (here.k >= 5) for (let row = Math.floor((t - 6 - here.y) / here.k); row < (t + high + 6 - here.y) / here.k; row++) { const n = Math.floor(turnOf(row + 0.5)), at = n >= here.from && n < here.to ? view.xs[actor[n]] : NaN; if (at > l - 6 && at < l + wide + 6) cost += 25; }
     if (cost < least) { least = cost; best = box; from = [x, y]; }
   }
   here.taken.push(best);
+  labels.push({ box: best, said });
   const [l, t] = best;
   // A line to what it names, where it stands apart.
   const close = [Math.max(l, Math.min(l + wide, from[0])), Math.max(t, Math.min(t + high, from[1]))];
@@ -369,10 +430,11 @@ const edgeAt = (x, y) => edges.find(({ box: [l, t, r, b] }) => x >= l && x <= r 
 function rows(context, c, from, to, k, at, h) {
   context.textAlign = "left"; context.textBaseline = "middle"; context.font = '11px "DejaVu Sans Mono", ui-monospace, monospace';
   const step = k >= 12 ? 1 : [2, 5, 10, 20, 50, 100, 200, 500, 1000, 2000, 5000, 10000, 20000, 50000, 100000, 200000].find((n) => n * k >= 22) || 500000;
-  const start = Math.ceil((from + 1) / step) * step;
   // A name that is too long for its room is drawn narrower, and whole.
   const name = (n, x, y) => { const said = turnName(n - 1), room = view.gutter - 12 - x; context.fillText(said, x, y, ...(6.7 * said.length > room ? [room] : [])); };
-  for (let n = start; n <= to; n += step) {
+  context.fillStyle = c.dim;
+  for (const fold of folds) context.fillText(`⋮ ${many(fold.to - fold.from, "turn")} folded`, 6, (at(fold.from - 1) + at(fold.to)) / 2, view.gutter - 18);
+  for (const [a, b] of stretches(from, to)) for (let n = Math.ceil((a + 1) / step) * step; n <= b; n += step) {
     const y = at(n - 1);
     if (n === state.turn) continue;
     if (k < 12 && state.turn && Math.abs(y - at(state.turn - 1)) < 14) continue;
@@ -397,5 +459,5 @@ function names(context, c, cut, found, units, half, here) {
     const { verdict } = words.snapshots[state.snapshot - 1];
     tag(verdict === "consistent" ? `cut ${state.snapshot}` : verdict === "pending" ? `cut ${state.snapshot}?` : `no cut ${state.snapshot}`, cut, verdict === "consistent" ? c.consistent : c.dim);
   }
-  if (found) tag(found.broken < 0 ? "whole reading" : "broken reading", (who) => here.y + found.at[unitOf.get(who)] * here.k, c.poll);
+  if (found) tag(found.broken < 0 ? "whole reading" : "broken reading", (who) => here.y + rowOf(found.at[unitOf.get(who)]) * here.k, c.poll);
 }

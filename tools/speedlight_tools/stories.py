@@ -209,8 +209,9 @@ class Stories:
         if skips:
             found.append(f"{self.turns_in_words(skips)} {'go' if skips[1:] else 'goes'} over {k} too.")
         if late:
-            what = "more packets come too late and are" if late[1:] else "more packet comes too late and is"
-            found.append(f"{len(late)} {what} missing from snapshot {k}: to {self.turns_in_words(late)}.")
+            what = "packets come too late and are" if late[1:] else "packet comes too late and is"
+            number = f"{len(late)} more" if verdict.verdict == "miscredited" else len(late)
+            found.append(f"{number} {what} missing from snapshot {k}: to {self.turns_in_words(late)}.")
         return " ".join(found) or None
 
     @staticmethod
@@ -322,11 +323,14 @@ class Stories:
         found = [self.first_reason(unit, k, first)]
         if first.rank > ROOT:
             found = [Step(None, others_in_words(k, [first, *rest], "Until then {} doesn't come"))]
-        for reason in rest if first.rank <= ROOT else [first, *rest]:
-            words = f"{a_number(k).capitalize()} doesn't come to {unit} {channel_name(reason.link)}: {reason.told}."
-            message = reason.message or reason.root
-            found.append(Step(reason.place, words, None if message is None else message.place, link=reason.link))
-        return found
+        return found + [self.other_reason(unit, k, reason) for reason in (rest if first.rank <= ROOT else [first, *rest])]
+
+    @staticmethod
+    def other_reason(unit, k, reason):
+        """Why a further channel brought no such number, as a step."""
+        words = f"{a_number(k).capitalize()} doesn't come to {unit} {channel_name(reason.link)}: {reason.told}."
+        message = reason.message or reason.root
+        return Step(reason.place, words, None if message is None else message.place, link=reason.link)
 
     def sends(self, message, how=""):
         """That a message is sent, in words, with what is said of its sender."""
@@ -406,7 +410,12 @@ class Stories:
         k, source, unit = verdict.number, self.source, verdict.unit
         found = self.lags(k, unit, verdict.channel, verdict.other, [])
         if verdict.channel != "id":
-            found.append(Step(self.world.crossing(unit, k).place, f"{unit} reaches {k} itself, and saves its counters."))
+            turn = self.world.crossing(unit, k)
+            saves = "and saves its counters" if turn.id == k else f"and goes to {turn.id} at once"
+            found.append(Step(turn.place, f"{unit} reaches {k} itself, {saves}."))
+        else:
+            told = {s.link for s in found}
+            found += [self.other_reason(unit, k, r) for r in self.reasons(verdict) if r.link not in told]
         resends = sum(len(turns) for turns in self.resends.values())
         for turn in self.resends.get(k, [])[:MOST_STEPS]:
             found.append(Step(turn.place, f"The observer begins snapshot {k} once more, as it isn't collected."))

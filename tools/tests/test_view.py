@@ -469,7 +469,7 @@ class Page(unittest.TestCase):
         self.assertEqual(self.browser.run("return document.querySelectorAll('body [title]').length"), 0)
         colours = "return [...new Set([...document.querySelectorAll('#snapshots .skipped, #snapshots .miscredited')].map(b => getComputedStyle(b).color))].length"
         self.assertEqual(self.browser.run(colours), 1)
-        for place, part in (("#verdict abbr", "the channel over the crossbar"), ("#fold", "Folds what lies"), ("#help-open", "Keys")):
+        for place, part in (("#verdict abbr", "the channel over the crossbar"), ("#fold", "Folds what lies"), ("#help-open", "Words")):
             self.browser.point(place)
             self.assertIn(part, self.browser.text("#tip"))
             inside = "const b = document.getElementById('tip').getBoundingClientRect(); return b.left >= 0 && b.right <= innerWidth && b.top >= 0 && b.bottom <= innerHeight"

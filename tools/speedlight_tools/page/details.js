@@ -22,16 +22,20 @@ const MEANING = {
   notice: "a notice: a unit tells its control plane that a number changed", poll: "a poll: a control plane asks a unit for its registers", dump: "a dump: a unit answers a poll with its registers",
   Begin: "a Begin: the observer asks a control plane to begin a snapshot", Done: "a Done: a control plane reports to the observer what it collected", cable: "the channel over the cable, from the unit at its other end",
 };
+// A link within a sentence. What it shows has an address of its own, and a click shows it here.
+function inline(said, title, address, call, kind = "") {
+  return made("a", { class: `inline${kind}`, title, href: `#${state.snapshot ? `snapshot=${state.snapshot}&` : ""}${address}`, onclick: (event) => { event.preventDefault(); call(); } }, said);
+}
 // A sentence with its turns as links and its words explained; `own` is a turn that stands beside it already.
 function explained(text, own) {
   const ofCrossbar = (word) => `${word}: the channel over the crossbar inside the switch, from the ingress unit of port ${word.slice(1)}`;
   return text.split(/\b(turn \d+|(?:in|out) [\w-]+\.\d+|initiation|probe|notice|poll|dump|Begin|Done|(?<=over the )cable|(?<=over )x\d+)\b/).map((part, i) => {
     if (i % 2 === 0) return part;
     const who = actorOf.get(part);
-    if (who !== undefined) return made("button", { class: "inline unit-name", title: `Say more of unit ${part}`, onclick: () => change({ unit: who, tab: "unit" }) }, part);
+    if (who !== undefined) return inline(part, `Say more of unit ${part}`, `unit=${part.replace(" ", "_")}`, () => change({ unit: who, tab: "unit" }), " unit-name");
     const turn = /^turn (\d+)$/.exec(part);
     if (!turn) return made("abbr", { title: MEANING[part] || ofCrossbar(part), tabindex: 0 }, part);
-    return Number(turn[1]) - 1 === own ? part : made("button", { class: "inline", title: `Go to ${part}, and say what it did`, onclick: () => goTo(Number(turn[1]) - 1) }, part);
+    return Number(turn[1]) - 1 === own ? part : inline(part, `Go to ${part}, and say what it did`, `turn=${turn[1]}`, () => goTo(Number(turn[1]) - 1));
   });
 }
 // What a choice of an actor is, as the trace spells it.

@@ -3,9 +3,12 @@
 Time goes down, a row for each turn; each actor has a column.
 """
 
-from bisect import bisect_left
+import re
+from bisect import bisect_left, bisect_right
 from html import escape
 from textwrap import wrap
+
+from .stories import moved_on
 
 # Rows begin at TOP where one line is said of the verdict, and a LINE lower for each further one.
 ROW, TOP, LINE = 17, 104, 16
@@ -39,18 +42,24 @@ MONO = "DejaVu Sans Mono, Consolas, monospace"
 class Drawing:
     """The picture of a world's turns with the cut of one snapshot.
 
-    `actors` are those that have a column, `turns` the first and the last place that has a row. `whys` are the sentences
-    on the verdict. `pace` is where the units are polled: the first after so many turns, each further one after so many
-    more.
+    `actors` are those that have a column, `turns` the first and the last place that has a row, `rows` the places that do
+    where some between don't. `whys` are the sentences on the verdict. `pace` is where the units are polled: the first after
+    so many turns, each further one after so many more.
     """
 
-    def __init__(self, world, verdict, whys, actors, turns, pace=None):
+    def __init__(self, world, verdict, whys, actors, turns, pace=None, rows=None):
         self.world, self.verdict, self.snapshot = world, verdict, verdict.number
         net = world.net
         self.first, self.last = turns
         self.columns = [a for a in ordered(world) if a in actors]
         self.units = [a for a in self.columns if a in world.ids]
         self.shown = [t.place for t in world.turns if t.actor in self.columns and self.first <= t.place <= self.last]
+        # The rows above which some are left out.
+        self.gaps, self.kept = [], set(rows or ())
+        if rows is not None:
+            whole, self.shown = self.shown, rows
+            places = {place: i for i, place in enumerate(whole)}
+            self.gaps = [i for i in range(1, len(rows)) if places[rows[i]] > places[rows[i - 1]] + 1]
         self.colour, self.shade_colour = LOOKS[verdict.verdict]
         self.cut_colour = self.colour if verdict.verdict == "consistent" else "#6a6a6a"
         self.cuts = {u: world.crossing(u, self.snapshot) for u in net.units}
@@ -67,14 +76,14 @@ class Drawing:
         self.is_long = len(self.shown) > SCREEN
         self.width = self.side + 500 if self.is_long else max(self.side - 16, 900)
         # A letter of this size takes seven units at most, but for the widest.
-        self.said = [line for words in whys for line in wrap(words, (self.width - 80) // 7)]
+        self.said = [line for words in whys for line in lines_of(words, (self.width - 80) // 7)]
         self.top = TOP + LINE * (len(self.said) - 1)
         self.bottom = self.row_y(len(self.shown) - 1) + 2 * ROW if self.shown else self.top + ROW
         self.parts = []
 
     def row_y(self, row):
-        """The height of a row: the bands with the names of the columns stand between."""
-        return self.top + ROW * row + BAND * (max(row, 0) // SCREEN)
+        """The height of a row: the bands with the names of the columns stand between, and a row for what is left out."""
+        return self.top + ROW * (row + bisect_right(self.gaps, row)) + BAND * (max(row, 0) // SCREEN)
 
     def y(self, place):
         """The height of a turn: that of its row, or between two rows where it has none."""
@@ -125,6 +134,8 @@ class Drawing:
         if message.link.source not in self.xs or message.link.target not in self.xs:
             return False
         took = message.put.place if message.take is None else message.take.place
+        if self.gaps and message.put.place not in self.kept and took not in self.kept:
+            return False
         return message.put.place <= self.last and took >= self.first
 
     def add(self, name, text=None, **attributes):
@@ -209,6 +220,9 @@ class Drawing:
             turn, y = self.world.turns[place], self.y(place)
             self.text(str(place + 1), 30, y + 4, GREY, 11, text_anchor="end")
             self.text(f"{turn.actor} {turn.choice}", 40, y + 4, INK, 11, font_family=MONO)
+        for row in self.gaps:
+            turns = self.shown[row] - self.shown[row - 1] - 1
+            self.text(f"\u22ee {turns} turns left out", 40, self.row_y(row) + 4, GREY, 11)
 
     def lives(self):
         for actor in self.columns:
@@ -349,6 +363,10 @@ class Drawing:
             if turn.place in self.shown:
                 self.label(turn, f"late, at {turn.id}")
         v = self.verdict
+        if v.verdict == "miscredited":
+            turn = moved_on(self.world, v)
+            if turn.place in self.shown and turn.actor in self.xs:
+                self.label(turn, f"on to {turn.id}")
         if v.verdict == "pending" and v.unit in self.xs:
             words = f"id {v.other}" if v.channel == "id" else f"{v.channel} {v.other}"
             self.box(self.xs[v.unit] - 3.5 * len(words) - 5, self.bottom - 6, words)
@@ -456,6 +474,12 @@ class Drawing:
     def sample_dot(self, x, y, is_before):
         look = {"fill": PAPER, "stroke": INK, "stroke_width": 1.6} if is_before else {"fill": INK}
         self.add("circle", cx=x + 22, cy=y, r=4, **look)
+
+
+def lines_of(words, most):
+    """Words in lines of so many letters, in which a unit's name, a turn and a snapshot stay whole."""
+    tied = re.sub(r"\b(in|out|turn|snapshot) (?=\S+\.\d|\d)", "\\1\u00a0", words)
+    return [line.replace("\u00a0", " ") for line in wrap(tied, most)]
 
 
 def ordered(world):

@@ -35,6 +35,12 @@ def crediting(world, verdict):
     return next(t for t in world.late(verdict.number) if t.actor == verdict.unit and t.written == verdict.other)
 
 
+def moved_on(world, verdict):
+    """The turn from which on the unit at fault could not credit a packet to the number any more: it saved so many above it."""
+    place = bisect_left(world.adopted[verdict.unit], verdict.number) + world.credits
+    return world.adopting[verdict.unit][place]
+
+
 def name_of(world, message):
     """A message in words: a packet by its hosts and number, others by their kind and number."""
     if message.kind == "frame":
@@ -128,7 +134,7 @@ class Stories:
         """The places of the few turns that show how a failed or pending snapshot came about, in order."""
         places = {self.cause(verdict)[1], self.fault(verdict)[0]}
         if verdict.verdict == "miscredited":
-            places.add(self.moved_on(verdict).place)
+            places.add(moved_on(self.world, verdict).place)
         if verdict.verdict == "skipped":
             told = [r.message or r.root for r in self.reasons(verdict)]
             places |= {m.put.place for m in [m for m in told if m is not None][:MOST_KEYS]}
@@ -250,7 +256,7 @@ class Stories:
         k, unit, turn = verdict.number, verdict.unit, crediting(self.world, verdict)
         saved = bisect_right(self.world.adopting[unit], turn.place, key=lambda t: t.place)
         needed, credits = saved - bisect_left(self.world.adopted[unit], k), self.source.snapshot["credits"]
-        words = f"the packet had come to {unit} before turn {self.moved_on(verdict).place + 1}"
+        words = f"the packet had come to {unit} before turn {moved_on(self.world, verdict).place + 1}"
         return f"{words}, or with credits = {needed} in place of {credits}" if needed <= MOST_CREDITS else words
 
     def right_of_pending(self, verdict):
@@ -369,29 +375,25 @@ class Stories:
 
     # Of a miscredited one.
 
-    def moved_on(self, verdict):
-        """The turn from which on the unit could not credit the packet to the number any more: it saved so many above it."""
-        unit = verdict.unit
-        place = bisect_left(self.world.adopted[unit], verdict.number) + self.source.snapshot["credits"]
-        return self.world.adopting[unit][place]
-
     def overtaken(self, verdict):
         """Which packet was sent, and what moved its unit on before it came, in a sentence, with the packet's place."""
-        k, turn, on = verdict.number, crediting(self.world, verdict), self.moved_on(verdict)
+        k, turn, on = verdict.number, crediting(self.world, verdict), moved_on(self.world, verdict)
         packet, took = turn.took, on.took
         words = f"At turn {packet.put.place + 1} {self.sends(packet, f', still at {packet.stamp},')}. "
         words += f"Before it comes, at turn {on.place + 1}, {verdict.unit} takes the {name_of(self.world, took)} {channel_name(took.link)}{carried(took)}: "
-        words += f"it goes on from {on.before} to {on.id}. Snapshot {k} was issued at turn {self.issues[k].place + 1}, snapshot {on.id} at turn {self.issues[on.id].place + 1}."
+        issued = [f"at turn {self.issues[n].place + 1}" for n in (k, on.id)]
+        words += f"it goes on from {on.before} to {on.id}. Snapshot {k} was issued {issued[0]}, snapshot {on.id} {issued[1]}."
         return words, packet.put.place, packet.place
 
     def too_late(self, verdict):
         """What the unit does in the turn in which the packet comes."""
         turn, k, credits = crediting(self.world, verdict), verdict.number, self.source.snapshot["credits"]
         to = f"snapshot {verdict.other} alone" if credits == 1 else f"its last {credits} saved snapshots, {verdict.other} and above"
-        return f"the {name_of(self.world, turn.took)} comes to {verdict.unit}, which is at {turn.id} already and can credit it to {to}: so it is missing from snapshot {k}."
+        words = f"the {name_of(self.world, turn.took)} comes to {verdict.unit}, which is at {turn.id} already and can credit it to {to}"
+        return f"{words}: so it is missing from snapshot {k}."
 
     def miscredited(self, verdict):
-        world, k, turn, on = self.world, verdict.number, crediting(self.world, verdict), self.moved_on(verdict)
+        world, k, turn, on = self.world, verdict.number, crediting(self.world, verdict), moved_on(self.world, verdict)
         packet, unit = turn.took, verdict.unit
         reached = world.crossing(unit, k)
         words = f"{self.sends(packet, f' is at {packet.stamp}, so it has not reached {k}, and')}. "

@@ -13,6 +13,7 @@ from speedlight_tools import program
 from speedlight_tools.inputs import read_input
 from speedlight_tools.replay import replay
 from speedlight_tools.reports import read_report
+from speedlight_tools.stories import Stories
 
 # The drawings in docs, with the options that they are drawn with.
 DRAWINGS = {
@@ -65,7 +66,7 @@ class Diagram(unittest.TestCase):
         marks = {
             "two_in_flight": ["snapshot 1 consistent", "cut 1", "2"],
             "lost_initiation": ["snapshot 1 inconsistent in a.0 skipped to 2", "no cut 1", "0 to 2"],
-            "too_late_packet": ["snapshot 1 inconsistent out a.1 miscredited by 2", "no cut 1", "late, at 2"],
+            "too_late_packet": ["snapshot 1 inconsistent out a.1 miscredited by 2", "no cut 1", "on to 2", "late, at 2"],
             "dead_cable": ["snapshot 1 pending in a.1 cable 0", "cut 1?", "cable 0", "lost where the snapshot waits"],
         }
         for name, wanted in marks.items():
@@ -166,6 +167,12 @@ class Diagram(unittest.TestCase):
             whole = run("diagram", path, "--snapshot", number, "--turns", f"{first + 1}-{last + 1}", data=told)
             self.assertEqual(whole[0], 0, whole[2])
             self.assertLess(drawn[1].count("<line"), whole[1].count("<line") / 5)
+            # What lies between the turns that it tells of is left out, and said.
+            turns = [int(w) for w in self.words(drawn[1]) if w.isdecimal()]
+            self.assertTrue([w for w in self.words(drawn[1]) if re.fullmatch("\u22ee \\d+ turns left out", w)])
+            told = Stories(world, read_input(path), [world.verdict(number)]).steps(world.verdict(number))
+            self.assertTrue({step.place + 1 for step in told if step.message is not None} <= set(turns))
+            self.assertEqual(turns, sorted(turns))
 
     def test_which_turns_the_cut_needs(self):
         for words in (["--turns", "x"], ["--turns", "999-1000"]):

@@ -143,7 +143,8 @@ class Runs(unittest.TestCase):
         self.assertIn(f"it goes to {turn.id} at once, and saves nothing for snapshot {k}.", said)
         first = stories.whys(snapshot)[0]
         reasons = {r.link.spelling: r for r in stories.reasons(snapshot)}
-        self.assertEqual(set(reasons), {link.spelling for link in world.net.links.values() if link.target == unit and link.sort in ("init", "cable", "crossbar")})
+        sorts = ("init", "cable", "crossbar")
+        self.assertEqual(set(reasons), {k for k, link in world.net.links.items() if link.target == unit and link.sort in sorts})
         steps = " ".join(step.words for step in stories.steps(snapshot))
         for reason in reasons.values():
             self.assertIn(reason.link.source, first)

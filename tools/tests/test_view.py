@@ -467,12 +467,14 @@ class Page(unittest.TestCase):
         self.browser.open(page)
         self.assertEqual({"skipped", "miscredited"}, {s.verdict for s in report.snapshots} - {"consistent"})
         self.assertEqual(self.browser.run("return document.querySelectorAll('body [title]').length"), 0)
-        colours = "return [...new Set([...document.querySelectorAll('#snapshots .skipped, #snapshots .miscredited')].map(b => getComputedStyle(b).color))].length"
+        failed = "[...document.querySelectorAll('#snapshots .skipped, #snapshots .miscredited')]"
+        colours = f"return [...new Set({failed}.map(b => getComputedStyle(b).color))].length"
         self.assertEqual(self.browser.run(colours), 1)
         for place, part in (("#verdict abbr", "the channel over the crossbar"), ("#fold", "Folds what lies"), ("#help-open", "Words")):
             self.browser.point(place)
             self.assertIn(part, self.browser.text("#tip"))
-            inside = "const b = document.getElementById('tip').getBoundingClientRect(); return b.left >= 0 && b.right <= innerWidth && b.top >= 0 && b.bottom <= innerHeight"
+            inside = """const b = document.getElementById('tip').getBoundingClientRect();
+                return b.left >= 0 && b.right <= innerWidth && b.top >= 0 && b.bottom <= innerHeight"""
             self.assertTrue(self.browser.run(inside))
         self.browser.size(1280, 500)
         self.browser.click("#help-open")
@@ -483,9 +485,10 @@ class Page(unittest.TestCase):
         self.assertEqual(self.browser.told(), [])
 
     def test_small_text_is_left_out(self):
-        """Of a large net too: what is written in the picture has ten pixels, numbers nine, or isn't there; the unit at fault has its name."""
-        code = """return [...document.querySelectorAll('#picture text')].filter(t => t.textContent && t.style.display !== 'none' && parseFloat(getComputedStyle(t).fontSize))
-            .map(t => [t.textContent, parseFloat(getComputedStyle(t).fontSize) * t.getScreenCTM().a])"""
+        """Of a large net too: what is written in the picture has ten pixels, numbers nine, or isn't there; who is at fault has a name."""
+        code = """const size = (t) => parseFloat(getComputedStyle(t).fontSize);
+            return [...document.querySelectorAll('#picture text')].filter(t => t.textContent && t.style.display !== 'none' && size(t))
+            .map(t => [t.textContent, size(t) * t.getScreenCTM().a])"""
         for name in ("fat_tree", "ring_of_window_3", "leaf_spine_with_losses"):
             page, report = built(name, self.folder.name, self.program)[1:3]
             self.browser.open(page)

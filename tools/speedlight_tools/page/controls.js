@@ -19,6 +19,9 @@ function pointed(event) {
 for (const name of ["mouseover", "focusin"]) document.addEventListener(name, pointed);
 for (const name of ["focusout", "click"]) document.addEventListener(name, () => { tipped = null; tip(null); });
 for (const element of document.querySelectorAll("[data-tip]")) element.setAttribute("aria-description", element.dataset.tip);
+const labelAt = (x, y) => labels.find(({ box: [l, t, r, b] }) => x >= l && x <= r && y >= t && y <= b);
+// Shows the list of the packets that came too late.
+function listLate() { change({ tab: "snapshot" }); panel(); if ($("late")) $("late").scrollIntoView(); }
 function nearest(x, y) {
   let best = 7, found = -1;
   for (const [m, x1, y1, x2, y2] of segments) {
@@ -33,7 +36,7 @@ plot.addEventListener("mousemove", (event) => {
   const edge = edgeAt(event.offsetX, event.offsetY);
   plot.style.cursor = edge ? "pointer" : "";
   if (edge) return tip(event, `${edge.said}\nA click leads there.`);
-  const named = labels.find(({ box: [l, t, r, b] }) => event.offsetX >= l && event.offsetX <= r && event.offsetY >= t && event.offsetY <= b);
+  const named = labelAt(event.offsetX, event.offsetY);
   if (named) return tip(event, labelMeaning(named.said));
   const m = event.offsetX > view.gutter - 10 ? nearest(event.offsetX, event.offsetY) : -1;
   const { k, y } = d3.zoomTransform(plot), t = Math.floor(turnOf((event.offsetY - y) / k)), fold = foldAt(t);
@@ -47,6 +50,8 @@ plot.addEventListener("click", (event) => {
   if (event.defaultPrevented) return;
   const edge = edgeAt(event.offsetX, event.offsetY);
   if (edge) { change({ turn: edge.turn + 1 }); return show(edge.turn + 1); }
+  const named = labelAt(event.offsetX, event.offsetY);
+  if (named && / more$/.test(named.said)) return listLate();
   const m = event.offsetX > view.gutter - 10 ? nearest(event.offsetX, event.offsetY) : -1;
   if (m >= 0 && column.packet[m] >= 0) return change({ packet: column.packet[m], tab: "packet" });
   const { k, y } = d3.zoomTransform(plot), t = Math.floor(turnOf((event.offsetY - y) / k)), fold = foldAt(t);

@@ -213,7 +213,7 @@ function latePart(k) {
   const late = failed(k) ? lateOf(k) : [];
   if (!late.length) return [];
   const rows = late.slice(0, MOST_LATE).map((m) => [toPacket(column.packet[m]), made("span", {}, toUnit(links[column.link[m]].target)), toTurn(put[m], String(put[m] + 1)), toTurn(column.take[m], String(column.take[m] + 1))]);
-  const parts = [made("h2", {}, `Packets that came too late, missing from snapshot ${k}: ${late.length}`), table(["packet", "to", "sent at turn", "came at turn"], rows)];
+  const parts = [made("h2", { id: "late" }, `Packets that came too late, missing from snapshot ${k}: ${late.length}`), table(["packet", "to", "sent at turn", "came at turn"], rows)];
   if (late.length > MOST_LATE) parts.push(made("p", { class: "dim" }, `and ${late.length - MOST_LATE} more`));
   return parts;
 }

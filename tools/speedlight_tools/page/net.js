@@ -69,7 +69,7 @@ const least = (count, of) => { let found = Infinity; for (let i = 0; i < count; 
 const TEXTS = {
   name: [15, least(words.devices.length, (i) => (2 * (words.layout.devices[words.devices[i].name][2] - 14)) / (0.7 * words.devices[i].name.length))],
   host: [12, least(words.hosts.length, (i) => Math.min(20, (Math.max(34, 9 * words.hosts[i].name.length + 12) - 4) / (0.65 * words.hosts[i].name.length)))],
-  number: [9.5, HIGHEST < 10 ? 16.5 : 13.5], long: [9.5, 10.5], side: [9.5, 11], value: [10, 12], told: [9.5, 12], badge: [10, 16],
+  number: [9.5, HIGHEST < 10 ? 16.5 : 13.5], long: [9.5, 10.5], side: [9.5, 11], value: [10, 14.5], told: [9.5, 12], badge: [10, 16],
 };
 let zoomed1 = 1;
 function scaleNames(by = zoomed1) {
@@ -174,6 +174,9 @@ function unitTip(who) {
 let drawnIds = new Float64Array(U).fill(-1), drawnNet = "", drawnActing = -1, drawnChosen = "";
 // What changes with the chosen snapshot and packet alone: the values, and the way of the packet.
 function drawChosen(k, told) {
+  culprit = told && told.verdict !== "consistent" ? told.unit : -1;
+  svg.select(".culprit").attr("class", `culprit ${told && waits(told) ? "waits" : "failed"}`);
+  scaleNames();
   svg.selectAll(".side").style("display", told && told.verdict === "consistent" ? "none" : null);
   svg.selectAll(".value").each(function () {
     this.textContent = "";
@@ -192,9 +195,6 @@ function updateNet() {
   if (key === drawnNet) return;
   drawnNet = key;
   $("net-turn").textContent = now;
-  culprit = told && told.verdict !== "consistent" ? told.unit : -1;
-  svg.select(".culprit").attr("class", `culprit ${told && waits(told) ? "waits" : "failed"}`);
-  scaleNames();
   const acting = now ? actor[now - 1] : -1;
   svg.selectAll(".unit").each(function (_, place) {
     const who = actorOf.get(this.dataset.unit), id = idAt(who, now), unit = unitOf.get(who);

@@ -379,7 +379,7 @@ function labelMeaning(said) {
   if (/^cut .*\?$/.test(said)) return `Snapshot ${k} isn't finished: the line goes through the turns in which the units reached ${k}, and one or a channel of it hasn't.`;
   if (/^cut/.test(said)) return `Cut ${k}: the turns in which the units reached ${k}. What they counted before are the snapshot's values.`;
   if (/^skips/.test(said)) return `The unit goes over ${k} and saves nothing for it.`;
-  if (/^too late/.test(said)) return `A packet from before ${k} comes when its unit can't credit it to ${k} any more.`;
+  if (/^too late/.test(said)) return `A packet from before ${k} comes when its unit can't credit it to ${k} any more.${/ more$/.test(said) ? "\nA click lists all of them." : ""}`;
   if (/^moved on/.test(said)) return "Here the unit goes on to a newer number, before the packet has come.";
   return { "lost here": "The message is lost on its way.", "lost too": "A message is lost that would have brought the number over another channel.", "sent here": "The message is sent here.", waits: `The unit still waits for ${k} at the end.` }[said] || said;
 }

@@ -95,7 +95,7 @@ class Stories:
                 self.issues[count] = turn
             elif turn.actor == "observer" and turn.choice == "resend":
                 self.resends.setdefault(count, []).append(turn)
-        silent = {s.unit for s in snapshots if s.verdict == "skipped" or s.verdict == "pending"}
+        silent = {s.unit for s in snapshots if s.verdict in ("skipped", "pending")}
         self.channels = Channels(world, silent, lambda message: name_of(world, message))
         self.lost = {}
         if any(s.verdict == "pending" for s in snapshots):
@@ -240,12 +240,9 @@ class Stories:
     def right_of_skipped(self, verdict):
         k, unit, turn = verdict.number, verdict.unit, skipping(self.world, verdict)
         first, saved = self.reasons(verdict)[0], f"{unit} would have saved its counters for snapshot {k}"
-        if first.rank == LOST:
-            name = name_of(self.world, first.message)
-            return f"the {name}, lost at turn {first.place + 1}, had come to {unit} before turn {turn.place + 1}: {saved}"
-        if first.rank == LATE:
-            name = name_of(self.world, first.message)
-            return f"the {name}, sent at turn {first.place + 1}, had come to {unit} before turn {turn.place + 1}: {saved}"
+        if first.rank in (LOST, LATE):
+            words = f"the {name_of(self.world, first.message)}, {'lost' if first.rank == LOST else 'sent'} at turn {first.place + 1}, had come"
+            return f"{words} to {unit} before turn {turn.place + 1}: {saved}"
         if first.rank == ROOT:
             root, sender = first.root, first.link.source
             words = f"the {name_of(self.world, root)} to {root.link.target}, lost at turn {root.put.place + 1}, had come"
@@ -265,7 +262,7 @@ class Stories:
         ways = self.channels.links(unit) if verdict.channel == "id" else [links[f"{unit} {verdict.channel}"]]
         message = self.cause(verdict)[2]
         over = channel_name(ways[0]) if len(ways) == 1 else "to it"
-        if message is None:
+        if message is None or verdict.channel == "id" and self.world.messages[message].stamp != k:
             words = f"{a_number(k)} had come {over}"
         else:
             m = self.world.messages[message]

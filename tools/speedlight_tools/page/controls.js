@@ -242,6 +242,7 @@ if (innerWidth <= 700) { $("marks").open = false; $("search").placeholder = "Fin
 verdictBanner();
 extents();
 setView(Math.max(zoom.scaleExtent()[0], 17), rowOf(state.turn - 0.5));
+setFolds([]);
 if (plot.clientHeight) atOnce();
 view.high = plot.clientHeight;
 requestAnimationFrame((now) => { frame(now); window.speedlight.ready = true; });

@@ -5,6 +5,15 @@ from dataclasses import dataclass
 
 # How much a reason tells of what a snapshot failed by: what is told first comes first.
 LOST, LATE, ROOT, OTHER = range(4)
+# So many channels with a reason of one kind have one clause.
+MANY = 3
+OF_MANY = {
+    "lost": "it is lost on each, at turns {turns}",
+    "late": "it comes too late on each, at turns {came}",
+    "over": "their units go over {number} themselves, at turns {turns}",
+    "below": "their units are still below {number}",
+    "silent": "their units reach {number}, but send nothing with it here",
+}
 
 
 def joined(words):
@@ -153,10 +162,11 @@ def others_in_words(number, reasons, begin="Nor does {} come"):
     parts = []
     for kind in dict.fromkeys(r.kind for r in reasons):
         same = [r for r in reasons if r.kind == kind]
-        if len(same) < 3 or kind not in ("over", "below"):
+        if len(same) < MANY or kind not in OF_MANY:
             parts += [f"{channel_name(r.link)} ({r.told})" for r in same]
             continue
-        does = f"goes over {number} itself, at turns {joined(str(r.place + 1) for r in same)}" if kind == "over" else f"is still below {number}"
-        choices = joined(r.link.spelling.rpartition(" ")[2] for r in same)
-        parts.append(f"over {choices} from {joined(r.link.source for r in same)} (each {does})")
+        turns = joined(str(r.place + 1) for r in same)
+        came = joined("never" if r.message is None or r.message.take is None else str(r.message.take.place + 1) for r in same)
+        ways = joined(r.link.spelling.rpartition(" ")[2] for r in same)
+        parts.append(f"over {ways} ({OF_MANY[kind].format(number=number, turns=turns, came=came)})")
     return f"{begin} {', nor '.join(parts)}."

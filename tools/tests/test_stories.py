@@ -68,6 +68,25 @@ class Sentences(unittest.TestCase):
             "that unit is still at 0 itself, and goes over 1 at turn 27 only, as the initiation 1 to in b.0 is lost at turn 6.",
         )
 
+    def test_many_channels_have_few_clauses(self):
+        """Of a switch with five ports, on which probes are lost or late."""
+        text = """device = [{name = "a", ports = 5}]
+host = [{name = "h0", at = "a.0"}, {name = "h1", at = "a.1"}, {name = "h2", at = "a.2"}, {name = "h3", at = "a.3"}, {name = "h4", at = "a.4"}]
+snapshot = {bits = 2, window = 2, ring = 2, count = 2, retries = 0}
+"""
+        lost = ", ".join(f'{{link = "out a.0 x{q}", n = 1}}' for q in range(1, 5))
+        entries = [*["observer issue"] * 2, *["control a begin"] * 2, *["in a.0 init"] * 2, "out a.0 x0", *(f"in a.{q} init" for q in range(1, 5))]
+        stories, snapshots = ran(f'{text}loss = {{drop = [{{link = "out a.0 x0", n = 1}}, {lost}]}}\nscript = {{entries = {entries}}}\n')
+        self.assertEqual(snapshots[0].line, "snapshot 1 inconsistent out a.0 skipped to 2")
+        self.assertRegex(
+            stories.whys(snapshots[0])[0],
+            r"^At turn 5 in a.0 sends the probe 1 over x0 to out a.0: it is lost on the way. Nor does a 1 come over x1, x2, x3 and x4 "
+            r"\(their units are still below 1\)\.$",
+        )
+        steps = " ".join(step.words for step in stories.steps(snapshots[0]))
+        for q in range(1, 5):
+            self.assertIn(f"A 1 doesn't come to out a.0 over x{q} from in a.{q}: that unit is still at 0 itself", steps)
+
     def test_a_host_brings_no_numbers(self):
         stories, snapshots = ran((EXAMPLES / "lost_initiation.toml").read_text())
         self.assertTrue(stories.whys(snapshots[0])[0].endswith("in a.0 has no other channel: no numbers come from host h0."))

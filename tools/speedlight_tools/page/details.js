@@ -29,13 +29,13 @@ function inline(said, title, address, call, kind = "") {
 // A sentence with its turns as links and its words explained; `own` is a turn that stands beside it already.
 function explained(text, own) {
   const ofCrossbar = (word) => `${word}: the channel over the crossbar inside the switch, from the ingress unit of port ${word.slice(1)}`;
-  return text.split(/\b(turn \d+|(?:in|out) [\w-]+\.\d+|initiation|probe|notice|poll|dump|Begin|Done|(?<=over the )cable|(?<=over )x\d+)\b/).map((part, i) => {
+  return text.split(/\b(turn \d+|(?<=turns (?:\d+, |\d+ and )*)\d+|(?:in|out) [\w-]+\.\d+|initiation|probe|notice|poll|dump|Begin|Done|(?<=over the )cable|(?<=over (?:x\d+, |x\d+ and )*)x\d+)\b/).map((part, i) => {
     if (i % 2 === 0) return part;
     const who = actorOf.get(part);
     if (who !== undefined) return inline(part, `Say more of unit ${part}`, `unit=${part.replace(" ", "_")}`, () => change({ unit: who, tab: "unit" }), " unit-name");
-    const turn = /^turn (\d+)$/.exec(part);
+    const turn = /^(?:turn )?(\d+)$/.exec(part);
     if (!turn) return made("abbr", { title: MEANING[part] || ofCrossbar(part), tabindex: 0 }, part);
-    return Number(turn[1]) - 1 === own ? part : inline(part, `Go to ${part}, and say what it did`, `turn=${turn[1]}`, () => goTo(Number(turn[1]) - 1));
+    return Number(turn[1]) - 1 === own ? part : inline(part, `Go to turn ${turn[1]}, and say what it did`, `turn=${turn[1]}`, () => goTo(Number(turn[1]) - 1));
   });
 }
 // What a choice of an actor is, as the trace spells it.

@@ -130,7 +130,7 @@ function momentOf(k) {
   return last < 0 ? T : last + 1;
 }
 function choose(k) {
-  change({ snapshot: k, turn: momentOf(k), tab: "snapshot", packet: -1, unit: -1 });
+  change({ snapshot: k, turn: momentOf(k), tab: "snapshot", packet: -1, unit: failed(k) ? -1 : state.unit });
   if (words.snapshots[k - 1].message !== null && column.packet[words.snapshots[k - 1].message] >= 0 && words.snapshots[k - 1].verdict === "miscredited")
     state.packet = column.packet[words.snapshots[k - 1].message];
   focus(crowded() && failed(k));

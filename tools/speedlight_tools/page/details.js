@@ -165,8 +165,12 @@ function valuesOf(k, place) {
 function snapshotPanel() {
   const k = state.snapshot;
   if (!k) return [made("p", {}, "No snapshot is chosen. Choose one in the strip above, or press n for the next that isn't consistent.")];
-  const told = words.snapshots[k - 1], parts = [];
-  parts.push(made("h2", {}, told.verdict === "consistent" ? "How it was taken" : "What happened, in order"));
+  const told = words.snapshots[k - 1], isWhole = told.verdict === "consistent";
+  const parts = [made("h2", {}, isWhole ? "How it was taken" : "What happened, in order"), storyOf(told)];
+  if (told.verdict === "not issued") return parts;
+  return [...parts, ...latePart(k), ...(isWhole ? valuesPart(k) : unitsPart(k, told)), ...flightPart(k, told)];
+}
+function storyOf(told) {
   const story = made("ol", { class: "story" });
   told.steps.forEach(([place, said, message, snapshot]) => {
     const isFault = told.verdict !== "consistent" && (place === told.turn || (told.turn === null && place === null));
@@ -175,29 +179,29 @@ function snapshotPanel() {
     if (snapshot) item.append(toSnapshot(snapshot));
     story.append(item);
   });
-  parts.push(story);
-  if (told.verdict === "not issued") return parts;
-  parts.push(...latePart(k));
-  if (told.verdict === "consistent") {
-    parts.push(made("h2", {}, "Values: what each unit had counted before the cut"));
-    const rows = words.units.map((who, place) => {
-      const value = valuesOf(k, place);
-      const flying = value.channels.filter((c) => c.packets).map((c) => `${c.name}: ${c.packets} (${c.bytes} bytes)`).join(", ");
-      return [toUnit(who), String(value.packets), String(value.bytes), made("span", { class: "wraps" }, flying || "–"), toTurn(cutOf(k, place), String(cutOf(k, place) + 1))];
-    });
-    parts.push(table(["unit", "packets", "bytes", "in flight to it", "cut at"], rows));
-  } else {
-    const isPending = told.verdict === "pending";
-    parts.push(made("h2", {}, "Where the units were"), made("p", { class: "dim" }, `A snapshot that ${isPending ? "isn't finished" : "failed"} has no values. These are the turns in which each unit reached its number, and the number that it went to.`));
-    const order = words.units.map((who, place) => [who, place]).sort(([a], [b]) => (b === told.unit) - (a === told.unit));
-    const rows = order.map(([who, place]) => {
-      const at = cutOf(k, place), mark = who === told.unit ? made("span", { class: isPending ? "pending" : "bad" }, ` ${standing(told)}`) : "";
-      const went = at < 0 ? idAt(who, T) : column.id[at];
-      return [made("span", {}, toUnit(who), mark), at < 0 ? "never" : toTurn(at, String(at + 1)), went > k ? made("span", { class: "bad", title: `it went over ${k} and saved nothing for it` }, `${went}, over ${k}`) : String(went)];
-    });
-    parts.push(table(["unit", "at turn", "went to"], rows));
-  }
-  const flying = flight(k);
+  return story;
+}
+function valuesPart(k) {
+  const rows = words.units.map((who, place) => {
+    const value = valuesOf(k, place);
+    const flying = value.channels.filter((c) => c.packets).map((c) => `${c.name}: ${c.packets} (${c.bytes} bytes)`).join(", ");
+    return [toUnit(who), String(value.packets), String(value.bytes), made("span", { class: "wraps" }, flying || "–"), toTurn(cutOf(k, place), String(cutOf(k, place) + 1))];
+  });
+  return [made("h2", {}, "Values: what each unit had counted before the cut"), table(["unit", "packets", "bytes", "in flight to it", "cut at"], rows)];
+}
+function unitsPart(k, told) {
+  const isPending = told.verdict === "pending";
+  const order = words.units.map((who, place) => [who, place]).sort(([a], [b]) => (b === told.unit) - (a === told.unit));
+  const rows = order.map(([who, place]) => {
+    const at = cutOf(k, place), mark = who === told.unit ? made("span", { class: isPending ? "pending" : "bad" }, ` ${standing(told)}`) : "";
+    const went = at < 0 ? idAt(who, T) : column.id[at];
+    return [made("span", {}, toUnit(who), mark), at < 0 ? "never" : toTurn(at, String(at + 1)), went > k ? made("span", { class: "bad", title: `it went over ${k} and saved nothing for it` }, `${went}, over ${k}`) : String(went)];
+  });
+  const said = `A snapshot that ${isPending ? "isn't finished" : "failed"} has no values. These are the turns in which each unit reached its number, and the number that it went to.`;
+  return [made("h2", {}, "Where the units were"), made("p", { class: "dim" }, said), table(["unit", "at turn", "went to"], rows)];
+}
+function flightPart(k, told) {
+  const flying = flight(k), parts = [];
   if (told.verdict === "pending") {
     parts.push(made("h2", {}, "In flight across the cut: not known"), made("p", { class: "dim" }, `It isn't known while ${nameOf(told.unit)} waits.${flying.length ? ` Seen so far: ${flying.length}.` : ""}`));
   } else parts.push(made("h2", {}, `In flight across the cut: ${flying.length}`));

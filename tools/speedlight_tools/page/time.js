@@ -178,6 +178,7 @@ function drawHeads() {
   context.fillText("turn", 8, h - 10);
 }
 let segments = [];
+const clamp = (v) => Math.max(-1e5, Math.min(1e5, v));
 function drawTime() {
   const [w, h, context] = sized(plot), c = colours();
   const { k, y } = d3.zoomTransform(plot), xs = view.xs;
@@ -192,7 +193,6 @@ function drawTime() {
   const cut = s && told.verdict !== "not issued" ? (who) => { const turn = cutOf(s, unitOf.get(who)); return turn < 0 ? edge(T) + 6 : edge(turn); } : null;
   const units = view.shown.filter((who) => unitOf.has(who)), half = view.width * 0.28;
   const along = (height) => { context.beginPath(); units.forEach((who, i) => { const x = xs[who], v = clamp(height(who)); i ? context.lineTo(x - half, v) : context.moveTo(x - half, v); context.lineTo(x + half, v); }); };
-  const clamp = (v) => Math.max(-1e5, Math.min(1e5, v));
   if (cut && units.length) {
     along(cut);
     context.lineTo(xs[units[units.length - 1]] + half, -10); context.lineTo(xs[units[0]] - half, -10); context.closePath();
@@ -216,6 +216,13 @@ function drawTime() {
   }
   if (few && k >= 5) dots(context, c, from, to, k, at, s, told);
   const here = { left, w, h, k, at, from, to, y, taken: [], lines: few ? [...segments] : [] };
+  writeLabels(context, c, here, told, cut, found, units, half);
+  context.restore();
+  rows(context, c, from, to, k, at, h);
+}
+// What is written in the diagram: at the turns that are pointed at, at the cut and the reading, and at the edges.
+function writeLabels(context, c, here, told, cut, found, units, half) {
+  const xs = view.xs;
   if (cut) units.forEach((who, i) => {
     const v = clamp(cut(who)), before = units[i - 1];
     here.lines.push([-1, xs[who] - half, v, xs[who] + half, v]);
@@ -226,8 +233,6 @@ function drawTime() {
   names(context, c, cut, found, units, half, here);
   edges = [];
   for (const spot of spots) edgeMark(context, c, spot, here);
-  context.restore();
-  rows(context, c, from, to, k, at, h);
 }
 // Whether only what is involved in a failed snapshot is shown: then what the snapshot tells of is thick, and all else thin.
 const isNarrowed = (told) => state.focus && told && !["consistent", "not issued"].includes(told.verdict);

@@ -167,6 +167,8 @@ class Stories:
             return None
         told = {s.link for s in self.first_lags(verdict)}
         rest = [r for r in self.reasons(verdict) if r.link not in told]
+        if not told:
+            return others_in_words(k, rest, "So far {} doesn't come")
         return others_in_words(k, rest) if rest else self.no_other(unit)
 
     def no_other(self, unit):

@@ -200,7 +200,7 @@ class Stories:
             last = f"the last number that came from there is {v.other}" if v.other else "no number came from there"
             since = f", since turn {turn.place + 1}" if world.ids[v.unit] == k else f" (it reached {k} at turn {turn.place + 1})"
             words = f"{v.unit} is at {world.ids[v.unit]} itself{since}, but waits for {a_number(k)} {channel_name(link)}: {last}."
-            return f"{words} So it isn't known which packets from before the cut are still to come."
+            return f"{words} Until then it isn't known which packets from before the cut are still to come."
         return "No unit took before the cut what was sent after it."
 
     def more(self, verdict):

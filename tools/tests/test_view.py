@@ -92,8 +92,8 @@ WHYS = {
     ],
     "dead_cable": [
         "At turn 10 out b.0 sends the probe 1 over the cable to in a.1: it is lost.",
-        "in a.1 is at 1 itself, since turn 5, but waits for a 1 over the cable from out b.0: no number came from there. So it isn't "
-        "known which packets from before the cut are still to come.",
+        "in a.1 is at 1 itself, since turn 5, but waits for a 1 over the cable from out b.0: no number came from there. Until "
+        "then it isn't known which packets from before the cut are still to come.",
         "in b.0 waits too.",
     ],
 }

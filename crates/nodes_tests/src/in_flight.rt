@@ -96,7 +96,7 @@ fn run_all(alloc: Global, net: &Net, world: &mut World<Node>, looks_up: bool) ->
     }
     if looks_up {
         let links = world.look_up(alloc, schedule.as_slice())?;
-        world.run(schedule.as_slice(), Some(links.as_slice()))?;
+        world.run(schedule.as_slice(), Some(&links))?;
     } else {
         world.run(schedule.as_slice(), None)?;
     }

@@ -64,6 +64,22 @@ pub goes-nothing : (s : Setup) (lost : Losses) (old new : Run) (es : List Entry)
 goes-nothing s lost old new es g h = let n = last_number old.book in
     none-numbered n es (nil-by-length old.book (numbered_from n es) (ap length (sym g.book) ∙ h))
 
+-- a schedule of which each entry was idle would be so again
+pub idle-again : (s : Setup) (lost : Losses) (old new : Run) (es : List Entry) → Follows s lost old es new → length new.book ≡ length old.book → Follows s lost new es new
+idle-again s lost old new es f h =
+    let none : kept_from s lost old.world es ≡ [] = goes-nothing s lost old new _ (follows-goes s lost old new es f) h in
+    let same : new.world ≡ old.world = f.reached ∙ sym (run-kept s lost old.world es) ∙ ap (run s lost old.world) none in
+    record {
+      reached = f.reached ∙ ap (λ w. run s lost w es) (sym same);
+      book = sym (ap (λ w. grown new.book (kept_from s lost w es)) same ∙ ap (grown new.book) none ∙ append-nil new.book);
+    }
+
+pub idle-passes : (s : Setup) (lost : Losses) (old new : Run) (es : List Entry) (n more : ℕ) → Follows s lost old (passes_of es n) new → Follows s lost new es new → Follows s lost old (passes_of es (n + more)) new
+idle-passes s lost old new es n zero f again = let same : n ≡ n + 0 = omega arith in subst (λ k. Follows s lost old (passes_of es k) new) same f
+idle-passes s lost old new es n (suc more) f again =
+    let same : n + more + 1 ≡ n + suc more = omega arith in
+    subst (λ k. Follows s lost old (passes_of es k) new) same (follows-passes s lost old new new es (n + more) (idle-passes s lost old new es n more f again) again)
+
 pub goes-something : (s : Setup) (lost : Losses) (old new : Run) (es : List Entry) → Goes s lost old es new → length new.book ≢ length old.book → es ≢ []
 goes-something s lost old new es g h n = h (ap length g.book ∙ ap (λ fs. length (grown old.book fs)) n ∙ ap length (append-nil old.book))
 

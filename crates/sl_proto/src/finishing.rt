@@ -21,6 +21,7 @@ use sl_machine::Memory;
 use sl_model::{finishing_ends, finishing_finishes, idle_passes_settle, issues_are_counted};
 use sl_net::{Net, nets_are_wired};
 use sl_simulation::observers_tell;
+use sl_world::Looked;
 use std::alloc::Global;
 
 /// How a round of finishing ends: with the end, with a further round, or for want of fuel.
@@ -95,7 +96,7 @@ fn settle_within<T: Taker>(
     net: &Net,
     taker: &mut T,
     pass: &[(u32, u32)],
-    links: &[u32],
+    links: &Looked,
     fuel: u64,
 ) -> Result<bool, Memory>
     requires plan { (T.scene taker.old).plan ≡ plan_of net.now }
@@ -162,7 +163,7 @@ fn take_round<T: Taker>(
     net: &Net,
     taker: &mut T,
     pass: &[(u32, u32)],
-    links: &[u32],
+    links: &Looked,
     sweep: &[(u32, u32)],
     fuel: u64,
 ) -> Result<Round, Memory>
@@ -196,7 +197,7 @@ fn finish_within<T: Taker>(
     net: &Net,
     taker: &mut T,
     pass: &[(u32, u32)],
-    links: &[u32],
+    links: &Looked,
     sweep: &[(u32, u32)],
     fuel: u64,
 ) -> Result<bool, Memory>

@@ -11,14 +11,16 @@ use crate::schedule::{pass_of, passes_are_choices};
 use crate::taker::{Taker, drive_within};
 use sl_machine::Memory;
 use sl_net::{Net, Script1};
+use sl_world::Looked;
 use std::alloc::Global;
 
-/// Takes a pass so many times.
+/// Takes a pass so many times. One in which nothing happened changes nothing, so neither do those
+/// after it, which are not taken.
 fn drive_passes<T: Taker>(
     net: &Net,
     taker: &mut T,
     once: &[(u32, u32)],
-    links: &[u32],
+    links: &Looked,
     count: u32,
 ) -> Result<(), Memory>
     requires plan { (T.scene taker.old).plan ≡ plan_of net.now }
@@ -31,7 +33,11 @@ fn drive_passes<T: Taker>(
         (T.scene taker.new) }
 {
     for _done in 0..count {
+        let before = taker.entries();
         drive_within(net, taker, once, Some(links))?;
+        if taker.entries() == before {
+            return Ok(());
+        }
     }
     Ok(())
 }
@@ -41,7 +47,7 @@ fn drive_entry<T: Taker>(
     net: &Net,
     taker: &mut T,
     once: &[(u32, u32)],
-    links: &[u32],
+    links: &Looked,
     entry: Script1,
 ) -> Result<(), Memory>
     requires plan { (T.scene taker.old).plan ≡ plan_of net.now }
@@ -66,7 +72,7 @@ fn drive_entries<T: Taker>(
     net: &Net,
     taker: &mut T,
     once: &[(u32, u32)],
-    links: &[u32],
+    links: &Looked,
     script: &[Script1],
 ) -> Result<(), Memory>
     requires plan { (T.scene taker.old).plan ≡ plan_of net.now }
@@ -109,5 +115,5 @@ pub fn drive_script<T: Taker>(
     passes_are_choices();
     let once = pass_of(alloc, net, false)?;
     let links = taker.look_up(alloc, &once)?;
-    drive_entries(net, taker, once.as_slice(), links.as_slice(), script)
+    drive_entries(net, taker, once.as_slice(), &links, script)
 }

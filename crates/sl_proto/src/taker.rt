@@ -15,7 +15,7 @@ use crate::nodes::nodes_follow_their_books;
 use sl_machine::Memory;
 use sl_net::Net;
 use sl_observe::Observer;
-use sl_world::{Turn, World};
+use sl_world::{Looked, Turn, World};
 use std::alloc::Global;
 
 /// Takes turns of a world of nodes.
@@ -45,14 +45,14 @@ pub trait Taker {
 
     /// For each entry of a schedule the link that its choice takes from, and the number of links
     /// where it is an action.
-    fn look_up(&self, alloc: Global, schedule: &[(u32, u32)]) -> Result<Vec<u32>, Memory>
+    fn look_up(&self, alloc: Global, schedule: &[(u32, u32)]) -> Result<Looked, Memory>
         requires { All (λ e. HasChoice (scene self.now).plan e.0 e.1) schedule.now }
         ensures { IfOk result
-            (λ links. links.items ≡ links_of (scene self.now).plan schedule.now) };
+            (λ links. links ≡ links_of (scene self.now).plan schedule.now) };
 
     /// The turns of a whole schedule; after want of memory, those of a front of it. Where the links
     /// of its entries are given, they are not looked up once more.
-    fn run(&mut self, schedule: &[(u32, u32)], links: Option<&[u32]>) -> Result<(), Memory>
+    fn run(&mut self, schedule: &[(u32, u32)], links: Option<&Looked>) -> Result<(), Memory>
         requires choices { All (λ e. HasChoice (scene self.old).plan e.0 e.1) schedule.now }
         requires links { IfSome links (λ l. l.now ≡ links_of (scene self.old).plan schedule.now) }
         requires book { length (scene self.old).book + length schedule.now < 2 ^ 40 }
@@ -94,11 +94,11 @@ impl Taker for World<Node> {
         World::turn(self, actor, choice)
     }
 
-    fn look_up(&self, alloc: Global, schedule: &[(u32, u32)]) -> Result<Vec<u32>, Memory> {
+    fn look_up(&self, alloc: Global, schedule: &[(u32, u32)]) -> Result<Looked, Memory> {
         World::look_up(self, alloc, schedule)
     }
 
-    fn run(&mut self, schedule: &[(u32, u32)], links: Option<&[u32]>) -> Result<(), Memory> {
+    fn run(&mut self, schedule: &[(u32, u32)], links: Option<&Looked>) -> Result<(), Memory> {
         World::run(self, schedule, links)
     }
 
@@ -126,7 +126,7 @@ pub fn drive<T: Taker>(
     net: &Net,
     taker: &mut T,
     schedule: &[(u32, u32)],
-    links: Option<&[u32]>,
+    links: Option<&Looked>,
 ) -> Result<(), Memory>
     requires plan { (T.scene taker.old).plan ≡ plan_of net.now }
     requires links { IfSome links (λ l. l.now ≡ links_of (plan_of net.now) schedule.now) }
@@ -155,7 +155,7 @@ pub fn drive_within<T: Taker>(
     net: &Net,
     taker: &mut T,
     schedule: &[(u32, u32)],
-    links: Option<&[u32]>,
+    links: Option<&Looked>,
 ) -> Result<(), Memory>
     requires plan { (T.scene taker.old).plan ≡ plan_of net.now }
     requires links { IfSome links (λ l. l.now ≡ links_of (plan_of net.now) schedule.now) }

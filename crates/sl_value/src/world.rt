@@ -15,7 +15,7 @@ use sl_machine::{Book, Memory};
 use sl_net::{Input, Net};
 use sl_observe::Observer;
 use sl_proto::{Node, Taker, Traffic, build_nodes, make_losses, nodes_start};
-use sl_world::{Turn, World, every_schedule};
+use sl_world::{Looked, Turn, World, every_schedule};
 use std::alloc::Global;
 use std::marker::Model;
 
@@ -153,11 +153,11 @@ impl<'a> Taker for ValueWorld<'a> {
         self.world.turn(actor, choice)
     }
 
-    fn look_up(&self, alloc: Global, schedule: &[(u32, u32)]) -> Result<Vec<u32>, Memory> {
+    fn look_up(&self, alloc: Global, schedule: &[(u32, u32)]) -> Result<Looked, Memory> {
         self.world.look_up(alloc, schedule)
     }
 
-    fn run(&mut self, schedule: &[(u32, u32)], links: Option<&[u32]>) -> Result<(), Memory> {
+    fn run(&mut self, schedule: &[(u32, u32)], links: Option<&Looked>) -> Result<(), Memory> {
         every_schedule::<ValueNode>();
         self.world.run(schedule, links)
     }

@@ -5,9 +5,11 @@ pub mod MachineLemmas
 pub mod LinkLemmas
 pub mod LookupLemmas
 pub mod PlaceLemmas
+pub mod BitLemmas
 pub mod MarkLemmas
 pub mod RoomLemmas
 pub mod MeshLemmas
 pub mod TurnLemmas
+pub mod RestLemmas
 pub mod RunLemmas
 pub mod ResumeLemmas

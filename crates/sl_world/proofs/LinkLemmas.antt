@@ -29,3 +29,11 @@ no_link_in plan a c sound high =
       | inl low ↦ absurd (omega (arith, only_in plan a c sound low))
       | inr past ↦ past
     ]
+
+-- a choice without a link is an action
+pub action_in : (plan : Plan) (a c : ℕ) → IsSound plan → a < length plan.ins → length plan.links ≤ link_in plan.links a c → slice_index plan.ins a ≤ c
+action_in plan a c sound actor past =
+    elim (cases_lt c (slice_index plan.ins a)) [
+      | inl low ↦ absurd (omega (arith, sound.each_in a c actor low))
+      | inr high ↦ high
+    ]

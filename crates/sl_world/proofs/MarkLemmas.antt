@@ -1,82 +1,86 @@
 -- Marks of the links that have a message.
-use Rattle.std.proofs.Common.{◌≡◌, ℕ, ◌+◌, ◌<◌, ◌↔◌, List, [], ◌∷◌, ◌++◌, length, get_or, set, refl, ap, sym, ◌∙◌, arith, Bool, true, false, inl, inr}
-use Rattle.std.specs.Prelude.{IsTrue, not, slice_index_or}
+use Rattle.std.proofs.Common.{◌≡◌, ◌≢◌, ◌*◌, ℕ, ◌+◌, ◌<◌, ◌↔◌, List, [], length, get_or, set, refl, ap, ◌∙◌, arith, Bool, true, false, inl, inr}
+use Rattle.std.specs.Prelude.{IsTrue, not, if◌then◌else◌}
 use Rattle.std.proofs.lemmas.Bool.{cases_eq}
-use Rattle.std.proofs.Math.Seq.{get_or-append_seam}
-use Rattle.std.proofs.lemmas.List.{map-set, length-set, length-append, get_or_append_left, get_or-set_same, get_or-set_other}
+use Rattle.std.proofs.lemmas.List.{map-set, length-set, get_or-set_same, get_or-set_other}
 use Rattle.sl_world.specs.Scene.{line_at, empty_line}
 use Rattle.sl_world.specs.LineView.{LineView}
 use Rattle.sl_world.specs.Mesh.{lines_of}
-use Rattle.sl_world.specs.Marks.{IsMarked}
+use Rattle.sl_world.specs.Marks.{IsMarked, mark_at}
 use Rattle.sl_world.proofs.RoomLemmas.{line_is, length_same}
 
 -- a mark that tells of a list whether it has elements
-mark : {M : Type 0} (b empty : Bool) (queue : List M) → b ≡ not empty → (IsTrue empty ↔ (queue ≡ [])) → (b ≡ false) ↔ (queue ≡ [])
-mark b true queue is holds = (λ e. holds.0 refl, λ e. is)
-mark b false queue is holds = (λ e. absurd (not-false-is b is e), λ e. absurd (false-is-true (holds.1 e)))
+mark : {M : Type 0} (empty : Bool) (n : ℕ) (queue : List M) → n ≡ (if not empty then 1 else 0) → (IsTrue empty ↔ (queue ≡ [])) → (n ≡ 0) ↔ (queue ≡ [])
+mark true n queue is holds = (λ e. holds.0 refl, λ e. is)
+mark false n queue is holds = (λ e. absurd (omega (arith, is, e)), λ e. absurd (false-is-true (holds.1 e)))
   where
     false-is-true : false ≡ true → ⊥
     false-is-true e = cc
 
-    not-false-is : (b : Bool) → b ≡ true → b ≡ false → ⊥
-    not-false-is b e f = cc
+-- the mark of one number is written
+pub record IsWritten (old new : List ℕ) (k : ℕ) (on : Bool) : Type 0 where
+  pub same : mark_at new k ≡ (if on then 1 else 0)
+  pub others : (j : ℕ) → j ≢ k → mark_at new j ≡ mark_at old j
+  pub room : length new ≡ length old
 
 -- one link is written, and its mark as it is read there
-pub marked-set : {M : Type 0} (views : List (LineView M)) (filled : List Bool) (k : ℕ) (new e : LineView M) (empty : Bool) → IsMarked views filled → k < length views → e ≡ get_or (set views k new) k e → (IsTrue empty ↔ (e.line.queue ≡ [])) → IsMarked (set views k new) (set filled k (not empty))
-marked-set views filled k new e empty marked low read holds =
-    let written : e ≡ new = read ∙ get_or-set_same views k new e low in
-    let b : Bool = not empty in
+pub marked-set : {M : Type 0} (views : List (LineView M)) (old words : List ℕ) (k : ℕ) (new e : LineView M) (empty : Bool) → IsMarked views old → IsWritten old words k (not empty) → k < length views → e ≡ get_or (set views k new) k e → (IsTrue empty ↔ (e.line.queue ≡ [])) → IsMarked (set views k new) words
+marked-set views old words k new e empty marked written low read holds =
+    let is : e ≡ new = read ∙ get_or-set_same views k new e low in
+    let long : length (set views k new) ≡ length views = length-set views k new in
     record {
-      each = length-set filled k b ∙ (marked.each ∙ ap (λ n. n + 1) (sym (length-set views k new)));
+      room = omega (arith, marked.room, written.room, long);
       is = λ j h.
-          let long : length (set views k new) ≡ length views = length-set views k new in
-          let within : j < length views = omega arith in
           elim (cases_eq j k) [
             | inl same ↦
-                let here : line_at (lines_of (set views k new)) j ≡ new.line = line_is (set views k new) j new h (sym (ap (λ (i : ℕ). get_or (set views k new) i new) same ∙ get_or-set_same views k new new low)) in
-                let there : get_or (set filled k b) j false ≡ b = ap (λ (i : ℕ). get_or (set filled k b) i false) same ∙ get_or-set_same filled k b false (omega (arith, marked.each)) in
-                rw (here ∙ ap (λ v. v.line) (sym written), there) (mark b empty e.line.queue refl holds)
+                let here : line_at (lines_of (set views k new)) k ≡ e.line = line_is (set views k new) k e (omega (arith, low, long)) read in
+                rw (same, here) (mark empty (mark_at words k) e.line.queue written.same holds)
             | inr other ↦
                 let here : line_at (lines_of (set views k new)) j ≡ line_at (lines_of views) j = ap (λ ls. line_at ls j) (map-set (λ v. v.line) views k new) ∙ get_or-set_other (lines_of views) k j new.line empty_line other in
-                let there : get_or (set filled k b) j false ≡ get_or filled j false = get_or-set_other filled k j b false other in
-                rw (here, there) (marked.is j within)
+                rw (here, written.others j other) (marked.is j (omega (arith, h, long)))
           ];
-      end = rw (length-set views k new) (get_or-set_other filled k (length views) b false (λ e. absurd (omega (arith, e))) ∙ marked.end);
+      end = ap (mark_at words) long ∙ (written.others (length views) (λ e. absurd (omega (arith, e, low))) ∙ marked.end);
     }
 
 -- a change that leaves what is on the links
-pub marked-same : {M : Type 0} (old new : List (LineView M)) (filled : List Bool) → lines_of new ≡ lines_of old → IsMarked old filled → IsMarked new filled
-marked-same old new filled same marked =
+pub marked-same : {M : Type 0} (old new : List (LineView M)) (words : List ℕ) → lines_of new ≡ lines_of old → IsMarked old words → IsMarked new words
+marked-same old new words same marked =
     let long : length new ≡ length old = length_same old new same in
-    record { each = marked.each ∙ ap (λ n. n + 1) (sym long); is = λ j h. rw same (marked.is j (omega arith)); end = rw long marked.end }
+    record { room = omega (arith, marked.room, long); is = λ j h. rw same (marked.is j (omega (arith, h, long))); end = ap (mark_at words) long ∙ marked.end }
 
 -- the first links of a list are marked
-pub record MarksFirst {M : Type 0} (views : List (LineView M)) (n : ℕ) (filled : List Bool) : Type 0 where
-  pub each : length filled ≡ n
-  pub is : (k : ℕ) → k < n → (slice_index_or filled k false ≡ false) ↔ ((line_at (lines_of views) k).queue ≡ [])
+pub record MarksFirst {M : Type 0} (views : List (LineView M)) (n : ℕ) (words : List ℕ) : Type 0 where
+  pub room : length views < 64 * length words
+  pub is : (k : ℕ) → k < n → (mark_at words k ≡ 0) ↔ ((line_at (lines_of views) k).queue ≡ [])
 
 -- the next link is marked
-pub marked-next : {M : Type 0} (views : List (LineView M)) (n : ℕ) (filled : List Bool) (e : LineView M) (empty : Bool) → MarksFirst views n filled → n < length views → e ≡ get_or views n e → (IsTrue empty ↔ (e.line.queue ≡ [])) → MarksFirst views (n + 1) (filled ++ not empty ∷ [])
-marked-next views n filled e empty first low read holds =
-    let b : Bool = not empty in
-    let seam : get_or (filled ++ b ∷ []) n false ≡ b = ap (λ i. get_or (filled ++ b ∷ []) i false) (sym first.each) ∙ get_or-append_seam filled b [] false in
+pub marked-next : {M : Type 0} (views : List (LineView M)) (n : ℕ) (old words : List ℕ) (e : LineView M) (empty : Bool) → MarksFirst views n old → IsWritten old words n (not empty) → n < length views → e ≡ get_or views n e → (IsTrue empty ↔ (e.line.queue ≡ [])) → MarksFirst views (n + 1) words
+marked-next views n old words e empty first written low read holds =
     record {
-      each = length-append filled (b ∷ []) ∙ ap (λ k. k + 1) first.each;
+      room = omega (arith, first.room, written.room);
       is = λ j h.
           elim (cases_eq j n) [
-            | inl same ↦
-                rw (same, line_is views n e low read, seam) (mark b empty e.line.queue refl holds)
-            | inr other ↦
-                let below : j < n = omega (arith, other) in
-                rw (get_or_append_left filled (b ∷ []) false j (omega (arith, first.each))) (first.is j below)
+            | inl same ↦ rw (same, line_is views n e low read) (mark empty (mark_at words n) e.line.queue written.same holds)
+            | inr other ↦ rw (written.others j other) (first.is j (omega (arith, h, other)))
           ];
     }
 
 -- all links and the end are marked
-pub marked-end : {M : Type 0} (views : List (LineView M)) (n : ℕ) (filled : List Bool) → MarksFirst views n filled → n ≡ length views → IsMarked views (filled ++ true ∷ [])
-marked-end views n filled first all =
+pub marked-end : {M : Type 0} (views : List (LineView M)) (old words : List ℕ) → MarksFirst views (length views) old → IsWritten old words (length views) true → IsMarked views words
+marked-end views old words first written =
     record {
-      each = length-append filled (true ∷ []) ∙ ap (λ k. k + 1) (first.each ∙ all);
-      is = λ j h. rw (get_or_append_left filled (true ∷ []) false j (omega (arith, first.each, all))) (first.is j (omega (arith, all)));
-      end = ap (λ i. get_or (filled ++ true ∷ []) i false) (sym (first.each ∙ all)) ∙ get_or-append_seam filled true [] false;
+      room = omega (arith, first.room, written.room);
+      is = λ j h. rw (written.others j (λ e. absurd (omega (arith, e, h)))) (first.is j h);
+      end = written.same;
     }
+
+-- what a mark tells of a link
+pub unmarked : {M : Type 0} (views : List (LineView M)) (words : List ℕ) (k : ℕ) → IsMarked views words → k < length views + 1 → mark_at words k ≡ 0 → (k < length views) × ((line_at (lines_of views) k).queue ≡ [])
+unmarked views words k marked within none =
+    elim (cases_eq k (length views)) [
+      | inl end ↦ absurd (omega (arith, none, ap (mark_at words) end, marked.end))
+      | inr other ↦ let low : k < length views = omega (arith, within, other) in (low, (marked.is k low).0 none)
+    ]
+
+pub is_marked : {M : Type 0} (views : List (LineView M)) (words : List ℕ) (k : ℕ) → IsMarked views words → mark_at words k ≡ 1 → k < length views → (line_at (lines_of views) k).queue ≢ []
+is_marked views words k marked one low empty = absurd (omega (arith, one, (marked.is k low).1 empty))

@@ -2,8 +2,10 @@ pub mod Scene
 pub mod LineView
 pub mod Mesh
 pub mod Marks
+pub mod Looked
 pub mod Places
 pub mod Counts
 pub mod World
+pub mod Resting
 pub mod Legal
 pub mod Keeping

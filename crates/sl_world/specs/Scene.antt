@@ -115,9 +115,9 @@ pub record FindsNothing {S M : Type 0} (w : Scene S M) (actor choice : ℕ) : Ty
 abbrev pub after_turn : {S M : Type 0} → Rules S M → Scene S M → ℕ × ℕ → Scene S M
 after_turn rules w e = unwrap_or (turn_of rules w e.0 e.1) w
 
--- for each entry of a schedule the place of its link among all; past the end where it is an action
-abbrev pub links_of : Plan → List (ℕ × ℕ) → List ℕ
-links_of plan schedule = map (λ e. link_in plan.links e.0 e.1) schedule
+-- each entry of a schedule with the place of its link among all; past the end where it is an action
+abbrev pub links_of : Plan → List (ℕ × ℕ) → List ((ℕ × ℕ) × ℕ)
+links_of plan schedule = map (λ e. (e, link_in plan.links e.0 e.1)) schedule
 
 -- a whole schedule
 abbrev pub after_all : {S M : Type 0} → Rules S M → Scene S M → List (ℕ × ℕ) → Scene S M

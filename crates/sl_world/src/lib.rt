@@ -6,10 +6,13 @@ mod laws;
 mod line;
 mod lines;
 mod links;
+mod looked;
 mod machines;
 mod make;
+mod marks;
 mod places;
 mod world;
 
 pub use laws::every_schedule;
+pub use looked::Looked;
 pub use world::{Turn, World};

@@ -1,21 +1,23 @@
-// All links by their numbers, and which of them have a message.
-ghost use Rattle.std.specs.Prelude.{◌≡◌, ◌≢◌, ◌<◌, ◌↔◌, ◌∷◌, ℕ, [], IsTrue, IfOk, OnOk, length};
+// All links by their numbers, and marks of those that have a message.
+ghost use Rattle.std.specs.Prelude.{◌≡◌, ◌≢◌, ◌+◌, ◌^◌, ◌<◌, ◌≤◌, ◌↔◌, ◌∷◌, ℕ, []};
+ghost use Rattle.std.specs.Prelude.{IsTrue, IfOk, OnOk, length};
 ghost use Rattle.std.specs.Prelude.{drop, slice_set};
 ghost use Rattle.sl_world.specs.Scene.{line_at, put_at, without_first};
 ghost use Rattle.sl_world.specs.Mesh.{lines_of, room_at, KeepsSomeRoom};
 ghost use Rattle.sl_world.specs.Marks.{IsMarked};
 
 use crate::line::Line;
+use crate::marks::Marks;
 use sl_machine::Memory;
 use std::alloc::Global;
 use std::marker::Model;
 
-/// The links. Those with a message are marked in a list of their own, which is small, so that many
-/// links are looked at fast. The last mark stands for actions and is always set.
+/// The links. Those with a message are marked, so that many links are looked at fast. The mark past
+/// the last link stands for actions and is always set.
 #[derive(Drop)]
 pub struct Lines<M> {
     lines: Vec<Line<M>>,
-    filled: Vec<bool>,
+    filled: Marks,
 }
 
 impl<M> Model for Lines<M> {
@@ -27,7 +29,7 @@ impl<M> Model for Lines<M> {
 
     ghost view = { λ a. a.lines.items };
 
-    ghost invariant = { λ a. IsMarked a.lines.items a.filled.items };
+    ghost invariant = { λ a. IsMarked a.lines.items a.filled };
 }
 
 impl<M: Drop> Lines<M> {
@@ -35,7 +37,7 @@ impl<M: Drop> Lines<M> {
     pub fn new(alloc: Global, lines: Vec<Line<M>>) -> Result<Lines<M>, Memory>
         ensures { IfOk result (λ l. l ≡ lines.items) }
     {
-        let filled = marks(alloc, lines.as_slice())?;
+        let filled = mark_lines(alloc, lines.as_slice())?;
         Ok(Lines { lines, filled })
     }
 
@@ -44,14 +46,24 @@ impl<M: Drop> Lines<M> {
         requires { link < length self.now }
         ensures { IsTrue result ↔ ((line_at (lines_of self.now) link).queue ≡ []) }
     {
-        !self.filled[link]
+        self.lines[link].is_empty()
     }
 
-    /// Which links have a message, with a mark at the end that is set.
-    pub fn filled(&self) -> &[bool]
-        ensures { IsMarked self.now result.now }
+    /// The first link with a message from one on and below another, or the place past the last
+    /// link, which stands for actions; the other where there is none.
+    #[inline(always)]
+    pub fn next(&self, from: usize, end: usize) -> usize
+        requires order { from ≤ end }
+        requires within { end ≤ length self.now + 1 }
+        requires small { end < 2 ^ 40 }
+        ensures from { from ≤ result }
+        ensures end { result ≤ end }
+        ensures none { (k : ℕ) → from ≤ k → k < result
+            → (k < length self.now) × ((line_at (lines_of self.now) k).queue ≡ []) }
+        ensures some { result < end → result < length self.now
+            → (line_at (lines_of self.now) result).queue ≢ [] }
     {
-        self.filled.as_slice()
+        self.filled.next(from, end)
     }
 
     /// How many puts a link has lost.
@@ -82,7 +94,7 @@ impl<M: Drop> Lines<M> {
         ensures room { IsTrue result → 0 < room_at self.new link }
     {
         let has_room = self.lines[link].put(m);
-        self.filled[link] = !self.lines[link].is_empty();
+        self.filled.write(link, !self.lines[link].is_empty());
         has_room
     }
 
@@ -99,19 +111,19 @@ impl<M: Drop> Lines<M> {
         ensures keeps { KeepsSomeRoom self.old self.new }
     {
         let m = self.lines[link].take();
-        self.filled[link] = !self.lines[link].is_empty();
+        self.filled.write(link, !self.lines[link].is_empty());
         m
     }
 }
 
-/// For each link, whether it has a message, and a mark at the end that is set.
-fn marks<M: Drop>(alloc: Global, lines: &[Line<M>]) -> Result<Vec<bool>, Memory>
-    ensures { IfOk result (λ filled. IsMarked lines.now filled.items) }
+/// Marks the links with a message, and the place past the last.
+fn mark_lines<M: Drop>(alloc: Global, lines: &[Line<M>]) -> Result<Marks, Memory>
+    ensures { IfOk result (λ filled. IsMarked lines.now filled) }
 {
-    let mut filled = Vec::new(alloc);
-    for line in lines {
-        filled.push(!line.is_empty())?;
+    let mut filled = Marks::new(alloc, lines.len())?;
+    for link in 0..lines.len() {
+        filled.write(link, !lines[link].is_empty());
     }
-    filled.push(true)?;
+    filled.write(lines.len(), true);
     Ok(filled)
 }

@@ -8,9 +8,11 @@ ghost use Rattle.sl_world.specs.Scene.{line_at, without_first, put_all, put_each
 ghost use Rattle.sl_world.specs.Mesh.{lines_of, room_at, KeepsSomeRoom, HasRoomFor, IsElsewhere};
 ghost use Rattle.sl_world.specs.Mesh.{IsIncoming};
 ghost use Rattle.sl_world.specs.Places.{place_of};
+ghost use Rattle.sl_world.specs.Looked.{HasRuns, step_at};
 
 use crate::line::Line;
 use crate::lines::Lines;
+use crate::looked::{Looked, Step};
 use crate::make::{copy_wiring, incoming_places, outgoing_places};
 use crate::places::{Places, place_in};
 use sl_machine::{Memory, Outputs, Wiring};
@@ -82,21 +84,6 @@ impl<M: Drop> Links<M> {
         self.lines.is_empty(link)
     }
 
-    /// The link that a choice takes from, where it was looked up; None where the choice is an
-    /// action.
-    pub fn incoming_by(&self, actor: u32, choice: u32, link: u32) -> Option<usize>
-        requires actor { actor < length self.now.plan.ins }
-        requires link { link ≡ link_in self.now.plan.links actor choice }
-        ensures { IsIncoming self.now.plan actor choice result }
-    {
-        let wiring = &self.wiring;
-        if choice < wiring.in_counts[actor as usize] {
-            Some(link as usize)
-        } else {
-            None
-        }
-    }
-
     /// The link that a choice takes from, or the number of links where it is an action. No memory
     /// holds so many links that their number doesn't fit 32 bits.
     #[tactic(auto, using(crate::proofs::LookupLemmas::link_in_most))]
@@ -114,38 +101,61 @@ impl<M: Drop> Links<M> {
         }
     }
 
-    /// For each entry of a schedule the link that its choice takes from, and the number of links
-    /// where it is an action.
-    pub fn look_up(&self, alloc: Global, schedule: &[(u32, u32)]) -> Result<Vec<u32>, Memory>
+    /// Looks up the link that each entry of a schedule takes from.
+    pub fn look_up(&self, alloc: Global, schedule: &[(u32, u32)]) -> Result<Looked, Memory>
         requires { All (λ e. e.0 < length self.now.plan.ins) schedule.now }
-        ensures { IfOk result (λ links. links.items ≡ links_of self.now.plan schedule.now) }
+        ensures { IfOk result (λ l. l ≡ links_of self.now.plan schedule.now) }
     {
-        let mut links = Vec::with_capacity(alloc, schedule.len())?;
+        let mut steps = Vec::with_capacity(alloc, schedule.len())?;
         for (actor, choice) in schedule {
-            links.push(self.look_up_one(*actor, *choice)?)?;
+            steps.push(Step {
+                actor: *actor,
+                choice: *choice,
+                link: self.look_up_one(*actor, *choice)?,
+                run: 1,
+            })?;
         }
-        Ok(links)
+        Ok(Looked::join(steps))
     }
 
-    /// The first place, from this one on, of a list of links, where the link has a message, or
-    /// where there is none of that number. The marks are borrowed before the search, so that it looks
-    /// at nothing else.
-    pub fn next_by(&self, links: &[u32], from: usize) -> usize
-        requires links { All (λ l. l ≤ length self.now.plan.links) links.now }
-        requires within { from ≤ length links.now }
-        ensures from { from ≤ result }
-        ensures within { result ≤ length links.now }
-        ensures nothing { (k : ℕ) → from ≤ k → k < result
-            → let link = slice_index_or links.now k 0 in (link < length self.now.plan.links)
-            × ((line_at self.now.lines link).queue ≡ []) }
+    /// Whether a step takes from a link, and is no action.
+    #[inline(always)]
+    pub fn is_link(&self, step: Step) -> bool
+        requires actor { step.actor < length self.now.plan.ins }
+        requires link { step.link ≡ link_in self.now.plan.links step.actor step.choice }
+        ensures link { result ≡ true → (step.link < length self.now.plan.links)
+            × (step.choice < slice_index self.now.plan.ins step.actor) }
+        ensures action { result ≡ false → (length self.now.plan.links ≤ step.link)
+            × (slice_index self.now.plan.ins step.actor ≤ step.choice) }
     {
-        let filled = self.lines.filled();
+        let wiring = &self.wiring;
+        (step.link as usize) < wiring.links.len()
+    }
+
+    /// The place of the first step, from this one on, whose link has a message or which is an action,
+    /// or where there is none the number of steps.
+    #[inline(always)]
+    pub fn next_by(&self, steps: &[Step], from: usize) -> usize
+        requires links { All (λ s. s.link ≤ length self.now.plan.links) steps.now }
+        requires runs { HasRuns steps.now }
+        requires within { from ≤ length steps.now }
+        ensures from { from ≤ result }
+        ensures within { result ≤ length steps.now }
+        ensures nothing { (k : ℕ) → from ≤ k → k < result → let link = (step_at steps.now k).link in
+            (link < length self.now.plan.links) × ((line_at self.now.lines link).queue ≡ []) }
+        ensures some { result < length steps.now → let link = (step_at steps.now result).link in
+            link < length self.now.plan.links → (line_at self.now.lines link).queue ≢ [] }
+    {
         let mut at = from;
-        while at < links.len() {
-            if filled[links[at] as usize] {
+        while at < steps.len() {
+            let step = &steps[at];
+            let link = step.link as usize;
+            let end = link + step.run as usize;
+            let found = self.lines.next(link, end);
+            at += found - link;
+            if found < end {
                 return at;
             }
-            at += 1;
         }
         at
     }

@@ -1,6 +1,7 @@
 // The world: machines, the links between them, and the book of the turns that did something.
 ghost use Rattle.std.specs.Prelude.{◌≡◌, ◌≢◌, ◌+◌, ◌<◌, ◌≤◌, ◌^◌, ℕ, [], Some, None, Ok, length};
-ghost use Rattle.std.specs.Prelude.{map, slice_get, slice_index, slice_index_or, IsTrue, IfOk};
+ghost use Rattle.std.specs.Prelude.{map, slice_get, slice_set, slice_index, slice_index_or, IsTrue};
+ghost use Rattle.std.specs.Prelude.{IfOk};
 ghost use Rattle.std.specs.Prelude.{IfSome, OnOk, OnErr, All, true, false};
 ghost use Rattle.sl_machine.specs.Plan.{HasChoice, IsSound, link_in};
 ghost use Rattle.sl_machine.specs.Fit.{ins_of, actions_of, counts_at, HasCounts, Fits};
@@ -8,10 +9,12 @@ ghost use Rattle.sl_loss.specs.Loss.{IsFresh};
 ghost use Rattle.sl_world.specs.Counts.{SameCounts};
 ghost use Rattle.sl_world.specs.Scene.{last_number, line_at, lines_with, links_of};
 ghost use Rattle.sl_world.specs.Mesh.{lines_of};
+ghost use Rattle.sl_world.specs.Resting.{AreResting};
 
 use crate::book::{make_room, note};
 use crate::line::Line;
 use crate::links::Links;
+use crate::looked::{Looked, Step};
 use crate::machines::{act_at, ready_at, take_at};
 use crate::make::{greatest, lines_with, make_lines};
 use sl_loss::Loss;
@@ -34,11 +37,14 @@ pub struct World<A: Machine> {
     links: Links<A::Msg>,
     book: Book,
     out: Outputs<A::Msg>,
+    // for each actor one more than the choice of an action that is known to be idle, or 0
+    resting: Vec<u64>,
     ghost machines_fit: { HasCounts A.counts links.plan machines.items },
     ghost clear: { length out.items ≡ 0 },
     ghost space: { (k : ℕ) → slice_index links.plan.outs k ≤ out.room },
     ghost numbered: { last_number book.entries ≤ length book.entries },
     ghost low: { All (λ e. e.number ≤ length book.entries) book.entries },
+    ghost rests: { AreResting A.rules (map A.state machines.items) resting.items },
 }
 
 impl<A: Machine> World<A> {
@@ -117,11 +123,13 @@ impl<A: Machine> World<A> {
     {
         let out = Outputs::with_room(alloc, greatest(wiring.out_counts.as_slice()))?;
         let links = Links::join(alloc, wiring, lines)?;
+        let resting = vec![in alloc; 0; machines.len()]?;
         Ok(World {
             machines,
             links,
             book,
             out,
+            resting,
         })
     }
 
@@ -185,18 +193,18 @@ impl<A: Machine> World<A> {
         }
     }
 
-    /// For each entry of a schedule the link that its choice takes from, and the number of links
-    /// where it is an action.
-    pub fn look_up(&self, alloc: Global, schedule: &[(u32, u32)]) -> Result<Vec<u32>, Memory>
+    /// Looks up the link that each entry of a schedule takes from, so that `run` takes the schedule
+    /// faster, again and again.
+    pub fn look_up(&self, alloc: Global, schedule: &[(u32, u32)]) -> Result<Looked, Memory>
         requires { All (λ e. HasChoice (scene self.now).plan e.0 e.1) schedule.now }
-        ensures { IfOk result (λ links. links.items ≡ links_of (scene self.now).plan schedule.now) }
+        ensures { IfOk result (λ l. l ≡ links_of (scene self.now).plan schedule.now) }
     {
         self.links.look_up(alloc, schedule)
     }
 
     /// The turns of a whole schedule; after want of memory, those of a front of it. Where the links
     /// of its entries are given, the next that finds a message is searched for by them alone.
-    pub fn run(&mut self, schedule: &[(u32, u32)], links: Option<&[u32]>) -> Result<(), Memory>
+    pub fn run(&mut self, schedule: &[(u32, u32)], links: Option<&Looked>) -> Result<(), Memory>
         requires choices { All (λ e. HasChoice (scene self.old).plan e.0 e.1) schedule.now }
         requires links { IfSome links (λ l. l.now ≡ links_of (scene self.old).plan schedule.now) }
         requires book { length (scene self.old).book + length schedule.now < 2 ^ 40 }
@@ -213,10 +221,10 @@ impl<A: Machine> World<A> {
         }
     }
 
-    /// `run` where the links are given.
-    fn run_by(&mut self, schedule: &[(u32, u32)], links: &[u32]) -> Result<(), Memory>
+    /// `run` where the links were looked up.
+    fn run_by(&mut self, schedule: &[(u32, u32)], looked: &Looked) -> Result<(), Memory>
         requires choices { All (λ e. HasChoice (scene self.old).plan e.0 e.1) schedule.now }
-        requires links { links.now ≡ links_of (scene self.old).plan schedule.now }
+        requires links { looked.now ≡ links_of (scene self.old).plan schedule.now }
         requires book { length (scene self.old).book + length schedule.now < 2 ^ 40 }
         ensures ok { OnOk result
             (scene self.new ≡ after_all A.rules (scene self.old) schedule.now) }
@@ -225,28 +233,33 @@ impl<A: Machine> World<A> {
         ensures book { length (scene self.new).book ≤ length
             (scene self.old).book + length schedule.now }
     {
-        let mut at = self.links.next_by(links, 0);
-        while at < schedule.len() {
-            let (actor, choice) = schedule[at];
-            self.turn_by(actor, choice, links[at])?;
-            at = self.links.next_by(links, at + 1);
+        let steps = looked.steps();
+        let mut at = self.links.next_by(steps, 0);
+        while at < steps.len() {
+            self.turn_by(steps[at])?;
+            at = self.links.next_by(steps, at + 1);
         }
         Ok(())
     }
 
-    /// `turn` where the link is given.
-    fn turn_by(&mut self, actor: u32, choice: u32, link: u32) -> Result<Turn, Memory>
-        requires choice { HasChoice (scene self.old).plan actor choice }
-        requires link { link ≡ link_in (scene self.old).plan.links actor choice }
+    /// `turn` where the link was looked up, and has a message.
+    #[inline(always)]
+    fn turn_by(&mut self, step: Step) -> Result<(), Memory>
+        requires choice { HasChoice (scene self.old).plan step.actor step.choice }
+        requires link { step.link ≡ link_in (scene self.old).plan.links step.actor step.choice }
+        requires some { step.link < length (scene self.old).plan.links
+            → (line_at (scene self.old).lines step.link).queue ≢ [] }
         requires book { length (scene self.old).book < 2 ^ 40 }
         ensures after { OnOk result
-            (scene self.new ≡ after_turn A.rules (scene self.old) (actor, choice)) }
+            (scene self.new
+            ≡ after_turn A.rules (scene self.old) (step.actor, step.choice)) }
         ensures err { OnErr result (scene self.new ≡ scene self.old) }
     {
-        if let Some(link) = self.links.incoming_by(actor, choice, link) {
-            return self.take_turn(actor, choice, link);
+        if self.links.is_link(step) {
+            return self.take_from(step.actor, step.choice, step.link as usize);
         }
-        self.act_turn(actor, choice)
+        self.act_turn(step.actor, step.choice)?;
+        Ok(())
     }
 
     /// `run` where the links aren't given: each turn looks up its own.
@@ -308,6 +321,7 @@ impl<A: Machine> World<A> {
         make_room(&mut self.book.entries)?;
         let m = self.links.take(link);
         take_at(&mut self.machines, actor as usize, choice, m, &mut self.out);
+        note_rest(&mut self.resting, actor, 0);
         note(&mut self.book.entries, actor, choice);
         self.links.deliver(actor, &mut self.out);
         Ok(())
@@ -329,15 +343,30 @@ impl<A: Machine> World<A> {
         ensures same { result ≡ Ok Turn.Idle → scene self.new ≡ scene self.old }
         ensures err { OnErr result (scene self.new ≡ scene self.old) }
     {
+        let action = u64::from(choice) + 1;
+        if self.resting[actor as usize] == action {
+            return Ok(Turn::Idle);
+        }
         prepare(&mut self.machines, &mut self.links, actor, choice)?;
         make_room(&mut self.book.entries)?;
         if !act_at(&mut self.machines, actor as usize, choice, &mut self.out) {
+            note_rest(&mut self.resting, actor, action);
             return Ok(Turn::Idle);
         }
+        note_rest(&mut self.resting, actor, 0);
         note(&mut self.book.entries, actor, choice);
         self.links.deliver(actor, &mut self.out);
         Ok(Turn::Did)
     }
+}
+
+/// Notes the action of an actor that is known to be idle, or with 0 that none is.
+#[inline(always)]
+fn note_rest(resting: &mut Vec<u64>, actor: u32, action: u64)
+    requires { actor < length resting.old.items }
+    ensures { resting.new.items ≡ slice_set resting.old.items actor action }
+{
+    resting[actor as usize] = action;
 }
 
 /// Takes the memory that a turn of an actor can need.

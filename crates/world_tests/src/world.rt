@@ -95,7 +95,7 @@ fn run_three(alloc: Global, world: &mut World<Relay>, by_links: bool) -> Result<
     let schedule = [(1, 0), (0, 1), (1, 0)];
     if by_links {
         let links = world.look_up(alloc, &schedule)?;
-        world.run(&schedule, Some(links.as_slice()))?;
+        world.run(&schedule, Some(&links))?;
     } else {
         world.run(&schedule, None)?;
     }

@@ -8,7 +8,7 @@ use Rattle.sl_world.proofs.lines.Lines.take.Goals as goal
 pub invariant_of-self : goal.invariant_of-self
 invariant_of-self g c =
     let low : c.args.link < length c.self.inside.lines.items = omega (arith, ap length c.self.view_is, c.requires.link) in
-    marked-set c.self.inside.lines.items c.self.inside.filled.items c.args.link c.take-m.new.self c.index.result.now c.is_empty.result c.self.invariant low c.index.ensures c.is_empty.ensures
+    marked-set c.self.inside.lines.items c.self.inside.filled c.write.new.self c.args.link c.take-m.new.self c.index.result.now c.is_empty.result c.self.invariant (record { same = c.write.ensures.same; others = c.write.ensures.others; room = c.write.ensures.room }) low c.index.ensures c.is_empty.ensures
 
 pub returns-clause-rest : goal.returns-clause-rest
 returns-clause-rest g c =

@@ -1,11 +1,16 @@
-use Rattle.std.proofs.Common.{◌∙◌, ℕ, List, ◌∷◌, ◌++◌, [], take, ap, sym}
-use Rattle.sl_world.specs.Scene.{links_of}
-use Rattle.sl_world.proofs.LookupLemmas.{looked_more}
+use Rattle.std.proofs.Common.{◌∙◌, ◌≡◌, ℕ, List, ap, sym, refl, subst, map, get_or, length, ◌<◌}
+use Rattle.sl_world.specs.Looked.{entry_of, step_at}
+use Rattle.sl_world.specs.declared.looked.Step.{Step}
+use Rattle.sl_world.proofs.LookupLemmas.{looked_next, alone, alone_more}
 use Rattle.sl_world.proofs.links.Links.look_up.Goals as goal
 
 pub loop-actor-preserved : goal.loop-actor-preserved
 loop-actor-preserved g c =
     let plan = c.args.self.now.plan in
-    let es = c.args.schedule.now in
-    let at = c.loop-actor.actor-index in
-    c.in_ok-push.ensures.items ∙ (ap (λ (ls : List ℕ). ls ++ c.in_ok-look_up_one.field-0 ∷ []) c.loop-actor.invariant ∙ (ap (λ (n : ℕ). links_of plan (take at es) ++ n ∷ []) c.in_ok-look_up_one.ensures ∙ sym (looked_more plan es at c.loop-actor-test.true)))
+    record {
+      entries = ap (map entry_of) c.in_ok-push.ensures.items ∙ looked_next plan c.args.schedule.now c.loop-actor.steps.items c.loop-actor.actor-index _ c.loop-actor-test.true c.loop-actor.invariant.entries (ap (λ (n : ℕ). (get_or c.args.schedule.now c.loop-actor.actor-index (0, 0), n)) c.in_ok-look_up_one.ensures);
+      alone = subst (λ (steps : List Step). (k : ℕ) → k < length steps → (step_at steps k).run ≡ 1) (sym c.in_ok-push.ensures.items) (alone_more c.loop-actor.steps.items _ c.loop-actor.invariant.alone refl);
+    }
+
+pub join-requires : goal.join-requires
+join-requires g c = alone c.loop-actor.steps.items c.loop-actor.invariant.alone

@@ -1,10 +1,12 @@
-use Rattle.std.proofs.Common.{◌∙◌, ◌≤◌, ap, length, map, refl, subst, sym}
+use Rattle.std.proofs.Common.{◌∙◌, ◌≤◌, arith, ap, length, map, refl, subst, sym}
 use Rattle.std.specs.Prelude.{slice_index}
 use Rattle.std.proofs.lemmas.Result.{IfOk-from_err}
+use Rattle.std.proofs.lemmas.List.{length-map}
 use Rattle.sl_machine.specs.Fit.{HasCounts}
 use Rattle.sl_world.specs.Mesh.{lines_of}
 use Rattle.sl_world.proofs.BookLaws.{last_low}
 use Rattle.sl_world.proofs.TurnLemmas.{same_is}
+use Rattle.sl_world.proofs.RestLemmas.{none_resting}
 use Rattle.sl_world.proofs.world.World.with_lines.Goals as goal
 
 pub returns-in_err-out : goal.returns-in_err-out
@@ -28,6 +30,7 @@ invariant_of-result g c =
       space = λ k. rw (plan, c.in_ok-out.ensures.room) (subst (λ xs. slice_index xs k ≤ c.greatest.result) (c.as_slice.ensures.value ∙ ap (λ p. p.outs) c.wiring.view_is) (c.greatest.ensures k));
       numbered = last_low c.args.book.entries _ c.requires.numbers;
       low = c.requires.numbers;
+      rests = none_resting g.A.Machine.rules (map g.A.Machine.state c.args.machines.items) c.in_ok-resting.resting.items _ (c.in_ok-resting.ensures.items_if_clones_equal (λ y e. e)) (omega (arith, c.len.ensures, c.args.machines.ok, length-map c.args.machines.items g.A.Machine.state));
     }
 
 pub returns : goal.returns

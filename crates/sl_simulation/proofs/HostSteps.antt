@@ -1,7 +1,7 @@
 -- The steps of hosts, by their machines.
 use Rattle.std.proofs.Common.{◌≡◌, ◌≢◌, ℕ, zero, suc, ◌-◌, ◌<◌, ◌≤◌, ◌^◌, List, [], ◌∷◌, length, refl, sym, ap, subst, ◌∙◌, Option, Some, None, arith, inl, inr}
 use Rattle.std.specs.Prelude.{◌⊎◌, true, false, ◌==◌, if◌then◌else◌, is_some, slice_get, option_map, option_and_then}
-use Rattle.std.proofs.lemmas.Option.{slice_get_within}
+use Rattle.std.proofs.lemmas.Option.{slice_get_within, slice_get_past}
 use Rattle.sl_machine.specs.Machine.{After}
 use Rattle.sl_layout.specs.declared.actor.ActorId.TheVariants.{Host as OfHost}
 use Rattle.sl_layout.specs.declared.actor.Sort.{Sort}
@@ -28,7 +28,7 @@ use Rattle.sl_model.specs.Turns.{Takes, Acts, TakesTurns}
 use Rattle.sl_simulation.specs.HostImage.{host_of, IsHostOf}
 use Rattle.sl_simulation.specs.Simulates.{Simulates, ActSimulates}
 use Rattle.sl_simulation.specs.Messages.{IsMessage, AreSent}
-use Rattle.sl_simulation.proofs.ObserverActs.{past-end, get-past}
+use Rattle.sl_simulation.proofs.ObserverUnits.{past-end}
 
 -- Another actor's turn.
 
@@ -152,7 +152,7 @@ module _ (turns : TakesTurns) (s : Setup) (lost : Losses) (es : List Entry) (a c
 pub host-idle : (s : Setup) (lost : Losses) (w : World) (a i : ℕ) → slice_get s.net.actors a ≡ Some (OfHost i) → next_step s lost w (a, action_choice s.net a) ≡ None → host_act (host_of s a i (history w a)) (action_choice s.net a) ≡ None
 host-idle s lost w a i here x = of_found (slice_get (frames_of s i) (taken c (history w a))) refl
     (ap (λ n. option_map (acting c) (action s 0 a (OfHost i) (history w a) n)) (let d : 0 ≡ c - c = omega arith in d)
-    ∙ sym (ap (option_and_then (step_by s lost w a c (slice_get (links_into s.net a) c))) here ∙ ap (λ o. step_by s lost w a c o (OfHost i)) (get-past (links_into s.net a) c (omega arith))) ∙ x)
+    ∙ sym (ap (option_and_then (step_by s lost w a c (slice_get (links_into s.net a) c))) here ∙ ap (λ o. step_by s lost w a c o (OfHost i)) (slice_get_past (links_into s.net a) c (omega arith))) ∙ x)
   where
     c : ℕ
     c = action_choice s.net a

@@ -29,7 +29,7 @@ ghost use Rattle.sl_simulation.specs.ControlImage.{ControlActSimulates, GrowsBy,
 use sl_ids::numbers_near_are_unwrapped;
 use sl_model::{
     brought_rows_are_read, dumps_answer_polls, dumps_bring_rows, known_steps_are_made,
-    worlds_are_in_window, worlds_take_turns,
+    last_seen_numbers_are_below, worlds_are_in_window, worlds_take_turns,
 };
 use sl_net::nets_are_wired;
 
@@ -84,6 +84,7 @@ pub fn controls_take()
     worlds_are_in_window();
     dumps_answer_polls();
     dumps_bring_rows();
+    last_seen_numbers_are_below();
     numbers_near_are_unwrapped()
 }
 
@@ -105,11 +106,7 @@ pub fn controls_act()
 {
     nets_are_wired();
     worlds_take_turns();
-    worlds_are_in_window();
-    dumps_answer_polls();
-    dumps_bring_rows();
-    brought_rows_are_read();
-    numbers_near_are_unwrapped()
+    dumps_answer_polls()
 }
 
 /// The same of any state that stands for histories, whether a schedule leads there or not: where no
@@ -136,6 +133,7 @@ pub fn controls_step_from_any_state()
 {
     nets_are_wired();
     brought_rows_are_read();
+    last_seen_numbers_are_below();
     numbers_near_are_unwrapped()
 }
 

@@ -31,6 +31,8 @@ use sl_model::{
     worlds_take_turns,
 };
 use sl_net::nets_are_wired;
+use sl_saves::calls_are_shown;
+use sl_unit::ways_are_links;
 use sl_wire::one_frame;
 
 /// The state of a new unit stands for the empty history.
@@ -41,7 +43,9 @@ pub fn new_units_stand()
     ensures egress { (net : Net) (table : Snapshot) (u : ℕ) (i : UnitId)
         → IsRanged table → i.side ≡ Egress
         → IsUnitOf net table u i [] (egress_state net u table) }
-{}
+{
+    calls_are_shown()
+}
 
 /// Of the stamp that a unit's next step takes, and of the unit's id, the wrapped ids tell how far the
 /// numbers lie above the last-seen number of the link, since neither lies the modulus above it.
@@ -93,9 +97,11 @@ pub fn units_take_messages()
     worlds_take_turns();
     stamps_are_in_window();
     packets_are_short();
+    last_seen_numbers_are_below();
     counts_fit();
     distances_are_differences();
-    one_frame()
+    one_frame();
+    ways_are_links()
 }
 
 /// The same of any state that stands for a history of the unit, whether a schedule leads there or not:
@@ -117,7 +123,8 @@ pub fn units_step_from_any_state()
     last_seen_numbers_are_below();
     counts_fit();
     distances_are_differences();
-    one_frame()
+    one_frame();
+    ways_are_links()
 }
 
 /// In the turn of another actor the state of a unit stands for its history as before.

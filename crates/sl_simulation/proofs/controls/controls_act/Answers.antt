@@ -2,16 +2,8 @@ use Rattle.sl_simulation.proofs.ControlTurns.{acts, idles}
 use Rattle.sl_simulation.proofs.controls.controls_act.Goals as goal
 
 pub returns-clause-acts : goal.returns-clause-acts
-returns-clause-acts c s lost es e d sizes step t n q k o r = acts s lost es e d sizes step t (record {
-  turns = c.worlds_take_turns.ensures;
-  asked = λ lost es a d. c.dumps_answer_polls.ensures.polls s lost es a d n;
-  awaited = λ lost es e step. c.dumps_answer_polls.ensures.next s lost es e step n;
-  brought = λ lost es e m step. c.dumps_bring_rows.ensures s lost es e m step n;
-  live = c.brought_rows_are_read.ensures.live;
-  reads = c.brought_rows_are_read.ensures.read;
-  windows = λ lost es. c.worlds_are_in_window.ensures s lost es n;
-  unwraps = c.numbers_near_are_unwrapped.ensures;
-}) (c.nets_are_wired.ensures s.net n) q k o r
+returns-clause-acts c s lost es e d sizes step t n q k o r =
+    acts s lost es e d sizes step t c.worlds_take_turns.ensures (c.dumps_answer_polls.ensures.polls s lost es e.0 d n q) (c.nets_are_wired.ensures s.net n) q k o r
 
 pub returns-clause-idle : goal.returns-clause-idle
 returns-clause-idle c s lost es e d sizes t q k r = idles s lost es e d sizes t q k r

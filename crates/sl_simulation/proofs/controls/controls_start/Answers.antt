@@ -1,5 +1,4 @@
-use Rattle.sl_simulation.proofs.ControlSteps.{starts}
-use Rattle.sl_simulation.proofs.ControlWays.{control-place}
+use Rattle.sl_simulation.proofs.ControlSteps.{starts, control-place}
 use Rattle.sl_simulation.proofs.controls.controls_start.Goals as goal
 
 pub returns-clause-place : goal.returns-clause-place

@@ -1,4 +1,4 @@
-use Rattle.sl_simulation.proofs.ControlStays.{stays}
+use Rattle.sl_simulation.proofs.ControlSteps.{stays}
 use Rattle.sl_simulation.proofs.controls.controls_stay.Goals as goal
 
 pub returns : goal.returns

@@ -4,7 +4,7 @@ use Rattle.sl_observe.specs.Observer.{unit_at}
 use Rattle.sl_model.specs.World.{world}
 use Rattle.sl_simulation.specs.ObserverImage.{IsNextReport}
 use Rattle.sl_simulation.proofs.ObserverAccounts.{unit-there}
-use Rattle.sl_simulation.proofs.ObserverTakes.{unit-next-is}
+use Rattle.sl_simulation.proofs.ObserverWorlds.{unit-next-is}
 use Rattle.sl_simulation.proofs.observers.dones_reach_what_they_tell.Goals as goal
 
 pub returns : goal.returns

@@ -4,7 +4,7 @@ use Rattle.sl_model.specs.History.{history}
 use Rattle.sl_model.specs.World.{turn, world}
 use Rattle.sl_simulation.specs.Simulates.{ActSimulates}
 use Rattle.sl_simulation.specs.ObserverImage.{IsObserverOf}
-use Rattle.sl_simulation.proofs.ObserverActs.{acts, idle}
+use Rattle.sl_simulation.proofs.ObserverAccounts.{acts, idle}
 use Rattle.sl_simulation.proofs.observers.observers_act.Goals as goal
 
 pub returns-clause-did : goal.returns-clause-did

@@ -1,4 +1,4 @@
-use Rattle.sl_simulation.proofs.ObserverStarts.{observer-start}
+use Rattle.sl_simulation.proofs.ObserverUnits.{observer-start}
 use Rattle.sl_simulation.proofs.observers.observers_start.Goals as goal
 
 pub returns : goal.returns

@@ -4,7 +4,7 @@ use Rattle.sl_model.specs.History.{history}
 use Rattle.sl_model.specs.World.{turn, world}
 use Rattle.sl_simulation.specs.Simulates.{Simulates}
 use Rattle.sl_simulation.specs.ObserverImage.{IsObserverOf}
-use Rattle.sl_simulation.proofs.ObserverTakes.{takes}
+use Rattle.sl_simulation.proofs.ObserverWorlds.{takes}
 use Rattle.sl_simulation.proofs.observers.observers_take.Goals as goal
 
 pub returns : goal.returns

@@ -6,8 +6,7 @@ use Rattle.sl_observe.specs.Observer.{register_floor}
 use Rattle.sl_model.specs.Knowledge.{observer, known, collected}
 use Rattle.sl_model.specs.World.{world}
 use Rattle.sl_simulation.specs.ObserverImage.{unit_of}
-use Rattle.sl_simulation.proofs.ObserverAccounts.{unit-there, saved-there, none-past}
-use Rattle.sl_simulation.proofs.ObserverActs.{floor-same}
+use Rattle.sl_simulation.proofs.ObserverAccounts.{unit-there, saved-there, none-past, floor-same}
 use Rattle.sl_simulation.proofs.observers.observers_tell.Goals as goal
 
 pub returns-clause-floor : goal.returns-clause-floor

@@ -5,7 +5,7 @@ use Rattle.std.proofs.lemmas.Option.{slice_get_within, slice_get_past}
 use Rattle.sl_machine.specs.Machine.{After}
 use Rattle.sl_layout.specs.declared.actor.ActorId.TheVariants.{Host as OfHost}
 use Rattle.sl_layout.specs.declared.actor.Sort.{Sort}
-use Rattle.sl_layout.specs.declared.actor.Sort.TheVariants.{FromHost, ToHost, Cable, Crossbar, Init, Poll, Notice, Dump, Begin, Done}
+use Rattle.sl_layout.specs.declared.actor.Sort.TheVariants.{FromHost, ToHost}
 use Rattle.sl_layout.specs.Net.{actor_of, action_choice, link_of, links_into, links_out}
 use Rattle.sl_net.specs.Wired.{IsWired, receives, HostLinks}
 use Rattle.sl_net.specs.Ways.{IsInto}
@@ -16,7 +16,7 @@ use Rattle.sl_wire.specs.Sizes.{Sizes}
 use Rattle.sl_machine.specs.Counting.{one_more}
 use Rattle.sl_host.specs.Host.{HostState, counted, host_take, host_act, sending}
 use Rattle.sl_model.specs.declared.message.Message.{Message}
-use Rattle.sl_model.specs.declared.message.Message.TheVariants.{Host as HostMsg, Data, Probe as ProbeMsg, Init as InitMsg, Poll as PollMsg, Notice as NoticeMsg, Dump as DumpMsg, Begin as BeginMsg, Done as DoneMsg}
+use Rattle.sl_model.specs.declared.message.Message.TheVariants.{Host as HostMsg}
 use Rattle.sl_model.specs.declared.message.Step.{Step}
 use Rattle.sl_model.specs.Fit.{fits, fits_link}
 use Rattle.sl_model.specs.History.{World, Losses, history, taken}
@@ -39,26 +39,11 @@ host-stays turns s lost w a i e ne = ap (host_of s a i) (turns.others s lost w e
 
 to-host : (i : ℕ) (t : Sort) → receives (OfHost i) t ≡ true → t ≡ ToHost
 to-host i ToHost q = refl
-to-host i FromHost q = absurd cc
-to-host i Cable q = absurd cc
-to-host i Crossbar q = absurd cc
-to-host i Init q = absurd cc
-to-host i Poll q = absurd cc
-to-host i Notice q = absurd cc
-to-host i Dump q = absurd cc
-to-host i Begin q = absurd cc
-to-host i Done q = absurd cc
+to-host i _ q = absurd cc
 
 frame-fits : (m : Message) → fits ToHost m ≡ true → (b : List ℕ) × (m ≡ HostMsg b)
 frame-fits (HostMsg b) q = (b, refl)
-frame-fits (Data k p) q = absurd cc
-frame-fits (ProbeMsg k) q = absurd cc
-frame-fits (InitMsg k) q = absurd cc
-frame-fits PollMsg q = absurd cc
-frame-fits NoticeMsg q = absurd cc
-frame-fits (DumpMsg n) q = absurd cc
-frame-fits (BeginMsg k) q = absurd cc
-frame-fits (DoneMsg u n) q = absurd cc
+frame-fits _ q = absurd cc
 
 comes-frame : TakesTurns → (s : Setup) (lost : Losses) (w : World) (a i : ℕ) (step : Step) → IsWired s.net → Ran s lost w → actor_of s.net a ≡ OfHost i → (t : Takes s lost w a step) → (b : List ℕ) × (t.took.message ≡ HostMsg b)
 comes-frame turns s lost w a i step z r q t = frame-fits t.took.message (ap (λ k. fits k t.took.message) (sym sort) ∙ fit)

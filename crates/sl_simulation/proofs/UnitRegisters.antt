@@ -175,21 +175,17 @@ pub record Moves (net : Net) (sizes : Sizes) (u : ℕ) (h : History) (b e n : �
   pub is : r ≡ regs net sizes.bits u h b e n saved
   pub keeps : Keeps sizes saved (calls (data_channels net u) h)
 
+-- registers whose fields are those that stand for a history
+same-registers : (net : Net) (bits u : ℕ) (h : History) (b e n : ℕ) (saved : View) (r : Registers) → r.id ≡ wid bits (id h) → r.cpu ≡ wid bits (cpu_last net u h) → r.last ≡ map (wid bits) (eight (lasts net u h))
+    → r.packets ≡ packets h → r.bytes ≡ bytes h → r.bad ≡ b → r.expired ≡ e → r.noroute ≡ n → r.saved ≡ saved → r ≡ regs net bits u h b e n saved
+same-registers net bits u h b e n saved r i c l p q x y z v = λ j. record { id = i j; cpu = c j; last = l j; packets = p j; bytes = q j; bad = x j; expired = y j; noroute = z j; saved = v j }
+
 -- from registers with a history, and back
 
 pub regs-is : (net : Net) (sizes : Sizes) (u : ℕ) (i : UnitId) (h : History) (r : Registers) → HasRegisters net sizes u i h r
     → r ≡ regs net sizes.bits u h (dropped i.side (bad h)) (dropped i.side (expired h)) (dropped i.side (noroute net.parts i.device h)) r.saved
-regs-is net sizes u i h r x = λ j. record {
-  id = x.id j;
-  cpu = x.cpu j;
-  last = x.last j;
-  packets = x.packets j;
-  bytes = x.bytes j;
-  bad = x.bad j;
-  expired = x.expired j;
-  noroute = x.noroute j;
-  saved = r.saved;
-}
+regs-is net sizes u i h r x =
+    same-registers net sizes.bits u h (dropped i.side (bad h)) (dropped i.side (expired h)) (dropped i.side (noroute net.parts i.device h)) r.saved r x.id x.cpu x.last x.packets x.bytes x.bad x.expired x.noroute refl
 
 pub has-registers : (net : Net) (sizes : Sizes) (u : ℕ) (i : UnitId) (h : History) (b e n : ℕ) (r : Registers) → Moves net sizes u h b e n r
     → b ≡ dropped i.side (bad h) → e ≡ dropped i.side (expired h) → n ≡ dropped i.side (noroute net.parts i.device h) → HasRegisters net sizes u i h r
@@ -325,17 +321,8 @@ data-moves net sizes u c k p ps h b e n saved chans room m out keeps d = of_adop
         let y = wids-set sizes.bits (data_channels net u) c k (taking c (Data k p) ps) h chans.distinct m refl (last-here c k (taking c (Data k p) ps) h (Data k p) refl refl refl) in
         let f = packed (packets h) 1 room.packets in let g = packed (bytes h) p.len room.bytes in record {
           saved = a.saved;
-          is = ap (λ r. counted p.len (seen (Upstream (place_in 0 c (data_channels net u))) (wid sizes.bits k) r)) a.is ∙ (λ j. record {
-            id = wid sizes.bits (id (taking c (Data k p) ps ∷ h));
-            cpu = sym x j;
-            last = sym y j;
-            packets = f j;
-            bytes = g j;
-            bad = b;
-            expired = e;
-            noroute = n;
-            saved = a.saved;
-          });
+          is = ap (λ r. counted p.len (seen (Upstream (place_in 0 c (data_channels net u))) (wid sizes.bits k) r)) a.is ∙ same-registers net sizes.bits u (taking c (Data k p) ps ∷ h) b e n a.saved
+              (counted p.len (seen (Upstream (place_in 0 c (data_channels net u))) (wid sizes.bits k) (at_id (regs net sizes.bits u h b e n saved) (wid sizes.bits (id (taking c (Data k p) ps ∷ h))) a.saved))) refl (sym x) (sym y) f g refl refl refl refl;
           keeps = a.keeps;
         }
 
@@ -351,17 +338,8 @@ probe-moves net sizes u c k ps h b e n saved chans m out keeps d =
         let y = wids-set sizes.bits (data_channels net u) c k (taking c (ProbeMsg k) ps) h chans.distinct m refl (last-here c k (taking c (ProbeMsg k) ps) h (ProbeMsg k) refl refl refl) in
         let f : packets h ≡ packets h + 0 = omega arith in let g : bytes h ≡ bytes h + 0 = omega arith in record {
           saved = a.saved;
-          is = ap (λ r. seen (Upstream (place_in 0 c (data_channels net u))) (wid sizes.bits k) r) a.is ∙ (λ j. record {
-            id = wid sizes.bits (id (taking c (ProbeMsg k) ps ∷ h));
-            cpu = sym x j;
-            last = sym y j;
-            packets = f j;
-            bytes = g j;
-            bad = b;
-            expired = e;
-            noroute = n;
-            saved = a.saved;
-          });
+          is = ap (λ r. seen (Upstream (place_in 0 c (data_channels net u))) (wid sizes.bits k) r) a.is ∙ same-registers net sizes.bits u (taking c (ProbeMsg k) ps ∷ h) b e n a.saved
+              (seen (Upstream (place_in 0 c (data_channels net u))) (wid sizes.bits k) (at_id (regs net sizes.bits u h b e n saved) (wid sizes.bits (id (taking c (ProbeMsg k) ps ∷ h))) a.saved)) refl (sym x) (sym y) f g refl refl refl refl;
           keeps = a.keeps;
         }
 
@@ -377,17 +355,8 @@ init-moves net sizes u c k ps h b e n saved chans m out keeps d =
         let y = ap (λ ls. map (wid sizes.bits) (eight ls)) (lasts-there (data_channels net u) (taking c (InitMsg k) ps) h out) in
         let f : packets h ≡ packets h + 0 = omega arith in let g : bytes h ≡ bytes h + 0 = omega arith in record {
           saved = a.saved;
-          is = ap (λ r. seen Cpu (wid sizes.bits k) r) a.is ∙ (λ j. record {
-            id = wid sizes.bits (id (taking c (InitMsg k) ps ∷ h));
-            cpu = sym x j;
-            last = sym y j;
-            packets = f j;
-            bytes = g j;
-            bad = b;
-            expired = e;
-            noroute = n;
-            saved = a.saved;
-          });
+          is = ap (λ r. seen Cpu (wid sizes.bits k) r) a.is ∙ same-registers net sizes.bits u (taking c (InitMsg k) ps ∷ h) b e n a.saved
+              (seen Cpu (wid sizes.bits k) (at_id (regs net sizes.bits u h b e n saved) (wid sizes.bits (id (taking c (InitMsg k) ps ∷ h))) a.saved)) refl (sym x) (sym y) f g refl refl refl refl;
           keeps = a.keeps;
         }
 
@@ -400,16 +369,6 @@ quiet-moves net sizes u c m ps h b e n x y saved s z f g keeps = let i : id h �
     let a = ap (wid sizes.bits) (first-same (choices_of net u Init) (taking c m ps) h m refl s) in
     let l = ap (λ ls. map (wid sizes.bits) (eight ls)) (lasts-same (data_channels net u) (taking c m ps) h m refl s) in record {
       saved = saved;
-      is = λ j. record {
-        id = w j;
-        cpu = sym a j;
-        last = sym l j;
-        packets = f j;
-        bytes = g j;
-        bad = b;
-        expired = e;
-        noroute = n;
-        saved = saved;
-      };
+      is = same-registers net sizes.bits u (taking c m ps ∷ h) b e n saved (record (regs net sizes.bits u h b e n saved) { packets = x; bytes = y }) w (sym a) (sym l) f g refl refl refl refl;
       keeps = subst (Keeps sizes saved) (sym (calls-stay (data_channels net u) (taking c m ps) h (omega (arith, i)) ∙ ap (λ cs. map Credited cs ++ calls (data_channels net u) h) z)) keeps;
     }

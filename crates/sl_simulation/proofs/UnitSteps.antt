@@ -36,7 +36,7 @@ use Rattle.sl_model.specs.Puts.{unit_puts, is_own_port, puts_of, action}
 use Rattle.sl_model.specs.World.{taking, Entry, start, next_step, turn, world}
 use Rattle.sl_model.specs.Fit.{fits, fits_link}
 use Rattle.sl_model.proofs.Cuts.Collected.{IsChannel, each-channel}
-use Rattle.sl_simulation.specs.Messages.{CarryIds, IsMessage, version_from, AreSent}
+use Rattle.sl_simulation.specs.Messages.{CarryIds, IsMessage, version_from}
 use Rattle.sl_model.proofs.Saved.Settled.{is-channel}
 use Rattle.sl_model.specs.UnitWindow.{IsTakeable}
 use Rattle.sl_layout.specs.declared.actor.UnitId.{UnitId}

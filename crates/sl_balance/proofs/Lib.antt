@@ -1,5 +1,4 @@
 pub mod Sums
-pub mod Few
 pub mod OneCuts
 pub mod Ways
-pub mod Texts
+pub mod Loops

@@ -1,22 +1,56 @@
--- Each line of the table of a run's findings is of one consistent cut.
-use Rattle.std.proofs.Common.{◌≡◌, ℕ, zero, suc, ◌<◌, List, [], ◌∷◌, map, length, get_or, refl, sym, ap, ◌∙◌, arith}
+-- Lines of a run are of one cut, and its counts are few.
+use Rattle.std.proofs.Common.{ℕ, zero, suc, ◌<◌, ◌≤◌, ◌^◌, List, [], ◌∷◌, map, length, arith, ◌≡◌, get_or, refl, sym, ap, ◌∙◌}
+use Rattle.std.specs.Prelude.{Bool, true, false, nat_lt, cond}
 use Rattle.std.specs.List.{All, range_with_len}
-use Rattle.sl_parts.specs.Parts.{below}
 use Rattle.sl_parts.specs.Lists.{Each}
-use Rattle.sl_parts.proofs.Lists.{all-from_each, each-flat, each-map, each-below, each-filter, each-from}
-use Rattle.sl_layout.specs.Net.{Net, actor_of, units}
+use Rattle.sl_parts.proofs.Lists.{all-from_each, each-of, each-map, each-flat, each-below, each-filter, each-from}
+use Rattle.sl_layout.specs.Net.{units, Net, actor_of}
 use Rattle.sl_model.specs.declared.verdict.Verdict.{Verdict}
 use Rattle.sl_model.specs.declared.verdict.Verdict.TheVariants.{Consistent, Inconsistent, Pending, NotIssued}
 use Rattle.sl_model.specs.declared.findings.Row.{Row}
 use Rattle.sl_model.specs.declared.findings.Finding.{Finding}
-use Rattle.sl_model.specs.History.{World, Losses}
-use Rattle.sl_model.specs.Cut.{cuts}
-use Rattle.sl_model.specs.Matching.{IsConsistentCut}
+use Rattle.sl_model.specs.History.{History, World, Losses, history, id}
+use Rattle.sl_model.specs.Setup.{Setup}
+use Rattle.sl_model.specs.Counting.{packets}
+use Rattle.sl_model.specs.World.{Entry, world}
+use Rattle.sl_model.specs.Cut.{before, cuts}
 use Rattle.sl_model.specs.Verdict.{verdict}
-use Rattle.sl_model.specs.Findings.{row, rows_for, finding}
+use Rattle.sl_model.specs.Findings.{row, rows_for, finding, findings}
+use Rattle.sl_balance.specs.Balance.{AreFew, packets_at, line_of, device_line, lines_if, finding_lines, balance}
+use Rattle.sl_parts.specs.Parts.{below}
+use Rattle.sl_model.specs.Matching.{IsConsistentCut}
 use Rattle.sl_balance.specs.Cabled.{is_cabled, unit_at, cabled}
-use Rattle.sl_balance.specs.Balance.{packets_at, line_of, device_line, lines_if, finding_lines, balance}
 use Rattle.sl_balance.specs.OneCut.{packets_before, IsOfOneCut}
+
+-- Few counts.
+
+before-shorter : (k : ℕ) (h : History) → length (before k h) ≤ length h
+before-shorter k [] = omega arith
+before-shorter k (s ∷ h) = go (before-shorter k h) (nat_lt (id (s ∷ h)) k)
+  where
+    go : length (before k h) ≤ length h → (b : Bool) → length (cond b (s ∷ h) (before k h)) ≤ length (s ∷ h)
+    go rest true = omega arith
+    go rest false = omega (arith, rest)
+
+module _ (fits : (h : History) → packets h ≤ length h) (s : Setup) (lost : Losses) (es : List Entry) (short : (u : ℕ) → length (history (world s lost es) u) ≤ length es) (small : length es < 2 ^ 40) where
+  few-row : (k u : ℕ) → (row s.net lost (world s lost es) k u).packets < 2 ^ 40
+  few-row k u = let h = history (world s lost es) u in
+      omega (arith, fits (before k h), before-shorter k h, short u, small)
+
+  few-rows : (k : ℕ) (v : Verdict) → Each (λ r. r.packets < 2 ^ 40) (rows_for s.net lost (world s lost es) k v)
+  few-rows k Consistent = each-map (λ r. r.packets < 2 ^ 40) (row s.net lost (world s lost es) k) (units s.net)
+      (each-of (λ u. (row s.net lost (world s lost es) k u).packets < 2 ^ 40) (units s.net) (λ u m. few-row k u))
+  few-rows k (Inconsistent unit cause) = tt
+  few-rows k (Pending unit lag) = tt
+  few-rows k (NotIssued unit floor) = tt
+
+  pub few-findings : All (λ f. AreFew f.rows) (findings s lost es).list
+  few-findings = all-from_each (λ (f : Finding). AreFew f.rows) (findings s lost es).list
+      (each-map (λ (f : Finding). AreFew f.rows) (finding s.credits s.net lost (world s lost es)) (range_with_len 1 s.count)
+      (each-of (λ k. AreFew (finding s.credits s.net lost (world s lost es) k).rows) (range_with_len 1 s.count)
+      (λ k m. all-from_each (λ (r : Row). r.packets < 2 ^ 40) (rows_for s.net lost (world s lost es) k (verdict s.credits s.net (world s lost es) k)) (few-rows k (verdict s.credits s.net (world s lost es) k)))))
+
+-- Lines of one cut.
 
 -- the row of the unit at a place
 row_at : (f : ℕ → Row) (us : List ℕ) (i : ℕ) → i < length us → packets_at (map f us) i ≡ (f (get_or us i 0)).packets

@@ -16,7 +16,7 @@ ghost use Rattle.sl_balance.specs.Balance.{balance, AreFew};
 ghost use Rattle.sl_balance.specs.OneCut.{IsOfOneCut};
 ghost use Rattle.sl_balance.specs.Equal.{begins_by, BeginsLeastWalk};
 
-use sl_model::{counts_fit, cuts_are_consistent};
+use sl_model::{counts_fit, cuts_are_consistent, worlds_take_turns};
 use sl_route::hops_are_least;
 
 /// So many times the sum of the squares of some numbers, less the square of their sum, is the sum
@@ -40,7 +40,8 @@ pub fn counts_are_few()
     ensures { (s : Setup) (lost : Losses) (es : List Entry) → length es < 2 ^ 40
         → All (λ f. AreFew f.rows) (findings s lost es).list }
 {
-    counts_fit()
+    counts_fit();
+    worlds_take_turns()
 }
 
 /// The ports that are counted as equal are those by which a walk of the least length begins.

@@ -44,7 +44,7 @@ fn push_line(out: &mut String, parts: &Parts, line: &Line1) -> Result<(), AllocE
 }
 
 /// Writes the lines of the table.
-#[tactic(auto, using(crate::proofs::Texts::lines_more))]
+#[tactic(auto, using(crate::proofs::Loops::lines_more))]
 fn push_lines(out: &mut String, parts: &Parts, lines: &[Line1]) -> Result<(), AllocError>
     ensures { OnOk result
         (string_bytes out.new ≡ string_bytes out.old ++ flat_map (line_text parts.now) lines.now) }

@@ -1,13 +1,17 @@
--- The texts of units and of their data channels name them; and how many hosts a net has.
-use Rattle.std.proofs.Common.{◌≡◌, ℕ, zero, suc, ◌-◌, ◌<◌, ◌≤◌, List, [], ◌∷◌, ◌++◌, length, get_or, map, true, false, not, Some, refl, sym, ap, subst, ◌∙◌, ◌⊎◌, inl, inr, arith, append_assoc, Bool}
-use Rattle.std.specs.Prelude.{codes, decimal, ◌==◌, if◌then◌else◌, slice_get, slice_index_or, cond, filter, flat_map}
-use Rattle.std.specs.List.{All, list_all, range_with_len}
-use Rattle.std.proofs.lemmas.Bool.{and_parts, lt-ltb, cases_lt}
+-- Texts that are read piece by piece, words, numbers, and what stands before a byte that they lack; the texts of units and of their data channels,
+-- which name them; and how many hosts a net has.
+use Rattle.std.proofs.Common.{◌≡◌, ℕ, zero, suc, ◌+◌, ◌<◌, ◌^◌, ◌/◌, ◌%◌, List, [], ◌∷◌, ◌++◌, length, Bool, true, false, refl, ap, ◌∙◌, arith, ◌-◌, ◌≤◌, get_or, map, not, Some, sym, subst, ◌⊎◌, inl, inr, append_assoc}
 use Rattle.std.proofs.lemmas.List.{append_cancel_left, append-nil, get_or-map, get_or_past, length-map}
+use Rattle.std.proofs.lemmas.Bool.{lt-ltb, and_parts, cases_lt}
+use Rattle.std.proofs.lemmas.Fmt.{decimal_injective}
+use Rattle.std.specs.Prelude.{decimal, ◌==◌, if◌then◌else◌, codes, slice_get, slice_index_or, cond, filter, flat_map}
+use Rattle.std.specs.Fmt.{digits, digits_onto, digit_glyph}
+use Rattle.std.specs.List.{All, list_all, range_with_len}
 use Rattle.std.proofs.lemmas.List.Elements.{All-head, All-tail}
 use Rattle.std.proofs.lemmas.Option.{slice_get_within, get_or_from_slice_get}
 use Rattle.std.proofs.lemmas.List.FromFn.{length-range_with_len}
 use Rattle.sl_parts.specs.Lists.{Each}
+use Rattle.sl_net.proofs.Texts.{part_at}
 use Rattle.sl_parts.specs.Parts.{Parts, below, used_ports}
 use Rattle.sl_parts.specs.Text.{IsName, is_name_byte}
 use Rattle.sl_parts.proofs.Lists.{each-append, each-below, each-both, each-imp, each-index, each-at, one-place, distinct-append, distinct-filter, distinct-from, each-of, each-flat, numbers-suc, filter-map, Distinct}
@@ -27,8 +31,70 @@ use Rattle.sl_model.specs.Findings.{channel_links}
 use Rattle.sl_net.specs.Names.{HasNames}
 use Rattle.sl_report.specs.Report.{port_text, unit_or_none, unit_text, unit_at, sort_text, channel_text, channel_at}
 use Rattle.sl_report.specs.Sayable.{IsUnitPlace}
-use Rattle.sl_report.proofs.Pieces.{Lacks, decimal_lacks}
-use Rattle.sl_net.proofs.Texts.{part_at}
+
+-- the byte doesn't stand in the text
+abbrev pub Lacks : ℕ → List ℕ → Type 0
+Lacks c text = Each (λ b. b ≡ c → ⊥) text
+
+-- digits lie from 48 on
+digit_lacks : (c d : ℕ) → c < 48 → d < 10 → digit_glyph false d ≡ c → ⊥
+digit_lacks c d low h e = let g : digit_glyph false d ≡ 48 + d = ap (λ b. if b then 48 + d else (if false then 55 + d else 87 + d)) (lt-ltb d 10 h) in omega (arith, g, e, low)
+
+onto_lacks : (c k n : ℕ) (acc : List ℕ) → c < 48 → Lacks c acc → Lacks c (digits_onto k 10 false n acc)
+onto_lacks c zero n acc low h = h
+onto_lacks c (suc k) n acc low h = go (n / 10 == 0) (digit_lacks c (n % 10) low (omega arith), h) (λ more. onto_lacks c k (n / 10) (digit_glyph false (n % 10) ∷ acc) low more)
+  where
+    go : (b : Bool) → Lacks c (digit_glyph false (n % 10) ∷ acc) → (Lacks c (digit_glyph false (n % 10) ∷ acc) → Lacks c (digits_onto k 10 false (n / 10) (digit_glyph false (n % 10) ∷ acc)))
+        → Lacks c (if b then digit_glyph false (n % 10) ∷ acc else digits_onto k 10 false (n / 10) (digit_glyph false (n % 10) ∷ acc))
+    go true more on = more
+    go false more on = on more
+
+pub decimal_lacks : (c n : ℕ) → c < 48 → Lacks c (decimal n)
+unfolding digits
+decimal_lacks c n low = onto_lacks c 64 n [] low tt
+
+-- a number before a byte that is no digit
+pub number_before : (c m n : ℕ) (r s : List ℕ) → c < 48 → m < 2 ^ 64 → n < 2 ^ 64 → decimal m ++ c ∷ r ≡ decimal n ++ c ∷ s → (m ≡ n) × (r ≡ s)
+number_before c m n r s low h k e = let p = part_at c (decimal m) (decimal n) r s (decimal_lacks c m low) (decimal_lacks c n low) e in (decimal_injective m n h k p.0, p.1)
+
+-- Lines of numbers, each after a word of its own.
+
+-- the numbers after their words, a newline, and what follows
+abbrev pub worded : List (List ℕ) → List ℕ → List ℕ → List ℕ
+worded (w ∷ ws) (n ∷ ns) rest = w ++ (decimal n ++ worded ws ns rest)
+worded _ _ rest = 10 ∷ rest
+
+abbrev pub BeginsLow : List ℕ → Type 0
+BeginsLow [] = ⊥
+BeginsLow (b ∷ bs) = b < 48
+
+abbrev pub AreSmall : List ℕ → Type 0
+AreSmall ns = Each (λ n. n < 2 ^ 64) ns
+
+-- each word after the first begins with no digit
+abbrev pub AreWords : List (List ℕ) → Type 0
+AreWords [] = Unit {0}
+AreWords (w ∷ ws) = Each BeginsLow ws
+
+-- a word that begins low, or a newline, stands behind each number
+pub worded_told : (ws : List (List ℕ)) (ns ms r s : List ℕ) → AreWords ws → AreSmall ns → AreSmall ms → length ns ≡ length ws → length ms ≡ length ws → worded ws ns r ≡ worded ws ms s → (ns ≡ ms) × (r ≡ s)
+worded_told [] [] [] r s w h k p q e = (refl, cc)
+worded_told [] [] (m ∷ ms) r s w h k p q e = absurd (omega (arith, q))
+worded_told [] (n ∷ ns) ms r s w h k p q e = absurd (omega (arith, p))
+worded_told (w ∷ ws) [] ms r s ww h k p q e = absurd (omega (arith, p))
+worded_told (w ∷ ws) (n ∷ ns) [] r s ww h k p q e = absurd (omega (arith, q))
+worded_told (w ∷ []) (n ∷ []) (m ∷ []) r s ww h k p q e =
+    let t = number_before 10 n m r s (omega arith) h.0 k.0 (append_cancel_left w _ _ e) in
+    (ap (λ x. x ∷ []) t.0, t.1)
+worded_told (w ∷ []) (n ∷ []) (m ∷ (l ∷ ms)) r s ww h k p q e = absurd (omega (arith, q))
+worded_told (w ∷ []) (n ∷ (l ∷ ns)) (m ∷ ms) r s ww h k p q e = absurd (omega (arith, p))
+worded_told (w ∷ ([] ∷ ws)) (n ∷ ns) (m ∷ ms) r s ww h k p q e = absurd (ww.0)
+worded_told (w ∷ ((b ∷ v) ∷ ws)) (n ∷ []) (m ∷ ms) r s ww h k p q e = absurd (omega (arith, p))
+worded_told (w ∷ ((b ∷ v) ∷ ws)) (n ∷ (l ∷ ns)) (m ∷ []) r s ww h k p q e = absurd (omega (arith, q))
+worded_told (w ∷ ((b ∷ v) ∷ ws)) (n ∷ (l ∷ ns)) (m ∷ (j ∷ ms)) r s ww h k p q e =
+    let t = number_before b n m (v ++ (decimal l ++ worded ws ns r)) (v ++ (decimal j ++ worded ws ms s)) ww.0 h.0 k.0 (append_cancel_left w _ _ e) in
+    let o = worded_told (v ∷ ws) (l ∷ ns) (j ∷ ms) r s ww.1 h.1 k.1 (omega (arith, p)) (omega (arith, q)) t.1 in
+    (ap (λ x. x ∷ l ∷ ns) t.0 ∙ ap (λ xs. m ∷ xs) o.0, o.1)
 
 -- a text of codes, whose bytes are told apart from another by computing
 pub lacks_of_test : (c : ℕ) (text : List ℕ) → list_all (λ b. not (b == c)) text ≡ true → Lacks c text
@@ -234,6 +300,10 @@ module _ (net : Net) (wired : IsWired net) (names : HasNames net.parts) (spelled
       ∙ ap (channel_text net) (get_or-map (link_at net u) (data_channels net u) j 0 0 q) ∙ y.text in
       one-place (data_channels net u) i j 0 (distinct_channels u) p q
       (spelled.one u c u d (has_choice u c (link_at net u c) within x.into) (has_choice u d (link_at net u d) within y.into) (ap (λ w. actor_text net.parts (actor_of net u) ++ (codes " " ++ w)) w)).1
+
+  -- where a space stands behind the text
+  pub channel_before : (u i j : ℕ) (r s : List ℕ) → u < length net.actors → i < length (channel_links net u) → j < length (channel_links net u) → channel_at net u i ++ 32 ∷ r ≡ channel_at net u j ++ 32 ∷ s → (i ≡ j) × (r ≡ s)
+  channel_before u i j r s within h k e = let p = part_at 32 (channel_at net u i) (channel_at net u j) r s (sort_lacks _ _) (sort_lacks _ _) e in (channel_told u i j within h k p.0, p.1)
 
 -- Hosts: as many among a net's actors as among its parts.
 

@@ -1,10 +1,12 @@
--- The texts of lists, from a place on.
+-- The texts of lists, from a place on, and of numbers that are counted up.
 use Rattle.std.proofs.Common.{◌≡◌, ℕ, suc, ◌+◌, ◌<◌, ◌≤◌, min, map, List, [], ◌∷◌, ◌++◌, length, get_or, drop, refl, sym, ap, subst, Bool, true, false, cond, filter, ◌∙◌, ◌⊎◌, inl, inr, arith, append_assoc}
 use Rattle.std.proofs.lemmas.List.{drop_more, drop_all, append-nil, map-append}
 use Rattle.std.proofs.lemmas.Bool.{cases_order}
 use Rattle.std.specs.Prelude.{codes, decimal}
 use Rattle.std.specs.List.{flat_map, range_with_len}
 use Rattle.sl_parts.specs.declared.parts.HostPart.{HostPart}
+use Rattle.sl_parts.specs.Parts.{below}
+use Rattle.sl_parts.proofs.Lists.{flat_map_below_more}
 use Rattle.sl_layout.specs.declared.actor.Sort.{Sort}
 use Rattle.sl_layout.specs.declared.actor.Sort.TheVariants.{Cable, Crossbar}
 use Rattle.sl_model.specs.Findings.{channel_links}
@@ -16,37 +18,38 @@ use Rattle.sl_machine.specs.declared.wiring.Entry.{Entry}
 use Rattle.sl_report.specs.TraceText.{entry_line}
 use Rattle.sl_report.specs.Report.{network_line, channel_text, totals_text, row_line, rows_text, finding_text, hosts_text, host_line}
 
+-- one step more of a walk over numbers
+pub walk_more : {A : Type 0} (f : ℕ → List A) (n : ℕ) (old out new : List A) → new ≡ out ++ f n → out ≡ old ++ flat_map f (below n) → new ≡ old ++ flat_map f (below (n + 1))
+walk_more f n old out new e so_far = e ∙ ap (λ xs. xs ++ f n) so_far ∙ append_assoc old (flat_map f (below n)) (f n) ∙ ap (λ xs. old ++ xs) (sym (flat_map_below_more f n))
+
 pub totals_more : (net : Net) (ls : List ℕ) (ts : List Total) (i : ℕ) (d : Total) → i < length ls → i < length ts
     → totals_text net (drop i ls) (drop i ts) ≡ (codes " " ++ (channel_text net (get_or ls i 0) ++ (codes " " ++ (decimal (get_or ts i d).packets ++ (codes " " ++ decimal (get_or ts i d).bytes))))) ++ totals_text net (drop (i + 1) ls) (drop (i + 1) ts)
 totals_more net ls ts i d h k = rw (drop_more ls i 0 h, drop_more ts i d k) (simp append_assoc)
 
-pub totals_none : (net : Net) (ls : List ℕ) (ts : List Total) (i : ℕ) → min (length ls) (length ts) ≤ i → totals_text net (drop i ls) (drop i ts) ≡ []
-totals_none net ls ts i h = go (cases_order (length ls) i) (cases_order (length ts) i)
+-- two lists walked side by side, past the end of one
+pub nothing_left : {A : Type 0} (text : List ℕ → List A → List ℕ) → ((ns : List ℕ) → text ns [] ≡ []) → ((xs : List A) → text [] xs ≡ []) → (ns : List ℕ) (xs : List A) (i : ℕ) → min (length ns) (length xs) ≤ i → text (drop i ns) (drop i xs) ≡ []
+nothing_left text no_xs no_ns ns xs i h = go (cases_order (length ns) i) (cases_order (length xs) i)
   where
-    no_totals : (ks : List ℕ) → totals_text net ks [] ≡ []
-    no_totals [] = refl
-    no_totals (k ∷ ks) = refl
-
-    go : (length ls ≡ i) ⊎ ((length ls < i) ⊎ (i < length ls)) → (length ts ≡ i) ⊎ ((length ts < i) ⊎ (i < length ts)) → totals_text net (drop i ls) (drop i ts) ≡ []
-    go (inl a) o = rw (drop_all i ls (omega arith)) refl
-    go (inr (inl a)) o = rw (drop_all i ls (omega arith)) refl
-    go (inr (inr a)) (inl b) = rw (drop_all i ts (omega arith)) (no_totals (drop i ls))
-    go (inr (inr a)) (inr (inl b)) = rw (drop_all i ts (omega arith)) (no_totals (drop i ls))
+    go : (length ns ≡ i) ⊎ ((length ns < i) ⊎ (i < length ns)) → (length xs ≡ i) ⊎ ((length xs < i) ⊎ (i < length xs)) → text (drop i ns) (drop i xs) ≡ []
+    go (inl a) o = rw (drop_all i ns (omega arith)) (no_ns (drop i xs))
+    go (inr (inl a)) o = rw (drop_all i ns (omega arith)) (no_ns (drop i xs))
+    go (inr (inr a)) (inl b) = rw (drop_all i xs (omega arith)) (no_xs (drop i ns))
+    go (inr (inr a)) (inr (inl b)) = rw (drop_all i xs (omega arith)) (no_xs (drop i ns))
     go (inr (inr a)) (inr (inr b)) = absurd (omega arith)
+
+pub totals_none : (net : Net) (ls : List ℕ) (ts : List Total) (i : ℕ) → min (length ls) (length ts) ≤ i → totals_text net (drop i ls) (drop i ts) ≡ []
+totals_none net = nothing_left (totals_text net) none (λ ts. refl)
+  where
+    none : (ns : List ℕ) → totals_text net ns [] ≡ []
+    none [] = refl
+    none (n ∷ ns) = refl
 
 pub rows_none : (net : Net) (us : List ℕ) (rs : List Row) (i : ℕ) → min (length us) (length rs) ≤ i → rows_text net (drop i us) (drop i rs) ≡ []
-rows_none net us rs i h = go (cases_order (length us) i) (cases_order (length rs) i)
+rows_none net = nothing_left (rows_text net) none (λ rs. refl)
   where
-    no_rows : (ks : List ℕ) → rows_text net ks [] ≡ []
-    no_rows [] = refl
-    no_rows (k ∷ ks) = refl
-
-    go : (length us ≡ i) ⊎ ((length us < i) ⊎ (i < length us)) → (length rs ≡ i) ⊎ ((length rs < i) ⊎ (i < length rs)) → rows_text net (drop i us) (drop i rs) ≡ []
-    go (inl a) o = rw (drop_all i us (omega arith)) refl
-    go (inr (inl a)) o = rw (drop_all i us (omega arith)) refl
-    go (inr (inr a)) (inl b) = rw (drop_all i rs (omega arith)) (no_rows (drop i us))
-    go (inr (inr a)) (inr (inl b)) = rw (drop_all i rs (omega arith)) (no_rows (drop i us))
-    go (inr (inr a)) (inr (inr b)) = absurd (omega arith)
+    none : (ns : List ℕ) → rows_text net ns [] ≡ []
+    none [] = refl
+    none (n ∷ ns) = refl
 
 -- what is written so far, where nothing is left
 pub written_all : (out old rest whole : List ℕ) → out ++ rest ≡ old ++ whole → rest ≡ [] → out ≡ old ++ whole

@@ -23,9 +23,7 @@ use Rattle.sl_model.specs.Findings.{channel_links}
 use Rattle.sl_net.specs.Names.{HasNames}
 use Rattle.sl_report.specs.Report.{unit_text, unit_at, channel_text, channel_at, cause_text, lag_text, verdict_text, verdict_line, totals_text, row_line, rows_text, finding_text, network_line, observer_line, host_line, hosts_text, drops_line, lost_line, report_text}
 use Rattle.sl_report.specs.Sayable.{CauseIsSayable, LagIsSayable, IsUnitPlace, VerdictIsSayable, TotalIsSayable, IsSayableRow, RowsAreSayable, HasRowsFor, IsSayableFinding, AreSayableDrops, IsSayableLost, IsSayable}
-use Rattle.sl_report.proofs.Pieces.{number_before, worded, BeginsLow, AreSmall, worded_told}
-use Rattle.sl_report.proofs.Named.{sort_lacks, sort_begins, unit_told, place_within, channel_told}
-use Rattle.sl_net.proofs.Texts.{part_at}
+use Rattle.sl_report.proofs.Named.{number_before, worded, BeginsLow, AreSmall, worded_told, sort_begins, unit_told, place_within, channel_before}
 
 abbrev head : List ℕ → ℕ
 head text = get_or text 0 0
@@ -153,18 +151,14 @@ module _ (net : Net) (wired : IsWired net) (names : HasNames net.parts) (spelled
   after_unit i j c d r s h k e = unit_told net wired names spelled i j (c ++ r) (d ++ s) h k
       (sym (append_assoc (unit_text net (unit_at net i)) (codes " " ++ c) r) ∙ e ∙ append_assoc (unit_text net (unit_at net j)) (codes " " ++ d) s)
 
-  channel_lacks : (u i : ℕ) → Each (λ b. b ≡ 32 → ⊥) (channel_at net u i)
-  channel_lacks u i = sort_lacks _ _
-
   lag_told : (u : ℕ) (a b : Lag) (r s : List ℕ) → u < length net.actors → LagIsSayable net u a → LagIsSayable net u b → lag_text net u a ++ 10 ∷ r ≡ lag_text net u b ++ 10 ∷ s → (a ≡ b) × (r ≡ s)
   lag_told u (Id m) (Id n) r s within h k e =
       let t = number_before 10 m n r s (omega arith) h k (append_cancel_left (codes "id ") (decimal m ++ 10 ∷ r) (decimal n ++ 10 ∷ s) e) in (ap Id t.0, t.1)
   lag_told u (Channel i m) (Channel j n) r s within h k e =
-      let p = part_at 32 (channel_at net u i) (channel_at net u j) (decimal m ++ 10 ∷ r) (decimal n ++ 10 ∷ s) (channel_lacks u i) (channel_lacks u j)
+      let p = channel_before net wired names spelled u i j (decimal m ++ 10 ∷ r) (decimal n ++ 10 ∷ s) within h.0 k.0
       (sym (append_assoc (channel_at net u i) (codes " " ++ decimal m) (10 ∷ r)) ∙ e ∙ append_assoc (channel_at net u j) (codes " " ++ decimal n) (10 ∷ s)) in
       let t = number_before 10 m n r s (omega arith) h.1 k.1 p.1 in
-      let c = channel_told net wired names spelled u i j within h.0 k.0 p.0 in
-      (ap (λ x. Channel x m) c ∙ ap (Channel j) t.0, t.1)
+      (ap (λ x. Channel x m) p.0 ∙ ap (Channel j) t.0, t.1)
   lag_told u (Id m) (Channel j n) r s within h k e =
       absurd (sort_begins _ _ _ (sym (ap head (e ∙ append_assoc (channel_at net u j) (codes " " ++ decimal n) (10 ∷ s)))))
   lag_told u (Channel i m) (Id n) r s within h k e =

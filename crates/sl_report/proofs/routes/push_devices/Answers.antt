@@ -1,13 +1,6 @@
-use Rattle.std.proofs.Common.{◌++◌, string_bytes, sym, ap, ◌∙◌, append_assoc}
-use Rattle.std.specs.List.{flat_map}
-use Rattle.sl_parts.specs.Parts.{below}
-use Rattle.sl_parts.proofs.Lists.{flat_map_below_more}
 use Rattle.sl_report.specs.RoutesText.{device_routes}
+use Rattle.sl_report.proofs.TextLemmas.{walk_more}
 use Rattle.sl_report.proofs.routes.push_devices.Goals as goal
 
 pub loop-device-preserved : goal.loop-device-preserved
-loop-device-preserved c =
-    let lines = device_routes c.args.net.now.parts in
-    let n = c.loop-device.device in
-    c.in_ok-push_device.ensures ∙ ap (λ text. text ++ lines n) c.loop-device.invariant ∙ append_assoc (string_bytes c.args.out.now) (flat_map lines (below n)) (lines n)
-    ∙ ap (λ text. string_bytes c.args.out.now ++ text) (sym (flat_map_below_more lines n))
+loop-device-preserved c = walk_more (device_routes c.args.net.now.parts) c.loop-device.device _ _ _ c.in_ok-push_device.ensures c.loop-device.invariant

@@ -45,8 +45,7 @@ use Rattle.sl_model.specs.Putting.{Putters, putters_after}
 use Rattle.sl_poll.specs.Trail.{packet_in, pair_from, pair_by, count_of, count_by}
 use Rattle.sl_poll.specs.Ways.{Feed, no_feed, feed_at, next_of, more_sent, after_next, frames_for, bears, leads, links_by, sends_of, send_by, first_mark, rest_of, packet_on, pair_for, paired, counts, injected, lanes_after, feeds_after, pairs_told, counts_told}
 use Rattle.sl_poll.proofs.Marks.{mark, marks, length-marks, marks-append, marks-new, mark-at, without-append, with_marks, puts-count, all-put, send-lane}
-use Rattle.sl_poll.proofs.Moves.{sized-turn, step-grows, Next, Other, moved}
-use Rattle.sl_poll.proofs.Shown.{sent_on, sent_by, shown, taken-shown, acted-shown}
+use Rattle.sl_poll.proofs.Moves.{sized-turn, step-grows, Next, Other, moved, sent_on, sent_by, shown, taken-shown, acted-shown}
 
 pub record LaneIs (i : Input) (w : World) (putters : Putters) (l : ℕ) (lane : Lane) : Type 0 where
   pub size : length (putters l) ≡ length (carried i.net (losses i) w l)

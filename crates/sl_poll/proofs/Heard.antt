@@ -12,7 +12,7 @@ use Rattle.sl_poll.specs.Hearing.{Hears}
 use Rattle.sl_poll.specs.HasRead.{HasRead}
 use Rattle.sl_poll.specs.Reading.{read_after, breaks}
 use Rattle.sl_poll.specs.Sums.{add_one, Summed}
-use Rattle.sl_poll.proofs.Added.{summed_more}
+use Rattle.sl_poll.proofs.Told.{summed_more}
 
 module _ {L : Type 0} (heard : Net → L → L → List Pair → List Counted → Type 0) (net : Net) where
   pub hears_same : (x y : L) (before ps : List Pair) (counts cs : List Counted) → ps ≡ before → cs ≡ counts → heard net x y before counts → heard net x y ps cs

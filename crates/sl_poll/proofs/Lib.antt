@@ -1,14 +1,12 @@
 pub mod Moves
 pub mod Pairs
 pub mod Cuts
-pub mod Added
+pub mod Told
 pub mod Heard
 pub mod Fronts
-pub mod Told
 pub mod Texts
 pub mod Feeds
 pub mod Puts
-pub mod Shown
 pub mod Marks
 pub mod Follows
 pub mod Traced

@@ -17,7 +17,7 @@ use Rattle.sl_poll.specs.declared.lane.Mark.{Mark}
 use Rattle.sl_poll.specs.declared.way.Sends.{Sends}
 use Rattle.sl_poll.specs.Lanes.{Lane, new_lane, lane_at, with_mark, put_each}
 use Rattle.sl_poll.specs.Ways.{links_by, send_by}
-use Rattle.sl_poll.proofs.Shown.{sent_on, sent_by}
+use Rattle.sl_poll.proofs.Moves.{sent_on, sent_by}
 
 abbrev pub mark : ℕ → Message → Mark
 mark n m = record { put = n; packet = counted_in m }

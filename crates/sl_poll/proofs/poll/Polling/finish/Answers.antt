@@ -5,7 +5,7 @@ use Rattle.sl_poll.specs.declared.sums.Pace.{Pace}
 use Rattle.sl_poll.specs.declared.sums.Sum.{Sum}
 use Rattle.sl_poll.specs.Reading.{read_after}
 use Rattle.sl_poll.specs.Sums.{read_of_sum}
-use Rattle.sl_poll.proofs.Added.{reads_same}
+use Rattle.sl_poll.proofs.Told.{reads_same}
 use Rattle.sl_poll.proofs.poll.Polling.finish.Goals as goal
 
 pub returns-clause-reads : goal.returns-clause-reads

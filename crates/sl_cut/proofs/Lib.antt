@@ -1,4 +1,4 @@
-pub mod ForwardFindings
+pub mod Judging
 pub mod Sent
 pub mod ForwardSteps
 pub mod ForwardLosses

@@ -1,17 +1,14 @@
 -- What the parts of an end are: each of some places, and how many frames a host sends.
-use Rattle.std.proofs.Common.{◌≡◌, ℕ, zero, suc, ◌+◌, ◌<◌, ◌≤◌, List, [], ◌∷◌, ◌++◌, length, length-take, get_or, take, drop, map, filter, length-append, Option, Some, None, refl, sym, ap, subst, ◌∙◌, arith}
-use Rattle.std.specs.Prelude.{IsSome, true, false, slice_get, count_by, ◌==◌}
-use Rattle.std.proofs.lemmas.List.{take-append-drop, drop_more, length-map}
+use Rattle.std.proofs.Common.{◌≡◌, ℕ, zero, suc, ◌+◌, ◌<◌, List, [], ◌∷◌, length, get_or, map, filter, length-append, sym, ap, ◌∙◌, arith}
+use Rattle.std.specs.Prelude.{count_by, ◌==◌}
+use Rattle.std.proofs.lemmas.List.{length-map}
 use Rattle.std.proofs.lemmas.List.Sums.{length-filter}
 use Rattle.sl_net.specs.declared.input.Packet.{Packet}
 use Rattle.sl_net.specs.declared.input.RawPart.{RawPart}
 use Rattle.sl_flow.specs.Flow.{packets_of}
 use Rattle.sl_model.specs.Frame.{plain_frame}
-use Rattle.std.proofs.lemmas.Option.{slice_get-get_or}
 use Rattle.sl_parts.specs.Lists.{Each}
-use Rattle.sl_model.specs.History.{World, Losses}
 use Rattle.sl_model.specs.Setup.{Setup, frames_of}
-use Rattle.sl_model.specs.World.{Entry, start, next_step, turn, run, world, IsLegal, IsLegalFrom}
 
 pub each_of_places : (P : ℕ → Type 0) (xs : List ℕ) → ((k : ℕ) → k < length xs → P (get_or xs k 0)) → Each P xs
 each_of_places P [] h = tt

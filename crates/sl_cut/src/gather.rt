@@ -24,7 +24,7 @@ use crate::tell::taken;
 use crate::values::row;
 use crate::wires::{action_choice, hosts};
 use sl_machine::Memory;
-use sl_model::{Counts, Drops, Finding, FindingList, Findings, Rows1, Verdict};
+use sl_model::{Counts, Drops, Finding, FindingList, Findings, Rows1, Verdict, worlds_take_turns};
 use sl_net::{ActorId, Input, Net, Side};
 use sl_route::Routes;
 use std::alloc::Global;
@@ -154,6 +154,7 @@ fn drops_of(alloc: Global, net: &Net, world: &World) -> Result<Drops, Memory>
     requires actors { length world.now ≡ length net.now.actors }
     ensures { IfOk result (λ drops. drops ≡ drops_of net.now world.now) }
 {
+    worlds_take_turns();
     let routes = Routes::make(alloc, net)?;
     let mut drops = Drops {
         bad: 0,

@@ -87,7 +87,6 @@ impl World {
     }
 
     /// The steps of an actor, the oldest first; none past the last actor.
-    #[tactic(auto, using(sl_model::proofs::Worlds::Steps::history_size, sl_model::proofs::Worlds::Steps::length_steps))]
     pub fn steps(&self, actor: u32) -> &[Step]
         ensures steps { reverse result.now ≡ history self.now actor }
         ensures size { length result.now ≤ steps_in self.now }

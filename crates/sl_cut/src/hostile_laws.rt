@@ -84,7 +84,8 @@ pub fn bad_frames_change_no_text()
 /// In every run of a net, by any schedule and under any losses that spare the reliable links: the
 /// run of the same turns without the hostile ones, of hosts that send no bad frame, has of each
 /// actor the same steps but the hostile ones, and the same findings, verdicts and values among them,
-/// but for what hosts sent and the count of bad frames, which is 0.
+/// but for what hosts sent and the count of bad frames, which is 0. Where the turns are legal, so are
+/// those of the other run.
 pub fn hostile_turns_change_no_finding()
     ensures steps { (s : Setup) (lost : Losses) (es : List Entry) (a : ℕ)
         → IsNet s.net → IsLossTable s.net lost
@@ -94,6 +95,9 @@ pub fn hostile_turns_change_no_finding()
     ensures findings { (s : Setup) (lost : Losses) (es : List Entry)
         → IsNet s.net → IsLossTable s.net lost → AreSameButSent (findings s lost es)
         (findings (honest_setup s) lost (honest_entries s lost es)) }
+    ensures legal { (s : Setup) (lost : Losses) (es : List Entry)
+        → IsNet s.net → IsLossTable s.net lost → IsLegal s lost es
+        → IsLegal (honest_setup s) lost (honest_entries s lost es) }
 {
     nets_are_wired();
     links_pass_messages();

@@ -81,7 +81,7 @@ fn least_with(by: Option<u64>, counts: bool, number: u64) -> Option<u64>
 }
 
 /// The least number by which a unit miscredited a snapshot, if it did.
-#[tactic(auto, using(crate::proofs::ForwardSteps::reverse_more, crate::proofs::ForwardFindings::least_if))]
+#[tactic(auto, using(crate::proofs::ForwardSteps::reverse_more, crate::proofs::Judging::least_if))]
 fn miscredited_by(
     alloc: Global,
     credits: u8,
@@ -204,7 +204,7 @@ fn first_with_cause(
 }
 
 /// The units of a net, by their actors' numbers; a net has few actors.
-#[tactic(auto, using(crate::proofs::ForwardFindings::few_units))]
+#[tactic(auto, using(crate::proofs::Judging::few_units))]
 fn units_of(net: &Net) -> &[u32]
     ensures units { result.now ≡ units net.now }
     ensures each { All (λ u. u < length net.now.actors) result.now }

@@ -62,6 +62,7 @@ pub fn follow(alloc: Global, input: &Input, schedule: &[(u32, u32)]) -> Result<W
     ensures actors { IfOk result (λ w. length w ≡ length input.now.net.actors) }
     ensures size { IfOk result (λ w. steps_in w ≤ length schedule.now) }
 {
+    worlds_take_turns();
     let routes = Routes::make(alloc, &input.net)?;
     let mut world = first_world(alloc, &input.net)?;
     for (actor, choice) in schedule {

@@ -197,7 +197,7 @@ fn inject(
     }
 }
 
-#[tactic(auto, using(crate::proofs::Actions::observer_idle, crate::proofs::Actions::observer_issue, crate::proofs::Actions::observer_resend))]
+#[tactic(auto, using(crate::proofs::Actions::observer_action))]
 fn observer_action(
     alloc: Global,
     input: &Input,

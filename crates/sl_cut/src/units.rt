@@ -173,45 +173,6 @@ fn is_own_port(net: &Net, device: u32, port: u32, link: u32) -> bool
     is_unit(net.actor(net.link(link).from), own)
 }
 
-fn add_to_cable(
-    alloc: Global,
-    net: &Net,
-    puts: &mut Vec<Put>,
-    unit: u32,
-    id: u64,
-    packet: Packet,
-) -> Result<(), Memory>
-    requires { unit < length net.now.actors }
-    ensures { OnOk result
-        (puts.new.items ≡ puts.old.items ++ send_all (Message.Data id packet)
-        (links_out net.now unit Sort.Cable)) }
-{
-    add_out(
-        alloc,
-        net,
-        puts,
-        unit,
-        Sort::Cable,
-        &Message::Data(id, packet),
-    )
-}
-
-fn add_to_host(
-    alloc: Global,
-    net: &Net,
-    puts: &mut Vec<Put>,
-    unit: u32,
-    packet: Packet,
-) -> Result<(), Memory>
-    requires { unit < length net.now.actors }
-    ensures { OnOk result
-        (puts.new.items ≡ puts.old.items ++ send_all (Message.Host (plain_frame packet))
-        (links_out net.now unit Sort.ToHost)) }
-{
-    let frame = Message::Host(plain_frame(alloc, packet)?);
-    add_out(alloc, net, puts, unit, Sort::ToHost, &frame)
-}
-
 fn add_egress_data(
     alloc: Global,
     net: &Net,
@@ -226,8 +187,10 @@ fn add_egress_data(
         ++ (send_all (Message.Data id packet) (links_out net.now unit Sort.Cable)
         ++ send_all (Message.Host (plain_frame packet)) (links_out net.now unit Sort.ToHost))) }
 {
-    add_to_cable(alloc, net, puts, unit, id, packet)?;
-    add_to_host(alloc, net, puts, unit, packet)
+    let data = Message::Data(id, packet);
+    add_out(alloc, net, puts, unit, Sort::Cable, &data)?;
+    let frame = Message::Host(plain_frame(alloc, packet)?);
+    add_out(alloc, net, puts, unit, Sort::ToHost, &frame)
 }
 
 fn add_egress(

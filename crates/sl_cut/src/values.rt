@@ -158,7 +158,7 @@ fn total_at(totals: &[Total], place: usize) -> Total
     }
 }
 
-#[tactic(auto, using(crate::proofs::ForwardFindings::eight_places))]
+#[tactic(auto, using(crate::proofs::Judging::eight_places))]
 fn eight_totals(totals: &[Total]) -> [Total; 8]
     ensures { result ≡ eight_totals totals.now }
 {

@@ -37,15 +37,18 @@ pub through : {A : Type 0} (f : Message → Option A) (g : Message → Message) 
 through f g e None = refl
 through f g e (Some m) = e m
 
+-- what does not look at these numbers
+pub unmoved : {A : Type 0} (f : Message → A) → ((m n : ℕ) → f (DumpMsg m) ≡ f (DumpMsg n)) → ((place m n : ℕ) → f (DoneMsg place m) ≡ f (DoneMsg place n))
+    → (tell : Telling) (net : Net) (l : ℕ) (m : Message) → f (anew tell net l m) ≡ f m
+unmoved f dump done tell net l (DumpMsg n) = dump (tell (unit_place net (link_of net l).from) n) n
+unmoved f dump done tell net l (DoneMsg place n) = done place (tell place n) n
+unmoved f dump done tell net l _ = refl
+
 pub stamp-anew : (tell : Telling) (net : Net) (l : ℕ) (m : Message) → stamp_of (anew tell net l m) ≡ stamp_of m
-stamp-anew tell net l (DumpMsg n) = refl
-stamp-anew tell net l (DoneMsg place n) = refl
-stamp-anew tell net l _ = refl
+stamp-anew = unmoved stamp_of (λ m n. refl) (λ place m n. refl)
 
 counted-anew : (tell : Telling) (net : Net) (l : ℕ) (m : Message) → counted_in (anew tell net l m) ≡ counted_in m
-counted-anew tell net l (DumpMsg n) = refl
-counted-anew tell net l (DoneMsg place n) = refl
-counted-anew tell net l _ = refl
+counted-anew = unmoved counted_in (λ m n. refl) (λ place m n. refl)
 
 pub bad-anew : (tell : Telling) (net : Net) (l : ℕ) (o : Option Message) → is_bad (option_map (anew tell net l) o) ≡ is_bad o
 bad-anew tell net l None = refl

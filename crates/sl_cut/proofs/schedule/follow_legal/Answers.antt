@@ -1,15 +1,17 @@
 use Rattle.std.proofs.Common.{ℕ, sym, ◌∙◌}
 use Rattle.sl_model.specs.Losses.{losses}
 use Rattle.sl_model.specs.Setup.{setup_of}
-use Rattle.sl_cut.proofs.LegalFront.{legal_more, none_after}
+use Rattle.sl_cut.proofs.LegalFront.{reached_more, legal_more, none_after}
 use Rattle.sl_cut.proofs.schedule.follow_legal.Goals as goal
 
 pub loop-i-preserved : goal.loop-i-preserved
 loop-i-preserved c =
-    let z : ℕ × ℕ = (0, 0) in
-    let m = legal_more c.worlds_take_turns.ensures (setup_of c.args.input.now) (losses c.args.input.now) c.args.schedule.now c.loop-i.i z c.loop-i.world c.take_turn.new.world
-    c.loop-i-test.true c.loop-i.invariant.reached c.loop-i.invariant.legal (sym c.in_ok-take_turn.ensures.did ∙ c.if-not-branch.false) c.in_ok-take_turn.ensures.after in
-    record { reached = m.0; actors = c.in_ok-take_turn.ensures.actors; legal = m.1 }
+    let z : ℕ × ℕ = (0, 0) in let turns = c.worlds_take_turns.ensures in let s = setup_of c.args.input.now in let lost = losses c.args.input.now in let es = c.args.schedule.now in
+    record {
+      reached = reached_more turns s lost es c.loop-i.i z c.loop-i.world c.take_turn.new.world c.loop-i-test.true c.loop-i.invariant.reached c.in_ok-take_turn.ensures.after;
+      actors = c.in_ok-take_turn.ensures.actors;
+      legal = legal_more turns s lost es c.loop-i.i z c.loop-i.world c.loop-i-test.true c.loop-i.invariant.reached c.loop-i.invariant.legal (sym c.in_ok-take_turn.ensures.did ∙ c.if-not-branch.false);
+    }
 
 pub returns-clause-idle : goal.returns-clause-idle
 returns-clause-idle c = λ e h. none_after c.args.schedule.now e h

@@ -1,5 +1,5 @@
 use Rattle.sl_machine.specs.declared.wiring.Link.{Link}
-use Rattle.sl_cut.proofs.ForwardFindings.{total-same}
+use Rattle.sl_cut.proofs.Judging.{total-same}
 use Rattle.sl_model.specs.Cut.{before, crossing, data_bytes, data_count}
 use Rattle.sl_model.specs.History.{carried_by, history, taken}
 use Rattle.sl_model.specs.Losses.{losses}

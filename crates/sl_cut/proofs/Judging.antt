@@ -1,14 +1,17 @@
--- Loops that judge and count.
-use Rattle.std.proofs.Common.{◌≡◌, ℕ, ◌+◌, ◌≤◌, List, [], ◌∷◌, length, refl, sym, ap, ◌∙◌, Option, Some, None, arith}
-use Rattle.std.specs.Prelude.{Bool, true, false, min, unwrap_or, slice_index_or, filter, cond}
+-- Loops that judge and count, and sums over the units of a net.
+use Rattle.std.proofs.Common.{◌≡◌, ℕ, ◌+◌, ◌<◌, ◌≤◌, List, [], ◌∷◌, length, take, get_or, refl, sym, ap, ◌∙◌, Option, Some, None, arith}
+use Rattle.std.specs.Prelude.{◌^◌, Bool, true, false, min, unwrap_or, slice_index_or, filter, cond}
 use Rattle.std.proofs.lemmas.List.FromFn.{length-range_with_len}
+use Rattle.std.proofs.lemmas.List.Sums.{length-filter, count_by-le-length}
 use Rattle.sl_saves.specs.declared.entry.Total.{Total}
 use Rattle.sl_model.specs.Words.{weigh}
 use Rattle.sl_route.specs.Least.{least, least_in}
 use Rattle.sl_saves.specs.Keeping.{no_total}
-use Rattle.sl_model.specs.Findings.{eight_totals}
+use Rattle.sl_model.specs.Findings.{eight_totals, ingress_units, is_ingress}
+use Rattle.sl_model.specs.History.{World, history, steps_in}
+use Rattle.sl_model.specs.Turns.{TakesTurns}
 use Rattle.sl_parts.specs.Parts.{below}
-use Rattle.sl_parts.proofs.Lists.{length_filter_le}
+use Rattle.sl_model.proofs.Lists.Weighed.{weigh_more, weigh_take}
 use Rattle.sl_layout.specs.Net.{Net, actor_of, is_unit, units}
 
 -- The least of some numbers, with one before them.
@@ -58,6 +61,26 @@ weigh_passing f test (x ∷ xs) = by_test (test x) (weigh_passing f test xs)
     by_test true e = omega (arith, e)
     by_test false e = omega (arith, e)
 
+-- one element more
+pub weigh_next : {A : Type 0} (f : A → ℕ) (xs : List A) (i : ℕ) (d x : A) → i < length xs → x ≡ get_or xs i d → weigh f (take (i + 1) xs) ≡ weigh f (take i xs) + f x
+weigh_next f xs i d x h e = weigh_more f xs i d h ∙ ap (λ y. weigh f (take i xs) + f y) (sym e)
+
+-- a count of each ingress unit, 0 of another actor
+abbrev pub counted : Net → (ℕ → ℕ) → ℕ → ℕ
+counted net f u = cond (is_ingress (actor_of net u)) (f u) 0
+
+abbrev pub steps : World → ℕ → ℕ
+steps w u = length (history w u)
+
+pub whole : (net : Net) (f : ℕ → ℕ) (us : List ℕ) → us ≡ units net → weigh (counted net f) us ≡ weigh f (ingress_units net)
+whole net f us e = ap (weigh (counted net f)) e ∙ weigh_passing f (λ u. is_ingress (actor_of net u)) (units net)
+
+-- the steps of some units are fewer than 2^40, where those of all actors are
+pub room : TakesTurns → (net : Net) (w : World) (us : List ℕ) (i : ℕ) → us ≡ units net → length w ≡ length net.actors → steps_in w < 2 ^ 40 → i < length us
+    → weigh (counted net (steps w)) (take i us) + counted net (steps w) (get_or us i 0) < 2 ^ 40
+room turns net w us i e a s h =
+    omega (arith, weigh_more (counted net (steps w)) us i 0 h, weigh_take (counted net (steps w)) us (i + 1), whole net (steps w) us e, turns.ingress net w a, s)
+
 pub few_units : (net : Net) → length net.actors ≤ 1217 → length (units net) ≤ 1217
 few_units net h = let n = length net.actors in
-    omega (arith, h, length_filter_le (λ a. is_unit (actor_of net a)) (below n), length-range_with_len 0 n)
+    omega (arith, h, length-filter (λ a. is_unit (actor_of net a)) (below n), count_by-le-length (λ a. is_unit (actor_of net a)) (below n), length-range_with_len 0 n)

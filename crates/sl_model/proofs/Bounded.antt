@@ -1,19 +1,13 @@
 -- The bound on turns: what each step owes and pays.
 pub mod Flights
-pub mod Potential
-pub mod Carries
-pub mod Priced
-pub mod UnitPays
-pub mod ControlPays
 pub mod TurnPays
 pub mod Whole
 pub mod PortUse
 pub mod Ranks
 pub mod Ways
-pub mod Distance
-pub mod NetCounts
 pub mod Costs
 pub mod BoundedTurns
 pub mod Scripts
 pub mod SortCounts
-pub mod Small
+pub mod Prices
+pub mod StepPays

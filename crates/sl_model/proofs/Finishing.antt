@@ -1,11 +1,8 @@
 -- Settling and finishing end, in a finished world, in one way.
 pub mod NetWiring
 pub mod Idle
-pub mod Told
-pub mod SweepPuts
 pub mod Phase
 pub mod Finished
-pub mod Rounds
 pub mod Enough
 pub mod Fuel
 pub mod OneBook

@@ -1,5 +1,4 @@
 -- Sums, lengths and numbers of lists.
-pub mod Sums
 pub mod Weighed
 pub mod Sizes
 pub mod Lowest

@@ -5,9 +5,7 @@ pub mod Trails
 pub mod Legal
 pub mod Ran
 pub mod Numbers
-pub mod StepPuts
 pub mod Stamps
 pub mod Spared
-pub mod TakesTurns
 pub mod Passing
 pub mod ReachedWorlds

@@ -19,13 +19,10 @@ use Rattle.sl_model.specs.Sweeps.{sweeps_in}
 use Rattle.sl_model.proofs.Worlds.Legal.{fin_legal, kept_legal, legal_append}
 use Rattle.sl_model.proofs.Worlds.Trails.{run-kept}
 use Rattle.sl_model.proofs.Worlds.Turns.{run-append}
-use Rattle.sl_model.proofs.Bounded.Costs.{IsCosted, costed}
-use Rattle.sl_model.proofs.Bounded.NetCounts.{channels-few, frames-few, observers-few}
-use Rattle.sl_model.proofs.Bounded.Distance.{all_channels, all_frames, observers, start-by-kinds}
-use Rattle.sl_model.proofs.Finishing.Finished.{fin-is-finished}
+use Rattle.sl_model.proofs.Bounded.Costs.{IsCosted, costed, channels-few, frames-few, observers-few}
+use Rattle.sl_model.proofs.Bounded.Ways.{all_channels, all_frames, observers, start-by-kinds, guided}
+use Rattle.sl_model.proofs.Finishing.Finished.{fin-is-finished, mul-le, sweep_gain, weigh-kept}
 use Rattle.sl_model.proofs.Finishing.NetWiring.{wiring}
-use Rattle.sl_model.proofs.Finishing.Rounds.{mul-le, sweep_gain, weigh-kept}
-use Rattle.sl_model.proofs.Bounded.Ways.{guided}
 use Rattle.sl_model.proofs.Bounded.Whole.{start_potential, whole-run}
 
 -- the sweeps of a schedule, at 49 each

@@ -14,7 +14,7 @@ use Rattle.sl_model.specs.declared.message.Step.{Step}
 use Rattle.sl_model.specs.Flight.{Weight, flight}
 use Rattle.sl_model.specs.Turns.{GrowsAt}
 use Rattle.sl_model.proofs.Worlds.Turns.{taken-other}
-use Rattle.sl_model.proofs.Lists.Sums.{weigh-at-most, weigh-once, weigh-plus}
+use Rattle.sl_model.proofs.Lists.Weighed.{weigh-at-most, weigh-once, weigh-plus}
 
 abbrev pub puts_weight : Weight → List Put → ℕ
 puts_weight weight ps = weigh (λ p. weight p.link p.message) ps

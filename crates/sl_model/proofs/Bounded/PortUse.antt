@@ -5,10 +5,10 @@ use Rattle.std.specs.Prelude.{Bool, false, map, slice_get, true, ◌⊎◌, if�
 use Rattle.std.proofs.lemmas.Bool.{and_from, and_parts, eqb-true, or_left, or_parts, or_right}
 use Rattle.sl_parts.specs.Fault.{fault_of, first_clash, has_end, has_guest, reuses_port, takes_used_port}
 use Rattle.sl_parts.specs.Parts.{Parts, has_cable, host_from, other_end, same_port}
-use Rattle.sl_parts.specs.declared.fault.NetFault.TheVariants.{N1, N5, N7}
 use Rattle.sl_parts.specs.declared.parts.CablePart.{CablePart}
 use Rattle.sl_parts.specs.declared.parts.HostPart.{HostPart}
 use Rattle.sl_parts.specs.declared.parts.PortRef.{PortRef}
+use Rattle.sl_parts.specs.declared.fault.NetFault.TheVariants.{N1, N5, N7}
 use Rattle.sl_net.proofs.NetWired.{no-reason}
 use Rattle.sl_parts.proofs.Checked.{none-under}
 
@@ -51,16 +51,16 @@ joined-end (c ∷ cs) p q (inr (inr j)) = or_right (same_port c.a p || same_port
 -- No cable end is used by an earlier cable.
 
 -- each later cable ends at ports of its own
-abbrev pub IsClear : List CablePart → List CablePart → Type 0
-IsClear before [] = Unit {0}
-IsClear before (c ∷ cs) = (reuses_port before c ≡ false) × IsClear (before ++ c ∷ []) cs
+abbrev pub IsClear : {A : Type 0} → (List A → A → Bool) → List A → List A → Type 0
+IsClear t before [] = Unit {0}
+IsClear t before (x ∷ xs) = (t before x ≡ false) × IsClear t (before ++ x ∷ []) xs
 
-pub clear-from : (before cs : List CablePart) → first_clash reuses_port before cs ≡ None → IsClear before cs
-clear-from before [] h = tt
-clear-from before (c ∷ cs) h = by_bool (reuses_port before c) refl h (clear-from (before ++ c ∷ []) cs)
+clear-from : {A : Type 0} (t : List A → A → Bool) (before xs : List A) → first_clash t before xs ≡ None → IsClear t before xs
+clear-from t before [] h = tt
+clear-from t before (x ∷ xs) h = by_bool (t before x) refl h (clear-from t (before ++ x ∷ []) xs)
   where
-    by_bool : (b : Bool) → reuses_port before c ≡ b → (if b then Some (length before) else first_clash reuses_port (before ++ c ∷ []) cs) ≡ None → (first_clash reuses_port (before ++ c ∷ []) cs ≡ None → IsClear (before ++ c ∷ []) cs)
-        → (reuses_port before c ≡ false) × IsClear (before ++ c ∷ []) cs
+    by_bool : (b : Bool) → t before x ≡ b → (if b then Some (length before) else first_clash t (before ++ x ∷ []) xs) ≡ None
+        → (first_clash t (before ++ x ∷ []) xs ≡ None → IsClear t (before ++ x ∷ []) xs) → (t before x ≡ false) × IsClear t (before ++ x ∷ []) xs
     by_bool true q k ih = absurd cc
     by_bool false q k ih = (q, ih k)
 
@@ -77,7 +77,7 @@ has-end-last [] c p h = or_left (same_port c.a p || same_port c.b p) false h
 has-end-last (x ∷ xs) c p h = or_right (same_port x.a p || same_port x.b p) (has_end (xs ++ c ∷ []) p) (has-end-last xs c p h)
 
 -- a port used before joins nothing later
-clear-none : (before cs : List CablePart) (p q : PortRef) → IsClear before cs → has_end before p ≡ true → Joins cs p q → ⊥
+clear-none : (before cs : List CablePart) (p q : PortRef) → IsClear reuses_port before cs → has_end before p ≡ true → Joins cs p q → ⊥
 clear-none before [] p q k h j = j
 clear-none before (c ∷ cs) p q k h (inl e) = let r = or_parts (has_end before c.a) (same_port c.a c.b || has_end before c.b) k.0 in let z : true ≡ false = sym h ∙ ap (has_end before) (sym e.0) ∙ r.0 in cc
 clear-none before (c ∷ cs) p q k h (inr (inl e)) = let r = or_parts (has_end before c.a) (same_port c.a c.b || has_end before c.b) k.0 in let t = or_parts (same_port c.a c.b) (has_end before c.b) r.1 in
@@ -88,7 +88,7 @@ not-itself : (before : List CablePart) (c : CablePart) → reuses_port before c 
 not-itself before c h = (or_parts (same_port c.a c.b) (has_end before c.b) (or_parts (has_end before c.a) (same_port c.a c.b || has_end before c.b) h).1).0
 
 -- a port joins one other
-pub joins-once : (before cs : List CablePart) (p q r : PortRef) → IsClear before cs → Joins cs p q → Joins cs p r → q ≡ r
+pub joins-once : (before cs : List CablePart) (p q r : PortRef) → IsClear reuses_port before cs → Joins cs p q → Joins cs p r → q ≡ r
 joins-once before [] p q r k i j = absurd i
 joins-once before (c ∷ cs) p q r k (inl e) (inl f) = sym e.1 ∙ f.1
 joins-once before (c ∷ cs) p q r k (inl e) (inr (inl f)) = absurd (let z : true ≡ false = sym (same-port-refl p) ∙ ap (λ x. same_port x p) (sym e.0) ∙ ap (same_port c.a) (sym f.0) ∙ not-itself before c k.0 in cc)
@@ -102,24 +102,11 @@ joins-once before (c ∷ cs) p q r k (inr (inr i)) (inr (inr j)) = joins-once (b
 
 -- Hosts: none stands at a port of a cable, or of an earlier host.
 
-abbrev pub AreClear : Parts → List HostPart → List HostPart → Type 0
-AreClear parts before [] = Unit {0}
-AreClear parts before (h ∷ hs) = (takes_used_port parts before h ≡ false) × AreClear parts (before ++ h ∷ []) hs
-
-pub hosts-clear : (parts : Parts) (before hs : List HostPart) → first_clash (takes_used_port parts) before hs ≡ None → AreClear parts before hs
-hosts-clear parts before [] h = tt
-hosts-clear parts before (x ∷ hs) h = by_bool (takes_used_port parts before x) refl h (hosts-clear parts (before ++ x ∷ []) hs)
-  where
-    by_bool : (b : Bool) → takes_used_port parts before x ≡ b → (if b then Some (length before) else first_clash (takes_used_port parts) (before ++ x ∷ []) hs) ≡ None
-        → (first_clash (takes_used_port parts) (before ++ x ∷ []) hs ≡ None → AreClear parts (before ++ x ∷ []) hs) → (takes_used_port parts before x ≡ false) × AreClear parts (before ++ x ∷ []) hs
-    by_bool true q k ih = absurd cc
-    by_bool false q k ih = (q, ih k)
-
 -- the port of a host
 abbrev pub port_at : List HostPart → ℕ → Option PortRef
 port_at hs h = slice_get (map (λ host. host.at) hs) h
 
-pub no-cable : (parts : Parts) (before hs : List HostPart) (h : ℕ) (p : PortRef) → AreClear parts before hs → port_at hs h ≡ Some p → has_cable parts p ≡ false
+pub no-cable : (parts : Parts) (before hs : List HostPart) (h : ℕ) (p : PortRef) → IsClear (takes_used_port parts) before hs → port_at hs h ≡ Some p → has_cable parts p ≡ false
 no-cable parts before [] h p k q = absurd cc
 no-cable parts before (x ∷ hs) zero p k q = let e : x.at ≡ p = cc in ap (has_cable parts) (sym e) ∙ (or_parts (has_cable parts x.at) (has_guest before x.at) k.0).0
 no-cable parts before (x ∷ hs) (suc h) p k q = no-cable parts (before ++ x ∷ []) hs h p k.1 q
@@ -136,13 +123,13 @@ has-guest-last : (xs : List HostPart) (x : HostPart) (p : PortRef) → same_port
 has-guest-last [] x p h = or_left (same_port x.at p) false h
 has-guest-last (y ∷ xs) x p h = or_right (same_port y.at p) (has_guest (xs ++ x ∷ []) p) (has-guest-last xs x p h)
 
-guests-none : (parts : Parts) (before hs : List HostPart) (h : ℕ) (p : PortRef) → AreClear parts before hs → has_guest before p ≡ true → port_at hs h ≡ Some p → ⊥
+guests-none : (parts : Parts) (before hs : List HostPart) (h : ℕ) (p : PortRef) → IsClear (takes_used_port parts) before hs → has_guest before p ≡ true → port_at hs h ≡ Some p → ⊥
 guests-none parts before [] h p k g q = cc
 guests-none parts before (x ∷ hs) zero p k g q = let e : x.at ≡ p = cc in let r = or_parts (has_cable parts x.at) (has_guest before x.at) k.0 in let z : true ≡ false = sym g ∙ ap (has_guest before) (sym e) ∙ r.1 in cc
 guests-none parts before (x ∷ hs) (suc h) p k g q = guests-none parts (before ++ x ∷ []) hs h p k.1 (has-guest-front before (x ∷ []) p g) q
 
 -- two hosts at one port are one
-pub one-host : (parts : Parts) (before hs : List HostPart) (h i : ℕ) (p : PortRef) → AreClear parts before hs → port_at hs h ≡ Some p → port_at hs i ≡ Some p → h ≡ i
+pub one-host : (parts : Parts) (before hs : List HostPart) (h i : ℕ) (p : PortRef) → IsClear (takes_used_port parts) before hs → port_at hs h ≡ Some p → port_at hs i ≡ Some p → h ≡ i
 one-host parts before [] h i p k q r = absurd cc
 one-host parts before (x ∷ hs) zero zero p k q r = refl
 one-host parts before (x ∷ hs) zero (suc i) p k q r = let e : x.at ≡ p = cc in absurd (guests-none parts (before ++ x ∷ []) hs i p k.1 (has-guest-last before x p (ap (λ y. same_port y p) e ∙ same-port-refl p)) r)
@@ -162,14 +149,14 @@ host-at-is n (x ∷ hs) p h q = by_bool (same_port x.at p) refl q (host-at-is (s
 -- All of it, for parts without a fault.
 pub record HasOwnPorts (parts : Parts) : Type 0 where
   pub some_device : 0 < length parts.devices
-  pub cables : IsClear [] parts.cables
-  pub hosts : AreClear parts [] parts.hosts
+  pub cables : IsClear reuses_port [] parts.cables
+  pub hosts : IsClear (takes_used_port parts) [] parts.hosts
 
 pub own-ports : (parts : Parts) → fault_of parts ≡ None → HasOwnPorts parts
 own-ports parts h = let e = no-reason parts h in record {
   some_device = by_count (length parts.devices) e.0;
-  cables = clear-from [] parts.cables (none-under N5 (first_clash reuses_port [] parts.cables) e.1.1.1.1.1.0);
-  hosts = hosts-clear parts [] parts.hosts (none-under N7 (first_clash (takes_used_port parts) [] parts.hosts) e.1.1.1.1.1.1.1.0);
+  cables = clear-from reuses_port [] parts.cables (none-under N5 (first_clash reuses_port [] parts.cables) e.1.1.1.1.1.0);
+  hosts = clear-from (takes_used_port parts) [] parts.hosts (none-under N7 (first_clash (takes_used_port parts) [] parts.hosts) e.1.1.1.1.1.1.1.0);
 }
   where
     by_count : (n : ℕ) → (if n == 0 then Some N1 else None) ≡ None → 0 < n

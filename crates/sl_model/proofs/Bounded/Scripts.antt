@@ -23,8 +23,8 @@ use Rattle.sl_model.specs.FirstNet.{IsFirstNet}
 use Rattle.sl_model.specs.Potential.{allowance, allowed}
 use Rattle.sl_model.specs.Sweeps.{sweeps_at, sweeps_in}
 use Rattle.sl_model.proofs.Finishing.Enough.{Finishes, bound-enough}
-use Rattle.sl_model.proofs.Finishing.Rounds.{pass-free}
-use Rattle.sl_model.proofs.Lists.Sums.{weigh-append}
+use Rattle.sl_model.proofs.Finishing.Finished.{pass-free}
+use Rattle.sl_model.proofs.Lists.Weighed.{weigh-append}
 use Rattle.sl_model.proofs.Bounded.BoundedTurns.{run-within}
 
 -- The sweeps of a script's expansion.

@@ -1,25 +1,31 @@
 -- How many links of initiations, cables and crossbars a net has at most beside its units: only units take from these, and each port has two
--- units and few of them.
-use Rattle.std.proofs.Common.{◌*◌, ◌+◌, ◌≤◌, List, None, Option, Some, ap, get_or, length, refl, suc, sym, ℕ, ◌∙◌, ◌∷◌, ◌≡◌, arith, []}
+use Rattle.std.proofs.Common.{◌*◌, ◌+◌, ◌≤◌, List, None, Option, Some, ap, get_or, length, refl, suc, sym, ℕ, ◌∙◌, ◌∷◌, ◌≡◌, arith, [], ◌<◌, ◌^◌, subst, zero, add-mul, mul-add}
 use Rattle.std.specs.Prelude.{Bool, false, filter, flat_map, if◌then◌else◌, map, slice_get}
 use Rattle.sl_layout.specs.Net.{Incoming, Net, actor_of, actors_of, egress, from_host_or_cable, from_outside, incoming, ingress, is_unit, link_numbers, link_of, links_to, net_of, nobody, place_of, same_sort, to_host, units, units_of}
+use Rattle.std.proofs.lemmas.List.Sums.{length-filter, count_by-le-length}
 use Rattle.sl_parts.specs.Parts.{Parts, below, host_at, other_end, used_ports}
-use Rattle.sl_net.specs.Wired.{IsWired}
+use Rattle.sl_net.specs.Wired.{IsWired, IsNet}
 use Rattle.sl_layout.specs.declared.actor.ActorId.{ActorId}
 use Rattle.sl_layout.specs.declared.actor.ActorId.TheVariants.{Control, Host as OfHost, Observer}
 use Rattle.sl_layout.specs.declared.actor.LinkPart.{LinkPart}
 use Rattle.sl_layout.specs.declared.actor.Sort.{Sort}
-use Rattle.sl_layout.specs.declared.actor.Sort.TheVariants.{Begin, Cable, Crossbar, Done, Dump, Init, Notice, Poll, ToHost}
+use Rattle.sl_layout.specs.declared.actor.Sort.TheVariants.{Begin, Cable, Crossbar, Done, Dump, FromHost, Init, Notice, Poll, ToHost}
 use Rattle.sl_parts.specs.declared.parts.HostPart.{HostPart}
 use Rattle.sl_parts.specs.declared.parts.PortRef.{PortRef}
-use Rattle.sl_model.specs.Bound.{links_of_sort}
+use Rattle.sl_model.specs.Bound.{links_of_sort, bound, bound_of, frame_count, input_bound, is_sweep}
 use Rattle.sl_model.specs.Words.{tally, weigh}
-use Rattle.sl_parts.proofs.Lists.{numbers-suc}
 use Rattle.std.proofs.lemmas.List.{length-map}
-use Rattle.std.proofs.lemmas.Simd.{map-map}
-use Rattle.sl_model.proofs.Bounded.Priced.{weigh-map}
-use Rattle.sl_model.proofs.Lists.Sums.{tally-is, weigh-append, weigh-at-most, weigh-each, weigh-flat, weigh-nothing, weigh-ones-is, weigh-same-each, weigh-times}
+use Rattle.sl_model.proofs.Bounded.Prices.{weigh-map}
+use Rattle.sl_model.proofs.Lists.Weighed.{tally-is, weigh-append, weigh-at-most, weigh-each, weigh-flat, weigh-nothing, weigh-ones-is, weigh-same-each, weigh-times}
 use Rattle.sl_model.proofs.Bounded.BoundedTurns.{mul-right}
+use Rattle.std.specs.List.{sum}
+use Rattle.std.proofs.lemmas.List.Sums.{sum_by-cons}
+use Rattle.std.proofs.lemmas.List.FromFn.{fill_by_all, length-range_with_len}
+use Rattle.sl_net.specs.Input.{Input}
+use Rattle.sl_net.specs.declared.input.Flow.{Flow}
+use Rattle.sl_model.specs.Setup.{Setup, setup_of}
+use Rattle.sl_model.proofs.Finishing.NetWiring.{wiring}
+use Rattle.sl_model.proofs.Finishing.Finished.{mul-le}
 
 abbrev is_of : Sort → Incoming → Bool
 is_of t i = same_sort i.1 t
@@ -97,8 +103,7 @@ few-taken parts t most v u = omega (
 
 -- the actors by their numbers
 pub all_at : (xs : List ActorId) (d : ActorId) → map (λ i. get_or xs i d) (below (length xs)) ≡ xs
-all_at [] d = refl
-all_at (x ∷ xs) d = ap (λ ns. x ∷ map (λ i. get_or (x ∷ xs) i d) ns) (numbers-suc 0 (length xs)) ∙ ap (λ r. x ∷ r) (map-map (λ i. get_or (x ∷ xs) i d) (λ i. suc i) (below (length xs)) ∙ all_at xs d)
+all_at xs d = sym (fill_by_all (λ i. get_or xs i d) xs (length xs) d refl (λ k l. refl))
 
 two-each : (parts : Parts) → 2 * ports_in parts ≤ length (units (net_of parts))
 two-each parts = omega (
@@ -128,37 +133,40 @@ two-each parts = omega (
 
 -- Where the sort isn't that of a link to the observer, a control plane or a host.
 
-record IsData (t : Sort) : Type 0 where
+abbrev one : Bool → ℕ
+one b = if b then 1 else 0
+
+-- and at most so many come to a port from outside
+record IsData (t : Sort) (outside : ℕ) : Type 0 where
   begin : same_sort Begin t ≡ false
   notice : same_sort Notice t ≡ false
   dump : same_sort Dump t ≡ false
   done : same_sort Done t ≡ false
   to_host : same_sort ToHost t ≡ false
   poll : same_sort Poll t ≡ false
-
-abbrev one : Bool → ℕ
-one b = if b then 1 else 0
+  from_host : one (same_sort FromHost t) ≤ outside
+  cable : one (same_sort Cable t) ≤ outside
 
 none : (b : Bool) → b ≡ false → one b ≤ 0
 none b h = rw h (omega arith)
 
-no-observer : (parts : Parts) (t : Sort) → IsData t → taken parts t Observer ≤ 0
-no-observer parts t k = omega (
+no-observer : (parts : Parts) (t : Sort) (outside : ℕ) → IsData t outside → taken parts t Observer ≤ 0
+no-observer parts t outside k = omega (
   arith,
   weigh-map {B = Incoming} (λ i. one (is_of t i)) (λ d. (Control d, Done)) (below (length parts.devices)),
   weigh-nothing (λ (d : ℕ). one (same_sort Done t)) (below (length parts.devices)) (λ d. none (same_sort Done t) k.done),
 )
 
-no-control : (parts : Parts) (t : Sort) → IsData t → (d : ℕ) → taken parts t (Control d) ≤ 0
-no-control parts t k d = omega (
+no-control : (parts : Parts) (t : Sort) (outside : ℕ) → IsData t outside → (d : ℕ) → taken parts t (Control d) ≤ 0
+no-control parts t outside k d = omega (
   arith,
   none (same_sort Begin t) k.begin,
   weigh-flat {B = Incoming} (λ i. one (is_of t i)) (λ u. (u, Notice) ∷ (u, Dump) ∷ []) (units_of parts d),
   weigh-nothing (λ (u : ActorId). one (same_sort Notice t) + (one (same_sort Dump t) + 0)) (units_of parts d) (λ u. omega (arith, none (same_sort Notice t) k.notice, none (same_sort Dump t) k.dump)),
 )
 
-no-host : (parts : Parts) (t : Sort) → IsData t → (h : ℕ) → taken parts t (OfHost h) ≤ 0
-no-host parts t k h = by_port (slice_get (map (λ (part : HostPart). part.at) parts.hosts) h)
+no-host : (parts : Parts) (t : Sort) (outside : ℕ) → IsData t outside → (h : ℕ) → taken parts t (OfHost h) ≤ 0
+no-host parts t outside k h = by_port (slice_get (map (λ (part : HostPart). part.at) parts.hosts) h)
   where
     by_port : (o : Option PortRef) → tally (is_of t) (to_host o) ≤ 0
     by_port None = omega arith
@@ -166,13 +174,12 @@ no-host parts t k h = by_port (slice_get (map (λ (part : HostPart). part.at) pa
 
 -- A port: at its ingress what comes from outside and a link of initiations, at its egress the crossbar links.
 
-port-takes : (parts : Parts) (t : Sort) (d p : ℕ) (outside : ℕ) → IsData t → IsWired (net_of parts)
-    → ((x : Option ℕ) (y : Option PortRef) → tally (is_of t) (from_host_or_cable x y) ≤ outside)
+port-takes : (parts : Parts) (t : Sort) (outside d p : ℕ) → IsData t outside → IsWired (net_of parts)
     → taken parts t (ingress d p) + taken parts t (egress d p) ≤ outside + one (same_sort Init t) + one (same_sort Crossbar t) * 8
-port-takes parts t d p outside k v h = omega (
+port-takes parts t outside d p k v = omega (
   arith,
   none (same_sort Poll t) k.poll,
-  h (host_at parts at) (other_end parts.cables at),
+  comes (host_at parts at) (other_end parts.cables at),
   weigh-append f (from_outside parts at) ((Control d, Init) ∷ (Control d, Poll) ∷ []),
   weigh-append f crossing ((Control d, Poll) ∷ []),
   weigh-map {B = Incoming} f (λ q. (ingress d q, Crossbar)) (used_ports parts d),
@@ -189,48 +196,100 @@ port-takes parts t d p outside k v h = omega (
     crossing : List Incoming
     crossing = map (λ q. (ingress d q, Crossbar)) (used_ports parts d)
 
-few-of-sort : (parts : Parts) (t : Sort) (outside : ℕ) → IsWired (net_of parts) → IsData t
-    → ((x : Option ℕ) (y : Option PortRef) → tally (is_of t) (from_host_or_cable x y) ≤ outside)
+    comes : (x : Option ℕ) (y : Option PortRef) → tally (is_of t) (from_host_or_cable x y) ≤ outside
+    comes (Some h) y = omega (arith, k.from_host)
+    comes None (Some q) = omega (arith, k.cable)
+    comes None None = omega arith
+
+few-of-sort : (parts : Parts) (t : Sort) (outside : ℕ) → IsWired (net_of parts) → IsData t outside
     → links_of_sort (net_of parts) t ≤ (outside + one (same_sort Init t) + one (same_sort Crossbar t) * 8) * ports_in parts
-few-of-sort parts t outside v k h = few-taken parts t (outside + one (same_sort Init t) + one (same_sort Crossbar t) * 8) v (record {
-  observer = no-observer parts t k;
-  control = no-control parts t k;
-  host = no-host parts t k;
-  port = λ d p. port-takes parts t d p outside k v h;
+few-of-sort parts t outside v k = few-taken parts t (outside + one (same_sort Init t) + one (same_sort Crossbar t) * 8) v (record {
+  observer = no-observer parts t outside k;
+  control = no-control parts t outside k;
+  host = no-host parts t outside k;
+  port = λ d p. port-takes parts t outside d p k v;
 })
 
 pub few-inits : (parts : Parts) → IsWired (net_of parts) → 2 * links_of_sort (net_of parts) Init ≤ 1 * length (units (net_of parts))
-few-inits parts v = omega (
-  arith,
-  two-each parts,
-  few-of-sort parts Init 0 v (record { begin = refl; notice = refl; dump = refl; done = refl; to_host = refl; poll = refl }) outside,
-)
-  where
-    outside : (x : Option ℕ) (y : Option PortRef) → tally (is_of Init) (from_host_or_cable x y) ≤ 0
-    outside (Some h) y = omega arith
-    outside None (Some q) = omega arith
-    outside None None = omega arith
+few-inits parts v = omega (arith, two-each parts, few-of-sort parts Init 0 v (record { begin = refl; notice = refl; dump = refl; done = refl; to_host = refl; poll = refl; from_host = omega arith; cable = omega arith }))
 
 pub few-crossings : (parts : Parts) → IsWired (net_of parts) → 2 * links_of_sort (net_of parts) Crossbar ≤ 8 * length (units (net_of parts))
-few-crossings parts v = omega (
-  arith,
-  two-each parts,
-  few-of-sort parts Crossbar 0 v (record { begin = refl; notice = refl; dump = refl; done = refl; to_host = refl; poll = refl }) outside,
-)
-  where
-    outside : (x : Option ℕ) (y : Option PortRef) → tally (is_of Crossbar) (from_host_or_cable x y) ≤ 0
-    outside (Some h) y = omega arith
-    outside None (Some q) = omega arith
-    outside None None = omega arith
+few-crossings parts v = omega (arith, two-each parts, few-of-sort parts Crossbar 0 v (record { begin = refl; notice = refl; dump = refl; done = refl; to_host = refl; poll = refl; from_host = omega arith; cable = omega arith }))
 
 pub few-cables : (parts : Parts) → IsWired (net_of parts) → 2 * links_of_sort (net_of parts) Cable ≤ 1 * length (units (net_of parts))
-few-cables parts v = omega (
-  arith,
-  two-each parts,
-  few-of-sort parts Cable 1 v (record { begin = refl; notice = refl; dump = refl; done = refl; to_host = refl; poll = refl }) outside,
-)
+few-cables parts v = omega (arith, two-each parts, few-of-sort parts Cable 1 v (record { begin = refl; notice = refl; dump = refl; done = refl; to_host = refl; poll = refl; from_host = omega arith; cable = omega arith }))
+
+-- The bound is small, where the limits of an input are kept.
+
+mul-most : (a b x y : ℕ) → a ≤ x → b ≤ y → a * b ≤ x * y
+mul-most a b x y h k = omega (arith, mul-le a x b h, mul-right b y x k)
+
+-- the terms of the bound, apart
+
+mul-five : (c u : ℕ) → c * (5 * u) ≡ 5 * (c * u)
+mul-five zero u = omega arith
+mul-five (suc c) u = omega (arith, mul-five c u)
+
+mul-sum : (g c r u : ℕ) → g ≡ 2 * c + r → g * u ≡ 2 * (c * u) + r * u
+mul-sum g c r zero h = omega arith
+mul-sum g c r (suc u) h = omega (arith, h, mul-sum g c r u h)
+
+record IsSmallNet (net : Net) : Type 0 where
+  devices : length net.parts.devices ≤ 64
+  units_in : length (units net) ≤ 1217
+  inits : 2 * links_of_sort net Init ≤ 1 * length (units net)
+  crossings : 2 * links_of_sort net Crossbar ≤ 8 * length (units net)
+  cables : 2 * links_of_sort net Cable ≤ 1 * length (units net)
+
+small-net : (parts : Parts) → IsWired (net_of parts) → IsSmallNet (net_of parts)
+small-net parts t = record {
+  devices = t.valid.devices;
+  units_in = omega (arith, length-filter (λ a. is_unit (actor_of (net_of parts) a)) (below (length (actors_of parts))), count_by-le-length (λ a. is_unit (actor_of (net_of parts) a)) (below (length (actors_of parts))), length-range_with_len 0 (length (actors_of parts)), few);
+  inits = few-inits parts t;
+  crossings = few-crossings parts t;
+  cables = few-cables parts t;
+}
   where
-    outside : (x : Option ℕ) (y : Option PortRef) → tally (is_of Cable) (from_host_or_cable x y) ≤ 1
-    outside (Some h) y = omega arith
-    outside None (Some q) = omega arith
-    outside None None = omega arith
+    few : length (actors_of parts) ≤ 1217
+    few = t.few_actors
+
+pub small-bound : (s : Setup) (sweeps : ℕ) → IsNet s.net → s.count ≤ 100000 → s.count * length (units s.net) ≤ 1024000 → s.retries ≤ 100 → frame_count s ≤ 200000 → sweeps ≤ 2 ^ 20
+    → bound_of s sweeps < 2 ^ 27
+small-bound s sweeps n c f t p k = of_numbers (length s.net.parts.devices) (length (units s.net)) (links_of_sort s.net Init) (links_of_sort s.net Crossbar) (links_of_sort s.net Cable) s.count s.retries (frame_count s) sweeps
+    m.devices m.units_in (omega (arith, m.inits, m.crossings, m.cables)) c f t p k
+  where
+    m : IsSmallNet s.net
+    m = subst (λ g. IsWired g → IsSmallNet g) (sym n.made) (small-net s.net.parts) (wiring s.net n).wired
+
+    of_numbers : (D U I X Y C T P S : ℕ) → D ≤ 64 → U ≤ 1217 → I + X + Y ≤ 5 * U → C ≤ 100000 → C * U ≤ 1024000 → T ≤ 100 → P ≤ 200000 → S ≤ 1048576 → bound D U I X Y C T P S < 134217728
+    of_numbers D U I X Y C T P S d u z c f t p k = omega (
+      arith,
+      k,
+      f,
+      add-mul C T (1 + D + (I + X + Y)),
+      mul-add C (1 + D) (I + X + Y),
+      mul-right (I + X + Y) (5 * U) C z,
+      mul-five C U,
+      mul-most C (1 + D) 100000 65 c (omega (arith, d)),
+      mul-most T (1 + D + (I + X + Y)) 100 6150 t (omega (arith, d, z, u)),
+      mul-most P (2 * D + 2) 200000 130 p (omega (arith, d)),
+      mul-sum (2 * C + T + 2) C (T + 2) U (omega arith),
+      mul-most (T + 2) U 102 1217 (omega (arith, t)) u,
+      mul-sum (2 * C + T + 2) C (T + 2) D (omega arith),
+      mul-most (T + 2) D 102 64 (omega (arith, t)) d,
+      mul-most C D 100000 64 c d,
+    )
+
+-- The bound of an input.
+
+weigh-sum : {A : Type 0} (f : A → ℕ) (xs : List A) → weigh f xs ≡ sum (map f xs)
+weigh-sum f [] = refl
+weigh-sum f (x ∷ xs) = ap (λ n. f x + n) (weigh-sum f xs) ∙ sym (sum_by-cons (λ n. n) (f x) (map f xs))
+
+-- a part of a list
+tally-few : {A : Type 0} (t : A → Bool) (xs : List A) → tally t xs ≤ length xs
+tally-few t xs = omega (arith, tally-is t xs, length-filter t xs, count_by-le-length t xs)
+
+pub small-input : (i : Input) → IsNet i.net → i.snapshot.count ≤ 100000 → i.snapshot.count * length (units i.net) ≤ 1024000 → i.snapshot.retries ≤ 100
+    → sum (map (λ f. f.count) i.flows) + length i.raws ≤ 200000 → length i.script ≤ 2 ^ 20 → input_bound i < 2 ^ 27
+small-input i n c f t p k = small-bound (setup_of i) (tally (is_sweep i.net) i.script) n c f t (omega (arith, p, weigh-sum (λ (f : Flow). f.count) i.flows)) (omega (arith, k, tally-few (is_sweep i.net) i.script))

@@ -22,24 +22,20 @@ use Rattle.sl_model.specs.declared.message.Message.TheVariants.{Begin as BeginMs
 use Rattle.sl_model.specs.declared.message.Put.{Put}
 use Rattle.sl_model.specs.declared.message.Step.{Step}
 use Rattle.sl_model.specs.Potential.{allowance, allowed, begin_price, credit, frame_price, potential, price, round_price}
-use Rattle.sl_parts.proofs.Lists.{each-at}
 use Rattle.sl_model.proofs.Cuts.Begins.{heard-this, last-never-falls}
-use Rattle.sl_model.proofs.Cuts.Bounds.{AllBelow, all-below}
-use Rattle.sl_model.proofs.Cuts.Floors.{within}
+use Rattle.sl_model.proofs.Cuts.Bounds.{AllBelow, all-below, within, each-get}
 use Rattle.sl_model.proofs.Worlds.Ran.{ran-turn}
-use Rattle.sl_model.proofs.Worlds.Stamps.{each-lost}
+use Rattle.sl_model.proofs.Worlds.Stamps.{each-lost, guard-holds}
 use Rattle.sl_model.proofs.Worlds.Turns.{Steps, taken-other, taken-this}
-use Rattle.sl_model.proofs.Bounded.ControlPays.{control-pays, price-pays}
-use Rattle.sl_model.proofs.Finishing.Idle.{guard-holds, issued-within, none-past}
+use Rattle.sl_model.proofs.Bounded.StepPays.{control-pays, price-pays, unit-pays}
+use Rattle.sl_model.proofs.Finishing.Idle.{issued-within, none-past}
 use Rattle.sl_model.proofs.Finishing.NetWiring.{Wiring}
 use Rattle.sl_model.proofs.Finishing.Phase.{takes-fit}
-use Rattle.sl_model.proofs.Bounded.Potential.{Pays, potential-step, sends-weigh}
-use Rattle.sl_model.proofs.Bounded.Priced.{IsPriced, priced}
+use Rattle.sl_model.proofs.Bounded.Prices.{Pays, potential-step, sends-weigh, IsPriced, priced}
 use Rattle.sl_model.proofs.Worlds.ReachedWorlds.{ActsBy, Reached, StepOf, TakesBy, choice-of-step, ran-reached, reached-turn, step-cases, step-grows}
-use Rattle.sl_model.proofs.Finishing.Told.{got-member}
-use Rattle.sl_model.proofs.Bounded.UnitPays.{stamped-sort, unit-pays}
 use Rattle.sl_model.proofs.Bounded.Flights.{puts_weight}
 use Rattle.sl_model.proofs.Worlds.Numbers.{NeverFalls}
+use Rattle.sl_model.proofs.Cuts.Collected.{stamped-sort}
 
 -- Stamps: none is below the last one of its channel, and none is above the count.
 
@@ -77,8 +73,8 @@ stamp-within s lost g w r a c step t k q = omega (arith, below.stamp, ap (λ o. 
     all = subst (AllBelow s.net) r.1 (all-below s lost r.0 g.wired).below
 
     below : IsBelow (issued s.net (observer w)) t.message
-    below = each-at (IsBelow (issued s.net (observer w))) t.message (carried s.net lost w t.link) (each-lost (IsBelow (issued s.net (observer w))) (lost t.link) 0 (put t.link (history w b)) (all t.link))
-        (got-member (carried s.net lost w t.link) (taken c (history w a)) t.message t.in_front)
+    below = each-get (IsBelow (issued s.net (observer w))) (carried s.net lost w t.link) (taken c (history w a)) t.message
+        (each-lost (IsBelow (issued s.net (observer w))) (lost t.link) 0 (put t.link (history w b)) (all t.link)) t.in_front
 
 -- one less of some rounds
 one-less : (c k t r : ℕ) → k < c → r + ((c - suc k) + t) * r ≡ ((c - k) + t) * r

@@ -1,9 +1,9 @@
 -- How links lead on in the net of parts without a fault: by one link at a time, and to a host always nearer.
-use Rattle.std.proofs.Common.{◌+◌, ◌<◌, List, None, Option, Some, ap, inl, inr, length, refl, subst, sym, ℕ, ◌∙◌, ◌∷◌, ◌≡◌, ◌≤◌, arith, []}
+use Rattle.std.proofs.Common.{◌+◌, ◌<◌, List, None, Option, Some, ap, inl, inr, length, refl, subst, sym, ℕ, ◌∙◌, ◌∷◌, ◌≡◌, ◌≤◌, arith, [], ◌*◌, suc, zero}
 use Rattle.std.specs.Prelude.{false, true, ◌⊎◌}
 use Rattle.sl_layout.specs.Net.{Incoming, Net, actor_of, actors_of, egress, from_host_or_cable, from_outside, incoming, ingress, link_of, links_out, net_of, place_of, same_actor, to_host, unit_incoming}
-use Rattle.sl_parts.specs.Parts.{Parts, has_cable, host_at, other_end}
-use Rattle.sl_net.specs.Wired.{home, HasEnds, IsNet, receives, unit_receives, IsWired}
+use Rattle.sl_parts.specs.Parts.{Parts, has_cable, host_at, other_end, below}
+use Rattle.sl_net.specs.Wired.{home, HasEnds, IsNet, receives, IsWired}
 use Rattle.sl_layout.specs.declared.actor.ActorId.{ActorId}
 use Rattle.sl_layout.specs.declared.actor.ActorId.TheVariants.{Control, Observer, Host as OfHost, Unit as OfUnit}
 use Rattle.sl_layout.specs.declared.actor.Side.{Side}
@@ -15,14 +15,20 @@ use Rattle.sl_parts.specs.declared.parts.PortRef.{PortRef}
 use Rattle.sl_model.specs.Puts.{crossbar_to}
 use Rattle.sl_route.specs.Route.{Walk, first_port, least_walks, next_port}
 use Rattle.sl_parts.specs.Lists.{Each, Member}
-use Rattle.sl_parts.proofs.Lists.{distinct-filter, each-at, each-both, each-imp, member-parts}
-use Rattle.sl_model.specs.Fare.{device_at}
+use Rattle.sl_parts.proofs.Lists.{distinct-filter, each-at, each-both, each-imp, member-parts, each-of}
+use Rattle.sl_model.specs.Fare.{device_at, enter_fare, frame_to, frame_fare, frame_in, frame_side, leave_fare, onward_fare}
 use Rattle.sl_net.specs.Ways.{IsOut, HasWays}
-use Rattle.sl_model.proofs.Bounded.Carries.{cable-receiver, host-receiver}
+use Rattle.sl_model.proofs.Bounded.Prices.{cable-receiver, host-receiver, only-ingress}
 use Rattle.sl_model.proofs.Bounded.PortUse.{HasOwnPorts, Joins, host-at-is, joined-end, joins-back, joins-once, no-cable, one-host, other-joins, own-ports, port_at}
-use Rattle.sl_model.proofs.Bounded.Priced.{links-out-distinct, out-of}
 use Rattle.sl_model.proofs.Bounded.Ranks.{Towards, cable-joins, rank, rank-below, rank-nearer, towards, walk-ends}
-use Rattle.sl_model.proofs.Lists.Sums.{one-at-most}
+use Rattle.sl_model.proofs.Lists.Weighed.{one-at-most, weigh-each}
+use Rattle.sl_net.specs.declared.input.Packet.{Packet}
+use Rattle.sl_model.specs.Frame.{packet_of}
+use Rattle.sl_model.specs.Setup.{Setup, frames_of}
+use Rattle.sl_model.specs.Words.{weigh}
+use Rattle.sl_model.specs.Potential.{channels, frame_price, round_price}
+use Rattle.sl_model.proofs.Bounded.Whole.{start_credit, start_potential}
+use Rattle.sl_model.proofs.Worlds.Stamps.{out-of, distinct-out}
 
 -- Links by their ends.
 
@@ -104,14 +110,7 @@ pub record FromLink (parts : Parts) (l : ℕ) : Type 0 where
   pub stands : port_at parts.hosts host ≡ Some at
 
 from-receiver : (x : ActorId) → receives x FromHost ≡ true → (i : UnitId) × ((x ≡ OfUnit i) × (i.side ≡ Ingress))
-from-receiver (OfUnit i) h = (i, (refl, of_side i.side h))
-  where
-    of_side : (s : Side) → unit_receives s FromHost ≡ true → s ≡ Ingress
-    of_side Ingress h = refl
-    of_side Egress h = absurd cc
-from-receiver Observer h = absurd cc
-from-receiver (Control d) h = absurd cc
-from-receiver (OfHost x) h = absurd cc
+from-receiver = only-ingress FromHost refl (λ d. refl) (λ h. refl) refl
 
 stands-at : (parts : Parts) (p : PortRef) (h : ℕ) → host_at parts p ≡ Some h → port_at parts.hosts h ≡ Some p
 stands-at parts p h q = let s = host-at-is 0 parts.hosts p h q in let e : s.0 ≡ h = omega (arith, s.1.0) in subst (λ n. port_at parts.hosts n ≡ Some p) e s.1.1
@@ -229,13 +228,13 @@ leads-nearer parts v w u d port dst m l h c o = of_walk t.walk refl t.among
 
 guided-parts : (parts : Parts) → IsWired (net_of parts) → HasOwnPorts parts → IsGuided (net_of parts)
 guided-parts parts v w = record {
-  one_way = λ u d port. one-at-most (crossbar_to net u d port) (distinct-filter (λ l. same_actor (actor_of net (link_of net l).to) (egress d port)) (links_out net u Crossbar) (links-out-distinct net u Crossbar))
+  one_way = λ u d port. one-at-most (crossbar_to net u d port) (distinct-filter (λ l. same_actor (actor_of net (link_of net l).to) (egress d port)) (links_out net u Crossbar) (distinct-out net u Crossbar))
       (λ l k p q. one-cross parts v u d port l k (each-at (CrossTo net u d port) l (crossbar_to net u d port) (each-cross net v.ways u d port) p) (each-at (CrossTo net u d port) k (crossbar_to net u d port) (each-cross net v.ways u d port) q));
   one_out = λ u. few-out (links_out net u Cable) (links_out net u ToHost)
-      (one-at-most (links_out net u Cable) (links-out-distinct net u Cable) (λ l k p q. one-cable parts v w u l k (out-of net v.ways u Cable l p) (out-of net v.ways u Cable k q)))
-      (one-at-most (links_out net u ToHost) (links-out-distinct net u ToHost) (λ l k p q. one-to-host parts v w u l k (out-of net v.ways u ToHost l p) (out-of net v.ways u ToHost k q)))
-      (λ l k p q. not-both parts v w u l k (out-of net v.ways u Cable l p) (out-of net v.ways u ToHost k q));
-  one_in = λ a. one-at-most (links_out net a FromHost) (links-out-distinct net a FromHost) (λ l k p q. one-from-host parts v a l k (out-of net v.ways a FromHost l p) (out-of net v.ways a FromHost k q));
+      (one-at-most (links_out net u Cable) (distinct-out net u Cable) (λ l k p q. one-cable parts v w u l k (out-of net u Cable l p) (out-of net u Cable k q)))
+      (one-at-most (links_out net u ToHost) (distinct-out net u ToHost) (λ l k p q. one-to-host parts v w u l k (out-of net u ToHost l p) (out-of net u ToHost k q)))
+      (λ l k p q. not-both parts v w u l k (out-of net u Cable l p) (out-of net u ToHost k q));
+  one_in = λ a. one-at-most (links_out net a FromHost) (distinct-out net a FromHost) (λ l k p q. one-from-host parts v a l k (out-of net a FromHost l p) (out-of net a FromHost k q));
   nearer = λ u d port dst h. each-imp (CrossTo net u d port) (λ m. Each (λ l. rank parts dst (device_at net l) < rank parts dst d) (links_out net (link_of net m).to Cable)) (crossbar_to net u d port)
       (λ m c. each-imp (IsOut net (link_of net m).to Cable) (λ l. rank parts dst (device_at net l) < rank parts dst d) (links_out net (link_of net m).to Cable) (λ l o. leads-nearer parts v w u d port dst m l h c o) (v.ways.outs (link_of net m).to Cable))
       (each-cross net v.ways u d port);
@@ -247,3 +246,116 @@ guided-parts parts v w = record {
 
 pub guided : (net : Net) → IsNet net → IsWired net → IsGuided net
 guided net n = subst (λ m. IsWired m → IsGuided m) (sym n.made) (λ t. guided-parts net.parts t (own-ports net.parts n.right))
+
+-- What a packet costs, by the distance of its host: two takes in each device on its way.
+
+one-weigh : (f : ℕ → ℕ) (n : ℕ) (xs : List ℕ) → length xs ≤ 1 → Each (λ x. f x ≤ n) xs → weigh f xs ≤ n
+one-weigh f n [] h e = omega arith
+one-weigh f n (x ∷ []) h e = omega (arith, e.0)
+one-weigh f n (x ∷ y ∷ xs) h e = absurd (omega (arith, h))
+
+leaves : (into : ℕ → ℕ) (r : ℕ) (cs hs : List ℕ) → length cs + length hs ≤ 1 → Each (λ l. into l ≤ 2 * r + 1) cs → weigh into cs + length hs ≤ 2 * r + 1
+leaves into r [] hs h e = omega (arith, h)
+leaves into r (c ∷ []) hs h e = omega (arith, h, e.0)
+leaves into r (c ∷ d ∷ cs) hs h e = absurd (omega (arith, h))
+
+-- what a packet costs that enters a device
+enter-near : (net : Net) → IsGuided net → (dst h l : ℕ) → enter_fare net dst h l ≤ 2 * rank net.parts dst (device_at net l) + 3
+enter-near net g dst zero l = omega arith
+enter-near net g dst (suc h) l = by_port (next_port net.parts (device_at net l) dst) refl (λ m. enter-near net g dst h m)
+  where
+    by_port : (o : Option ℕ) → next_port net.parts (device_at net l) dst ≡ o → ((m : ℕ) → enter_fare net dst h m ≤ 2 * rank net.parts dst (device_at net m) + 3)
+        → suc (onward_fare net (link_of net l).to (device_at net l) (λ m. enter_fare net dst h m) o) ≤ 2 * rank net.parts dst (device_at net l) + 3
+    by_port None q ih = omega arith
+    by_port (Some x) q ih = let ls = crossbar_to net (link_of net l).to (device_at net l) x in
+        let e : weigh (λ m. leave_fare net (λ m. enter_fare net dst h m) (link_of net m).to) ls ≤ 2 * rank net.parts dst (device_at net l) + 2
+        = one-weigh (λ m. leave_fare net (λ m. enter_fare net dst h m) (link_of net m).to) (2 * rank net.parts dst (device_at net l) + 2) ls (g.one_way (link_of net l).to (device_at net l) x)
+        (each-imp (λ m. Each (λ j. rank net.parts dst (device_at net j) < rank net.parts dst (device_at net l)) (links_out net (link_of net m).to Cable)) (λ m. leave_fare net (λ m. enter_fare net dst h m) (link_of net m).to ≤ 2 * rank net.parts dst (device_at net l) + 2) ls
+        at_link (g.nearer (link_of net l).to (device_at net l) x dst q)) in
+        omega (arith, e)
+      where
+        at_link : (m : ℕ) → Each (λ j. rank net.parts dst (device_at net j) < rank net.parts dst (device_at net l)) (links_out net (link_of net m).to Cable) → leave_fare net (λ m. enter_fare net dst h m) (link_of net m).to ≤ 2 * rank net.parts dst (device_at net l) + 2
+        at_link m k = let y = leaves (λ m. enter_fare net dst h m) (rank net.parts dst (device_at net l)) (links_out net (link_of net m).to Cable) (links_out net (link_of net m).to ToHost) (g.one_out (link_of net m).to)
+            (each-imp (λ j. rank net.parts dst (device_at net j) < rank net.parts dst (device_at net l)) (λ j. enter_fare net dst h j ≤ 2 * rank net.parts dst (device_at net l) + 1) (links_out net (link_of net m).to Cable) (λ j c. omega (arith, c, ih j)) k) in omega (arith, y)
+
+frame-near : (net : Net) → IsGuided net → (l : ℕ) (b : List ℕ) → frame_fare net l b ≤ 2 * length net.parts.devices + 1
+frame-near net g l b = at (actor_of net (link_of net l).to)
+  where
+    of_packet : (o : Option Packet) → frame_in net l o ≤ 2 * length net.parts.devices + 1
+    of_packet None = omega arith
+    of_packet (Some p) = omega (arith, enter-near net g p.dst p.hops l, g.ranked p.dst (device_at net l))
+
+    of_side : (s : Side) → frame_side net l b s ≤ 2 * length net.parts.devices + 1
+    of_side Ingress = of_packet (packet_of b)
+    of_side Egress = omega arith
+
+    at : (a : ActorId) → frame_to net l b a ≤ 2 * length net.parts.devices + 1
+    at Observer = omega arith
+    at (Control d) = omega arith
+    at (OfUnit i) = of_side i.side
+    at (OfHost x) = omega arith
+
+-- a packet or raw frame in all: 2 D + 2
+pub frame-costs : (net : Net) → IsGuided net → (a : ℕ) (b : List ℕ) → frame_price net a b ≤ 2 * length net.parts.devices + 2
+frame-costs net g a b = let y = one-weigh (λ l. frame_fare net l b) (2 * length net.parts.devices + 1) (links_out net a FromHost) (g.one_in a) (each-of (λ l. frame_fare net l b ≤ 2 * length net.parts.devices + 1) (links_out net a FromHost) (λ l m. frame-near net g l b)) in
+    omega (arith, y)
+
+-- What all actors may start, by kinds.
+
+abbrev pub observer_of : ActorId → ℕ
+observer_of Observer = 1
+observer_of _ = 0
+
+abbrev pub channels_of : Net → ℕ → ActorId → ℕ
+channels_of net a (OfUnit i) = length (channels net a)
+channels_of net a _ = 0
+
+abbrev pub frames_at : Setup → ActorId → ℕ
+frames_at s (OfHost x) = length (frames_of s x)
+frames_at s _ = 0
+
+abbrev pub observers : Net → ℕ
+observers net = weigh (λ a. observer_of (actor_of net a)) (below (length net.actors))
+
+abbrev pub all_channels : Net → ℕ
+all_channels net = weigh (λ a. channels_of net a (actor_of net a)) (below (length net.actors))
+
+abbrev pub all_frames : Setup → ℕ
+all_frames s = weigh (λ a. frames_at s (actor_of s.net a)) (below (length s.net.actors))
+
+spread : (a b r : ℕ) → (a + b) * r ≡ a * r + b * r
+spread a b r = omega arith
+
+start-parts : (s : Setup) → IsGuided s.net → (xs : List ℕ) → weigh (λ a. start_credit s a (actor_of s.net a)) xs
+    ≤ weigh (λ a. observer_of (actor_of s.net a)) xs * ((s.count + s.retries) * round_price s.net) + weigh (λ a. channels_of s.net a (actor_of s.net a)) xs * (4 * s.count) + weigh (λ a. frames_at s (actor_of s.net a)) xs * (2 * length s.net.parts.devices + 2)
+start-parts s g [] = omega arith
+start-parts s g (a ∷ xs) = omega (
+  arith,
+  at (actor_of s.net a),
+  start-parts s g xs,
+  spread (observer_of (actor_of s.net a)) (weigh (λ a. observer_of (actor_of s.net a)) xs) ((s.count + s.retries) * round_price s.net),
+  spread (channels_of s.net a (actor_of s.net a)) (weigh (λ a. channels_of s.net a (actor_of s.net a)) xs) (4 * s.count),
+  spread (frames_at s (actor_of s.net a)) (weigh (λ a. frames_at s (actor_of s.net a)) xs) (2 * length s.net.parts.devices + 2),
+)
+  where
+    D : ℕ
+    D = length s.net.parts.devices
+
+    one : (x : ℕ) → x ≤ 1 * x + 0 * (4 * s.count) + 0 * (2 * length s.net.parts.devices + 2)
+    one x = omega arith
+
+    two : (x y : ℕ) → 4 * x * y ≤ 0 + y * (4 * x) + 0 * (2 * length s.net.parts.devices + 2)
+    two x y = omega arith
+
+    three : (x y : ℕ) → x * y ≡ y * x
+    three x y = omega arith
+
+    at : (i : ActorId) → start_credit s a i ≤ observer_of i * ((s.count + s.retries) * round_price s.net) + channels_of s.net a i * (4 * s.count) + frames_at s i * (2 * length s.net.parts.devices + 2)
+    at Observer = omega (arith, one ((s.count + s.retries) * round_price s.net))
+    at (Control d) = omega arith
+    at (OfUnit i) = omega (arith, two s.count (length (channels s.net a)))
+    at (OfHost x) = omega (arith, weigh-each (frame_price s.net a) (2 * length s.net.parts.devices + 2) (frames_of s x) (λ b. frame-costs s.net g a b), three (2 * length s.net.parts.devices + 2) (length (frames_of s x)))
+
+pub start-by-kinds : (s : Setup) → IsGuided s.net
+    → start_potential s ≤ observers s.net * ((s.count + s.retries) * round_price s.net) + all_channels s.net * (4 * s.count) + all_frames s * (2 * length s.net.parts.devices + 2)
+start-by-kinds s g = start-parts s g (below (length s.net.actors))

@@ -17,8 +17,8 @@ use Rattle.sl_model.proofs.Worlds.Legal.{fin_legal, legal_append}
 use Rattle.sl_model.proofs.Worlds.Turns.{start-empty}
 use Rattle.sl_model.proofs.Finishing.NetWiring.{Wiring}
 use Rattle.sl_model.proofs.Worlds.ReachedWorlds.{Reached, reached-start}
-use Rattle.sl_model.proofs.Finishing.Rounds.{finish-adds, left, mul-le, sweep_gain}
-use Rattle.sl_model.proofs.Lists.Sums.{weigh-append, weigh-at-most, weigh-each, weigh-nothing}
+use Rattle.sl_model.proofs.Finishing.Finished.{finish-adds, left, mul-le, sweep_gain}
+use Rattle.sl_model.proofs.Lists.Weighed.{weigh-append, weigh-at-most, weigh-each, weigh-nothing}
 use Rattle.sl_model.proofs.Bounded.TurnPays.{potential-run}
 
 -- what each actor may start in all

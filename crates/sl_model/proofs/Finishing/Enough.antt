@@ -17,7 +17,7 @@ use Rattle.sl_model.proofs.Worlds.Turns.{run-append}
 use Rattle.sl_model.proofs.Finishing.NetWiring.{Wiring, wiring}
 use Rattle.sl_model.proofs.Bounded.PortUse.{own-ports}
 use Rattle.sl_model.proofs.Worlds.ReachedWorlds.{Reached, reached-run, reached-start}
-use Rattle.sl_model.proofs.Finishing.Rounds.{left, left-falls, mul-le, pass-adds, resend-adds, resend-left, rose-itself, rose-left, settle-free, settle-legal, sweep_gain, weigh-kept}
+use Rattle.sl_model.proofs.Finishing.Finished.{left, left-falls, mul-le, pass-adds, resend-adds, resend-left, rose-itself, rose-left, settle-free, settle-legal, sweep_gain, weigh-kept}
 use Rattle.sl_model.proofs.Bounded.TurnPays.{potential-run}
 use Rattle.sl_model.proofs.Bounded.BoundedTurns.{within-bound}
 use Rattle.sl_model.proofs.Bounded.Whole.{potential-start}

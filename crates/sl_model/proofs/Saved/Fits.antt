@@ -17,7 +17,7 @@ use Rattle.sl_model.specs.Verdict.{adopted, cause}
 use Rattle.sl_model.specs.Calls.{credit, credits_in}
 use Rattle.sl_model.specs.Rows.{is_among, credits_at, told, row}
 use Rattle.sl_model.specs.Short.{TakesShort}
-use Rattle.sl_model.proofs.Saved.Late.{both_totals, step-total}
+use Rattle.sl_model.proofs.Saved.Settled.{both_totals, step-total}
 
 -- Counters.
 

@@ -11,7 +11,7 @@ use Rattle.sl_layout.specs.declared.actor.ActorId.TheVariants.{Control, Unit as 
 use Rattle.sl_layout.specs.declared.actor.Sort.{Sort}
 use Rattle.sl_layout.specs.declared.actor.Sort.TheVariants.{ToHost, Cable, Crossbar, Init, Poll, Notice, Dump, Done}
 use Rattle.sl_net.specs.declared.input.Packet.{Packet}
-use Rattle.sl_layout.specs.Net.{Net, actor_of, link_of, links_into, links_from, link_numbers, links_out, choice_of, action_choice, unit_place, same_sort}
+use Rattle.sl_layout.specs.Net.{Net, actor_of, link_of, links_into, links_out, choice_of, action_choice, unit_place}
 use Rattle.sl_layout.specs.Serving.{Served, serving, served, choice_from}
 use Rattle.sl_net.specs.Wired.{Reports, IsWired}
 use Rattle.sl_model.specs.declared.message.Message.{Message}
@@ -19,7 +19,7 @@ use Rattle.sl_model.specs.declared.message.Message.TheVariants.{Host as HostMsg,
 use Rattle.sl_model.specs.declared.message.Put.{Put}
 use Rattle.sl_model.specs.declared.message.Step.{Step}
 use Rattle.sl_parts.specs.Lists.{Each, Member}
-use Rattle.sl_parts.proofs.Lists.{distinct-filter, distinct-from, each-append, each-map, each-imp, each-of, each-at, each-front, each-back, Distinct}
+use Rattle.sl_parts.proofs.Lists.{each-append, each-map, each-imp, each-of, each-at, each-front, each-back, Distinct}
 use Rattle.sl_model.specs.Words.{listed, numbers}
 use Rattle.sl_model.specs.History.{History, World, Losses, history, last, taken, takes, put, on_link, stamp_of, dump_of, done_of, without_lost}
 use Rattle.sl_model.specs.Setup.{Setup}
@@ -31,14 +31,11 @@ use Rattle.sl_model.specs.World.{IsLossTable, carried}
 use Rattle.sl_model.specs.Made.{Took, Acted, IsMade, Ran}
 use Rattle.sl_model.specs.Fit.{fits, fits_link}
 use Rattle.sl_net.specs.Ways.{IsOut}
-use Rattle.sl_net.proofs.Sorts.{each-out}
 use Rattle.sl_model.proofs.Worlds.Numbers.{numbers-append}
 use Rattle.sl_model.proofs.Worlds.Turns.{taken-falls, taken-this}
-use Rattle.sl_model.proofs.Worlds.StepPuts.{PutBy, unit-said}
-use Rattle.sl_model.proofs.Worlds.Stamps.{took-by, acted-by}
-use Rattle.sl_model.proofs.Cuts.Begins.{TakesFit, fit-taken, fit-before, fit-last}
-use Rattle.sl_model.proofs.Cuts.Reported.{dumps-into, dones-into}
-use Rattle.sl_model.proofs.Cuts.Near.{on-way-is}
+use Rattle.sl_model.proofs.Worlds.Stamps.{PutBy, unit-said, took-by, acted-by, out-of, distinct-out}
+use Rattle.sl_model.proofs.Cuts.Begins.{TakesFit, fit-taken, fit-before, fit-last, dumps-into, dones-into}
+use Rattle.sl_model.proofs.Cuts.Collected.{on-way-is}
 use Rattle.sl_layout.specs.Wiring.{kind_of}
 use Rattle.sl_model.specs.Window.{on_way}
 use Rattle.sl_model.specs.Polls.{IsAsked}
@@ -71,7 +68,7 @@ on-off l (p ∷ ps) e = ap (λ b. if b then p.message ∷ on_link l ps else on_l
 
 pub send-off : (net : Net) (a l : ℕ) (t : Sort) (m : Message) → ((link_of net l).sort ≡ t → ⊥) → on_link l (send_all m (links_out net a t)) ≡ []
 send-off net a l t m ne = on-off l (send_all m (links_out net a t)) (each-map (λ p. p.link ≡ l → ⊥) (send m) (links_out net a t)
-    (each-imp (IsOut net a t) (λ k. k ≡ l → ⊥) (links_out net a t) (λ k o e. ne (ap (λ x. (link_of net x).sort) (sym e) ∙ o.sort)) (each-out net a t)))
+    (each-of (λ k. k ≡ l → ⊥) (links_out net a t) (λ k o e. ne (ap (λ x. (link_of net x).sort) (sym e) ∙ (out-of net a t k o).sort))))
 
 on-one : (l : ℕ) (m : Message) → on_link l (send m l ∷ []) ≡ m ∷ []
 on-one l m = ap (λ b. if b then m ∷ [] else []) (eq-eqb l l refl)
@@ -94,9 +91,6 @@ own F z app f l (x ∷ xs) d (inr m) off = app (f x) (flat_map f xs) ∙ ap (λ 
 flat-map-one : (g : Served → List Put) (f : ℕ → Served) (ls : List ℕ) → flat_map g (map f ls) ≡ flat_map (λ l. g (f l)) ls
 flat-map-one g f [] = refl
 flat-map-one g f (l ∷ ls) = ap (λ r. g (f l) ++ r) (flat-map-one g f ls)
-
-distinct-out : (net : Net) (a : ℕ) (t : Sort) → Distinct (links_out net a t)
-distinct-out net a t = distinct-filter (λ l. same_sort (link_of net l).sort t) (links_from net a) (distinct-filter (λ l. (link_of net l).from == a) (link_numbers net) (distinct-from 0 (length net.links)))
 
 pub own-link : (net : Net) (a l : ℕ) (g : Served → List Put) → Member l (links_out net a Poll) → ((x : ℕ) → (x ≡ l → ⊥) → on_link l (g (serving net a x)) ≡ []) → on_link l (flat_map g (served net a)) ≡ on_link l (g (serving net a l))
 own-link net a l g m off = ap (on_link l) (flat-map-one g (serving net a) (links_out net a Poll))
@@ -143,7 +137,7 @@ abbrev OnceMore : Served → Step → History → Type 0
 OnceMore v step h = PollsOnce v h (length (on_link v.poll step.puts)) ⊎ ((step.choice ≡ v.dump) × (length (on_link v.poll step.puts) ≤ 1))
 
 poll-sort : (net : Net) (a l : ℕ) → Member l (links_out net a Poll) → (link_of net l).sort ≡ Poll
-poll-sort net a l m = (each-at (IsOut net a Poll) l (links_out net a Poll) (each-out net a Poll) m).sort
+poll-sort net a l m = (out-of net a Poll l m).sort
 
 pub answer-on : (net : Net) (a l n : ℕ) (h : History) (v : Served) → Member l (links_out net a Poll) → on_link l (dump_answer net a h n v) ≡ on_link l (if is_again (action_choice net a) v h then send PollMsg v.poll ∷ [] else [])
 answer-on net a l n h v m = on-append l (send_all (DoneMsg (unit_place net v.unit) n) (links_out net a Done)) (if is_again (action_choice net a) v h then send PollMsg v.poll ∷ [] else [])

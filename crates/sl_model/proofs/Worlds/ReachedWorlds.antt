@@ -56,7 +56,7 @@ length-after : (w : World) (a : ℕ) (o : Option Step) → length (after w a o) 
 length-after w a None = refl
 length-after w a (Some step) = length-set w a (step ∷ history w a)
 
-length-run : (s : Setup) (lost : Losses) (w : World) (es : List Entry) → length (run s lost w es) ≡ length w
+pub length-run : (s : Setup) (lost : Losses) (w : World) (es : List Entry) → length (run s lost w es) ≡ length w
 length-run s lost w [] = refl
 length-run s lost w (e ∷ es) = length-run s lost (turn s lost w e) es ∙ length-after w e.0 (next_step s lost w e)
 

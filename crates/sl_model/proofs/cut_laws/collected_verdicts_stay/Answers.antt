@@ -4,7 +4,7 @@ use Rattle.sl_model.specs.Verdict.{verdict}
 use Rattle.sl_model.proofs.cut_laws.collected_verdicts_stay.Goals as goal
 use Rattle.sl_model.proofs.Worlds.Turns.{run-append}
 use Rattle.sl_model.proofs.Cuts.Bounds.{all-below}
-use Rattle.sl_model.proofs.Cuts.KnownVerdict.{verdict-stays}
+use Rattle.sl_model.proofs.Cuts.Known.{verdict-stays}
 
 pub returns : goal.returns
 returns c s lost es fs k n p =

@@ -4,7 +4,7 @@ use Rattle.sl_layout.specs.Net.{data_channels}
 use Rattle.sl_saves.specs.Calls.{saves, saved}
 use Rattle.sl_saves.specs.Views.{IsLive, held_saved, read}
 use Rattle.sl_model.specs.History.{id, last, first}
-use Rattle.sl_model.proofs.Cuts.Near.{least-start}
+use Rattle.sl_model.proofs.Cuts.Collected.{least-start}
 use Rattle.sl_model.specs.Calls.{calls}
 use Rattle.sl_model.proofs.Saved.Entries.{number-calls}
 use Rattle.sl_model.proofs.Saved.Rows.{saved-is-row}

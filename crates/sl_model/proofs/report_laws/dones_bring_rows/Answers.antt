@@ -1,4 +1,4 @@
-use Rattle.sl_model.proofs.Saved.Brought.{unit-done}
+use Rattle.sl_model.proofs.Saved.Windows.{unit-done}
 use Rattle.sl_model.proofs.report_laws.dones_bring_rows.Goals as goal
 
 pub returns : goal.returns

@@ -1,7 +1,7 @@
 use Rattle.sl_model.specs.World.{world}
 use Rattle.sl_model.proofs.Worlds.Ran.{ran, next-view}
-use Rattle.sl_model.proofs.Cuts.Near.{in-window}
-use Rattle.sl_model.proofs.Saved.Brought.{next-dump}
+use Rattle.sl_model.proofs.Cuts.Collected.{in-window}
+use Rattle.sl_model.proofs.Saved.Windows.{next-dump}
 use Rattle.sl_model.proofs.report_laws.dumps_bring_rows.Goals as goal
 
 pub returns : goal.returns

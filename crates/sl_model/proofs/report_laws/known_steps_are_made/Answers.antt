@@ -1,6 +1,6 @@
 use Rattle.sl_model.specs.History.{history}
 use Rattle.sl_model.proofs.Worlds.Numbers.{rises-le}
-use Rattle.sl_model.proofs.Cuts.Reported.{knows}
+use Rattle.sl_model.proofs.Cuts.Begins.{knows}
 use Rattle.sl_model.proofs.Saved.Polls.{dones-are}
 use Rattle.sl_model.proofs.report_laws.known_steps_are_made.Goals as goal
 

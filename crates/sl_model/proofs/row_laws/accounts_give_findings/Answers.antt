@@ -4,7 +4,7 @@ use Rattle.sl_model.specs.Knowledge.{observer, issued}
 use Rattle.sl_model.specs.Accounts.{accounts, finding_by}
 use Rattle.sl_model.specs.World.{world}
 use Rattle.sl_model.proofs.Worlds.Ran.{ran}
-use Rattle.sl_model.proofs.Saved.Accounts.{finding-is, map-from}
+use Rattle.sl_model.proofs.Cuts.Known.{finding-is, map-from}
 use Rattle.sl_model.proofs.row_laws.accounts_give_findings.Goals as goal
 
 pub returns-clause-collected : goal.returns-clause-collected

@@ -1,4 +1,4 @@
-use Rattle.sl_model.proofs.Saved.Shorts.{all-short}
+use Rattle.sl_model.proofs.Worlds.Passing.{all-short}
 use Rattle.sl_model.proofs.row_laws.packets_are_short.Goals as goal
 
 pub returns : goal.returns

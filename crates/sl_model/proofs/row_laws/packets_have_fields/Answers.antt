@@ -1,4 +1,4 @@
-use Rattle.sl_model.proofs.Saved.Fields.{puts-fields, takes-fields, fields-short}
+use Rattle.sl_model.proofs.Worlds.Passing.{puts-fields, takes-fields, fields-short}
 use Rattle.sl_model.proofs.row_laws.packets_have_fields.Goals as goal
 
 pub returns-clause-put : goal.returns-clause-put

@@ -4,7 +4,7 @@ use Rattle.sl_model.specs.World.{start, world}
 use Rattle.sl_model.proofs.Worlds.Turns.{run-append}
 use Rattle.sl_model.proofs.Worlds.Ran.{ran}
 use Rattle.sl_model.specs.Rows.{row}
-use Rattle.sl_model.proofs.Saved.Brought.{row-collected}
+use Rattle.sl_model.proofs.Saved.Windows.{row-collected}
 use Rattle.sl_model.proofs.Saved.Settled.{row-later, row-ahead}
 use Rattle.sl_model.proofs.row_laws.rows_are_final.Goals as goal
 

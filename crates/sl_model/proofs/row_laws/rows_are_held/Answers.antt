@@ -7,7 +7,7 @@ use Rattle.sl_model.proofs.Lists.Sizes.{world_size}
 use Rattle.std.proofs.Common.{refl}
 use Rattle.sl_model.specs.Rows.{row}
 use Rattle.sl_model.proofs.Saved.Fits.{fits-row, first-le, first-short}
-use Rattle.sl_model.proofs.Saved.Shorts.{all-short}
+use Rattle.sl_model.proofs.Worlds.Passing.{all-short}
 use Rattle.sl_model.proofs.row_laws.rows_are_held.Goals as goal
 
 pub returns : goal.returns

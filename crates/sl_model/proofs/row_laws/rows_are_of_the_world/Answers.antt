@@ -1,6 +1,6 @@
 use Rattle.sl_model.specs.World.{world}
 use Rattle.sl_model.proofs.Worlds.Ran.{ran}
-use Rattle.sl_model.proofs.Saved.Accounts.{cause-row, value-is}
+use Rattle.sl_model.proofs.Cuts.Known.{cause-row, value-is}
 use Rattle.sl_model.proofs.row_laws.rows_are_of_the_world.Goals as goal
 
 pub returns-clause-causes : goal.returns-clause-causes

@@ -1,6 +1,6 @@
 use Rattle.sl_model.specs.World.{world}
 use Rattle.sl_model.proofs.Worlds.Ran.{ran, next-view}
-use Rattle.sl_model.proofs.Cuts.Near.{in-window}
+use Rattle.sl_model.proofs.Cuts.Collected.{in-window}
 use Rattle.sl_model.proofs.Saved.Windows.{next-takeable}
 use Rattle.sl_model.proofs.row_laws.stamps_are_in_window.Goals as goal
 

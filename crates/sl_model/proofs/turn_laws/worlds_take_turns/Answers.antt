@@ -1,4 +1,4 @@
-use Rattle.sl_model.proofs.Worlds.TakesTurns.{takes-turns}
+use Rattle.sl_model.proofs.Worlds.Passing.{takes-turns}
 use Rattle.sl_model.proofs.turn_laws.worlds_take_turns.Goals as goal
 
 pub returns : goal.returns

@@ -1,6 +1,6 @@
 use Rattle.sl_model.specs.World.{world}
 use Rattle.sl_model.proofs.Worlds.Ran.{ran}
-use Rattle.sl_model.proofs.Cuts.LastSeen.{whole-verdict}
+use Rattle.sl_model.proofs.Cuts.Known.{whole-verdict}
 use Rattle.sl_model.proofs.verdict_laws.consistent_snapshots_are_whole.Goals as goal
 
 pub returns : goal.returns

@@ -1,6 +1,6 @@
 use Rattle.sl_model.specs.World.{world}
 use Rattle.sl_model.proofs.Worlds.Ran.{ran}
-use Rattle.sl_model.proofs.Cuts.LastSeen.{own-last, lag-seen}
+use Rattle.sl_model.proofs.Cuts.Known.{own-last, lag-seen}
 use Rattle.sl_model.proofs.verdict_laws.last_seen_numbers_tell_lags.Goals as goal
 
 pub returns-clause-own : goal.returns-clause-own

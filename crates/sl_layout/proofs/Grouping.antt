@@ -1,19 +1,38 @@
--- Steps of grouping places by their keys.
+-- Steps of grouping places by their keys, and of listing the units.
 use Rattle.std.proofs.Common.{◌≡◌, ◌≢◌, ℕ, zero, suc, ◌+◌, ◌-◌, ◌<◌, ◌≤◌, List, [], ◌∷◌, ◌++◌, length, refl, sym, ap, ◌∙◌, arith, get_or, set, map, Bool, true, false, inl, inr, append-nil, zero-add}
 use Rattle.std.specs.Prelude.{◌⊎◌, cond, filter, ◌==◌, if◌then◌else◌, slice_index}
 use Rattle.std.proofs.lemmas.Bool.Decides.{eqb_tells}
 use Rattle.std.proofs.lemmas.Bool.{cases_lt, eq-eqb}
 use Rattle.std.proofs.lemmas.List.FromFn.{fill_by_all, get_or-map-range_with_len, length-map-range_with_len, length-range_with_len}
-use Rattle.std.proofs.lemmas.List.{length-set, get_or-set_same, get_or-set_other}
-use Rattle.std.specs.List.{range_with_len}
+use Rattle.std.proofs.lemmas.List.{length-set, get_or-set_same, get_or-set_other, map-append, get_or_default}
+use Rattle.std.specs.List.{range_with_len, All}
 use Rattle.sl_parts.specs.Parts.{below}
-use Rattle.sl_layout.specs.Net.{place_in}
+use Rattle.sl_layout.specs.Net.{place_in, Net, is_unit, nobody, same_sort, link_of, link_at, unit_place}
 use Rattle.sl_layout.specs.Groups.{grouped, places_in_groups}
-use Rattle.sl_parts.proofs.Lists.{filter_below_more, length_filter_le}
+use Rattle.sl_parts.proofs.Lists.{filter_below_more, each-imp, each-both, each-below, all-from_each}
+use Rattle.std.proofs.lemmas.List.Sums.{length-filter, count_by-le-length}
+use Rattle.sl_layout.specs.declared.actor.ActorId.{ActorId}
+use Rattle.sl_layout.specs.declared.actor.Sort.{Sort}
+use Rattle.sl_layout.specs.Wiring.{sender_by}
+
+-- what a list made of the numbers has at one of them
+pub list_at : {A : Type 0} (f : ℕ → List A) (lists : List (List A)) (n i : ℕ) → lists ≡ map f (below n) → i < n → get_or lists i [] ≡ f i
+list_at f lists n i e h = ap (λ xs. get_or xs i []) e ∙ get_or-map-range_with_len f 0 n i _ [] h (zero-add i)
 
 -- two lists made of the numbers are one where they agree at each number
 pub map_same : {A : Type 0} (f g : ℕ → A) (n : ℕ) → ((i : ℕ) → i < n → f i ≡ g i) → map f (below n) ≡ map g (below n)
 map_same f g n h = fill_by_all g (map f (below n)) n (g 0) (length-map-range_with_len f 0 n) (λ k l. get_or-map-range_with_len f 0 n k _ (g 0) l (zero-add k) ∙ h k l)
+
+-- of the numbers below another, those that pass a test
+pub few_filter : (t : ℕ → Bool) (n : ℕ) → length (filter t (below n)) ≤ n
+few_filter t n = omega (arith, length-filter t (below n), count_by-le-length t (below n), length-range_with_len 0 n)
+
+pub low_filter : (t : ℕ → Bool) (n : ℕ) → All (λ i. i < n) (filter t (below n))
+low_filter t n = all-from_each (λ i. i < n) (filter t (below n)) (each-imp (λ i. (i < n) × (t i ≡ true)) (λ i. i < n) (filter t (below n)) (λ i h. h.0) (each-both (λ i. i < n) t (below n) (each-below (λ i. i < n) n (λ i h. h))))
+
+-- a number more is one of them where it passes
+pub filter_noted : (t : ℕ → Bool) (n : ℕ) (b : Bool) → b ≡ t n → filter t (below (n + 1)) ≡ filter t (below n) ++ cond b (n ∷ []) []
+filter_noted t n b e = filter_below_more t n ∙ ap (λ b. filter t (below n) ++ cond b (n ∷ []) []) (sym e)
 
 -- a write at one place, where the other places stay
 set_map : {A : Type 0} (f g : ℕ → A) (v : A) (n i : ℕ) → g i ≡ v → ((k : ℕ) → k ≢ i → g k ≡ f k) → set (map f (below n)) i v ≡ map g (below n)
@@ -96,4 +115,39 @@ places-are keys = map_same (before_in_group keys) (places_in_groups keys) (lengt
     (λ i h. sym (place_below (λ j. slice_index keys j == slice_index keys i) (length keys) i h (eq-eqb (slice_index keys i) (slice_index keys i) refl)))
 
 pub few_in_group : (keys : List ℕ) (n key : ℕ) → length (grouped keys n key) ≤ n
-few_in_group keys n key = omega (arith, length_filter_le (λ i. slice_index keys i == key) (below n), length-range_with_len 0 n)
+few_in_group keys n key = few_filter (λ i. slice_index keys i == key) n
+
+-- Steps of listing the units.
+
+abbrev test : List ActorId → ℕ → Bool
+test actors a = is_unit (get_or actors a nobody)
+
+pub number_noted : (actors : List ActorId) (i : ℕ) (d : ActorId) → i < length actors
+    → filter (λ a. is_unit (get_or actors a nobody)) (below i) ++ cond (is_unit (get_or actors i d)) (i ∷ []) [] ≡ filter (λ a. is_unit (get_or actors a nobody)) (below (i + 1))
+number_noted actors i d h = ap (λ x. filter (test actors) (below i) ++ cond (is_unit x) (i ∷ []) []) (get_or_default actors i d nobody h) ∙ sym (filter_below_more (test actors) i)
+
+pub id_noted : (actors : List ActorId) (numbers : List ℕ) (i : ℕ) (d : ActorId) → i < length actors
+    → map (λ a. get_or actors a nobody) numbers ++ cond (is_unit (get_or actors i d)) (get_or actors i d ∷ []) []
+    ≡ map (λ a. get_or actors a nobody) (numbers ++ cond (is_unit (get_or actors i d)) (i ∷ []) [])
+id_noted actors numbers i d h =
+    ap (λ xs. map (λ a. get_or actors a nobody) numbers ++ xs) (by_bool (is_unit (get_or actors i d)))
+    ∙ sym (map-append (λ a. get_or actors a nobody) numbers (cond (is_unit (get_or actors i d)) (i ∷ []) []))
+  where
+    by_bool : (b : Bool) → cond b (get_or actors i d ∷ []) [] ≡ map (λ a. get_or actors a nobody) (cond b (i ∷ []) [])
+    by_bool true = ap (λ x. x ∷ []) (get_or_default actors i d nobody h)
+    by_bool false = refl
+
+abbrev is_of : Net → ℕ → Sort → ℕ → Bool
+is_of net u s c = same_sort (link_of net (link_at net u c)).sort s
+
+pub sender_noted : (net : Net) (u c l : ℕ) (s : Sort) → l ≡ link_at net u c
+    → map (sender_by net u) (filter (λ c. same_sort (link_of net (link_at net u c)).sort s) (below c)) ++ cond (same_sort (link_of net l).sort s) (unit_place net (link_of net l).from ∷ []) []
+    ≡ map (sender_by net u) (filter (λ c. same_sort (link_of net (link_at net u c)).sort s) (below (c + 1)))
+sender_noted net u c l s q =
+    ap (λ l. map (sender_by net u) (filter (is_of net u s) (below c)) ++ cond (same_sort (link_of net l).sort s) (unit_place net (link_of net l).from ∷ []) []) q
+    ∙ ap (λ xs. map (sender_by net u) (filter (is_of net u s) (below c)) ++ xs) (by_bool (is_of net u s c))
+    ∙ sym (ap (map (sender_by net u)) (filter_below_more (is_of net u s) c) ∙ map-append (sender_by net u) (filter (is_of net u s) (below c)) (cond (is_of net u s c) (c ∷ []) []))
+  where
+    by_bool : (b : Bool) → cond b (sender_by net u c ∷ []) [] ≡ map (sender_by net u) (cond b (c ∷ []) [])
+    by_bool true = refl
+    by_bool false = refl

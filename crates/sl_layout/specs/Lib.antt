@@ -7,3 +7,4 @@ pub mod Groups
 pub mod Wires
 pub mod Units
 pub mod Devices
+pub mod Ends

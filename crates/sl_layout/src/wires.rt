@@ -5,6 +5,7 @@ ghost use Rattle.sl_parts.specs.Parts.{below};
 ghost use Rattle.sl_layout.specs.Net.{net_of, link_of, link_numbers, links_into, links_from};
 ghost use Rattle.sl_layout.specs.Net.{choice_of};
 ghost use Rattle.sl_layout.specs.Wires.{HasEnds, out_of};
+ghost use Rattle.sl_layout.specs.Ends.{actor_at, links_at, place_at};
 
 use crate::actor::LinkPart;
 use crate::groups::{Groups, group};
@@ -34,43 +35,39 @@ impl Model for Wires {
     ghost invariant = { λ w. AreWires w.roster w.links.items w.into w.from };
 }
 
-fn receivers(alloc: Global, links: &[LinkPart]) -> Result<Vec<u32>, AllocError>
-    ensures { IfOk result (λ keys. keys.items ≡ map (λ k. k.to) links.now) }
-{
-    links.iter().map(|link| link.to).collect(alloc)
+/// An end of a link.
+#[derive(Clone, Copy)]
+enum End {
+    Receiver,
+    Sender,
 }
 
-fn senders(alloc: Global, links: &[LinkPart]) -> Result<Vec<u32>, AllocError>
-    ensures { IfOk result (λ keys. keys.items ≡ map (λ k. k.from) links.now) }
+fn actors_at(alloc: Global, links: &[LinkPart], end: End) -> Result<Vec<u32>, AllocError>
+    ensures { IfOk result (λ keys. keys.items ≡ map (actor_at end) links.now) }
 {
-    links.iter().map(|link| link.from).collect(alloc)
+    match end {
+        End::Receiver => links.iter().map(|link| link.to).collect(alloc),
+        End::Sender => links.iter().map(|link| link.from).collect(alloc),
+    }
 }
 
-fn by_receivers(alloc: Global, roster: &Roster, links: &[LinkPart]) -> Result<Groups, AllocError>
+/// The links of each actor at one of their ends, and the place of each link there.
+fn group_by(
+    alloc: Global,
+    roster: &Roster,
+    links: &[LinkPart],
+    end: End,
+) -> Result<Groups, AllocError>
     requires { links.now ≡ (net_of roster.now).links }
     ensures lists { IfOk result
-        (λ groups. groups.lists ≡ map (links_into (net_of roster.now))
+        (λ groups. groups.lists ≡ map (links_at (net_of roster.now) end)
         (below (length (net_of roster.now).actors))) }
     ensures places { IfOk result
-        (λ groups. groups.places ≡ map (choice_of (net_of roster.now))
+        (λ groups. groups.places ≡ map (place_at (net_of roster.now) end)
         (link_numbers (net_of roster.now))) }
 {
     let actors = roster.actors();
-    let keys = receivers(alloc, links)?;
-    group(alloc, keys.as_slice(), actors.len())
-}
-
-fn by_senders(alloc: Global, roster: &Roster, links: &[LinkPart]) -> Result<Groups, AllocError>
-    requires { links.now ≡ (net_of roster.now).links }
-    ensures lists { IfOk result
-        (λ groups. groups.lists ≡ map (links_from (net_of roster.now))
-        (below (length (net_of roster.now).actors))) }
-    ensures places { IfOk result
-        (λ groups. groups.places ≡ map (out_of (net_of roster.now))
-        (link_numbers (net_of roster.now))) }
-{
-    let actors = roster.actors();
-    let keys = senders(alloc, links)?;
+    let keys = actors_at(alloc, links, end)?;
     group(alloc, keys.as_slice(), actors.len())
 }
 
@@ -80,8 +77,8 @@ impl Wires {
         ensures { IfOk result (λ wires. wires ≡ net_of roster) }
     {
         let links = list_links(alloc, &roster)?;
-        let into = by_receivers(alloc, &roster, links.as_slice())?;
-        let from = by_senders(alloc, &roster, links.as_slice())?;
+        let into = group_by(alloc, &roster, links.as_slice(), End::Receiver)?;
+        let from = group_by(alloc, &roster, links.as_slice(), End::Sender)?;
         Ok(Wires {
             roster,
             links,
@@ -122,6 +119,35 @@ impl Wires {
         self.links[link as usize]
     }
 
+    fn sorted(&self, end: End) -> &Groups
+        ensures lists { result.now.lists
+            ≡ map (links_at self.now end) (below (length self.now.actors)) }
+        ensures places { result.now.places ≡ map (place_at self.now end) (link_numbers self.now) }
+        ensures few { length self.now.links ≤ 77888 }
+    {
+        match end {
+            End::Receiver => &self.into,
+            End::Sender => &self.from,
+        }
+    }
+
+    fn list(&self, actor: u32, end: End) -> &[u32]
+        requires { actor < length self.now.actors }
+        ensures links { result.now ≡ links_at self.now end actor }
+        ensures each { All (λ l. l < length self.now.links) result.now }
+        ensures few { length result.now ≤ 77888 }
+    {
+        self.sorted(end).list(actor)
+    }
+
+    fn places(&self, end: End) -> &[u32]
+        ensures now { result.now ≡ map (place_at self.now end) (link_numbers self.now) }
+        ensures len { length result.now ≡ length self.now.links }
+        ensures few { length result.now ≤ 77888 }
+    {
+        self.sorted(end).places()
+    }
+
     /// The links that an actor takes from, in the order of its choices.
     pub fn links_into(&self, actor: u32) -> &[u32]
         requires { actor < length self.now.actors }
@@ -129,7 +155,7 @@ impl Wires {
         ensures each { All (λ l. l < length self.now.links) result.now }
         ensures few { length result.now ≤ 77888 }
     {
-        self.into.list(actor)
+        self.list(actor, End::Receiver)
     }
 
     /// The links on which an actor puts, ascending.
@@ -139,7 +165,7 @@ impl Wires {
         ensures each { All (λ l. l < length self.now.links) result.now }
         ensures few { length result.now ≤ 77888 }
     {
-        self.from.list(actor)
+        self.list(actor, End::Sender)
     }
 
     /// The choice by which each link is taken.
@@ -148,7 +174,7 @@ impl Wires {
         ensures len { length result.now ≡ length self.now.links }
         ensures few { length result.now ≤ 77888 }
     {
-        self.into.places()
+        self.places(End::Receiver)
     }
 
     /// The place of each link among its sender's links.
@@ -157,6 +183,6 @@ impl Wires {
         ensures len { length result.now ≡ length self.now.links }
         ensures few { length result.now ≤ 77888 }
     {
-        self.from.places()
+        self.places(End::Sender)
     }
 }

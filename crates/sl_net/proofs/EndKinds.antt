@@ -1,6 +1,6 @@
 -- What the actors at the ends of a link are, by its sort.
-use Rattle.std.proofs.Common.{◌≡◌, refl, subst, inl, inr}
-use Rattle.std.specs.Prelude.{◌⊎◌, true}
+use Rattle.std.proofs.Common.{◌≡◌, ℕ, refl, subst, sym, inl, inr, ◌∙◌}
+use Rattle.std.specs.Prelude.{◌⊎◌, Bool, false, true}
 use Rattle.sl_layout.specs.declared.actor.ActorId.{ActorId}
 use Rattle.sl_layout.specs.declared.actor.ActorId.TheVariants.{Observer, Control, Unit as OfUnit, Host as OfHost}
 use Rattle.sl_layout.specs.declared.actor.UnitId.{UnitId}
@@ -10,97 +10,65 @@ use Rattle.sl_layout.specs.declared.actor.Sort.{Sort}
 use Rattle.sl_layout.specs.declared.actor.Sort.TheVariants.{Cable, Crossbar, Init, Poll, Notice, Dump, Begin, Done}
 use Rattle.sl_net.specs.Wired.{home, sends, receives, unit_sends, unit_receives}
 
+not-both : (b : Bool) → b ≡ false → b ≡ true → ⊥
+not-both b p q = let z : true ≡ false = sym q ∙ p in cc
+
+-- a test that neither side of a unit passes
+no-side : (t : Side → Bool) → t Ingress ≡ false → t Egress ≡ false → (s : Side) → t s ≡ false
+no-side t i e Ingress = i
+no-side t i e Egress = e
+
+-- an actor is a control plane, where no other passes the test that it passes
+only-control : (t : ActorId → Bool) → t Observer ≡ false → ((u : UnitId) → t (OfUnit u) ≡ false) → ((h : ℕ) → t (OfHost h) ≡ false)
+    → (x : ActorId) → t x ≡ true → x ≡ Control (home x)
+only-control t o u h Observer k = absurd (not-both (t Observer) o k)
+only-control t o u h (Control d) k = refl
+only-control t o u h (OfUnit i) k = absurd (not-both (t (OfUnit i)) (u i) k)
+only-control t o u h (OfHost i) k = absurd (not-both (t (OfHost i)) (h i) k)
+
+-- and the observer, where only that passes
+only-observer : (t : ActorId → Bool) → ((d : ℕ) → t (Control d) ≡ false) → ((u : UnitId) → t (OfUnit u) ≡ false) → ((h : ℕ) → t (OfHost h) ≡ false)
+    → (x : ActorId) → t x ≡ true → x ≡ Observer
+only-observer t c u h Observer k = refl
+only-observer t c u h (Control d) k = absurd (not-both (t (Control d)) (c d) k)
+only-observer t c u h (OfUnit i) k = absurd (not-both (t (OfUnit i)) (u i) k)
+only-observer t c u h (OfHost i) k = absurd (not-both (t (OfHost i)) (h i) k)
+
+-- and a unit, where only units pass
+only-unit : (t : ActorId → Bool) → t Observer ≡ false → ((d : ℕ) → t (Control d) ≡ false) → ((h : ℕ) → t (OfHost h) ≡ false)
+    → (x : ActorId) → t x ≡ true → (i : UnitId) × (x ≡ OfUnit i)
+only-unit t o c h Observer k = absurd (not-both (t Observer) o k)
+only-unit t o c h (Control d) k = absurd (not-both (t (Control d)) (c d) k)
+only-unit t o c h (OfUnit i) k = (i, refl)
+only-unit t o c h (OfHost i) k = absurd (not-both (t (OfHost i)) (h i) k)
+
 pub dump-receiver : (y : ActorId) → receives y Dump ≡ true → y ≡ Control (home y)
-dump-receiver (Control d) h = refl
-dump-receiver Observer h = absurd cc
-dump-receiver (OfUnit u) h = absurd (of_side u.side h)
-  where
-    of_side : (s : Side) → unit_receives s Dump ≡ true → ⊥
-    of_side Ingress h = cc
-    of_side Egress h = cc
-dump-receiver (OfHost i) h = absurd cc
+dump-receiver = only-control (λ y. receives y Dump) refl (λ u. no-side (λ s. unit_receives s Dump) refl refl u.side) (λ h. refl)
 
 pub notice-receiver : (y : ActorId) → receives y Notice ≡ true → y ≡ Control (home y)
-notice-receiver (Control d) h = refl
-notice-receiver Observer h = absurd cc
-notice-receiver (OfUnit u) h = absurd (of_side u.side h)
-  where
-    of_side : (s : Side) → unit_receives s Notice ≡ true → ⊥
-    of_side Ingress h = cc
-    of_side Egress h = cc
-notice-receiver (OfHost i) h = absurd cc
+notice-receiver = only-control (λ y. receives y Notice) refl (λ u. no-side (λ s. unit_receives s Notice) refl refl u.side) (λ h. refl)
 
 pub begin-receiver : (y : ActorId) → receives y Begin ≡ true → y ≡ Control (home y)
-begin-receiver (Control d) h = refl
-begin-receiver Observer h = absurd cc
-begin-receiver (OfUnit u) h = absurd (of_side u.side h)
-  where
-    of_side : (s : Side) → unit_receives s Begin ≡ true → ⊥
-    of_side Ingress h = cc
-    of_side Egress h = cc
-begin-receiver (OfHost i) h = absurd cc
+begin-receiver = only-control (λ y. receives y Begin) refl (λ u. no-side (λ s. unit_receives s Begin) refl refl u.side) (λ h. refl)
 
 pub done-receiver : (y : ActorId) → receives y Done ≡ true → y ≡ Observer
-done-receiver Observer h = refl
-done-receiver (Control d) h = absurd cc
-done-receiver (OfUnit u) h = absurd (of_side u.side h)
-  where
-    of_side : (s : Side) → unit_receives s Done ≡ true → ⊥
-    of_side Ingress h = cc
-    of_side Egress h = cc
-done-receiver (OfHost i) h = absurd cc
+done-receiver = only-observer (λ y. receives y Done) (λ d. refl) (λ u. no-side (λ s. unit_receives s Done) refl refl u.side) (λ h. refl)
 
 pub poll-sender : (x : ActorId) → sends x Poll ≡ true → x ≡ Control (home x)
-poll-sender (Control d) h = refl
-poll-sender Observer h = absurd cc
-poll-sender (OfUnit u) h = absurd (of_side u.side h)
-  where
-    of_side : (s : Side) → unit_sends s Poll ≡ true → ⊥
-    of_side Ingress h = cc
-    of_side Egress h = cc
-poll-sender (OfHost i) h = absurd cc
+poll-sender = only-control (λ x. sends x Poll) refl (λ u. no-side (λ s. unit_sends s Poll) refl refl u.side) (λ h. refl)
 
 pub begin-sender : (x : ActorId) → sends x Begin ≡ true → x ≡ Observer
-begin-sender Observer h = refl
-begin-sender (Control d) h = absurd cc
-begin-sender (OfUnit u) h = absurd (of_side u.side h)
-  where
-    of_side : (s : Side) → unit_sends s Begin ≡ true → ⊥
-    of_side Ingress h = cc
-    of_side Egress h = cc
-begin-sender (OfHost i) h = absurd cc
+begin-sender = only-observer (λ x. sends x Begin) (λ d. refl) (λ u. no-side (λ s. unit_sends s Begin) refl refl u.side) (λ h. refl)
 
 pub poll-receiver : (y : ActorId) → receives y Poll ≡ true → (i : UnitId) × (y ≡ OfUnit i)
-poll-receiver (OfUnit i) h = (i, refl)
-poll-receiver Observer h = absurd cc
-poll-receiver (Control d) h = absurd cc
-poll-receiver (OfHost i) h = absurd cc
+poll-receiver = only-unit (λ y. receives y Poll) refl (λ d. refl) (λ h. refl)
 
 pub init-sender : (x : ActorId) → sends x Init ≡ true → x ≡ Control (home x)
-init-sender (Control d) h = refl
-init-sender Observer h = absurd cc
-init-sender (OfUnit u) h = absurd (of_side u.side h)
-  where
-    of_side : (s : Side) → unit_sends s Init ≡ true → ⊥
-    of_side Ingress h = cc
-    of_side Egress h = cc
-init-sender (OfHost i) h = absurd cc
+init-sender = only-control (λ x. sends x Init) refl (λ u. no-side (λ s. unit_sends s Init) refl refl u.side) (λ h. refl)
 
 pub done-sender : (x : ActorId) → sends x Done ≡ true → x ≡ Control (home x)
-done-sender (Control d) h = refl
-done-sender Observer h = absurd cc
-done-sender (OfUnit u) h = absurd (of_side u.side h)
-  where
-    of_side : (s : Side) → unit_sends s Done ≡ true → ⊥
-    of_side Ingress h = cc
-    of_side Egress h = cc
-done-sender (OfHost i) h = absurd cc
+done-sender = only-control (λ x. sends x Done) refl (λ u. no-side (λ s. unit_sends s Done) refl refl u.side) (λ h. refl)
 
 pub data-sender : (a : ActorId) (t : Sort) → (t ≡ Cable) ⊎ (t ≡ Crossbar) → sends a t ≡ true → (i : UnitId) × (a ≡ OfUnit i)
-data-sender (OfUnit i) t d h = (i, refl)
-data-sender Observer t (inl q) h = absurd (let z : sends Observer Cable ≡ true = subst (λ t. sends Observer t ≡ true) q h in cc)
-data-sender Observer t (inr q) h = absurd (let z : sends Observer Crossbar ≡ true = subst (λ t. sends Observer t ≡ true) q h in cc)
-data-sender (Control d) t (inl q) h = absurd (let z : sends (Control d) Cable ≡ true = subst (λ t. sends (Control d) t ≡ true) q h in cc)
-data-sender (Control d) t (inr q) h = absurd (let z : sends (Control d) Crossbar ≡ true = subst (λ t. sends (Control d) t ≡ true) q h in cc)
-data-sender (OfHost d) t (inl q) h = absurd (let z : sends (OfHost d) Cable ≡ true = subst (λ t. sends (OfHost d) t ≡ true) q h in cc)
-data-sender (OfHost d) t (inr q) h = absurd (let z : sends (OfHost d) Crossbar ≡ true = subst (λ t. sends (OfHost d) t ≡ true) q h in cc)
+data-sender a t (inl q) h = only-unit (λ x. sends x Cable) refl (λ d. refl) (λ i. refl) a (subst (λ t. sends a t ≡ true) q h)
+data-sender a t (inr q) h = only-unit (λ x. sends x Crossbar) refl (λ d. refl) (λ i. refl) a (subst (λ t. sends a t ≡ true) q h)

@@ -1,7 +1,7 @@
 -- Devices and hosts of a net without namesakes are told apart by their names.
-use Rattle.std.proofs.Common.{◌≡◌, ℕ, zero, suc, ◌<◌, ◌≤◌, List, [], ◌∷◌, ◌++◌, length, get_or, take, map, Bool, true, false, Option, Some, None, refl, sym, ap, subst, ◌∙◌, arith, inl, inr, append_assoc, append-nil}
+use Rattle.std.proofs.Common.{◌≡◌, ℕ, zero, suc, ◌<◌, ◌≤◌, List, [], ◌∷◌, ◌++◌, length, get_or, take, map, Bool, true, false, Some, None, refl, sym, ap, subst, ◌∙◌, arith, inl, inr, append_assoc, append-nil}
 use Rattle.std.proofs.Common.{length-take}
-use Rattle.std.specs.Prelude.{◌⊎◌, bytes_eq, if◌then◌else◌, option_map}
+use Rattle.std.specs.Prelude.{◌⊎◌, bytes_eq, if◌then◌else◌}
 use Rattle.std.specs.List.{list_any, All}
 use Rattle.std.proofs.lemmas.Bool.{cases_lt}
 use Rattle.std.proofs.lemmas.List.{get_or-take, get_or-map}
@@ -13,15 +13,11 @@ use Rattle.sl_parts.specs.Text.{IsName}
 use Rattle.sl_parts.specs.Parts.{Parts}
 use Rattle.sl_parts.specs.Fault.{fault_of, first_clash}
 use Rattle.sl_net.specs.Spelling.{device_name, host_name}
-use Rattle.sl_net.proofs.NetWired.{no-reason}
-
-none_mapped : {A B : Type 0} (f : A → B) (o : Option A) → option_map f o ≡ None → o ≡ None
-none_mapped f None h = refl
-none_mapped f (Some x) h = absurd (cc)
+use Rattle.sl_net.proofs.NetWired.{faultless}
 
 module _ {A : Type 0} where
   -- where nothing clashes, no element clashes with those before it
-  no_clash : (clashes : List A → A → Bool) (before xs : List A) (j : ℕ) (d : A) → first_clash clashes before xs ≡ None → j < length xs → clashes (before ++ take j xs) (get_or xs j d) ≡ false
+  pub no_clash : (clashes : List A → A → Bool) (before xs : List A) (j : ℕ) (d : A) → first_clash clashes before xs ≡ None → j < length xs → clashes (before ++ take j xs) (get_or xs j d) ≡ false
   no_clash clashes before [] j d h p = absurd (omega arith)
   no_clash clashes before (x ∷ xs) j d h p = by_bool (λ g k l. no_clash clashes (before ++ x ∷ []) xs k d g l) (clashes before x) refl h
     where
@@ -71,11 +67,11 @@ pub record HasNames (parts : Parts) : Type 0 where
   pub one_host : (h i : ℕ) → h < length parts.hosts → i < length parts.hosts → host_name parts h ≡ host_name parts i → h ≡ i
 
 pub has_names : (parts : Parts) → fault_of parts ≡ None → ((d : ℕ) → d < length parts.devices → IsName (device_name parts d)) → ((h : ℕ) → h < length parts.hosts → IsName (host_name parts h)) → HasNames parts
-has_names parts right devices hosts = let e = no-reason parts right in record {
+has_names parts right devices hosts = let e = faultless parts right in record {
   devices = devices;
   hosts = hosts;
-  one_device = λ d f p q. one_name (λ (x : DevicePart). x.name) parts.devices d f (none_mapped _ _ e.1.1.1.1.1.1.1.1.0) p q;
-  one_host = λ h i p q. one_name (λ (x : HostPart). x.name) parts.hosts h i (none_mapped _ _ e.1.1.1.1.1.1.1.1.1.0) p q;
+  one_device = λ d f p q. one_name (λ (x : DevicePart). x.name) parts.devices d f e.devices_named_apart p q;
+  one_host = λ h i p q. one_name (λ (x : HostPart). x.name) parts.hosts h i e.hosts_named_apart p q;
 }
 
 pub named_each : {A : Type 0} (name : A → List ℕ) (xs : List A) → All (λ x. IsName (name x)) xs → (i : ℕ) → i < length xs → IsName (get_or (map name xs) i [])

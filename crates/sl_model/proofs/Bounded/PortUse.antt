@@ -8,9 +8,7 @@ use Rattle.sl_parts.specs.Parts.{Parts, has_cable, host_from, other_end, same_po
 use Rattle.sl_parts.specs.declared.parts.CablePart.{CablePart}
 use Rattle.sl_parts.specs.declared.parts.HostPart.{HostPart}
 use Rattle.sl_parts.specs.declared.parts.PortRef.{PortRef}
-use Rattle.sl_parts.specs.declared.fault.NetFault.TheVariants.{N1, N5, N7}
-use Rattle.sl_net.proofs.NetWired.{no-reason}
-use Rattle.sl_parts.proofs.Checked.{none-under}
+use Rattle.sl_net.proofs.NetWired.{faultless}
 
 abbrev pub Joins : List CablePart → PortRef → PortRef → Type 0
 Joins [] p q = ⊥
@@ -153,12 +151,8 @@ pub record HasOwnPorts (parts : Parts) : Type 0 where
   pub hosts : IsClear (takes_used_port parts) [] parts.hosts
 
 pub own-ports : (parts : Parts) → fault_of parts ≡ None → HasOwnPorts parts
-own-ports parts h = let e = no-reason parts h in record {
-  some_device = by_count (length parts.devices) e.0;
-  cables = clear-from reuses_port [] parts.cables (none-under N5 (first_clash reuses_port [] parts.cables) e.1.1.1.1.1.0);
-  hosts = clear-from (takes_used_port parts) [] parts.hosts (none-under N7 (first_clash (takes_used_port parts) [] parts.hosts) e.1.1.1.1.1.1.1.0);
+own-ports parts h = let e = faultless parts h in record {
+  some_device = e.some_device;
+  cables = clear-from reuses_port [] parts.cables e.cables_apart;
+  hosts = clear-from (takes_used_port parts) [] parts.hosts e.hosts_apart;
 }
-  where
-    by_count : (n : ℕ) → (if n == 0 then Some N1 else None) ≡ None → 0 < n
-    by_count zero q = absurd cc
-    by_count (suc n) q = omega arith

@@ -16,7 +16,7 @@ use Rattle.sl_model.specs.History.{History, id, takes, World, Losses, history, s
 use Rattle.sl_model.specs.Cut.{outside, data_count, data_bytes, channel_value}
 use Rattle.sl_model.specs.Verdict.{is_old_data, adopted, nth_adopted, skipped_to, miscredits, lag}
 use Rattle.sl_model.specs.Late.{is_old, IsLateData}
-use Rattle.sl_net.proofs.ReportWays.{place-same}
+use Rattle.sl_net.proofs.Sorts.{place-same}
 use Rattle.sl_model.proofs.Cuts.Prefixes.{outside-none, outside-more, id-le, value-is-late}
 use Rattle.sl_model.specs.Calls.{credit, credits_in}
 use Rattle.sl_model.specs.Rows.{is_among, credits_at, row}

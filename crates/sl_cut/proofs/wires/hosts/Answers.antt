@@ -2,7 +2,7 @@ use Rattle.std.proofs.Common.{◌≡◌, ◌<◌, ℕ, List, ap, subst, sym, ◌
 use Rattle.std.specs.List.{All}
 use Rattle.std.proofs.lemmas.Grind.{common_steps}
 use Rattle.sl_layout.specs.Net.{actor_of, is_host}
-use Rattle.sl_layout.proofs.UnitLists.{low_filter}
+use Rattle.sl_layout.proofs.Grouping.{low_filter}
 use Rattle.sl_parts.proofs.Lists.{filter_below_more}
 use Rattle.sl_cut.proofs.wires.hosts.Goals as goal
 

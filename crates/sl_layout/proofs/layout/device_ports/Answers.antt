@@ -1,9 +1,9 @@
 use Rattle.std.proofs.Common.{ℕ, ◌<◌, ◌++◌, ◌∷◌, [], ap, sym, ◌∙◌, arith}
-use Rattle.std.specs.Prelude.{filter, cond}
-use Rattle.sl_parts.specs.Parts.{below, is_used}
-use Rattle.sl_parts.proofs.Lists.{filter_below_more}
+use Rattle.std.specs.Prelude.{cond}
+use Rattle.sl_parts.specs.Parts.{is_used}
 use Rattle.sl_parts.proofs.Tables.{used-is}
 use Rattle.sl_layout.proofs.layout.device_ports.Goals as goal
+use Rattle.sl_layout.proofs.Grouping.{filter_noted}
 
 pub loop-port-preserved : goal.loop-port-preserved
 loop-port-preserved c =
@@ -12,5 +12,4 @@ loop-port-preserved c =
     let test = λ (p : ℕ). is_used parts (record { device = c.args.device; port = p }) in
     let few : port < 8 = omega (arith, c.loop-port-test.true, c.ports_of-port-end.ensures, c.requires.valid.ports c.args.device) in
     c.in_ok-push_if.ensures ∙ ap (λ xs. xs ++ cond c.is_used.result (port ∷ []) []) c.loop-port.invariant
-    ∙ ap (λ b. filter test (below port) ++ cond b (port ∷ []) []) (c.is_used.ensures ∙ used-is parts c.args.table.now (record { device = c.args.device; port = port }) c.requires.shown c.requires.device few)
-    ∙ sym (filter_below_more test port)
+    ∙ sym (filter_noted test port c.is_used.result (c.is_used.ensures ∙ used-is parts c.args.table.now (record { device = c.args.device; port = port }) c.requires.shown c.requires.device few))

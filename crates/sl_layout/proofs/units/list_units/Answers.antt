@@ -2,7 +2,7 @@ use Rattle.std.proofs.Common.{◌++◌, ◌∷◌, [], ap, sym, ◌∙◌, get_o
 use Rattle.std.specs.Prelude.{cond}
 use Rattle.sl_layout.specs.declared.actor.ActorId.TheVariants.{Observer}
 use Rattle.sl_layout.specs.Net.{is_unit, nobody}
-use Rattle.sl_layout.proofs.UnitLists.{number_noted, id_noted}
+use Rattle.sl_layout.proofs.Grouping.{number_noted, id_noted}
 use Rattle.sl_layout.proofs.units.list_units.Goals as goal
 
 pub loop-i-preserved : goal.loop-i-preserved

@@ -3,7 +3,7 @@ use Rattle.std.specs.Prelude.{cond, filter}
 use Rattle.sl_parts.specs.Parts.{below}
 use Rattle.sl_layout.specs.Net.{same_sort, link_of, link_at, links_into, unit_place}
 use Rattle.sl_layout.specs.Wiring.{sender_by}
-use Rattle.sl_layout.proofs.UnitLists.{sender_noted}
+use Rattle.sl_layout.proofs.Grouping.{sender_noted}
 use Rattle.sl_layout.proofs.upstream.add_senders.Goals as goal
 
 pub loop-link-preserved : goal.loop-link-preserved

@@ -1,5 +1,5 @@
 use Rattle.sl_net.proofs.laws.nets_have_ways.Goals as goal
-use Rattle.sl_net.proofs.ReportWays.{has-ways}
+use Rattle.sl_net.proofs.Sorts.{has-ways}
 
 pub returns : goal.returns
 returns c net = has-ways net

@@ -1,7 +1,7 @@
 use Rattle.std.proofs.Common.{ap, sym, subst, ◌∙◌}
 use Rattle.sl_machine.specs.Plan.{IsSound}
 use Rattle.sl_layout.specs.Wiring.{plan_of}
-use Rattle.sl_layout.proofs.Sound.{sound_wires}
+use Rattle.sl_layout.proofs.Ends.{sound_wires}
 use Rattle.sl_net.proofs.net.assemble.Goals as goal
 
 pub invariant_of-result : goal.invariant_of-result

@@ -1,4 +1,4 @@
-use Rattle.sl_net.proofs.Apart.{one_spelled}
+use Rattle.sl_net.proofs.Spellings.{one_spelled}
 use Rattle.sl_net.proofs.spelling_laws.one_spelling.Goals as goal
 
 pub returns : goal.returns

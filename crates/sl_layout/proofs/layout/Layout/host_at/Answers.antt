@@ -2,7 +2,7 @@ use Rattle.std.proofs.Common.{◌≡◌, ◌≤◌, ◌<◌, subst, sym, length,
 use Rattle.std.proofs.lemmas.Grind.{common_steps}
 use Rattle.std.specs.Prelude.{IfSome}
 use Rattle.sl_parts.specs.Parts.{host_at}
-use Rattle.sl_layout.proofs.Senders.{guest_few}
+use Rattle.sl_layout.proofs.Actors.{guest_few}
 use Rattle.sl_layout.proofs.layout.Layout.host_at.Goals as goal
 
 pub returns-clause-few : goal.returns-clause-few

@@ -4,7 +4,7 @@ use Rattle.std.specs.Prelude.{IfSome}
 use Rattle.sl_parts.specs.Parts.{other_end}
 use Rattle.sl_parts.specs.Valid.{IsValid}
 use Rattle.sl_parts.specs.Ports.{IsNear}
-use Rattle.sl_layout.proofs.Senders.{end_near}
+use Rattle.sl_layout.proofs.Actors.{end_near}
 use Rattle.sl_layout.proofs.layout.Layout.other_end.Goals as goal
 
 pub returns-clause-near : goal.returns-clause-near

@@ -1,6 +1,6 @@
 use Rattle.std.specs.List.{All}
 use Rattle.sl_parts.specs.Valid.{IsValid}
-use Rattle.sl_layout.proofs.Sizes.{small_ports}
+use Rattle.sl_layout.proofs.Ends.{small_ports}
 use Rattle.std.proofs.Common.{◌<◌, subst, sym, [], ap, ◌∙◌, length, get_or, arith, zero-add}
 use Rattle.std.proofs.lemmas.List.FromFn.{get_or-map-range_with_len, length-map-range_with_len}
 use Rattle.sl_parts.specs.Parts.{used_ports}

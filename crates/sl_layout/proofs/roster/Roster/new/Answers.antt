@@ -2,7 +2,7 @@ use Rattle.std.proofs.Common.{◌≤◌, ap, sym, subst, ◌∙◌, length, arit
 use Rattle.std.specs.List.{All}
 use Rattle.sl_parts.specs.Valid.{IsValid}
 use Rattle.sl_layout.specs.Roster.{IsFew, HasNumbers}
-use Rattle.sl_layout.proofs.Sizes.{few_actors, all_few}
+use Rattle.sl_layout.proofs.Ends.{few_actors, all_few}
 use Rattle.sl_layout.proofs.roster.Roster.new.Goals as goal
 
 pub number_actors-requires-clause-few : goal.number_actors-requires-clause-few

@@ -1,7 +1,7 @@
 use Rattle.std.proofs.Common.{◌≡◌, ◌<◌, ap, subst, sym, ◌∙◌, length}
 use Rattle.std.specs.List.{All}
 use Rattle.sl_layout.specs.Net.{units, is_unit, actor_of}
-use Rattle.sl_layout.proofs.UnitLists.{low_filter}
+use Rattle.sl_layout.proofs.Grouping.{low_filter}
 use Rattle.sl_layout.proofs.units.Units.actors.Goals as goal
 
 pub returns-clause-each : goal.returns-clause-each

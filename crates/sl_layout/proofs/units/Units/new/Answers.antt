@@ -1,13 +1,11 @@
 use Rattle.std.proofs.Common.{◌≡◌, ◌<◌, ℕ, List, ap, sym, subst, ◌∙◌, length, get_or, map, arith}
 use Rattle.std.specs.Prelude.{filter}
 use Rattle.std.specs.List.{All}
-use Rattle.std.proofs.lemmas.List.FromFn.{length-range_with_len}
 use Rattle.sl_layout.specs.declared.actor.ActorId.{ActorId}
 use Rattle.sl_parts.specs.Parts.{below}
 use Rattle.sl_layout.specs.Net.{is_unit, nobody, actor_of, units}
 use Rattle.sl_layout.specs.Units.{HasPlaces}
-use Rattle.sl_parts.proofs.Lists.{length_filter_le}
-use Rattle.sl_layout.proofs.UnitLists.{low_filter}
+use Rattle.sl_layout.proofs.Grouping.{few_filter, low_filter}
 use Rattle.sl_layout.proofs.units.Units.new.Goals as goal
 
 abbrev units_among : List ActorId → List ℕ
@@ -21,7 +19,7 @@ place_numbers-requires-clause-numbers c =
 pub place_numbers-requires-clause-few : goal.place_numbers-requires-clause-few
 place_numbers-requires-clause-few c =
     let actors = c.actors-all.result.now in
-    omega (arith, ap length (c.as_slice.ensures.value ∙ c.in_ok-ids.ensures.numbers), length_filter_le (λ a. is_unit (get_or actors a nobody)) (below (length actors)), length-range_with_len 0 (length actors), c.actors-all.ensures.few)
+    omega (arith, ap length (c.as_slice.ensures.value ∙ c.in_ok-ids.ensures.numbers), few_filter (λ a. is_unit (get_or actors a nobody)) (length actors), c.actors-all.ensures.few)
 
 pub invariant_of-result : goal.invariant_of-result
 invariant_of-result c =

@@ -7,7 +7,7 @@ use Rattle.std.proofs.lemmas.Bool.Decides.{eqb_tells}
 use Rattle.std.proofs.lemmas.List.{length-set, length-replicate, get_or-replicate, get_or-set_same, get_or-set_other}
 use Rattle.std.proofs.lemmas.List.Elements.{All-cons, All-nil, recursion_from_All}
 use Rattle.sl_route.specs.Graph.{Graph, neighbours_at, leads, reaches, first_to_pass, within, IsGraph, is_at, lists, Finds}
-use Rattle.sl_route.proofs.First.{bool_same, is_false, none-passes, IsFirst, first-is, first-at}
+use Rattle.sl_route.proofs.First.{bool_same, is_false, none-passes, IsFirst, first-is, first-at, apart}
 
 -- how far each device is from e, up to n cables, and which devices are just so far
 pub record IsSearched (g : Graph) (e n : ℕ) (far : List (Option ℕ)) (last : List ℕ) : Type 0 where
@@ -107,9 +107,6 @@ further g e n d far last i s h = bool_same (list_any (λ x. leads g x d) last) (
             no_earlier : (j : ℕ) → j < n → reaches g e j k.item.device ≡ false
             no_earlier j l = is_false (reaches g e j k.item.device) (λ q. let r : reaches g e (suc j) d ≡ true = k.listed (λ y. reaches g e j y.device) q in
                 let t : reaches g e (suc j) d ≡ false = none-passes (λ m. reaches g e m d) n (suc j) h (omega (arith, l)) in apart (reaches g e (suc j) d) r t)
-              where
-                apart : (b : Bool) → b ≡ true → b ≡ false → ⊥
-                apart b x y = cc
 
             at_last : lists last k.item.device ≡ true
             at_last = s.listed k.item.device k.holds ∙ first-at (λ m. reaches g e m k.item.device) n n no_earlier (omega arith) ∙ k.passes

@@ -10,6 +10,9 @@ bool_same true b f g = sym (f refl)
 bool_same false true f g = g refl
 bool_same false false f g = refl
 
+pub apart : (b : Bool) → b ≡ true → b ≡ false → ⊥
+apart b x y = cc
+
 pub is_false : (a : Bool) → (a ≡ true → ⊥) → a ≡ false
 is_false true f = absurd (f refl)
 is_false false f = refl
@@ -62,15 +65,12 @@ first-is test (suc n) m h = by_step (λ e. first-is test n m e) (more-some (firs
 pub first-at : (test : ℕ → Bool) (n k : ℕ) → ((j : ℕ) → j < k → test j ≡ false) → k ≤ n → is_at k (first_to_pass test n) ≡ test k
 first-at test n k h l = by_first (first_to_pass test n) refl
   where
-    apart : (a b : Bool) → a ≡ true → a ≡ b → b ≡ false → ⊥
-    apart a b p q r = cc
-
     by_order : (m : ℕ) → IsFirst test n m → (((m == k) ≡ true) × (m ≡ k)) ⊎ (((m == k) ≡ false) × (m ≢ k)) → (m == k) ≡ test k
     by_order m f (inl e) = e.0 ∙ sym (ap test (sym e.1) ∙ f.passes)
     by_order m f (inr e) = by_lt (cases_lt m k)
       where
         by_lt : (m < k) ⊎ (k ≤ m) → (m == k) ≡ test k
-        by_lt (inl p) = absurd (apart (test m) (test m) f.passes refl (h m p))
+        by_lt (inl p) = absurd (apart (test m) f.passes (h m p))
         by_lt (inr p) = e.0 ∙ sym (f.first k (let q : m ≢ k = e.1 in omega (arith, p, q)))
 
     by_first : (o : Option ℕ) → first_to_pass test n ≡ o → is_at k o ≡ test k

@@ -14,7 +14,7 @@ use Rattle.sl_route.specs.Route.{cables_from, walks_between, first_nonempty, lea
 use Rattle.sl_route.specs.Graph.{reaches, within, is_at}
 use Rattle.sl_route.specs.Walks.{IsCable, LeadsNearer}
 use Rattle.sl_route.proofs.Walks.{has, directed, between-suc, has-flat, least-flat}
-use Rattle.sl_route.proofs.First.{is_false, IsFirst, first-is, first-at}
+use Rattle.sl_route.proofs.First.{is_false, IsFirst, first-is, first-at, apart}
 use Rattle.sl_route.proofs.Graphs.{graph_of, reaches-is}
 use Rattle.sl_route.proofs.Toward.{walks_at, walks-at, hops-are}
 use Rattle.sl_route.proofs.Shortest.{host-near, step-is, goes}
@@ -100,9 +100,6 @@ goes-on parts d h n m at v q s w = record {
         (step-is parts at.device j d v ∙ list_any_at (goes parts at.device j d) (directed parts) b.is_cable.0 c b.is_cable.1
         (ap (goes parts at.device j d) b.is_cable.2 ∙ ap (λ t. t && reaches (graph_of parts) at.device j c.b.device) (eq-eqb c.a.device d b.begins) ∙ r))
         (first.first (suc j) (omega (arith, l))))
-      where
-        apart : (t : Bool) → t ≡ true → t ≡ false → ⊥
-        apart t x y = cc
 
 pub next-nearer : (parts : Parts) (d h n : ℕ) → IsValid parts → hops parts d h ≡ Some (suc n) → LeadsNearer parts d h n
 unfolding hops

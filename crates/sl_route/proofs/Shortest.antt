@@ -16,13 +16,10 @@ use Rattle.sl_route.specs.Route.{Walk, cables_from, host_port, hops}
 use Rattle.sl_route.specs.Graph.{Graph, neighbours_of, neighbours_at, reaches, within, IsGraph, is_at}
 use Rattle.sl_route.specs.Walks.{IsWalk, AreHops}
 use Rattle.sl_route.proofs.Walks.{directed}
-use Rattle.sl_route.proofs.First.{none-passes, IsFirst, first-is}
+use Rattle.sl_route.proofs.First.{none-passes, IsFirst, first-is, apart}
 use Rattle.sl_route.proofs.Finding.{Found, found}
 use Rattle.sl_route.proofs.Graphs.{IsJoined, all-joined, graph_of, row-is, is-graph, any-map, any-filter}
 use Rattle.sl_route.proofs.Toward.{hops-are}
-
-apart : (b : Bool) → b ≡ true → b ≡ false → ⊥
-apart b x y = cc
 
 -- Walks and what is reached.
 

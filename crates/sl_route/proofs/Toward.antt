@@ -1,16 +1,15 @@
 -- The search against the definition by walks.
-use Rattle.std.proofs.Common.{◌≡◌, ℕ, zero, suc, ◌+◌, ◌<◌, ◌≤◌, List, [], ◌∷◌, ◌++◌, length, get_or, take, refl, sym, ap, ◌∙◌, arith, append-nil}
+use Rattle.std.proofs.Common.{◌≡◌, ℕ, zero, suc, ◌+◌, ◌<◌, ◌≤◌, List, [], ◌∷◌, ◌++◌, length, get_or, take, refl, sym, ap, ◌∙◌, arith, append-nil, add-one, zero-add}
 use Rattle.std.specs.Prelude.{Bool, true, false, cond, ◌&&◌, ◌||◌, ◌==◌, map, filter, flat_map, Option, Some, None, is_none, min, unwrap_or, option_and_then, slice_get}
 use Rattle.std.specs.List.{AllByRecursion, list_any}
 use Rattle.std.proofs.lemmas.List.{map-append}
 use Rattle.std.proofs.lemmas.List.Elements.{All-same, filter_more, recursion_from_All}
-use Rattle.std.proofs.lemmas.List.FromFn.{length-map-range_with_len, fill_by_all}
+use Rattle.std.proofs.lemmas.List.FromFn.{length-map-range_with_len, fill_by_all, map-range_with_len_more}
 use Rattle.sl_parts.specs.declared.parts.PortRef.{PortRef}
 use Rattle.sl_parts.specs.declared.parts.CablePart.{CablePart}
 use Rattle.sl_parts.specs.declared.parts.HostPart.{HostPart}
 use Rattle.sl_parts.specs.Parts.{Parts, below}
 use Rattle.sl_parts.specs.Valid.{IsValid}
-use Rattle.sl_parts.proofs.Lists.{numbers-more}
 use Rattle.sl_layout.proofs.Grouping.{map_same}
 use Rattle.sl_route.specs.declared.neighbours.Neighbour.{Neighbour}
 use Rattle.sl_route.specs.Least.{least, least_in}
@@ -58,9 +57,9 @@ walks-at parts d e zero v = by_test (d == e) refl
     by_test : (b : Bool) → (d == e) ≡ b → first_nonempty (cond {A = List Walk} b ([] ∷ []) [] ∷ []) ≡ walks_at parts d e (cond b (Some 0) None)
     by_test true q = sym (ap (λ b. cond {A = List Walk} b ([] ∷ []) []) q)
     by_test false q = refl
-walks-at parts d e (suc n) v = let z : 0 + suc n ≡ suc n = omega arith in
-    ap (λ ns. first_nonempty (map (walks_between parts d e) ns)) (numbers-more 0 (suc n) ∙ ap (λ k. below (suc n) ++ k ∷ []) z)
-    ∙ ap first_nonempty (map-append (walks_between parts d e) (below (suc n)) (suc n ∷ []))
+walks-at parts d e (suc n) v =
+    ap (λ k. first_nonempty (map (walks_between parts d e) (below k))) (sym (add-one (suc n)))
+    ∙ ap first_nonempty (map-range_with_len_more (walks_between parts d e) 0 (suc n) (suc n) (zero-add (suc n)))
     ∙ nonempty-snoc (map (walks_between parts d e) (below (suc n))) (walks_between parts d e (suc n))
     ∙ ap (λ ws. cond (has ws) ws (walks_between parts d e (suc n))) (walks-at parts d e n v)
     ∙ longer parts d e (suc n) (within (graph_of parts) e n d) (reaches (graph_of parts) e (suc n) d) (reaches-is parts e (suc n) d v) (has-at parts d e n (within (graph_of parts) e n d) v refl)

@@ -26,7 +26,7 @@ use Rattle.sl_net.specs.Input.{Input}
 use Rattle.sl_parts.specs.Number.{plain_number}
 use Rattle.sl_parts.specs.Lists.{Each, Member}
 use Rattle.sl_parts.proofs.Lists.{all-from_each, each-at}
-use Rattle.sl_layout.proofs.UnitLists.{low_filter}
+use Rattle.sl_layout.proofs.Grouping.{low_filter}
 use Rattle.sl_parts.proofs.NumberLemmas.{is_plain_number}
 use Rattle.sl_form.specs.declared.path.TableName.TheVariants as table
 use Rattle.sl_form.specs.declared.path.Key.TheVariants.{From, To, Link}

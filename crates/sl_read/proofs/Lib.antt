@@ -1,10 +1,4 @@
 pub mod RowLemmas
-pub mod TextLemmas
-pub mod EachLemmas
-pub mod ScriptLemmas
-pub mod OneChoice
 pub mod Steps
-pub mod Entries
 pub mod Ranges
-pub mod LimitLemmas
 pub mod Settled

@@ -1,12 +1,34 @@
--- An accepted input is within its ranges.
-use Rattle.std.proofs.Common.{◌≡◌, ℕ, suc, ◌+◌, ◌<◌, ◌≤◌, List, [], ◌∷◌, length, Bool, true, false, Option, Some, None, Result, Ok, Err, refl, sym, ap, subst, ◌∙◌, arith, inl, inr}
-use Rattle.std.specs.Prelude.{codes, ◌==◌, ◌⊎◌, ◌&&◌, nat_eq, nat_lt, nat_le, if◌then◌else◌, bytes_eq, option_and_then, IfSome}
-use Rattle.std.specs.List.{All, sum_by, position, before_first, after_first}
-use Rattle.std.specs.Str.{is_utf8}
-use Rattle.std.proofs.lemmas.Bool.{and_parts, ltb-true, ltb-false}
+-- An accepted input is within its ranges, its limits are kept, and each entry names the first choice with its spelling.
+use Rattle.std.proofs.Common.{◌≡◌, ℕ, ◌≤◌, List, length, Bool, true, false, Option, Some, None, Ok, Err, refl, subst, arith, inl, inr, [], ◌∷◌, map, sym, ap, ◌∙◌, suc, ◌+◌, ◌<◌, Result}
+use Rattle.std.specs.Prelude.{◌==◌, nat_lt, nat_le, if◌then◌else◌, unwrap_or, IfSome, ◌⊎◌, bytes_eq, codes, ◌&&◌, nat_eq, option_and_then}
+use Rattle.std.specs.List.{All, position, position_or_len, sum_by, before_first, after_first}
+use Rattle.std.proofs.lemmas.Bool.{ltb-false, leb-true, eqb-false, eqb-true, and_parts, ltb-true}
+use Rattle.std.proofs.lemmas.Grind.{common_steps}
+use Rattle.std.proofs.lemmas.List.Sums.{fails_before_first, sum_by-cons, length-filter, count_by-le-length}
+use Rattle.std.proofs.lemmas.List.FromFn.{length-range_with_len, get_or-range_with_len}
+use Rattle.sl_parts.specs.declared.parts.CablePart.{CablePart}
+use Rattle.sl_parts.specs.declared.parts.DevicePart.{DevicePart}
+use Rattle.sl_parts.specs.Lists.{Each, Member}
+use Rattle.sl_parts.specs.Parts.{Parts, below}
+use Rattle.sl_parts.specs.Valid.{AreVersioned}
+use Rattle.sl_parts.proofs.Lists.{all-from_each, each-map, each-flat, each-below, each-at, member-flat, member-map, member-from}
+use Rattle.sl_layout.specs.Net.{Net, actor_of, is_unit, units, net_of, link_of, link_at, action_choice}
+use Rattle.sl_net.specs.declared.input.Snapshot.{Snapshot}
+use Rattle.sl_form.specs.declared.path.Key.TheVariants.{A, B, Version, From, To, Link}
+use Rattle.sl_form.specs.declared.refusal.Refusal.TheVariants.{TooWide, TooLong}
+use Rattle.sl_form.specs.Paths.{at}
+use Rattle.sl_read.specs.declared.cable.CableRow.{CableRow}
+use Rattle.sl_read.specs.declared.host.HostRow.{HostRow}
+use Rattle.sl_read.specs.Accepted.{IsVersion, HasVersion, IsCarried, IsDrop, IsLoss, IsFlow, IsRaw, IsEntry, IsAccepted}
+use Rattle.sl_read.specs.Places.{each, port_place, cable_part, host_part, parts_of, known, host_place, flow_part, raw_part}
+use Rattle.sl_read.specs.Limits.{no_cable, ids_carried, values, few_values, limits_kept}
+use Rattle.sl_read.proofs.Steps.{bind_ok, same_ok, not_held, each_ok, same_some, held, kept, and_then_some, map_some, known_ok}
+use Rattle.std.proofs.lemmas.Slice.Eq.{bytes_eq-Decides}
+use Rattle.sl_net.specs.Spelling.{choice_text, choice_count, HasChoice}
+use Rattle.sl_net.specs.Spelled.{HasOneSpelling}
+use Rattle.sl_read.specs.Choices.{choices, first, choice_named, lossy_link, link_named, drop_part, pass_or, as_choice, entry_of, fits, fitting, passes, entries_of}
 use Rattle.std.proofs.lemmas.Bool.Decides.{nat_tests}
 use Rattle.std.proofs.lemmas.List.Quantifiers.{position-Some}
-use Rattle.std.proofs.lemmas.List.Sums.{sum_by-cons}
 use Rattle.toml.specs.Data.{Members}
 use Rattle.toml.specs.Parse.{parse_document}
 use Rattle.sl_parts.specs.declared.fault.NetFault.{NetFault}
@@ -16,43 +38,140 @@ use Rattle.sl_net.specs.declared.input.Flow.{Flow}
 use Rattle.sl_net.specs.declared.input.RawPart.{RawPart}
 use Rattle.sl_net.specs.declared.input.Script1.{Script1}
 use Rattle.sl_net.specs.declared.input.Script1.TheVariants.{Pass}
-use Rattle.sl_parts.specs.Parts.{Parts}
 use Rattle.sl_parts.specs.Fault.{fault_of}
-use Rattle.sl_parts.specs.Valid.{AreVersioned}
-use Rattle.sl_layout.specs.Net.{Net, net_of, link_of, link_at, action_choice}
 use Rattle.sl_layout.specs.Wiring.{kind_of, is_lossy}
-use Rattle.sl_net.specs.Spelling.{HasChoice, choice_text}
 use Rattle.sl_net.specs.Input.{Input}
 use Rattle.sl_parts.specs.Number.{plain_number}
-use Rattle.sl_parts.specs.Lists.{Each, Member}
-use Rattle.sl_parts.proofs.Lists.{all-from_each, each-at}
-use Rattle.sl_layout.proofs.Grouping.{low_filter}
 use Rattle.sl_parts.proofs.NumberLemmas.{is_plain_number}
-use Rattle.sl_form.specs.declared.path.TableName.TheVariants as table
-use Rattle.sl_form.specs.declared.path.Key.TheVariants.{From, To, Link}
 use Rattle.sl_form.specs.declared.path.Path.{Path}
 use Rattle.sl_form.specs.declared.refusal.Refusal.{Refusal}
-use Rattle.sl_form.specs.declared.refusal.Refusal.TheVariants.{TooLong}
 use Rattle.sl_read.specs.declared.flow.FlowRow.{FlowRow}
 use Rattle.sl_read.specs.declared.raw.RawRow.{RawRow}
 use Rattle.sl_read.specs.declared.loss.DropRow.{DropRow}
 use Rattle.sl_read.specs.declared.document.Document.{Document}
 use Rattle.sl_read.specs.declared.read.Traffic.{Traffic}
 use Rattle.sl_read.specs.declared.read.Contents.{Contents}
-use Rattle.sl_read.specs.Accepted.{IsDrop, IsLoss, IsFlow, IsRaw, IsEntry, IsAccepted}
-use Rattle.sl_form.specs.Paths.{at}
 use Rattle.sl_read.specs.Documents.{document_of}
 use Rattle.sl_form.specs.Forms.{pass_of, positive}
-use Rattle.sl_read.specs.Places.{each, known, host_place, flow_part, raw_part, parts_of}
-use Rattle.sl_read.specs.Choices.{first, choices, choice_named, lossy_link, link_named, drop_part, pass_or, as_choice, entry_of, fits, fitting, passes, entries_of}
-use Rattle.sl_read.specs.Limits.{limits_kept}
 use Rattle.sl_read.specs.Inputs.{unless_refused, built, net_in, packets, few_packets, traffic_in, contents_in, settled, tables_of, parsed, text_of, reading_of, numbered, input_of}
-use Rattle.sl_form.proofs.Shorter.{IsShort, some-if, some-then}
-use Rattle.sl_form.proofs.Arrays.{FewInMembers, document-few}
-use Rattle.sl_read.proofs.Steps.{bind_ok, same_ok, same_some, held, not_held, kept, and_then_some, map_some, known_ok, each_ok}
-use Rattle.sl_read.proofs.Ranges.{IsDocument, IsRawRow, IsDropRow, IsFlowRow, document_ok, script_few}
-use Rattle.sl_read.proofs.OneChoice.{each_has}
-use Rattle.sl_read.proofs.LimitLemmas.{parts_versioned, limits_ok}
+use Rattle.sl_read.proofs.Ranges.{IsDocument, IsRawRow, IsDropRow, IsFlowRow, document_ok, script_short}
+use Rattle.sl_form.specs.declared.path.TableName.TheVariants as table
+use Rattle.std.proofs.lemmas.List.Elements.{All-filter}
+
+version_or : (o : Option ℕ) (version : ℕ) → IsVersion version → IfSome o IsVersion → IsVersion (unwrap_or o version)
+version_or None version v h = v
+version_or (Some n) version v h = h
+
+cable_versioned : (devices : List DevicePart) (version : ℕ) → IsVersion version → (i : ℕ) (x : CableRow) (y : CablePart) → HasVersion x → cable_part devices version i x ≡ Ok y → IsVersion y.version
+cable_versioned devices version v i x y p h =
+    let a = bind_ok (port_place devices (at (table.Cable i) A) x.a) _ y h in
+    let b = bind_ok (port_place devices (at (table.Cable i) B) x.b) _ y a.2 in
+    subst (λ (y : CablePart). IsVersion y.version) (same_ok _ y b.2) (version_or x.version version v p)
+
+pub parts_versioned : (devices : List DevicePart) (version : ℕ) (cables : List CableRow) (hosts : List HostRow) (parts : Parts) → IsVersion version → Each HasVersion cables
+    → parts_of devices version cables hosts ≡ Ok parts → AreVersioned parts.cables
+unfolding parts_of
+parts_versioned devices version cables hosts parts v e h =
+    let c = bind_ok (each (cable_part devices version) 0 cables) _ parts h in
+    let o = bind_ok (each (host_part devices) 0 hosts) _ parts c.2 in
+    let r = each_ok (cable_part devices version) HasVersion (λ (c : CablePart). IsVersion c.version) (cable_versioned devices version v) 0 cables c.0 e c.1 in
+    subst (λ (p : Parts). AreVersioned p.cables) (same_ok _ parts o.2) (all-from_each (λ (c : CablePart). IsVersion c.version) c.0 r.0)
+
+-- Limits.
+
+-- units are actors
+pub units_few : (net : Net) → length (units net) ≤ length net.actors
+units_few net = let test = λ (a : ℕ). is_unit (actor_of net a) in let all = below (length net.actors) in
+    omega (arith, length-filter test all, count_by-le-length test all, length-range_with_len 0 (length net.actors))
+
+carried_wide : (bits version : ℕ) → (version == 1) ≡ false → IsVersion version → IsCarried bits version
+carried_wide bits version h v = let other = eqb-false version 1 h in inr (omega (arith, v, other))
+
+carried_narrow : (bits version : ℕ) → bits ≤ 8 → IsVersion version → IsCarried bits version
+carried_narrow bits version few v = by_one (version == 1) refl
+  where
+    by_one : (one : Bool) → (version == 1) ≡ one → IsCarried bits version
+    by_one true h = inl (eqb-true version 1 h, few)
+    by_one false h = carried_wide bits version h v
+
+no_cable_ok : (o : Option ℕ) (x : Unit {0}) → no_cable o ≡ Ok x → o ≡ None
+no_cable_ok None x h = refl
+no_cable_ok (Some i) x h = absurd (cc)
+
+none_narrow : (cables : List CablePart) → position (λ (c : CablePart). c.version == 1) cables ≡ None → All (λ (c : CablePart). (c.version == 1) ≡ false) cables
+none_narrow cables h k d p =
+    let past : length cables ≤ position_or_len (λ (c : CablePart). c.version == 1) cables = grind (arith, common_steps) in
+    fails_before_first (λ (c : CablePart). c.version == 1) cables k d (omega arith)
+
+carried_ok : (s : Snapshot) (cables : List CablePart) (x : Unit {0}) → IsVersion s.version → AreVersioned cables → ids_carried s cables ≡ Ok x
+    → IsCarried s.width s.version × All (λ (c : CablePart). IsCarried s.width c.version) cables
+unfolding ids_carried
+carried_ok s cables x v versions h = by_width (nat_le s.width 8) refl (s.version == 1) refl h
+  where
+    by_width : (b : Bool) → nat_le s.width 8 ≡ b → (one : Bool) → (s.version == 1) ≡ one
+        → (if b then Ok tt else if one then Err (TooWide (at table.Snapshot Version)) else no_cable (position (λ (c : CablePart). c.version == 1) cables)) ≡ Ok x
+        → IsCarried s.width s.version × All (λ (c : CablePart). IsCarried s.width c.version) cables
+    by_width true w one o h = let few = leb-true s.width 8 w in (carried_narrow s.width s.version few v, λ k d p. carried_narrow s.width _ few (versions k d p))
+    by_width false w true o h = absurd (cc)
+    by_width false w false o h =
+        let none = none_narrow cables (no_cable_ok (position (λ (c : CablePart). c.version == 1) cables) x h) in
+        (carried_wide s.width s.version o v, λ k d p. carried_wide s.width _ (none k d p) (versions k d p))
+
+few_ok : (net : Net) (s : Snapshot) (x : Unit {0}) → few_values net s ≡ Ok x → values net s ≤ 1024000
+unfolding few_values
+few_ok net s x h = let t = not_held (nat_lt 1024000 (values net s)) _ tt x h in ltb-false 1024000 (values net s) t.0
+
+pub limits_ok : (net : Net) (s : Snapshot) (x : Unit {0}) → IsVersion s.version → AreVersioned net.parts.cables → limits_kept net s ≡ Ok x
+    → IsCarried s.width s.version × All (λ (c : CablePart). IsCarried s.width c.version) net.parts.cables × (values net s ≤ 1024000)
+limits_ok net s x v versions h =
+    let a = bind_ok (ids_carried s net.parts.cables) (λ _. few_values net s) x h in
+    let c = carried_ok s net.parts.cables a.0 v versions a.1 in
+    (c.0, c.1, few_ok net s x a.2)
+
+-- The first choice with a spelling, where no two have one.
+
+-- Looking for the first.
+
+module _ (passes : ℕ × ℕ → Bool) where
+  first_none : (ps : List (ℕ × ℕ)) → ((p : ℕ × ℕ) → Member p ps → passes p ≡ true → ⊥) → first passes ps ≡ None
+  first_none [] f = refl
+  first_none (p ∷ ps) f = by_bool (first_none ps (λ y m. f y (inr m))) (passes p) refl
+    where
+      by_bool : first passes ps ≡ None → (b : Bool) → passes p ≡ b → (if b then Some p else first passes ps) ≡ None
+      by_bool ih true q = absurd (f p (inl refl) q)
+      by_bool ih false q = ih
+
+  first_is : (ps : List (ℕ × ℕ)) (x : ℕ × ℕ) → Member x ps → passes x ≡ true → ((p : ℕ × ℕ) → Member p ps → passes p ≡ true → p ≡ x) → first passes ps ≡ Some x
+  first_is [] x m h f = absurd m
+  first_is (p ∷ ps) x m h f = by_bool (λ n. first_is ps x n h (λ y k. f y (inr k))) (passes p) refl m
+    where
+      by_bool : (Member x ps → first passes ps ≡ Some x) → (b : Bool) → passes p ≡ b → (x ≡ p) ⊎ Member x ps → (if b then Some p else first passes ps) ≡ Some x
+      by_bool ih true q n = ap Some (f p (inl refl) q)
+      by_bool ih false q (inl e) = let z : true ≡ false = sym h ∙ ap passes e ∙ q in absurd (cc)
+      by_bool ih false q (inr n) = ih n
+
+listed : (net : Net) (a c : ℕ) → HasChoice net a c → Member (a, c) (choices net)
+listed net a c h = member-flat (λ a. map (λ c. (a, c)) (below (choice_count net a))) a (a, c) (below (length net.actors)) (member-from a 0 (length net.actors) (omega arith) (omega (arith, h.actor)))
+    (member-map (λ c. (a, c)) c (below (choice_count net a)) (member-from c 0 (choice_count net a) (omega arith) (omega (arith, h.choice))))
+
+pub each_has : (net : Net) → Each (λ (p : ℕ × ℕ). HasChoice net p.0 p.1) (choices net)
+each_has net = each-flat (λ (p : ℕ × ℕ). HasChoice net p.0 p.1) (λ a. map (λ c. (a, c)) (below (choice_count net a))) (below (length net.actors))
+    (each-below (λ a. Each (λ (p : ℕ × ℕ). HasChoice net p.0 p.1) (map (λ c. (a, c)) (below (choice_count net a)))) (length net.actors)
+    (λ a h. each-map (λ (p : ℕ × ℕ). HasChoice net p.0 p.1) (λ c. (a, c)) (below (choice_count net a)) (each-below (λ c. HasChoice net a c) (choice_count net a) (λ c k. record { actor = h; choice = k }))))
+
+pub no_choice : (net : Net) (text : List ℕ) → ((a c : ℕ) → HasChoice net a c → choice_text net a c ≡ text → ⊥) → None ≡ choice_named net text
+unfolding choice_named
+no_choice net text f = sym (first_none (λ p. bytes_eq (choice_text net p.0 p.1) text) (choices net)
+    (λ p m q. f p.0 p.1 (each-at (λ (p : ℕ × ℕ). HasChoice net p.0 p.1) p (choices net) (each_has net) m) ((bytes_eq-Decides (choice_text net p.0 p.1) text).0 q)))
+
+pub one_choice : (net : Net) (text : List ℕ) (a c : ℕ) → HasOneSpelling net → HasChoice net a c → choice_text net a c ≡ text → Some (a, c) ≡ choice_named net text
+unfolding choice_named
+one_choice net text a c one h e =
+    sym (first_is (λ p. bytes_eq (choice_text net p.0 p.1) text) (choices net) (a, c) (listed net a c h) ((bytes_eq-Decides (choice_text net a c) text).1 e)
+    (λ p m q. let t = one.one p.0 p.1 a c (each-at (λ (p : ℕ × ℕ). HasChoice net p.0 p.1) p (choices net) (each_has net) m) h ((bytes_eq-Decides (choice_text net p.0 p.1) text).0 q ∙ sym e) in
+    ap (λ x. (x, p.1)) t.0 ∙ ap (λ y. (a, y)) t.1))
+
+-- An accepted input is within its ranges.
 
 -- Hosts by their names.
 
@@ -96,7 +215,9 @@ built_ok parts net h =
 -- Links and choices by their spelling.
 
 link_low : (net : Net) (a c : ℕ) → c < action_choice net a → link_at net a c < length net.links
-link_low net a c h = low_filter (λ l. nat_eq (link_of net l).to a) (length net.links) c 0 h
+link_low net a c h = All-filter (λ l. nat_eq (link_of net l).to a) (λ l. l < length net.links) (below (length net.links))
+    (λ k d p. let low : k < length net.links = omega (arith, p, length-range_with_len 0 (length net.links)) in
+    subst (λ x. x < length net.links) (sym (get_or-range_with_len 0 (length net.links) k d low)) (omega (arith, low))) c 0 h
 
 lossy_ok : (net : Net) (a c l : ℕ) → lossy_link net a c ≡ Some l → (l < length net.links) × (is_lossy (kind_of (link_of net l).sort) ≡ true)
 lossy_ok net a c l h =
@@ -245,14 +366,10 @@ settled_ok doc input d short h =
       few_values = l.2;
     })
 
-parsed_ok : (o : Option Members) (input : Input) → IfSome o (FewInMembers 1048576) → parsed o ≡ Ok input → IsAccepted input
+parsed_ok : (o : Option Members) (input : Input) → IfSome o (λ (ms : Members). (d : Document) → document_of ms ≡ Ok d → length d.script ≤ 1048576) → parsed o ≡ Ok input → IsAccepted input
 unfolding tables_of
 parsed_ok None input few h = absurd (cc)
-parsed_ok (Some ms) input few h = let doc = bind_ok (document_of ms) settled input h in settled_ok doc.0 input (document_ok ms doc.0 doc.1) (script_few 1048576 ms doc.0 few doc.1) doc.2
-
--- of at most 1048576 bytes
-bytes_few : (bytes : List ℕ) → length bytes ≤ 1048576 → IfSome (option_and_then parse_document (text_of bytes)) (FewInMembers 1048576)
-bytes_few bytes h = some-then (IsShort 1048576) (FewInMembers 1048576) parse_document (text_of bytes) (some-if (IsShort 1048576) (is_utf8 bytes) (Some bytes) None h tt) (λ text short. document-few 1048576 text short)
+parsed_ok (Some ms) input few h = let doc = bind_ok (document_of ms) settled input h in settled_ok doc.0 input (document_ok ms doc.0 doc.1) (few doc.0 doc.1) doc.2
 
 numbered_ok : (r : Result Input Refusal) (input : Input) → numbered r ≡ Ok input → r ≡ Ok input
 numbered_ok (Ok x) input h = let e : x ≡ input = cc in ap Ok e
@@ -264,4 +381,4 @@ accepted bytes input h = by_length (nat_lt 1048576 (length bytes)) refl (numbere
   where
     by_length : (b : Bool) → nat_lt 1048576 (length bytes) ≡ b → (if b then Err TooLong else parsed (option_and_then parse_document (text_of bytes))) ≡ Ok input → IsAccepted input
     by_length true q h = absurd (cc)
-    by_length false q h = parsed_ok (option_and_then parse_document (text_of bytes)) input (bytes_few bytes (ltb-false 1048576 (length bytes) q)) h
+    by_length false q h = parsed_ok (option_and_then parse_document (text_of bytes)) input (script_short bytes (ltb-false 1048576 (length bytes) q)) h

@@ -13,7 +13,7 @@ use sl_net::{Drop1, Net, Script1, find_choice};
 use std::alloc::Global;
 
 /// The choice of a spelling.
-#[tactic(auto, using(crate::proofs::OneChoice::one_choice, crate::proofs::OneChoice::no_choice))]
+#[tactic(auto, using(crate::proofs::Settled::one_choice, crate::proofs::Settled::no_choice))]
 fn choice_named(net: &Net, text: &str) -> Option<(u32, u32)>
     requires { HasOneSpelling net.now }
     ensures choice { result ≡ choice_named net.now text.now }

@@ -49,7 +49,7 @@ impl Row for DropRow {
 }
 
 /// The tables of the listed losses, at most 1000.
-#[tactic(auto, using(crate::proofs::TextLemmas::count_view))]
+#[tactic(auto, using(crate::proofs::RowLemmas::count_view))]
 fn drops_at(table: &Table) -> Result<&[Value], Refusal>
     ensures { Shows (λ vs. items_view vs.now) result (drops_at (table_view table.now)) }
 {

@@ -110,7 +110,7 @@ fn cable_parts(
     Ok(Listed::from_vec(found))
 }
 
-#[tactic(auto, using(crate::proofs::EachLemmas::each_steps))]
+#[tactic(auto, using(crate::proofs::RowLemmas::each_steps))]
 fn host_parts(
     alloc: Global,
     devices: &[DevicePart],
@@ -204,7 +204,7 @@ fn raw_part(
 }
 
 /// The flows, with hosts by their places.
-#[tactic(auto, using(crate::proofs::EachLemmas::each_steps))]
+#[tactic(auto, using(crate::proofs::RowLemmas::each_steps))]
 pub fn place_flows(
     alloc: Global,
     hosts: &[HostPart],
@@ -220,7 +220,7 @@ pub fn place_flows(
 }
 
 /// The raw frames, with hosts by their places.
-#[tactic(auto, using(crate::proofs::EachLemmas::each_steps))]
+#[tactic(auto, using(crate::proofs::RowLemmas::each_steps))]
 pub fn place_raws(
     alloc: Global,
     hosts: &[HostPart],

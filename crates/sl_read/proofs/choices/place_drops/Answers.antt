@@ -1,8 +1,7 @@
 use Rattle.std.proofs.Common.{sym}
 use Rattle.sl_form.specs.declared.refusal.ReadError.TheVariants.{Refused}
 use Rattle.sl_read.specs.Choices.{drop_part}
-use Rattle.sl_read.proofs.RowLemmas.{with_front_none}
-use Rattle.sl_read.proofs.EachLemmas.{each_step, each_stops, each_end}
+use Rattle.sl_read.proofs.RowLemmas.{with_front_none, each_step, each_stops, each_end}
 use Rattle.sl_read.proofs.choices.place_drops.Goals as goal
 
 pub loop-index-init : goal.loop-index-init

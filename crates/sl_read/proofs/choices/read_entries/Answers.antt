@@ -3,8 +3,7 @@ use Rattle.std.proofs.lemmas.List.{drop_all}
 use Rattle.sl_form.specs.declared.refusal.Refusal.{Refusal}
 use Rattle.sl_form.specs.declared.refusal.ReadError.TheVariants.{Refused}
 use Rattle.sl_read.specs.Choices.{entries_of, fitting}
-use Rattle.sl_read.proofs.RowLemmas.{refused_part, with_front, with_front_none, with_front_all}
-use Rattle.sl_read.proofs.ScriptLemmas.{entries_more, entries_refused}
+use Rattle.sl_read.proofs.RowLemmas.{refused_part, with_front, with_front_none, with_front_all, entries_more, entries_refused}
 use Rattle.sl_read.proofs.choices.read_entries.Goals as goal
 
 pub loop-index-init : goal.loop-index-init

@@ -1,6 +1,6 @@
 use Rattle.std.proofs.Common.{refl, sym}
 use Rattle.sl_net.specs.Spelling.{choice_text}
-use Rattle.sl_read.proofs.OneChoice.{one_choice}
+use Rattle.sl_read.proofs.Settled.{one_choice}
 use Rattle.sl_read.proofs.laws.spellings_name_choices.Goals as goal
 
 pub returns : goal.returns

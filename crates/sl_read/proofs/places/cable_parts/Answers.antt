@@ -1,6 +1,5 @@
 use Rattle.sl_read.specs.Places.{cable_part}
-use Rattle.sl_read.proofs.RowLemmas.{with_front_none}
-use Rattle.sl_read.proofs.EachLemmas.{each_step, each_stops, each_end}
+use Rattle.sl_read.proofs.RowLemmas.{with_front_none, each_step, each_stops, each_end}
 use Rattle.sl_read.proofs.places.cable_parts.Goals as goal
 
 pub loop-index-init : goal.loop-index-init

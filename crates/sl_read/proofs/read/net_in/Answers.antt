@@ -1,7 +1,7 @@
 use Rattle.std.proofs.Common.{subst, sym}
 use Rattle.sl_parts.specs.Lists.{Each}
 use Rattle.sl_read.specs.Accepted.{HasVersion}
-use Rattle.sl_read.proofs.LimitLemmas.{parts_versioned}
+use Rattle.sl_read.proofs.Settled.{parts_versioned}
 use Rattle.sl_read.proofs.read.net_in.Goals as goal
 
 pub build-requires : goal.build-requires

@@ -6,8 +6,7 @@ use Rattle.sl_form.specs.declared.path.Key.TheVariants.{Entries}
 use Rattle.sl_form.specs.Paths.{element}
 use Rattle.sl_form.specs.Fields.{text_at}
 use Rattle.sl_read.specs.Tables.{texts_of}
-use Rattle.sl_read.proofs.RowLemmas.{refused_part, with_front, with_front_none, with_front_all}
-use Rattle.sl_read.proofs.TextLemmas.{texts_more, texts_refused}
+use Rattle.sl_read.proofs.RowLemmas.{refused_part, with_front, with_front_none, with_front_all, texts_more, texts_refused}
 use Rattle.sl_read.proofs.script.texts_of.Goals as goal
 
 pub loop-index-init : goal.loop-index-init

@@ -16,7 +16,7 @@ use Rattle.sl_model.specs.declared.message.Message.{Message}
 use Rattle.sl_model.specs.declared.message.Message.TheVariants.{Notice as NoticeMsg, Dump as DumpMsg, Begin as BeginMsg, Init as InitMsg}
 use Rattle.sl_model.specs.Fit.{fits}
 use Rattle.sl_model.proofs.Saved.Polls.{IsServed, send-off, own-link, polls-else, again-else, if-off, answer-on, is-served}
-use Rattle.sl_net.proofs.ReportWays.{place-ge}
+use Rattle.sl_net.proofs.Sorts.{place-ge}
 use Rattle.sl_wire.specs.declared.message.Dump.{Dump as UnitDump}
 use Rattle.sl_wire.specs.Sizes.{Sizes, lengths}
 use Rattle.sl_control.specs.declared.known.Known.{Known}

@@ -16,8 +16,7 @@ use Rattle.sl_model.specs.declared.message.Step.{Step}
 use Rattle.sl_model.specs.History.{History, stamp_of, last, id}
 use Rattle.sl_simulation.specs.Messages.{eight}
 use Rattle.sl_model.proofs.Saved.Entries.{map-each, calls-rise, calls-stay}
-use Rattle.sl_model.proofs.Saved.Late.{place-here, place-past}
-use Rattle.sl_model.proofs.Saved.Settled.{place-lt}
+use Rattle.sl_model.proofs.Saved.Settled.{place-here, place-past, place-lt}
 use Rattle.sl_layout.specs.declared.actor.Sort.TheVariants.{Init}
 use Rattle.sl_layout.specs.declared.actor.UnitId.{UnitId}
 use Rattle.sl_net.specs.declared.input.Packet.{Packet}

@@ -50,7 +50,7 @@ use Rattle.sl_model.specs.Counting.{counted_in, packets, bytes}
 use Rattle.sl_model.specs.Short.{TakesShort, IsShort}
 use Rattle.sl_model.specs.Turns.{Takes, Acts, TakesTurns}
 use Rattle.sl_simulation.specs.UnitImage.{IsUnitOf, HasRegisters, UnitSimulates, dropped, new_state, IsStampNear, CanTake, step_on}
-use Rattle.sl_model.proofs.Saved.Settled.{distinct-channels}
+use Rattle.sl_model.proofs.Cuts.Collected.{distinct-channels}
 use Rattle.sl_simulation.proofs.UnitRegisters.{wids-at, first-only, HasChannels, regs-is}
 use Rattle.sl_simulation.proofs.UnitFrames.{Links, bytes-carried, Distances, ReadsFrames, reads, reads-carried, reads-probe, reads-init, version-carries, port-few}
 use Rattle.sl_simulation.proofs.UnitMessages.{wires_at, Ends, IsGiven, unit_at, state_at, reading_at, place, host-frame, cable-data, cable-probe, init-stamp, crossbar-data, crossbar-probe, poll-dump, wires-are}

@@ -3,7 +3,7 @@
 use Rattle.std.specs.Prelude.{◌≡◌, ◌+◌, ◌-◌, ℕ, List, [], ◌∷◌, ◌++◌, length, Option, Some, None, if◌then◌else◌, unwrap_or, is_some, refl}
 use Rattle.std.specs.Option.{option_and_then}
 use Rattle.std.specs.List.{All}
-use Rattle.std.proofs.Common.{◌≤◌, ◌<◌, get_or, inl, inr, ap, sym, ◌∙◌, arith, append_assoc, append-nil}
+use Rattle.std.proofs.Common.{◌≤◌, ◌<◌, get_or, subst, inl, inr, ap, sym, ◌∙◌, arith, append_assoc, append-nil}
 use Rattle.std.proofs.lemmas.List.{length_push, get_or_push, get_or_append_left}
 use Rattle.std.proofs.lemmas.Bool.{cases_eq}
 use Rattle.std.proofs.Math.Seq.{get_or-append_seam}
@@ -32,16 +32,21 @@ last_low [] n all = omega arith
 last_low (e ∷ book) n all = all (length (e ∷ book) - 1) (record { number = 0; actor = 0; choice = 0 }) (omega arith)
 
 -- a book whose numbers are at most that of its entries, and one entry more
-pub low_after : (book : List Entry) (actor choice : ℕ) → All (λ (e : Entry). e.number ≤ length book) book → let after = book ++ entry_after book actor choice ∷ [] in All (λ (e : Entry). e.number ≤ length after) after
-low_after book actor choice low k d h =
-    let new : Entry = entry_after book actor choice in
-    let long : length (book ++ new ∷ []) ≡ length book + 1 = length_push book new in
-    elim (cases_eq k (length book)) [
-      | inl end ↦ omega (arith, long, ap (λ (i : ℕ). (get_or (book ++ new ∷ []) i d).number) end, ap (λ (e : Entry). e.number) (get_or-append_seam book new [] d), last_low book (length book) low)
-      | inr other ↦
-          let within : k < length book = omega (arith, h, long, other) in
-          omega (arith, long, ap (λ (e : Entry). e.number) (get_or_append_left book (new ∷ []) d k within), low k d within)
-    ]
+pub low_after : (book after : List Entry) (actor choice : ℕ) → after ≡ book ++ entry_after book actor choice ∷ [] → All (λ (e : Entry). e.number ≤ length book) book → All (λ (e : Entry). e.number ≤ length after) after
+low_after book after actor choice is low = subst (λ (es : List Entry). All (λ (e : Entry). e.number ≤ length es) es) (sym is) whole
+  where
+    new : Entry
+    new = entry_after book actor choice
+
+    whole : All (λ (e : Entry). e.number ≤ length (book ++ new ∷ [])) (book ++ new ∷ [])
+    whole k d h =
+        let long : length (book ++ new ∷ []) ≡ length book + 1 = length_push book new in
+        elim (cases_eq k (length book)) [
+          | inl end ↦ omega (arith, long, ap (λ (i : ℕ). (get_or (book ++ new ∷ []) i d).number) end, ap (λ (e : Entry). e.number) (get_or-append_seam book new [] d), last_low book (length book) low)
+          | inr other ↦
+              let within : k < length book = omega (arith, h, long, other) in
+              omega (arith, long, ap (λ (e : Entry). e.number) (get_or_append_left book (new ∷ []) d k within), low k d within)
+        ]
 
 module _ {S M : Type 0} (rules : Rules S M) where
   -- two legal schedules, one after the other

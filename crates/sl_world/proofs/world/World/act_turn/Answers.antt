@@ -1,11 +1,9 @@
-use Rattle.std.proofs.Common.{◌∙◌, ◌∷◌, ◌++◌, [], ap, sym, set, map, length, slice_get, Some, None, arith, refl, subst, ℕ, List, ◌+◌, ◌<◌, get_or}
+use Rattle.std.proofs.Common.{◌∙◌, ◌∷◌, ◌++◌, [], ap, sym, set, map, length, slice_get, Some, None, arith, refl, subst, ℕ, ◌+◌, ◌<◌, get_or}
 use Rattle.std.specs.Prelude.{unwrap_or}
 use Rattle.std.proofs.lemmas.Bool.{OnTrue_at, OnFalse_at}
 use Rattle.std.proofs.lemmas.List.{length-map, get_or_read}
 use Rattle.sl_world.specs.Scene.{put_all, entry_after}
 use Rattle.sl_world.specs.World.{scene}
-use Rattle.std.specs.Prelude.{All, ◌≤◌}
-use Rattle.sl_machine.specs.declared.wiring.Entry.{Entry}
 use Rattle.sl_world.specs.Resting.{AreResting}
 use Rattle.sl_world.proofs.BookLaws.{low_after, last_low}
 use Rattle.sl_world.proofs.TurnLemmas.{some_at, acted, done_is, same_is}
@@ -94,9 +92,7 @@ invariant_of-self-inside-2-clause-space g c = λ k.
 
 pub invariant_of-self-inside-2-clause-low : goal.invariant_of-self-inside-2-clause-low
 invariant_of-self-inside-2-clause-low g c =
-    let same_book = c.in_ok-make_room.ensures.entries ∙ ap (λ v. v.book.entries) c.self.view_is in
-    subst (λ (es : List Entry). All (λ (e : Entry). e.number ≤ length es) es) (sym (c.note.ensures ∙ ap (λ es. es ++ entry_after es c.args.actor c.args.choice ∷ []) same_book))
-    (low_after c.args.self.now.book.entries c.args.actor c.args.choice c.args.self.now.low)
+    low_after c.args.self.now.book.entries c.note.new.entries.items c.args.actor c.args.choice (c.note.ensures ∙ ap (λ es. es ++ entry_after es c.args.actor c.args.choice ∷ []) (c.in_ok-make_room.ensures.entries ∙ ap (λ v. v.book.entries) c.self.view_is)) c.args.self.now.low
 
 pub invariant_of-self-inside-2-clause-numbered : goal.invariant_of-self-inside-2-clause-numbered
 invariant_of-self-inside-2-clause-numbered g c =

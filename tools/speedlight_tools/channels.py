@@ -12,7 +12,7 @@ OF_MANY = {
     "late": "it comes too late on each, at turns {came}",
     "over": "their units go over {number} themselves, at turns {turns}",
     "below": "their units are still below {number}",
-    "silent": "their units reach {number}, but send nothing with it here",
+    "silent": "their units reach {number}, but send nothing with it",
 }
 
 
@@ -65,7 +65,8 @@ class Reason:
         root = self.root
         if root is None:
             return self.clause
-        return f"{self.clause}, as the {named(root)} to {root.link.target} is lost at turn {root.put.place + 1}"
+        passes = ", which passes probes on," if root.kind == "init" else ""
+        return f"{self.clause}, as the {named(root)} to {root.link.target}{passes} is lost at turn {root.put.place + 1}"
 
 
 def named(message):
@@ -81,8 +82,10 @@ class Channels:
     def __init__(self, world, units, name_of):
         self.world, self.name_of = world, name_of
         net = world.net
-        senders = {link.source for unit in units for link in self.links(unit)} & set(net.units)
-        watched = {*units, *senders, *map(own_ingress, senders)}
+        watched = set(units)
+        for _ in range(2):
+            senders = {link.source for unit in watched for link in self.links(unit)} & set(net.units)
+            watched |= {*senders, *map(own_ingress, senders)}
         self.coming = {}
         for message in world.messages if watched else ():
             if message.stamp is not None and message.link.target in watched and message.link.sort in ("init", "cable", "crossbar"):
@@ -105,10 +108,14 @@ class Channels:
         return sorted(found, key=lambda r: (r.rank, r.link.sort != "init", r.place if r.rank < OTHER else 0))
 
     def reason(self, link, low, high, until):
+        return self.put_on(link, low, high, until) or self.not_sent(link, low, high, until)
+
+    def put_on(self, link, low, high, until):
+        """Why what was put on a link, or was to be put by its control plane, did not come in time; None of a unit that put nothing."""
         came = self.carrying(link, low, high, until)
         late = next((m for m in came if not m.lost), None)
         if late is not None:
-            when = "has not come by then" if late.take is None else f"comes at turn {late.take.place + 1} only"
+            when = "has not come by then" if late.take is None else f"comes only at turn {late.take.place + 1}, after turn {until + 1}"
             return Reason(link, LATE, "late", f"the {self.name_of(late)}, sent at turn {late.put.place + 1}, {when}", late.put.place, late)
         if came:
             more = len(came) - 1
@@ -117,13 +124,13 @@ class Channels:
             return Reason(link, LOST, "lost", words, came[0].put.place, came[0])
         if link.source not in self.world.ids:
             return self.not_begun(link, low)
-        return self.not_sent(link, low, high, until)
+        return None
 
     def not_begun(self, link, low):
         """Why a control plane had sent no initiation yet."""
         later = self.carrying(link, low, low, len(self.world.turns))
         place = later[0].put.place if later else len(self.world.turns) - 1
-        words = f"it begins snapshot {low} at turn {place + 1} only" if later else f"it never begins snapshot {low}"
+        words = f"it begins snapshot {low} only at turn {place + 1}" if later else f"it never begins snapshot {low}"
         return Reason(link, OTHER, "not begun", words, place)
 
     def not_sent(self, link, low, high, until):
@@ -135,15 +142,43 @@ class Channels:
         if turn is None or turn.place >= until:
             before = bisect_left(world.adopting[sender], until, key=lambda t: t.place)
             words = f"that unit is still at {world.adopted[sender][before - 1] if before else 0} itself"
+            words += self.no_cable(sender, low, high)
             if turn is not None:
-                words += f", and {'reaches' if turn.id <= high else 'goes over'} {low} at turn {turn.place + 1} only"
+                words += f", and {'reaches' if turn.id <= high else 'goes over'} {low} only at turn {turn.place + 1}"
+            near = self.below(sender, low, until) if root is None else None
+            words += f" ({self.below_in_words(near)})" if near else ""
             place = root.put.place if root is not None else min(until, len(world.turns) - 1)
             return Reason(link, rank, "below", words, place, None, root)
         if turn.id > high:
             words = f"that unit goes over {low} itself at turn {turn.place + 1}"
             return Reason(link, rank, "over", words, turn.place, None, root)
-        words = f"that unit reaches {turn.id} at turn {turn.place + 1}, but sends no packet and no probe with it here"
+        words = f"that unit {self.reaches_in_vain(turn, 'over that cable' if link.sort == 'cable' else way_name(link))}"
         return Reason(link, rank, "silent", words, turn.place, None, root)
+
+    @staticmethod
+    def reaches_in_vain(turn, where):
+        """That a unit reaches a number in a turn, but sends nothing with it there, in words."""
+        return f"reaches {turn.id} at turn {turn.place + 1}, but sends no packet and no probe with it {where}"
+
+    def no_cable(self, unit, low, high):
+        """That nothing came over the cable of an ingress unit that is below a number, in words."""
+        if f"{unit} cable" not in self.world.net.links or not unit.startswith("in "):
+            return ""
+        return f", with no {low}{'' if low == high else ' or more'} over its cable by then"
+
+    def below(self, unit, number, until):
+        """The reason that tells most why a unit has not reached a number before a turn; None where none is of its own channels."""
+        found = [self.put_on(link, number, number, until) for link in self.links(unit)]
+        return min((r for r in found if r), key=lambda r: r.rank, default=None)
+
+    def below_in_words(self, reason):
+        m = reason.message
+        if m is None:
+            return f"{reason.link.source} {reason.clause.removeprefix('it ')}"
+        if reason.kind == "lost":
+            return f"the {self.name_of(m)} to it is lost at turn {m.put.place + 1}"
+        when = "has not come yet" if m.take is None else f"comes only at turn {m.take.place + 1}"
+        return f"the {self.name_of(m)} to it, sent at turn {m.put.place + 1}, {when}"
 
     def root(self, sender, low, high, until):
         """The message that was lost on its way to a unit, by which the unit had nothing to send; or None."""
@@ -156,7 +191,8 @@ class Channels:
 
 def others_in_words(number, reasons, begin="Nor does {} come"):
     """That links of a unit brought no such number, each with its reason, in a sentence."""
-    begin = begin.format(a_number(number))
+    in_time = " in time" if any(r.kind == "late" for r in reasons) else ""
+    begin = begin.format(a_number(number)) + in_time
     if len(reasons) == 1:
         return f"{begin} {channel_name(reasons[0].link)}: {reasons[0].told}."
     parts = []

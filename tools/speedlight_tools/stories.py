@@ -3,7 +3,7 @@
 from bisect import bisect_left, bisect_right
 from dataclasses import dataclass
 
-from .channels import LATE, LOST, ROOT, Channels, a_number, channel_name, joined, others_in_words, way_name
+from .channels import LATE, LOST, ROOT, Channels, a_number, channel_name, joined, others_in_words, own_ingress, way_name
 from .nets import port_of
 
 MOST_STEPS = 6
@@ -82,6 +82,16 @@ def of_retries(used, allowed):
     return f"{used} of {allowed} retries {'was' if used == 1 else 'were'} used"
 
 
+def begun_again(resends):
+    """Which snapshots the retries began, in words."""
+    parts = []
+    for k, turns in sorted(resends.items()):
+        places = [str(t.place + 1) for t in turns[:MOST_STEPS]]
+        places += [f"{len(turns) - MOST_STEPS} more"] if turns[MOST_STEPS:] else []
+        parts.append(f"snapshot {k} at turn{'s' if places[1:] else ''} {joined(places)}")
+    return f" (begun again: {', '.join(parts)})" if parts else ""
+
+
 class Stories:
     """The stories of all snapshots of a run. What each needs of the messages is gathered in one pass."""
 
@@ -95,8 +105,9 @@ class Stories:
                 self.issues[count] = turn
             elif turn.actor == "observer" and turn.choice == "resend":
                 self.resends.setdefault(count, []).append(turn)
-        silent = {s.unit for s in snapshots if s.verdict in ("skipped", "pending")}
-        self.channels = Channels(world, silent, lambda message: name_of(world, message))
+        told = {s.unit for s in snapshots if s.verdict in ("skipped", "pending")}
+        told |= {crediting(world, s).took.put.actor for s in snapshots if s.verdict == "miscredited"}
+        self.channels = Channels(world, told, lambda message: name_of(world, message))
         self.lost = {}
         if any(s.verdict == "pending" for s in snapshots):
             for message in world.messages:
@@ -125,7 +136,7 @@ class Stories:
             return set(), []
         steps, (place, message) = self.steps(verdict), self.fault(verdict)
         told = [self.world.messages[m] for m in [*(s.message for s in steps), message] if m is not None]
-        actors = {verdict.unit, *(end for m in told for end in (m.link.source, m.link.target))}
+        actors = {verdict.unit, *(end for m in told for end in (m.link.source, m.link.target)), *(s.link.source for s in steps if s.link)}
         places = [turn.place for m in told for turn in (m.put, m.take) if turn is not None]
         places += [p for p in [*(s.place for s in steps), place] if p is not None and self.world.turns[p].actor in actors]
         return actors, sorted(places)
@@ -135,9 +146,13 @@ class Stories:
         places = {self.cause(verdict)[1], self.fault(verdict)[0]}
         if verdict.verdict == "miscredited":
             places.add(moved_on(self.world, verdict).place)
+            reason = self.behind(verdict)
+            places |= {reason.place} if reason is not None and reason.kind == "lost" else set()
         if verdict.verdict == "skipped":
             told = [r.message or r.root for r in self.reasons(verdict)]
             places |= {m.put.place for m in [m for m in told if m is not None][:MOST_KEYS]}
+        if verdict.verdict == "pending":
+            places |= {m.put.place for m in self.missed(verdict)[:MOST_KEYS]}
         return sorted(place for place in places if place is not None)
 
     def cause(self, verdict):
@@ -169,12 +184,14 @@ class Stories:
         rest = [r for r in self.reasons(verdict) if r.link not in told]
         if not told:
             return others_in_words(k, rest, "So far {} doesn't come")
-        return others_in_words(k, rest) if rest else self.no_other(unit)
+        return others_in_words(k, rest, f"Nor does {{}} come to {unit}") if rest else self.no_other(unit)
 
     def no_other(self, unit):
         """That one channel is all that a unit has, in a sentence."""
         host = self.world.net.port_host.get(port_of(unit.partition(" ")[2])) if unit.startswith("in ") else None
-        return f"{unit} has no other channel" + (f": no numbers come from host {host}." if host else ".")
+        if host is None:
+            return f"{unit} has no other channel."
+        return f"The other channel of {unit} is from host {host}, which sends no numbers."
 
     def whys(self, verdict):
         """What is said of a snapshot: the sentence that comes first is what it came of, where that is known; then what
@@ -199,7 +216,7 @@ class Stories:
             link, turn = world.net.links[f"{v.unit} {v.channel}"], world.crossing(v.unit, k)
             last = f"the last number that came from there is {v.other}" if v.other else "no number came from there"
             since = f", since turn {turn.place + 1}" if world.ids[v.unit] == k else f" (it reached {k} at turn {turn.place + 1})"
-            words = f"{v.unit} is at {world.ids[v.unit]} itself{since}, but waits for {a_number(k)} {channel_name(link)}: {last}."
+            words = f"At the end {v.unit} is at {world.ids[v.unit]} itself{since}, but waits for {a_number(k)} {channel_name(link)}: {last}."
             return f"{words} Until then it isn't known which packets from before the cut are still to come."
         return "No unit took before the cut what was sent after it."
 
@@ -207,7 +224,7 @@ class Stories:
         """Which other turns failed the snapshot, or which other units wait, in a sentence; None where there are none."""
         k, world, found = verdict.number, self.world, []
         if verdict.verdict == "pending":
-            waiting = [u for u in world.net.units if u != verdict.unit and world.lag(u, k) is not None]
+            waiting = self.waiting_too(verdict)
             return f"{listed(waiting)} {'wait' if waiting[1:] else 'waits'} too." if waiting else None
         if verdict.verdict not in ("skipped", "miscredited"):
             return None
@@ -222,6 +239,12 @@ class Stories:
             found.append(f"{number} {what} missing from snapshot {k}: to {self.turns_in_words(late)}.")
         return " ".join(found) or None
 
+    def waiting_too(self, verdict):
+        """The units that wait beside the one that a pending snapshot names."""
+        if verdict.verdict != "pending":
+            return []
+        return [u for u in self.world.net.units if u != verdict.unit and self.world.lag(u, verdict.number) is not None]
+
     @staticmethod
     def turns_in_words(turns):
         """Units with their turns: the first few, and how many more."""
@@ -234,44 +257,68 @@ class Stories:
         if verdict.verdict not in told:
             return None
         words = f"It would have been right if {told[verdict.verdict](verdict)}"
-        others = len(self.world.skips(verdict.number)) + len(self.world.late(verdict.number)) - 1
+        fault = self.fault(verdict)[0]
+        others = {t.place + 1 for t in (*self.world.skips(verdict.number), *self.world.late(verdict.number)) if t.place != fault}
         if verdict.verdict == "pending" or not others:
             return f"{words}."
-        return f"{words}; and if the {f'{others} other turns' if others > 1 else 'other turn'} named above had not failed it too."
+        few = [str(turn) for turn in sorted(others)[:MOST_STEPS]]
+        few += [f"{len(others) - MOST_STEPS} more"] if len(others) > MOST_STEPS else []
+        return f"{words}; and if turn{'s' if few[1:] else ''} {joined(few)} had not failed it too."
 
     def right_of_skipped(self, verdict):
         k, unit, turn = verdict.number, verdict.unit, skipping(self.world, verdict)
-        first, saved = self.reasons(verdict)[0], f"{unit} would have saved its counters for snapshot {k}"
-        if first.rank in (LOST, LATE):
-            words = f"the {name_of(self.world, first.message)}, {'lost' if first.rank == LOST else 'sent'} at turn {first.place + 1}, had come"
-            return f"{words} to {unit} before turn {turn.place + 1}: {saved}"
-        if first.rank == ROOT:
-            root, sender = first.root, first.link.source
-            words = f"the {name_of(self.world, root)} to {root.link.target}, lost at turn {root.put.place + 1}, had come"
-            return f"{words}, and so {a_number(k)} from {sender} to {unit} before turn {turn.place + 1}: {saved}"
-        return f"{a_number(k)} had come to {unit} before turn {turn.place + 1}: {saved}"
+        ways = [self.rescue(k, r) for r in self.reasons(verdict) if r.rank <= ROOT][:MOST_STEPS] or [a_number(k)]
+        return f"{' or '.join(ways)} had come to {unit} before turn {turn.place + 1}: {unit} would have saved its counters for snapshot {k}"
+
+    def rescue(self, k, reason):
+        """The message with a number that a channel would have brought, in words."""
+        if reason.rank == ROOT:
+            m = reason.root
+            lost = f"the {name_of(self.world, m)} to {m.link.target}, lost at turn {m.put.place + 1}"
+            return f"{a_number(k)} {channel_name(reason.link)} (which {lost}, would have brought)"
+        m = reason.message
+        state = "lost" if reason.rank == LOST else "sent"
+        return f"the {name_of(self.world, m)}{sent_over(m)}, {state} at turn {m.put.place + 1},"
 
     def right_of_miscredited(self, verdict):
         k, unit, turn = verdict.number, verdict.unit, crediting(self.world, verdict)
         saved = bisect_right(self.world.adopting[unit], turn.place, key=lambda t: t.place)
         needed, credits = saved - bisect_left(self.world.adopted[unit], k), self.source.snapshot["credits"]
         words = f"the packet had come to {unit} before turn {moved_on(self.world, verdict).place + 1}"
+        if self.behind(verdict) is not None and self.issues[k].place < turn.took.put.place:
+            words += f", or {a_number(k)} to {turn.took.put.actor} before turn {turn.took.put.place + 1}"
         return f"{words}, or with credits = {needed} in place of {credits}" if needed <= MOST_CREDITS else words
 
     def right_of_pending(self, verdict):
-        k, unit = verdict.number, verdict.unit
-        links = self.world.net.links
+        k, unit, world = verdict.number, verdict.unit, self.world
+        links = world.net.links
         ways = self.channels.links(unit) if verdict.channel == "id" else [links[f"{unit} {verdict.channel}"]]
-        message = self.cause(verdict)[2]
-        over = channel_name(ways[0]) if len(ways) == 1 else "to it"
-        if message is None or verdict.channel == "id" and self.world.messages[message].stamp != k:
-            words = f"{a_number(k)} had come {over}"
+        over = channel_name(ways[0]) if len(ways) == 1 else f"to {unit}"
+        # A message with a number above k would do where it moves nobody over k.
+        found = [m for m in self.missed(verdict) if m.stamp == k or verdict.channel != "id" and m.stamp > k and world.ids[m.link.target] >= k]
+        is_above = verdict.channel != "id" and world.ids.get(ways[0].source, 0) >= k
+        number = f"{a_number(k)}{' or more' if is_above else ''}"
+        if not found:
+            words = f"{number} had come {over}"
         else:
-            m = self.world.messages[message]
-            words = f"the {name_of(self.world, m)} to {m.link.target}, lost at turn {m.put.place + 1}, had come"
-            words += "" if m.link in ways else f", and so {a_number(k)} to {unit}"
-            words += f", or a later message with {k}{'' if verdict.channel == 'id' else ' or more'} {over}"
+            words = f"{self.lost_in_words(found)} had come"
+            words += f", or a later message with {k}{' or more' if is_above else ''} {over}" if all(m.link in ways for m in found) else f", and so {number} {over}"
         return f"{words}: then {unit} would not wait" + (", but the snapshot could not be consistent" if self.besides(verdict) else "")
+
+    def missed(self, verdict):
+        """The messages that were lost by which a unit waits, in the order in which they are told."""
+        steps = self.lags(verdict.number, verdict.unit, verdict.channel, verdict.other, [])
+        told = {s.link for s in steps}
+        places = [s.message for s in steps if s.message is not None]
+        more = [r.message or r.root for r in self.reasons(verdict) if r.link not in told] if verdict.channel == "id" else []
+        return list(dict.fromkeys([*(self.world.messages[place] for place in places), *(m for m in more if m is not None and m.lost)]))
+
+    def lost_in_words(self, messages):
+        """Messages that were lost, those of one name and one link together, as a choice."""
+        groups = {}
+        for m in messages[:MOST_STEPS]:
+            groups.setdefault(f"the {name_of(self.world, m)} to {m.link.target}", []).append(m.put.place + 1)
+        return " or ".join(f"{name}, lost at turn{'s' if turns[1:] else ''} {joined(map(str, turns))}," for name, turns in groups.items())
 
     def besides(self, verdict):
         """Of a pending snapshot, the first turn that would fail it once nothing waited: it went over the number, or took
@@ -333,7 +380,8 @@ class Stories:
     @staticmethod
     def other_reason(unit, k, reason):
         """Why a further channel brought no such number, as a step."""
-        words = f"{a_number(k).capitalize()} doesn't come to {unit} {channel_name(reason.link)}: {reason.told}."
+        in_time = " in time" if reason.kind == "late" else ""
+        words = f"{a_number(k).capitalize()} doesn't come to {unit}{in_time} {channel_name(reason.link)}: {reason.told}."
         message = reason.message or reason.root
         return Step(reason.place, words, None if message is None else message.place, link=reason.link)
 
@@ -345,7 +393,7 @@ class Stories:
         """The reason that tells most, as what happened in its turn."""
         if reason.rank == ROOT:
             m = reason.root
-            words = f"{self.sends(m)}: it is lost on the way."
+            words = f"{self.sends(m)}: it is lost on the way" + (f", so {m.link.target} passes no probe on." if m.kind == "init" else ".")
             clause = reason.clause.replace("that unit", f"{reason.link.source}, from which {unit} would hear of {k},", 1)
             return Step(m.put.place, f"{words} {clause}.", m.place, link=reason.link)
         m = reason.message
@@ -353,7 +401,7 @@ class Stories:
             return None
         words = f"{self.sends(m)}{carried(m)}"
         if not m.lost:
-            when = "it has not come when the next one does" if m.take is None else f"it comes at turn {m.take.place + 1} only"
+            when = "it has not come when the next one does" if m.take is None else f"it comes only at turn {m.take.place + 1}"
             return Step(m.put.place, f"{words}: {when}.", m.place, link=reason.link)
         turns = self.world.turns
         more = len(self.channels.carrying(m.link, k, k, len(turns))) - 1
@@ -378,11 +426,21 @@ class Stories:
         """Which packet was sent, and what moved its unit on before it came, in a sentence, with the packet's place."""
         k, turn, on = verdict.number, crediting(self.world, verdict), moved_on(self.world, verdict)
         packet, took = turn.took, on.took
-        words = f"At turn {packet.put.place + 1} {self.sends(packet, f', still at {packet.stamp},')}. "
+        words = f"At turn {packet.put.place + 1} {self.sends(packet, f', still at {packet.stamp}{self.because(verdict)},')}. "
         words += f"Before it comes, at turn {on.place + 1}, {verdict.unit} takes the {name_of(self.world, took)} {channel_name(took.link)}{carried(took)}: "
         issued = [f"at turn {self.issues[n].place + 1}" for n in (k, on.id)]
         words += f"it goes on from {on.before} to {on.id}. Snapshot {k} was issued {issued[0]}, snapshot {on.id} {issued[1]}."
         return words, packet.put.place, packet.place
+
+    def behind(self, verdict):
+        """Why the sender of the packet had not reached the number; None where that isn't known."""
+        put = crediting(self.world, verdict).took.put
+        return self.channels.below(put.actor, verdict.number, put.place)
+
+    def because(self, verdict):
+        """Why the sender of the packet had not reached the number, in brackets."""
+        reason = self.behind(verdict)
+        return f" ({self.channels.below_in_words(reason)})" if reason is not None else ""
 
     def too_late(self, verdict):
         """What the unit does in the turn in which the packet comes."""
@@ -395,7 +453,8 @@ class Stories:
         world, k, turn, on = self.world, verdict.number, crediting(self.world, verdict), moved_on(self.world, verdict)
         packet, unit = turn.took, verdict.unit
         reached = world.crossing(unit, k)
-        words = f"{self.sends(packet, f' is at {packet.stamp}, so it has not reached {k}, and')}. "
+        at = f"{packet.stamp}{self.because(verdict)}"
+        words = f"{self.sends(packet, f' is at {at}, so it has not reached {k}, and')}. "
         moved = f"{unit} takes the {name_of(world, on.took)} {channel_name(on.took.link)}{carried(on.took)}"
         found = [
             Step(packet.put.place, f"{words}It belongs to snapshot {k} as a packet in flight.", packet.place),
@@ -403,6 +462,9 @@ class Stories:
             Step(on.place, f"{moved}: it goes on from {on.before} to {on.id}, before the packet has come.", on.took.place),
             Step(turn.place, f"{self.too_late(verdict)[0].upper()}{self.too_late(verdict)[1:]}", packet.place),
         ]
+        reason = self.behind(verdict)
+        if reason is not None and reason.kind == "lost":
+            found.append(Step(reason.place, f"{self.sends(reason.message)}: it is lost on the way.", reason.message.place, link=reason.link))
         return [*found, Step(self.issues[on.id].place, f"The observer issues snapshot {on.id}.")]
 
     # Of a pending one.
@@ -418,11 +480,13 @@ class Stories:
             told = {s.link for s in found}
             found += [self.other_reason(unit, k, r) for r in self.reasons(verdict) if r.link not in told]
         resends = sum(len(turns) for turns in self.resends.values())
-        for turn in self.resends.get(k, [])[:MOST_STEPS]:
-            found.append(Step(turn.place, f"The observer begins snapshot {k} once more, as it isn't collected."))
+        again = [(turn.place, n) for n, turns in self.resends.items() for turn in turns if n >= k]
+        for place, n in sorted(again)[:MOST_STEPS]:
+            what = f"begins snapshot {k} once more" if n == k else f"begins again, but with snapshot {n}, its newest, not {k}"
+            found.append(Step(place, f"The observer {what}, as not all is collected."))
         besides = self.besides(verdict)
         found += [besides] if besides else []
-        words = of_retries(resends, source.snapshot["retries"])
+        words = of_retries(resends, source.snapshot["retries"]) + begun_again(self.resends)
         found.append(Step(None, f"The run ends, after turn {len(self.world.turns)}, while {self.waiting(verdict)}; {words}."))
         return found
 
@@ -462,31 +526,36 @@ class Stories:
             for link in links:
                 behind = world.lag(link.source, k) if link.source in world.ids else None
                 if behind is not None and behind[0] == "id" and link.source not in seen and len(seen) < 8:
-                    words = f"{link.source}, from which {unit} would hear of {k}, is still at {behind[1]} itself."
-                    found.append(Step(None, words, link=link))
-                    found += self.lags(k, link.source, *behind, [*seen, unit])
+                    deeper = self.lags(k, link.source, *behind, [*seen, unit])
+                    words = f"{link.source}, from which {unit} would hear of {k}, is at the end still at {behind[1]} itself."
+                    found.append(Step(None, words + ("" if seen else self.nor_there(k, link.source, deeper)), link=link))
+                    found += deeper
                     break
         return found or [step for link in links for step in self.unsent(k, unit, link)][:MOST_STEPS]
+
+    def nor_there(self, k, sender, told):
+        """Why the other channels of a sender that lags brought it no number either, in a sentence."""
+        links = {step.link for step in told}
+        rest = [r for r in self.channels.reasons(sender, k, self.world.issued, len(self.world.turns)) if r.link not in links]
+        return f" {others_in_words(k, rest, f'Nor does {{}} come to {sender}')}" if rest else ""
 
     def unsent(self, k, unit, link):
         """Why no probe with k or above was sent on a link, though its sender has reached k: what would have made it send one."""
         net, sender = self.world.net, link.source
         if sender not in net.units:
             return []
-        first = sender.replace("out ", "in ")
+        first = own_ingress(sender)
         ways = [net.links[f"{first} init"], *(way for way in net.out_of(first, "crossbar") if way.target == sender)]
-        lost = [m for way in ways for m in self.lost.get(way.spelling, []) if m.stamp >= k]
+        lost = [m for way in ways for m in self.lost.get(way.spelling, []) if m.stamp >= k and m.kind != "data"]
         lost.sort(key=lambda m: m.place)
-        return [
-            Step(
-                m.put.place,
-                f"{self.sends(m)}: it is lost, and so {sender} sends no probe to {unit}.",
-                m.place,
-                link=link,
-            )
-            for m in lost
-            if m.kind != "data"
-        ]
+        found = []
+        for m in lost:
+            words = f"{self.sends(m)}: it is lost" + (f", so {first} passes no probe on." if m.kind == "init" else ".")
+            turn = self.world.crossing(sender, k)
+            if not found and turn is not None:
+                words += f" {sender} {self.channels.reaches_in_vain(turn, way_name(link))} to {unit}."
+            found.append(Step(m.put.place, words, m.place, link=link))
+        return found
 
     # Of one that was not issued.
 

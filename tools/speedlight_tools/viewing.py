@@ -7,7 +7,7 @@ import sys
 from array import array
 
 from .drawing import ordered
-from .stories import Stories
+from .stories import Stories, moved_on
 
 NONE = 0xFFFFFFFF
 KINDS = ("data", "frame", "begin", "init", "probe", "notice", "poll", "dump", "done")
@@ -230,7 +230,9 @@ class Run:
                     "causeMessage": carried,
                     "turn": place,
                     "message": message,
-                    "steps": [[p.place, p.words, p.message, p.snapshot] for p in stories.steps(s)],
+                    "moved": moved_on(self.world, s).place if s.verdict == "miscredited" else None,
+                    "waiting": [self.actors[u] for u in stories.waiting_too(s)],
+                    "steps": [[p.place, p.words, p.message, p.snapshot, self.actors[p.link.source] if p.link else -1] for p in stories.steps(s)],
                 }
             )
             for unit in self.units:

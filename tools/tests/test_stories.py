@@ -14,7 +14,7 @@ from speedlight_tools.channels import Channels, a_number, joined
 from speedlight_tools.inputs import read_input
 from speedlight_tools.replay import replay
 from speedlight_tools.reports import read_report
-from speedlight_tools.stories import Stories, of_retries
+from speedlight_tools.stories import Stories, begun_again, moved_on, of_retries
 
 # Three switches in a line or in a ring, each with a host.
 LINE = """device = [{name = "s0", ports = 2}, {name = "s1", ports = 3}, {name = "s2", ports = 2}]
@@ -65,8 +65,12 @@ class Sentences(unittest.TestCase):
         self.assertEqual(
             stories.whys(snapshots[0])[0],
             "At turn 2 control a sends the initiation 1 to in a.1: it is lost on the way. Nor does a 1 come over the cable from out b.0: "
-            "that unit is still at 0 itself, and goes over 1 at turn 27 only, as the initiation 1 to in b.0 is lost at turn 6.",
+            "that unit is still at 0 itself, and goes over 1 only at turn 27, as the initiation 1 to in b.0, which passes probes on, is "
+            "lost at turn 6.",
         )
+        right = stories.right(snapshots[0])
+        rescues = "the initiation 1, lost at turn 2, or a 1 over the cable from out b.0 (which the initiation 1 to in b.0, lost at turn 6, "
+        self.assertTrue(right.startswith(f"It would have been right if {rescues}would have brought) had come to in a.1 before turn"), right)
 
     def test_many_channels_have_few_clauses(self):
         """Of a switch with five ports, on which probes are lost or late."""
@@ -89,11 +93,11 @@ snapshot = {bits = 2, window = 2, ring = 2, count = 2, retries = 0}
 
     def test_a_host_brings_no_numbers(self):
         stories, snapshots = ran((EXAMPLES / "lost_initiation.toml").read_text())
-        self.assertTrue(stories.whys(snapshots[0])[0].endswith("in a.0 has no other channel: no numbers come from host h0."))
+        self.assertTrue(stories.whys(snapshots[0])[0].endswith("The other channel of in a.0 is from host h0, which sends no numbers."))
         self.assertEqual(
             stories.right(snapshots[0]),
             "It would have been right if the initiation 1, lost at turn 2, had come to in a.0 before turn 5: in a.0 would have saved "
-            "its counters for snapshot 1; and if the other turn named above had not failed it too.",
+            "its counters for snapshot 1; and if turn 6 had not failed it too.",
         )
 
     def test_what_moved_the_unit_on(self):
@@ -102,7 +106,7 @@ snapshot = {bits = 2, window = 2, ring = 2, count = 2, retries = 0}
         self.assertIn("at turn 10, out a.1 takes the probe 2 over x1 from in a.1: it goes on from 1 to 2.", stories.whys(snapshots[0])[0])
         self.assertIn("Snapshot 1 was issued at turn 3, snapshot 2 at turn 4.", stories.whys(snapshots[0])[0])
         told = "It would have been right if the packet had come to out a.1 before turn 10, or with credits = 2 in place of 1."
-        self.assertEqual(stories.right(snapshots[0]), told)
+        self.assertEqual(stories.right(snapshots[0]), told, "its sender could not know of snapshot 1 yet")
         stories, snapshots = ran((EXAMPLES / "too_late_packet.toml").read_text().replace("retries = 0", "retries = 0, credits = 2"))
         self.assertEqual((snapshots[0].verdict, stories.right(snapshots[0])), ("consistent", None))
 
@@ -112,6 +116,19 @@ snapshot = {bits = 2, window = 2, ring = 2, count = 2, retries = 0}
         last = stories.steps(snapshots[0])[-1].words
         self.assertIn("The run ends, after turn 89, while in a.1 still waits for a 1 over the cable from out b.0", last)
         self.assertIn("the probe 1 to in a.1, lost at turn 10, had come", stories.right(snapshots[0]))
+
+    def test_what_the_retries_began(self):
+        """A retry begins the newest snapshot, and not the one that waits."""
+        text = (EXAMPLES / "dead_cable.toml").read_text()
+        stories, snapshots = ran(re.sub(r"(window|bits|ring|count|retries) = \d+", lambda m: f"{m[1]} = 2", text))
+        self.assertEqual([s.verdict for s in snapshots], ["pending", "pending"])
+        turn = stories.resends[2][0].place + 1
+        steps = [step.words for step in stories.steps(snapshots[0])]
+        self.assertIn("The observer begins again, but with snapshot 2, its newest, not 1, as not all is collected.", steps)
+        self.assertIn("(begun again: snapshot 2 at turn", steps[-1])
+        self.assertIn(str(turn), steps[-1])
+        self.assertIn("The observer begins snapshot 2 once more, as not all is collected.", [s.words for s in stories.steps(snapshots[1])])
+        self.assertEqual(begun_again({2: [stories.world.turns[4], stories.world.turns[6]], 3: [stories.world.turns[9]]}), " (begun again: snapshot 2 at turns 5 and 7, snapshot 3 at turn 10)")
 
     def test_numbers_as_they_are_spoken(self):
         for n in (8, 11, 18, 80, 88, 800, 8000, 11000, 18500, 80000):
@@ -172,7 +189,15 @@ class Runs(unittest.TestCase):
         for other in (*world.skips(k), *world.late(k)):
             if other is not turn and len(world.skips(k)) < 7:
                 self.assertIn(f"{other.actor} (turn {other.place + 1})", said)
-        self.assertIn(f"before turn {turn.place + 1}", stories.right(snapshot))
+        right = stories.right(snapshot)
+        self.assertIn(f"before turn {turn.place + 1}", right)
+        for reason in reasons.values():
+            lost = reason.message or reason.root
+            if lost is not None:
+                self.assertRegex(right, rf"(lost|sent) at turn {lost.put.place + 1}\b")
+        for other in (*world.skips(k), *world.late(k))[:6]:
+            if other is not turn and len(world.skips(k)) + len(world.late(k)) < 7:
+                self.assertRegex(right, rf"and if turns? .*\b{other.place + 1}\b.* had not failed it too")
 
     def reason(self, world, reason, k, until):
         """The reason is so."""
@@ -186,7 +211,7 @@ class Runs(unittest.TestCase):
         elif reason.kind == "late":
             late = next(m for m in sent if not m.lost)
             self.assertIn(f"sent at turn {late.put.place + 1}", reason.clause)
-            self.assertTrue(late.take is None or late.take.place == place("comes") > until)
+            self.assertTrue(late.take is None or late.take.place == place("comes only") > until)
         else:
             self.assertEqual(sent, [])
         if reason.kind == "below":
@@ -201,17 +226,22 @@ class Runs(unittest.TestCase):
             self.assertTrue(reason.link.sort == "init" and reason.place >= until)
         if reason.root is not None:
             self.assertTrue(reason.root.lost and reason.root.stamp == k and reason.root.put.place < until)
-            self.assertIn(f"to {reason.root.link.target} is lost at turn {reason.root.put.place + 1}", reason.told)
+            passes = ", which passes probes on," if reason.root.kind == "init" else ""
+            self.assertIn(f"to {reason.root.link.target}{passes} is lost at turn {reason.root.put.place + 1}", reason.told)
 
     def told_of_miscredited(self, stories, snapshot, said):
         """The packet, the turn that moved its unit on too far, what it took there, and when both snapshots were issued."""
         world, k, unit, credits = stories.world, snapshot.number, snapshot.unit, stories.source.snapshot["credits"]
-        sent, on, came = (world.turns[place] for place in stories.keys(snapshot))
+        came = next(t for t in world.late(k) if t.actor == unit)
+        sent, on = came.took.put, moved_on(world, snapshot)
+        self.assertLessEqual({sent.place, on.place, came.place}, set(stories.keys(snapshot)))
         issues = [t.place + 1 for t in world.turns if t.actor == "observer" and t.choice == "issue"]
         above = [t for t in world.turns if t.actor == unit and t.id > max(t.before, k)]
         self.assertTrue(on is above[credits - 1] and came.actor == unit and came.took in sent.puts)
+        begin = rf"^At turn {sent.place + 1} {re.escape(sent.actor)}, still at {sent.id}( \([^()]*\))?, sends the packet"
+        self.assertRegex(said, begin)
+        self.behind(stories, snapshot, sent, re.search(begin, said)[1])
         for words in (
-            f"At turn {sent.place + 1} {sent.actor}, still at {sent.id}, sends the packet",
             f"Before it comes, at turn {on.place + 1}, {unit} takes the",
             f"from {on.took.link.source}",
             f"it goes on from {on.before} to {on.id}. Snapshot {k} was issued at turn {issues[k - 1]}, snapshot {on.id} at turn {issues[on.id - 1]}.",
@@ -222,6 +252,18 @@ class Runs(unittest.TestCase):
         right = stories.right(snapshot)
         self.assertIn(f"before turn {on.place + 1}", right)
         self.assertEqual(f"with credits = {saved} in place of {credits}" in right, saved <= 4)
+
+    def behind(self, stories, snapshot, sent, why):
+        """Why the sender had not reached the number: its own initiation, or a message over its cable, was lost or had not come."""
+        begins = [t.place for t in stories.world.turns if t.actor == "observer" and t.choice == "issue"]
+        for found in re.finditer(r"to it(?:, sent at turn (\d+)|.*is lost at turn (\d+))", why or ""):
+            put = stories.world.turns[int(found[1] or found[2]) - 1]
+            message = next(m for m in put.puts if m.link.target == sent.actor)
+            self.assertEqual(message.lost, found[2] is not None)
+            self.assertTrue(message.take is None or message.take.place > sent.place)
+            self.assertIn(f", or {a_number(snapshot.number)} to {sent.actor} before turn {sent.place + 1}", stories.right(snapshot))
+        if begins[snapshot.number - 1] > sent.place:
+            self.assertNotIn(f"to {sent.actor} before turn", stories.right(snapshot))
 
     def told_of_pending(self, stories, snapshot, said):
         world, k, unit = stories.world, snapshot.number, snapshot.unit
@@ -234,6 +276,10 @@ class Runs(unittest.TestCase):
             self.assertIn(f"but waits for {a_number(k)} over", said)
             self.assertIn(world.net.sender(unit, snapshot.channel), said)
         self.assertIn(f"then {unit} would not wait", stories.right(snapshot))
+        for message in stories.missed(snapshot):
+            self.assertTrue(message.lost and message.stamp >= k)
+            if message.stamp == k and len(stories.missed(snapshot)) < 7:
+                self.assertRegex(stories.right(snapshot), rf"lost at turns? .*\b{message.put.place + 1}\b")
         for found in re.finditer(r"[Aa]t turn (\d+) (\S+ \S+) sends the (?:initiation|probe) \d+.*? to (\S+ \S+): it is lost", said):
             puts = [m for m in world.turns[int(found[1]) - 1].puts if m.lost and m.link.target == found[3]]
             self.assertTrue(puts and puts[0].link.source == found[2])

@@ -79,8 +79,8 @@ STORIES = {
 # Why the first snapshot of some examples failed or isn't finished: the banner has the first sentences, and the rest below.
 WHYS = {
     "lost_initiation": [
-        "At turn 2 control a sends the initiation 1 to in a.0: it is lost on the way. in a.0 has no other channel: no numbers come "
-        "from host h0.",
+        "At turn 2 control a sends the initiation 1 to in a.0: it is lost on the way. The other channel of in a.0 is from host "
+        "h0, which sends no numbers.",
         "At turn 5 in a.0 is at 0 and takes the initiation 2 from control a: it goes to 2 at once, and saves nothing for snapshot 1.",
         "out a.0 (turn 6) goes over 1 too.",
     ],
@@ -92,7 +92,7 @@ WHYS = {
     ],
     "dead_cable": [
         "At turn 10 out b.0 sends the probe 1 over the cable to in a.1: it is lost.",
-        "in a.1 is at 1 itself, since turn 5, but waits for a 1 over the cable from out b.0: no number came from there. Until "
+        "At the end in a.1 is at 1 itself, since turn 5, but waits for a 1 over the cable from out b.0: no number came from there. Until "
         "then it isn't known which packets from before the cut are still to come.",
         "in b.0 waits too.",
     ],
@@ -100,7 +100,7 @@ WHYS = {
 # What would have been right.
 RIGHT = {
     "lost_initiation": "It would have been right if the initiation 1, lost at turn 2, had come to in a.0 before turn 5: in a.0 would have "
-    "saved its counters for snapshot 1; and if the other turn named above had not failed it too.",
+    "saved its counters for snapshot 1; and if turn 6 had not failed it too.",
     "too_late_packet": "It would have been right if the packet had come to out a.1 before turn 10, or with credits = 2 in place of 1.",
     "dead_cable": "It would have been right if the probe 1 to in a.1, lost at turn 10, had come, or a later message with 1 or more over the "
     "cable from out b.0: then in a.1 would not wait.",
@@ -229,9 +229,10 @@ class Page(unittest.TestCase):
                 self.assertEqual(self.browser.text("#verdict .right"), stories.right(s))
             late = self.lates(s, world)
             rows = self.browser.rows(1 if late else 0)
-            units = sorted(world.net.units, key=lambda unit: unit != s.unit)
-            mark = " waiting" if s.verdict == "pending" else " at fault"
-            self.assertEqual([row[0] for row in rows], [unit + mark if unit == s.unit else unit for unit in units])
+            waiting = [u for u in world.net.units if s.verdict == "pending" and u != s.unit and world.lag(u, s.number)]
+            units = sorted(world.net.units, key=lambda unit: (unit != s.unit, unit not in waiting))
+            marks = {**dict.fromkeys(waiting, " waits too"), s.unit: " waiting" if s.verdict == "pending" else " at fault"}
+            self.assertEqual([row[0] for row in rows], [unit + marks.get(unit, "") for unit in units])
             crossings = [world.crossing(u, s.number) for u in units]
             if s.verdict == "consistent":
                 self.counts(s, rows, crossings, world)
@@ -479,7 +480,7 @@ class Page(unittest.TestCase):
         self.browser.size(1280, 500)
         self.browser.click("#help-open")
         self.assertEqual(self.browser.run("return document.getElementById('help').scrollTop"), 0)
-        for word in ("initiation", "probe", "x0", "Ring", "no cut 5", "cut 5?"):
+        for word in ("initiation", "probe", "x0", "Ring", "reached 5: no cut", "cut 5?"):
             self.assertIn(word, self.browser.run("return [...document.querySelectorAll('#glossary dt')].map(d => d.textContent)"))
         self.browser.size(1280, 800)
         self.assertEqual(self.browser.told(), [])

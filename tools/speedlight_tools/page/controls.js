@@ -21,7 +21,10 @@ for (const name of ["focusout", "click"]) document.addEventListener(name, () => 
 for (const element of document.querySelectorAll("[data-tip]")) element.setAttribute("aria-description", element.dataset.tip);
 const labelAt = (x, y) => labels.find(({ box: [l, t, r, b] }) => x >= l && x <= r && y >= t && y <= b);
 // Shows the list of the packets that came too late.
-function listLate() { change({ tab: "snapshot" }); panel(); if ($("late")) $("late").scrollIntoView(); }
+function listLate() { listPart("late"); }
+// Shows the list of where the units are.
+function listUnits() { listPart("units"); }
+function listPart(id) { change({ tab: "snapshot" }); panel(); if ($(id)) $(id).scrollIntoView(); }
 function nearest(x, y) {
   let best = 7, found = -1;
   for (const [m, x1, y1, x2, y2] of segments) {
@@ -58,6 +61,19 @@ plot.addEventListener("click", (event) => {
   if (fold) setFolds(folds.filter((other) => other !== fold));
   else if (t >= 0 && t < T) change({ turn: t + 1, tab: "turn" });
 });
+// The actor whose name stands here above the diagram; names that stand aslant lean to the right.
+function headAt(x, y) {
+  const foot = view.width >= 62 ? x : x - (heads.clientHeight - 5 - y) / Math.tan(Math.PI / 3.2) - 3;
+  return view.shown.find((who) => Math.abs(view.xs[who] - foot) <= view.width / 2);
+}
+const unitHead = (event) => { const who = headAt(event.offsetX, event.offsetY); return unitOf.has(who) ? who : undefined; };
+heads.addEventListener("click", (event) => { const who = unitHead(event); if (who !== undefined) change({ unit: who, tab: "unit" }); });
+heads.addEventListener("mousemove", (event) => {
+  const who = unitHead(event);
+  heads.style.cursor = who === undefined ? "" : "pointer";
+  tip(who === undefined ? null : event, who === undefined ? "" : `Say more of unit ${nameOf(who)}`);
+});
+heads.addEventListener("mouseleave", () => tip(null));
 
 // Finding.
 function search(text) {
@@ -166,6 +182,8 @@ function legend() {
   line("data", "a data packet"); line("spread", "a Begin, an initiation or a probe: what spreads a snapshot"); line("collect", "a notice, a poll, a dump or a Done: what collects it");
   line("flight", "a packet in flight across the cut of the chosen snapshot; beside a unit in the net, +n inside its switch"); line("fault", "what the chosen snapshot failed by, or the message that it waits for"); line("packet", "the way of the chosen packet"); line("poll", "where polling reads the units");
   list.append(made("span", { class: "bad" }, "✕"), made("span", {}, "a message that is lost"), made("span", {}, "◆"), made("span", {}, "the turn in which a unit reaches the chosen snapshot: its cut"), made("span", {}, "○ ●"), made("span", {}, "a unit's turn before and after its cut; the shade is what lies before the cut"));
+  list.append(made("span", { class: "round dashed" }), made("span", {}, "in the net: a unit that has not reached the chosen snapshot; one that has, has a thick edge"));
+  list.append(made("span", { style: "display:flex" }, ...[0, 1, 2, 3].map((n) => made("span", { class: "round", style: `background:var(--id${n})` }, String(n)))), made("span", {}, "in the net: a unit's number, and a colour for each; after 7 the colours begin anew"));
   for (const verdict of Object.keys(MARKS)) list.append(made("b", { class: verdict.replace(" ", "-") }, MARKS[verdict]), made("span", {}, { consistent: "consistent: the snapshot is a cut that could have been", skipped: "skipped: a unit went over the number and saved nothing for it", miscredited: "miscredited: a packet in flight came too late to be credited to it", pending: "pending: a unit or a channel never heard of it", "not issued": "not issued: the observer never began it" }[verdict]));
 }
 
@@ -216,7 +234,7 @@ new ResizeObserver(() => {
   if (state.tab === "unit") shownPanel = "";
   if (window.speedlight && window.speedlight.ready) draw(); else asked = true;
 }).observe(plot);
-window.addEventListener("hashchange", () => { const next = readAddress(); change(next); setFolds([]); if (next.snapshot) showStrip(next.snapshot); show(state.turn); });
+window.addEventListener("hashchange", () => { const next = readAddress(); change(next); verdictBanner(); view.high = plot.clientHeight; setFolds([]); if (next.snapshot) showStrip(next.snapshot); show(state.turn); });
 // For those who drive the page: where a message and a turn are drawn in the diagram, how often it was drawn, and
 // the marks at its edges.
 function middleOf(m) { const { k, y } = d3.zoomTransform(plot), [x1, y1, x2, y2] = endsOf(m, (turn) => y + rowOf(turn + 0.5) * k, k); return [(x1 + x2) / 2, (y1 + y2) / 2]; }

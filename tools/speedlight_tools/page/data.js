@@ -136,6 +136,8 @@ function choose(k) {
   focus(crowded() && failed(k));
   showStrip(k);
   verdictBanner();
+  // The banner may have another height now.
+  view.high = plot.clientHeight;
   layColumns();
   lookAt(k);
 }

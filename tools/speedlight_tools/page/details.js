@@ -18,7 +18,7 @@ const toUnit = (who) => made("button", { class: nameOf(who).length > 12 ? "go" :
 
 // What the words of the protocol and of the trace mean, for titles.
 const MEANING = {
-  initiation: "an initiation: a control plane gives an ingress unit the number of a snapshot", probe: "a probe: a message between units that carries a number without a packet",
+  initiation: "an initiation: a control plane gives an in unit the number of a snapshot", probe: "a probe: a message between units that carries a number without a packet. Only where an in unit takes an initiation does it send probes",
   notice: "a notice: a unit tells its control plane that a number changed", poll: "a poll: a control plane asks a unit for its registers", dump: "a dump: a unit answers a poll with its registers",
   Begin: "a Begin: the observer asks a control plane to begin a snapshot", Done: "a Done: a control plane reports to the observer what it collected", cable: "the channel over the cable, from the unit at its other end",
 };
@@ -28,11 +28,12 @@ function inline(said, title, address, call, kind = "") {
 }
 // A sentence with its turns as links and its words explained; `own` is a turn that stands beside it already.
 function explained(text, own) {
-  const ofCrossbar = (word) => `${word}: the channel over the crossbar inside the switch, from the ingress unit of port ${word.slice(1)}`;
-  return text.split(/\b(turn \d+|(?<=turns (?:\d+, |\d+ and )*)\d+|(?:in|out) [\w-]+\.\d+|initiation|probe|notice|poll|dump|Begin|Done|(?<=over the )cable|(?<=over (?:x\d+, |x\d+ and )*)x\d+)\b/).map((part, i) => {
+  const ofCrossbar = (word) => `${word}: the channel over the crossbar inside the switch, from the in unit of port ${word.slice(1)}`;
+  return text.split(/\b(turn \d+|(?<=turns (?:\d+, |\d+ and )*)\d+(?! more)|\d+ more units|(?:in|out) [\w-]+\.\d+|initiation|probe|notice|poll|dump|Begin|Done|(?<=over the )cable|(?<=over (?:x\d+, |x\d+ and )*)x\d+)\b/).map((part, i) => {
     if (i % 2 === 0) return part;
     const who = actorOf.get(part);
     if (who !== undefined) return inline(part, `Say more of unit ${part}`, `unit=${part.replace(" ", "_")}`, () => change({ unit: who, tab: "unit" }), " unit-name");
+    if (part.endsWith("units")) return inline(part, "Lists where each unit is", "", listUnits);
     const turn = /^(?:turn )?(\d+)$/.exec(part);
     if (!turn) return made("abbr", { title: MEANING[part] || ofCrossbar(part), tabindex: 0 }, part);
     return Number(turn[1]) - 1 === own ? part : inline(part, `Go to turn ${turn[1]}, and say what it did`, `turn=${turn[1]}`, () => goTo(Number(turn[1]) - 1));
@@ -43,7 +44,7 @@ function choiceMeaning(name) {
   const choice = name.slice(name.lastIndexOf(" ") + 1), [word, of] = choice.split(":"), port = /^x(\d+)$/.exec(choice), where = of && of.replace(".", " ");
   if (port) return `takes what came through the switch from its port ${port[1]}`;
   return { init: "takes an initiation: its control plane gives it the number of a snapshot", cable: "takes what came over the cable", host: "takes what its host sent", net: "takes a packet", inject: "sends its next packet",
-    poll: "takes a poll, and answers with a dump of its registers", notice: `takes a notice: a number of ${where} changed`, dump: `takes a dump: the registers of ${where}`, begin: "takes a Begin, and sends initiations to its ingress units",
+    poll: "takes a poll, and answers with a dump of its registers", notice: `takes a notice: a number of ${where} changed`, dump: `takes a dump: the registers of ${where}`, begin: "takes a Begin, and sends initiations to its in units",
     done: `takes a Done: what control plane ${of} collected`, issue: "begins the next snapshot", resend: "begins the last snapshot once more", sweep: "polls all its units" }[word] || "";
 }
 const many = (n, name, ending = "s") => `${n.toLocaleString("en")} ${name}${n === 1 ? "" : ending}`;
@@ -110,6 +111,8 @@ function verdictBanner() {
   const then = more.length ? [made("p", { class: "then" }, ...explained(more.join(" ")))] : [];
   if (told.right) then.push(made("p", { class: "right" }, ...explained(told.right)));
   const line = made("p", { class: "line" }, "In the report: ", made("code", {}, told.line), " ");
+  const by = / miscredited by (\d+)$/.exec(told.line);
+  if (by) line.append(`(“by ${by[1]}”: the packet is credited to snapshot ${by[1]}, not to ${k}) `);
   for (const turn of new Set([told.causeTurn, told.turn])) if (turn !== null) line.append(toTurn(turn, `show turn ${turn + 1}`));
   place.append(why, ...then, line);
 }
@@ -191,14 +194,14 @@ function valuesPart(k) {
 }
 function unitsPart(k, told) {
   const isPending = told.verdict === "pending";
-  const order = words.units.map((who, place) => [who, place]).sort(([a], [b]) => (b === told.unit) - (a === told.unit));
+  const order = words.units.map((who, place) => [who, place]).sort(([a], [b]) => (b === told.unit) - (a === told.unit) || told.waiting.includes(b) - told.waiting.includes(a));
   const rows = order.map(([who, place]) => {
-    const at = cutOf(k, place), mark = who === told.unit ? made("span", { class: isPending ? "pending" : "bad" }, ` ${standing(told)}`) : "";
+    const at = cutOf(k, place), mark = who === told.unit ? made("span", { class: isPending ? "pending" : "bad" }, ` ${standing(told)}`) : told.waiting.includes(who) ? made("span", { class: "pending" }, " waits too") : "";
     const went = at < 0 ? idAt(who, T) : column.id[at];
     return [made("span", {}, toUnit(who), mark), at < 0 ? "never" : toTurn(at, String(at + 1)), went > k ? made("span", { class: "bad", title: `it went over ${k} and saved nothing for it` }, `${went}, over ${k}`) : String(went)];
   });
   const said = `A snapshot that ${isPending ? "isn't finished" : "failed"} has no values. These are the turns in which each unit reached its number, and the number that it went to.`;
-  return [made("h2", {}, "Where the units were"), made("p", { class: "dim" }, said), table(["unit", "at turn", "went to"], rows)];
+  return [made("h2", { id: "units" }, "Where the units were"), made("p", { class: "dim" }, said), table(["unit", "at turn", "went to"], rows)];
 }
 function flightPart(k, told) {
   const flying = flight(k), parts = [];
@@ -224,7 +227,8 @@ function latePart(k) {
 const MOST_LATE = 500;
 function wordsOf(m) {
   const inside = [column.packet[m] >= 0 ? toPacket(column.packet[m], messageName(m)) : messageName(m)];
-  return made("span", {}, ...inside, ` on ${links[column.link[m]].spelling}`, isLost(m) ? made("span", { class: "bad" }, " lost") : "");
+  const link = links[column.link[m]], over = { cable: " over the cable", crossbar: ` over ${shortName(link)}` }[link.sort] || "";
+  return made("span", {}, ...inside, `${over} to ${nameOf(link.target)}`, isLost(m) ? made("span", { class: "bad" }, ", lost") : "");
 }
 function turnPanel() {
   const t = state.turn - 1;

@@ -51,7 +51,7 @@ function involved() {
   const found = new Set(), add = (m) => { found.add(links[column.link[m]].source); found.add(links[column.link[m]].target); };
   if (state.snapshot) {
     const told = words.snapshots[state.snapshot - 1];
-    for (const [, , m] of told.steps) if (m !== null) add(m);
+    for (const [, , m, , sender] of told.steps) { if (m !== null) add(m); if (sender >= 0) found.add(sender); }
     if (told.unit >= 0) found.add(told.unit);
     if (told.message !== null) add(told.message);
   }
@@ -68,7 +68,7 @@ function layColumns() {
   // Room for the longest row, and on the right for a name that stands aslant.
   view.gutter = Math.round(Math.min(Math.max(w < 420 ? 104 : 120, 6.7 * (LONGEST + DIGITS + 1) + 22), w * 0.44));
   const fit = (margin) => (w - view.gutter - margin) / Math.max(1, view.shown.length);
-  view.margin = fit(14) >= 62 ? 14 : 40;
+  view.margin = fit(14) >= 62 ? 14 : Math.max(40, 4.2 * view.shown.reduce((most, who) => Math.max(most, nameOf(who).length), 0));
   view.width = Math.max(LEAST, Math.min(110, fit(view.margin))) * view.wide;
   const whole = view.width * view.shown.length + view.margin - 14, room = w - view.gutter - 8;
   view.pan = Math.min(0, Math.max(view.pan, Math.min(0, room - whole)));
@@ -229,10 +229,16 @@ function writeLabels(context, c, here, told, cut, found, units, half) {
     if (i) here.lines.push([-1, xs[before] + half, clamp(cut(before)), xs[who] - half, v]);
   });
   const spots = told && told.turn !== null && told.unit >= 0 ? spotsOf(told) : [];
-  for (const spot of spots) if (isSeen(here, spot)) spotMark(context, c, spot, here);
+  const seen = spots.filter((spot) => isSeen(here, spot)), own = new Set(told ? [told.message, told.causeMessage, ...told.steps.map((step) => step[2])] : []);
+  here.isTold = (m) => own.has(m);
+  for (const [m, , , x, y] of here.lines) if (m >= 0 && own.has(m) && isLost(m)) here.taken.push([x - 8, y - 8, x + 8, y + 8]);
+  for (const spot of seen) spotMark(context, c, spot, here);
+  for (const spot of seen) here.above = label(context, spot.said, [[xs[spot.who], here.at(spot.turn)]], c[spot.colour], c.paper, here);
+  here.above = null;
   names(context, c, cut, found, units, half, here);
   edges = [];
-  for (const spot of spots) edgeMark(context, c, spot, here);
+  for (const spot of spots) if (here.at(spot.turn) < 0) edgeMark(context, c, spot, here);
+  for (const spot of [...spots].reverse()) if (here.at(spot.turn) > here.h) edgeMark(context, c, spot, here);
 }
 // Whether only what is involved in a failed snapshot is shown: then what the snapshot tells of is thick, and all else thin.
 const isNarrowed = (told) => state.focus && told && !["consistent", "not issued"].includes(told.verdict);
@@ -359,12 +365,12 @@ function spotsOf(told) {
   const isPending = told.verdict === "pending", lost = isPending && told.message !== null, spots = [];
   const more = told.verdict === "miscredited" ? lateOf(state.snapshot).length - 1 : 0;
   const said = { skipped: `skips ${state.snapshot}`, miscredited: more > 0 && isNarrowed(told) ? `too late, and ${more} more` : "too late", pending: lost ? "lost here" : "waits" }[told.verdict];
-  if (told.verdict === "miscredited") for (const turn of told.keys.slice(1, -1)) spots.push({ turn, who: told.unit, said: `moved on to ${column.id[turn]}`, cross: false, colour: "fault" });
+  if (told.verdict === "miscredited") spots.push({ turn: told.moved, who: told.unit, said: `moved on to ${column.id[told.moved]}`, cross: false, colour: "fault" });
   spots.push({ turn: told.turn, who: lost ? ends(told.message) : told.unit, said, cross: lost && isHidden(told.message), colour: isPending && !lost ? "pending" : "fault" });
-  for (const [, , lost] of told.steps) if (lost !== null && lost !== told.causeMessage && isLost(lost) && told.keys.includes(put[lost])) spots.push({ turn: put[lost], who: ends(lost), said: "lost too", cross: isHidden(lost), colour: "fault" });
+  for (const [, , lost] of told.steps) if (lost !== null && lost !== told.causeMessage && isLost(lost) && told.keys.includes(put[lost])) spots.push({ turn: put[lost], who: ends(lost), said: told.verdict === "miscredited" ? "lost here" : "lost too", cross: isHidden(lost), colour: "fault" });
   const m = told.causeMessage;
   if (m !== null && told.causeTurn !== null && told.causeTurn !== told.turn) spots.push({ turn: told.causeTurn, who: ends(m), said: isLost(m) ? "lost here" : "sent here", cross: isLost(m) && isHidden(m), colour: "fault" });
-  return spots;
+  return spots.sort((a, b) => a.turn - b.turn);
 }
 // Whether a message isn't drawn, as the column of its sender isn't there.
 const isHidden = (m) => Number.isNaN(view.xs[links[column.link[m]].source]);
@@ -374,13 +380,12 @@ function spotMark(context, c, spot, here) {
   context.strokeStyle = c[spot.colour]; context.lineWidth = 2.5; context.beginPath(); context.arc(x, y, 10, 0, 7); context.stroke();
   if (spot.cross) cross(context, x, y, 4.5);
   here.taken.push([x - 11, y - 11, x + 11, y + 11]);
-  label(context, spot.said, [[x, y]], c[spot.colour], c.paper, here);
 }
 // The labels that are drawn, and what each means.
 let labels = [];
 function labelMeaning(said) {
   const k = state.snapshot;
-  if (/^no cut/.test(said)) return `Snapshot ${k} failed: the line goes through the turns in which the units reached ${k} or went over it, and that is no cut.`;
+  if (/no cut$/.test(said)) return `Snapshot ${k} failed: the line goes through the turns in which the units reached ${k} or went over it, and that is no cut.`;
   if (/^cut .*\?$/.test(said)) return `Snapshot ${k} isn't finished: the line goes through the turns in which the units reached ${k}, and one or a channel of it hasn't.`;
   if (/^cut/.test(said)) return `Cut ${k}: the turns in which the units reached ${k}. What they counted before are the snapshot's values.`;
   if (/^skips/.test(said)) return `The unit goes over ${k} and saves nothing for it.`;
@@ -395,11 +400,13 @@ function label(context, said, anchors, fill, ink, here, edge) {
   const wide = context.measureText(said).width + 10, high = 18, near = here.lines.filter(([, , y1, , y2]) => anchors.some(([, y]) => Math.max(y1, y2) > y - 70 && Math.min(y1, y2) < y + 70));
   let best = null, from = null, least = Infinity, rank = 0;
   for (const [x, y] of anchors) for (const [dx, dy] of PLACES) {
-    const l = x + (dx > 0 ? 15 : dx < 0 ? -15 - wide : -wide / 2), t = y - high / 2 + dy * 24, box = [l, t, l + wide, t + high];
+    const l = Math.max(here.left + 2, Math.min(here.w - 2 - wide, x + (dx > 0 ? 15 : dx < 0 ? -15 - wide : -wide / 2))), t = y - high / 2 + dy * 24, box = [l, t, l + wide, t + high];
     let cost = rank++ * 0.5 + (Math.abs(dy) > 1 ? 30 : 0);
-    if (l < here.left || l + wide > here.w - 2 || t < 1 || t + high > here.h - 1) cost += 1000;
+    if (t < 1 || t + high > here.h - 1) cost += 1000;
+    // Labels of turns stand in the order of their turns.
+    if (here.above && t < here.above[1] + high && l < here.above[2] + 160 && l + wide > here.above[0] - 160) cost += 100;
     for (const other of here.taken) if (meets(other, box)) cost += 200;
-    for (const [m, x1, y1, x2, y2] of near) if (through({ x1, y1, x2, y2 }, m >= 0 && isLost(m) ? [l - 6, t - 6, l + wide + 6, t + high + 6] : box)) cost += 12;
+    for (const [m, x1, y1, x2, y2] of near) if (through({ x1, y1, x2, y2 }, m >= 0 && isLost(m) ? [l - 6, t - 6, l + wide + 6, t + high + 6] : box)) cost += m >= 0 && here.isTold(m) ? 60 : 12;
     for (const who of view.shown) { const at = view.xs[who]; if (at > l && at < l + wide) cost += 1; }
     if (here.k >= 5) for (let row = Math.floor((t - 6 - here.y) / here.k); row < (t + high + 6 - here.y) / here.k; row++) { const n = Math.floor(turnOf(row + 0.5)), at = n >= here.from && n < here.to ? view.xs[actor[n]] : NaN; if (at > l - 6 && at < l + wide + 6) cost += 25; }
     if (cost < least) { least = cost; best = box; from = [x, y]; }
@@ -413,6 +420,7 @@ function label(context, said, anchors, fill, ink, here, edge) {
   context.fillStyle = fill; context.fillRect(l, t, wide, high);
   if (edge) { context.strokeStyle = edge; context.lineWidth = 1; context.strokeRect(l + 0.5, t + 0.5, wide - 1, high - 1); }
   context.fillStyle = ink; context.textAlign = "left"; context.textBaseline = "middle"; context.fillText(said, l + 5, t + high / 2 + 0.5); context.textBaseline = "alphabetic";
+  return best;
 }
 // Where a turn that is pointed at lies out of view: its number, with an arrow, at the edge. A click leads there.
 let edges = [];
@@ -462,7 +470,7 @@ function names(context, c, cut, found, units, half, here) {
   };
   if (cut) {
     const { verdict } = words.snapshots[state.snapshot - 1];
-    tag(verdict === "consistent" ? `cut ${state.snapshot}` : verdict === "pending" ? `cut ${state.snapshot}?` : `no cut ${state.snapshot}`, cut, verdict === "consistent" ? c.consistent : c.dim);
+    tag(verdict === "consistent" ? `cut ${state.snapshot}` : verdict === "pending" ? `cut ${state.snapshot}?` : `reached ${state.snapshot}: no cut`, cut, verdict === "consistent" ? c.consistent : c.dim);
   }
   if (found) tag(found.broken < 0 ? "whole reading" : "broken reading", (who) => here.y + rowOf(found.at[unitOf.get(who)]) * here.k, c.poll);
 }

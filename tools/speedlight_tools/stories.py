@@ -302,7 +302,8 @@ class Stories:
             words = f"{number} had come {over}"
         else:
             words = f"{self.lost_in_words(found)} had come"
-            words += f", or a later message with {k}{' or more' if is_above else ''} {over}" if all(m.link in ways for m in found) else f", and so {number} {over}"
+            later = f"or a later message with {k}{' or more' if is_above else ''}"
+            words += f", {later if all(m.link in ways for m in found) else f'and so {number}'} {over}"
         return f"{words}: then {unit} would not wait" + (", but the snapshot could not be consistent" if self.besides(verdict) else "")
 
     def missed(self, verdict):

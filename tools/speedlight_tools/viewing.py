@@ -208,6 +208,27 @@ class Run:
         for place, (field, code) in enumerate(fields):
             self.columns.add(name + field, code, (row[place] for row in rows))
 
+    def told(self, stories, s):
+        """What is said of a snapshot, and the turns, messages and actors that this tells of."""
+        place, message = stories.fault(s)
+        _, begun, carried = stories.cause(s)
+        sender = lambda step: self.actors[step.link.source] if step.link else -1
+        return {
+            "verdict": s.verdict,
+            "line": s.line,
+            "unit": self.actors.get(s.unit, -1) if s.unit else -1,
+            "whys": stories.whys(s),
+            "right": stories.right(s),
+            "keys": stories.keys(s),
+            "causeTurn": begun,
+            "causeMessage": carried,
+            "turn": place,
+            "message": message,
+            "moved": moved_on(self.world, s).place if s.verdict == "miscredited" else None,
+            "waiting": [self.actors[u] for u in stories.waiting_too(s)],
+            "steps": [[p.place, p.words, p.message, p.snapshot, sender(p)] for p in stories.steps(s)],
+        }
+
     def snapshots(self):
         """What is said of each snapshot, and as columns its cut and what it told of units and channels."""
         stories = Stories(self.world, self.source, self.report.snapshots)
@@ -216,25 +237,7 @@ class Run:
         told = []
         for s in self.report.snapshots:
             issued = s.verdict != "not issued"
-            place, message = stories.fault(s)
-            _, begun, carried = stories.cause(s)
-            told.append(
-                {
-                    "verdict": s.verdict,
-                    "line": s.line,
-                    "unit": self.actors.get(s.unit, -1) if s.unit else -1,
-                    "whys": stories.whys(s),
-                    "right": stories.right(s),
-                    "keys": stories.keys(s),
-                    "causeTurn": begun,
-                    "causeMessage": carried,
-                    "turn": place,
-                    "message": message,
-                    "moved": moved_on(self.world, s).place if s.verdict == "miscredited" else None,
-                    "waiting": [self.actors[u] for u in stories.waiting_too(s)],
-                    "steps": [[p.place, p.words, p.message, p.snapshot, self.actors[p.link.source] if p.link else -1] for p in stories.steps(s)],
-                }
-            )
+            told.append(self.told(stories, s))
             for unit in self.units:
                 crossing = self.world.crossing(unit, s.number) if issued else None
                 cuts.append(-1 if crossing is None else crossing.place)

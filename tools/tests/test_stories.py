@@ -128,7 +128,8 @@ snapshot = {bits = 2, window = 2, ring = 2, count = 2, retries = 0}
         self.assertIn("(begun again: snapshot 2 at turn", steps[-1])
         self.assertIn(str(turn), steps[-1])
         self.assertIn("The observer begins snapshot 2 once more, as not all is collected.", [s.words for s in stories.steps(snapshots[1])])
-        self.assertEqual(begun_again({2: [stories.world.turns[4], stories.world.turns[6]], 3: [stories.world.turns[9]]}), " (begun again: snapshot 2 at turns 5 and 7, snapshot 3 at turn 10)")
+        again = {2: [stories.world.turns[4], stories.world.turns[6]], 3: [stories.world.turns[9]]}
+        self.assertEqual(begun_again(again), " (begun again: snapshot 2 at turns 5 and 7, snapshot 3 at turn 10)")
 
     def test_numbers_as_they_are_spoken(self):
         for n in (8, 11, 18, 80, 88, 800, 8000, 11000, 18500, 80000):

@@ -462,6 +462,54 @@ class Page(unittest.TestCase):
         self.assertEqual(self.browser.run("return [speedlight.edges(), speedlight.folds()]"), [[], []])
         self.assertEqual(self.browser.told(), [])
 
+    def test_a_second_click_on_a_snapshot_changes_nothing(self):
+        """The diagram stands as the new banner leaves room for it, whatever the height of the one before."""
+        where = "return [speedlight.heightOf(0), speedlight.heightOf(speedlight.words.turns), speedlight.folds()]"
+        for name in ("ring", "leaf_spine_with_losses"):
+            _, page, report, _ = built(name, self.folder.name, self.program)
+            self.browser.open(page)
+            heights = set()
+            for s in [*report.snapshots, *reversed(report.snapshots)]:
+                self.browser.click(f'#snapshots [data-snapshot="{s.number}"]')
+                heights.add(self.browser.run("return document.getElementById('plot').clientHeight"))
+                once = self.browser.run(where)
+                self.browser.click(f'#snapshots [data-snapshot="{s.number}"]')
+                self.assertEqual(self.browser.run(where), once, s.line)
+            self.assertGreater(len(heights), 1)
+            self.assertEqual(self.browser.told(), [])
+
+    def test_who_sent_nothing_and_the_lists(self):
+        """The sender that the sentence names has its column, a name above a column chooses its unit, and more units are a link."""
+        path, page, report, world = built("ring", self.folder.name, self.program)
+        self.browser.open(page)
+        stories = Stories(world, read_input(path), report.snapshots)
+        pending = [s for s in report.snapshots if s.verdict == "pending"]
+        self.assertEqual(len(pending), 2)
+        for s in pending:
+            self.browser.click(f'#snapshots [data-snapshot="{s.number}"]')
+            shown = self.browser.run("return speedlight.columns().map(([who]) => who)")
+            sender = world.net.sender(s.unit, s.channel)
+            self.assertLessEqual({s.unit, sender}, set(shown))
+            folds = self.browser.run("return speedlight.folds()")
+            self.assertFalse([key for key in stories.keys(s) for a, b in folds if a <= key < b])
+            for name in (sender, s.unit):
+                x, y = next([x, y] for who, x, y in self.browser.run("return speedlight.columns()") if who == name)
+                self.browser.point("#heads", x, y)
+                self.assertIn(name, self.browser.text("#tip"))
+                self.browser.point("#heads", x, y, click=True)
+                self.assertIn(f"{name}, after turn", self.browser.text("#panel h2"))
+        waiting = stories.waiting_too(pending[1])
+        self.browser.run("[...document.querySelectorAll('#verdict .inline')].find(a => / more units$/.test(a.textContent)).click()")
+        self.browser.settled()
+        inside = """const [a, b] = ['units', 'panel'].map(id => document.getElementById(id).getBoundingClientRect());
+            return a.top >= b.top - 1 && a.bottom < b.bottom"""
+        self.assertTrue(self.browser.run(inside))
+        self.assertEqual([row[0] for row in self.browser.rows() if "waits too" in row[0]], [f"{unit} waits too" for unit in waiting])
+        lost = next(m for m in world.messages if m.lost and m.kind == "init")
+        self.browser.find(f"turn {lost.put.place + 1}")
+        self.assertIn(f"initiation {lost.stamp} to {lost.link.target}, lost", self.browser.text("#panel"))
+        self.assertEqual(self.browser.told(), [])
+
     def test_tips_words_and_colours(self):
         """The page has its own tips, the help opens at its top and has a glossary, and what failed has one colour."""
         _, page, report, _ = built("ring_of_window_3", self.folder.name, self.program)

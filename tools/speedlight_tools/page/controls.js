@@ -66,6 +66,8 @@ function headAt(x, y) {
   const foot = view.width >= 62 ? x : x - (heads.clientHeight - 5 - y) / Math.tan(Math.PI / 3.2) - 3;
   return view.shown.find((who) => Math.abs(view.xs[who] - foot) <= view.width / 2);
 }
+// A place within an actor's name there.
+const headOf = (who) => { const up = 12; return [view.xs[who] + (view.width >= 62 ? 0 : 3 + (up - 5) / Math.tan(Math.PI / 3.2)), heads.clientHeight - up]; };
 const unitHead = (event) => { const who = headAt(event.offsetX, event.offsetY); return unitOf.has(who) ? who : undefined; };
 heads.addEventListener("click", (event) => { const who = unitHead(event); if (who !== undefined) change({ unit: who, tab: "unit" }); });
 heads.addEventListener("mousemove", (event) => {
@@ -235,10 +237,10 @@ new ResizeObserver(() => {
   if (window.speedlight && window.speedlight.ready) draw(); else asked = true;
 }).observe(plot);
 window.addEventListener("hashchange", () => { const next = readAddress(); change(next); verdictBanner(); view.high = plot.clientHeight; setFolds([]); if (next.snapshot) showStrip(next.snapshot); show(state.turn); });
-// For those who drive the page: where a message and a turn are drawn in the diagram, how often it was drawn, and
-// the marks at its edges.
+// For those who drive the page: where a message, a turn and the name of a column are drawn in the diagram, how often it was
+// drawn, and the marks at its edges.
 function middleOf(m) { const { k, y } = d3.zoomTransform(plot), [x1, y1, x2, y2] = endsOf(m, (turn) => y + rowOf(turn + 0.5) * k, k); return [(x1 + x2) / 2, (y1 + y2) / 2]; }
-window.speedlight = { state, words, column, change, show, middleOf, frames: () => frames, edges: () => edges.map((edge) => edge.said), heightOf: (t) => { const { k, y } = d3.zoomTransform(plot); return y + rowOf(t + 0.5) * k; }, folds: () => folds.map(({ from, to }) => [from, to]), ready: false };
+window.speedlight = { state, words, column, change, show, middleOf, frames: () => frames, edges: () => edges.map((edge) => edge.said), heightOf: (t) => { const { k, y } = d3.zoomTransform(plot); return y + rowOf(t + 0.5) * k; }, folds: () => folds.map(({ from, to }) => [from, to]), columns: () => view.shown.map((who) => [nameOf(who), ...headOf(who)]), ready: false };
 
 theme(wish.matches ? "dark" : "light");
 head();

@@ -55,8 +55,8 @@ STORIES = {
     "too_late_packet": [
         [
             1,
-            "in a.0 is at 0, so it has not reached 1, and sends the packet 0 from h0 to h1 over x0 to out a.1. "
-            "It belongs to snapshot 1 as a packet in flight.",
+            "in a.0 is at 0 (control a begins snapshot 1 only at turn 5), so it has not reached 1, and sends the packet 0 from h0 to h1 "
+            "over x0 to out a.1. It belongs to snapshot 1 as a packet in flight.",
         ],
         [2, "The observer issues snapshot 1."],
         [3, "The observer issues snapshot 2."],
@@ -85,8 +85,8 @@ WHYS = {
         "out a.0 (turn 6) goes over 1 too.",
     ],
     "too_late_packet": [
-        "At turn 2 in a.0, still at 0, sends the packet 0 from h0 to h1 over x0 to out a.1. Before it comes, at turn 10, out a.1 takes "
-        "the probe 2 over x1 from in a.1: it goes on from 1 to 2. Snapshot 1 was issued at turn 3, snapshot 2 at turn 4.",
+        "At turn 2 in a.0, still at 0 (control a begins snapshot 1 only at turn 5), sends the packet 0 from h0 to h1 over x0 to out a.1. "
+        "Before it comes, at turn 10, out a.1 takes the probe 2 over x1 from in a.1: it goes on from 1 to 2. Snapshot 1 was issued at turn 3, snapshot 2 at turn 4.",
         "At turn 11 the packet 0 from h0 to h1 comes to out a.1, which is at 2 already and can credit it to snapshot 2 alone: so it is "
         "missing from snapshot 1.",
     ],
@@ -519,7 +519,7 @@ class Page(unittest.TestCase):
         failed = "[...document.querySelectorAll('#snapshots .skipped, #snapshots .miscredited')]"
         colours = f"return [...new Set({failed}.map(b => getComputedStyle(b).color))].length"
         self.assertEqual(self.browser.run(colours), 1)
-        for place, part in (("#verdict abbr", "the channel over the crossbar"), ("#fold", "Folds what lies"), ("#help-open", "Words")):
+        for place, part in (("#verdict abbr", "gives an in unit the number"), ("#verdict .why abbr:nth-of-type(2)", "the channel over the crossbar"), ("#fold", "Folds what lies"), ("#help-open", "Words")):
             self.browser.point(place)
             self.assertIn(part, self.browser.text("#tip"))
             inside = """const b = document.getElementById('tip').getBoundingClientRect();

@@ -510,6 +510,24 @@ class Page(unittest.TestCase):
         self.assertIn(f"initiation {lost.stamp} to {lost.link.target}, lost", self.browser.text("#panel"))
         self.assertEqual(self.browser.told(), [])
 
+    def test_labels_stand_in_order(self):
+        """In the diagram no label is cut off or lies on another one, and those of turns out of view stand as the turns do."""
+        for name in ("ring", "ring_of_window_3", "leaf_spine_with_losses", "line"):
+            _, page, report, _ = built(name, self.folder.name, self.program)
+            self.browser.open(page)
+            for s in report.snapshots:
+                self.browser.click(f'#snapshots [data-snapshot="{s.number}"]')
+                wide, high = self.browser.run("const p = document.getElementById('plot'); return [p.clientWidth, p.clientHeight]")
+                boxes = self.browser.run("return speedlight.labels()")
+                self.assertFalse([said for said, (l, t, r, b) in boxes if l < 0 or t < 0 or r > wide or b > high], s.line)
+                for i, (said, (l, t, r, b)) in enumerate(boxes):
+                    self.assertFalse([other for other, (x, y, z, w) in boxes[:i] if l < z and x < r and t < w and y < b], (s.line, said))
+            for turn in (0, len(report.trace)):
+                self.browser.find(f"turn {turn}")
+                told = [int(re.search(r"\d+$", said)[0]) for said in self.browser.run("return speedlight.edges()")]
+                self.assertEqual(told, sorted(told, reverse=turn == 0))
+            self.assertEqual(self.browser.told(), [])
+
     def test_tips_words_and_colours(self):
         """The page has its own tips, the help opens at its top and has a glossary, and what failed has one colour."""
         _, page, report, _ = built("ring_of_window_3", self.folder.name, self.program)
@@ -525,6 +543,9 @@ class Page(unittest.TestCase):
             inside = """const b = document.getElementById('tip').getBoundingClientRect();
                 return b.left >= 0 && b.right <= innerWidth && b.top >= 0 && b.bottom <= innerHeight"""
             self.assertTrue(self.browser.run(inside))
+        looks = self.browser.run("""const look = (n) => { const s = getComputedStyle(document.querySelector(n)); return [s.color, s.textDecorationLine]; };
+            return [look('#verdict .why .unit-name'), look('#verdict .why .inline:not(.unit-name)')]""")
+        self.assertEqual(looks[0], looks[1])
         self.browser.size(1280, 500)
         self.browser.click("#help-open")
         self.assertEqual(self.browser.run("return document.getElementById('help').scrollTop"), 0)

@@ -431,9 +431,9 @@ function edgeMark(context, c, spot, here) {
   context.font = 'bold 12px "DejaVu Sans", system-ui, sans-serif';
   const wide = context.measureText(said).width + 12, x = view.xs[spot.who], middle = Number.isNaN(x) ? (here.left + here.w) / 2 : x;
   const l = Math.max(here.left + 2, Math.min(here.w - wide - 4, middle - wide / 2));
-  let t = up ? 3 : here.h - 23;
-  while (edges.some((edge) => meets(edge.box, [l, t, l + wide, t + 20]))) t += up ? 22 : -22;
-  edges.push({ box: [l, t, l + wide, t + 20], turn: spot.turn, said });
+  // In the order of their turns, one below the other.
+  const there = edges.filter((edge) => edge.up === up).length, t = up ? 3 + 22 * there : here.h - 23 - 22 * there;
+  edges.push({ box: [l, t, l + wide, t + 20], turn: spot.turn, said, up });
   context.fillStyle = c.paper; context.fillRect(l, t, wide, 20);
   context.strokeStyle = c[spot.colour]; context.lineWidth = 1.5; context.strokeRect(l, t, wide, 20);
   context.fillStyle = c[spot.colour]; context.textAlign = "left"; context.textBaseline = "middle"; context.fillText(said, l + 6, t + 10.5); context.textBaseline = "alphabetic";

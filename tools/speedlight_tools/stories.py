@@ -414,7 +414,9 @@ class Stories:
         turn, unit, k = skipping(self.world, verdict), verdict.unit, verdict.number
         took = turn.took
         words = f"{unit} is at {turn.before} and takes the {name_of(self.world, took)} from {took.link.source}{carried(took)}"
-        return f"{words}: it goes to {turn.id} at once, and saves nothing for snapshot {k}."
+        rest = [str(n) for n in range(turn.before + 1, turn.id) if n != k]
+        nor = f", nor for {joined(rest) if len(rest) <= MOST_STEPS else f'{len(rest)} others'}" if rest else ""
+        return f"{words}: it goes to {turn.id} at once, and saves nothing for snapshot {k}{nor}."
 
     def skipped(self, verdict):
         turn = skipping(self.world, verdict)

@@ -177,7 +177,9 @@ class Runs(unittest.TestCase):
         world, k, unit = stories.world, snapshot.number, snapshot.unit
         turn = next(t for t in world.turns if t.actor == unit and t.before < k < t.id)
         self.assertIn(f"At turn {turn.place + 1} {unit} is at {turn.before} and takes the", said)
-        self.assertIn(f"it goes to {turn.id} at once, and saves nothing for snapshot {k}.", said)
+        rest = [str(n) for n in range(turn.before + 1, turn.id) if n != k]
+        nor = f", nor for {joined(rest)}" if rest else ""
+        self.assertIn(f"it goes to {turn.id} at once, and saves nothing for snapshot {k}{nor}.", said)
         first = stories.whys(snapshot)[0]
         reasons = {r.link.spelling: r for r in stories.reasons(snapshot)}
         sorts = ("init", "cable", "crossbar")

@@ -391,7 +391,7 @@ class Page(unittest.TestCase):
         message = next(m for m in world.messages if m.packet is not None and m.packet.sent.seq == 1 and m.link.sort == "crossbar")
         x, y = self.browser.run("return speedlight.middleOf(arguments[0])", message.place)
         self.browser.point("#plot", x, y)
-        self.assertIn("packet 1 from h0 to h1", self.browser.text("#tip"))
+        self.assertIn("packet 1 from h0 to h1 with 0 from in a.0 over x0 to out a.1 put at turn", self.browser.text("#tip"))
         self.browser.point("#plot", x, y, click=True)
         self.assertIn("packet 1 from h0 to h1", self.browser.text("#panel"))
         rows = self.browser.rows()

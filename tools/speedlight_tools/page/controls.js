@@ -44,7 +44,7 @@ plot.addEventListener("mousemove", (event) => {
   const m = event.offsetX > view.gutter - 10 ? nearest(event.offsetX, event.offsetY) : -1;
   const { k, y } = d3.zoomTransform(plot), t = Math.floor(turnOf((event.offsetY - y) / k)), fold = foldAt(t);
   if (fold) tip(event, `turns ${fold.from + 1} to ${fold.to} are folded\nA click shows them.`);
-  else if (m >= 0) tip(event, `${messageName(m)}\non ${links[column.link[m]].spelling}\nput at turn ${put[m] + 1}, ${isLost(m) ? "lost" : column.take[m] < 0 ? "never taken" : `taken at turn ${column.take[m] + 1}`}`);
+  else if (m >= 0) tip(event, `${messageName(m)}\nfrom ${nameOf(links[column.link[m]].source)} ${wayOf(m)}\nput at turn ${put[m] + 1}, ${isLost(m) ? "lost" : column.take[m] < 0 ? "never taken" : `taken at turn ${column.take[m] + 1}`}`);
   else if (t >= 0 && t < T && k >= 3) tip(event, `turn ${t + 1}: ${turnName(t)}\n${nameOf(actor[t])} ${choiceMeaning(turnName(t))}`);
   else tip(null);
 });

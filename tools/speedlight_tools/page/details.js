@@ -225,10 +225,14 @@ function latePart(k) {
   return parts;
 }
 const MOST_LATE = 500;
+// The way of a message, in words.
+function wayOf(m) {
+  const link = links[column.link[m]], over = { cable: "over the cable ", crossbar: `over ${shortName(link)} ` }[link.sort] || "";
+  return `${over}to ${nameOf(link.target)}`;
+}
 function wordsOf(m) {
   const inside = [column.packet[m] >= 0 ? toPacket(column.packet[m], messageName(m)) : messageName(m)];
-  const link = links[column.link[m]], over = { cable: " over the cable", crossbar: ` over ${shortName(link)}` }[link.sort] || "";
-  return made("span", {}, ...inside, `${over} to ${nameOf(link.target)}`, isLost(m) ? made("span", { class: "bad" }, ", lost") : "");
+  return made("span", {}, ...inside, ` ${wayOf(m)}`, isLost(m) ? made("span", { class: "bad" }, ", lost") : "");
 }
 function turnPanel() {
   const t = state.turn - 1;

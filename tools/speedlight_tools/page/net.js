@@ -247,7 +247,7 @@ function drawMessages(now, told) {
     circle.setAttribute("r", d.lost ? 0 : d.r); circle.setAttribute("fill", `var(--${c})`); circle.setAttribute("stroke", "var(--paper)");
     path.setAttribute("d", d.lost ? "M-6,-6L6,6M-6,6L6,-6" : ""); path.setAttribute("stroke", `var(--${c})`); path.setAttribute("stroke-width", 3);
     this.onclick = () => { if (column.packet[d.m] >= 0) change({ packet: column.packet[d.m], tab: "packet" }); };
-    this.onmousemove = (event) => tip(event, `${messageName(d.m)}\non ${links[column.link[d.m]].spelling}${d.lost ? ", lost" : ""}`);
+    this.onmousemove = (event) => tip(event, `${messageName(d.m)}\nfrom ${nameOf(links[column.link[d.m]].source)} ${wayOf(d.m)}${d.lost ? ", lost" : ""}`);
     this.onmouseleave = () => tip(null);
   });
   const told2 = sheetOfNet.select(".over").selectAll(".badge").data(badges);

@@ -391,7 +391,7 @@ function labelMeaning(said) {
   if (/^skips/.test(said)) return `The unit goes over ${k} and saves nothing for it.`;
   if (/^too late/.test(said)) return `A packet from before ${k} comes when its unit can't credit it to ${k} any more.${/ more$/.test(said) ? "\nA click lists all of them." : ""}`;
   if (/^moved on/.test(said)) return "Here the unit goes on to a newer number, before the packet has come.";
-  return { "lost here": "The message is lost on its way.", "lost too": "A message is lost that would have brought the number over another channel.", "sent here": "The message is sent here.", waits: `The unit still waits for ${k} at the end.` }[said] || said;
+  return { "lost here": "The message is lost on its way.", "lost too": "One more message is lost that would have brought the number, or a newer one.", "sent here": "The message is sent here.", waits: `The unit still waits for ${k} at the end.` }[said] || said;
 }
 // Writes a label where it covers least, beside one of its anchors or above or below it.
 const PLACES = [[1, 0], [-1, 0], [1, 1], [1, -1], [-1, 1], [-1, -1], [0, 1], [0, -1], [1, 2], [1, -2], [-1, 2], [-1, -2], [0, 2], [0, -2]];

@@ -1,28 +1,12 @@
-// Calls over sources and sinks in memory, with faults at each; the samples, and the findings of
-// schedules that are written down.
-ghost use Rattle.std.specs.List.{All};
-ghost use Rattle.sl_flow.specs.Flow.{HasAddresses};
-
-use crate::rows;
+// Calls over sources and sinks in memory, with faults at each.
+use crate::inputs::input_of;
+use crate::streams::{Streams, streams_of, words_of};
 use sl_actor::FreeGate;
 use sl_app::{Ended, one_thread, speedlight};
-use sl_check::accepted_inputs_can_run;
-use sl_cut::findings_of;
-use sl_flow::{sample_input, sample_parts};
-use sl_io::{MemorySink, MemorySource};
-use sl_net::{Flow, Input, LossSpec, Net, Parts, RawPart, Script1, Snapshot, find_choice};
-use sl_read::read_input;
-use sl_report::report_bytes;
-use std::alloc::{AllocError, Global};
+use std::alloc::Global;
 use std::sync::Wait;
 use std::test::Fail;
 use std::thread::Threads;
-
-const THREE_PACKETS: &str = r#"device = [{name = "a", ports = 2}]
-host = [{name = "h0", at = "a.0"}, {name = "h1", at = "a.1"}]
-flow = [{from = "h0", to = "h1", count = 3, bytes = 100, hops = 8}]
-snapshot = {bits = 2, window = 3, ring = 3, count = 1, retries = 0}
-"#;
 
 const USAGE: &str =
     "speedlight: usage: speedlight step [--trace] | run [--trace] | routes | sample N [--input] | values | check | balance | poll S G\n";
@@ -80,24 +64,6 @@ fn table() -> &'static str {
 "#
 }
 
-/// The streams of a call.
-#[derive(Drop)]
-struct Streams {
-    input: MemorySource,
-    out: MemorySink,
-    err: MemorySink,
-}
-
-/// The input of this name.
-fn input_of(name: &str) -> &'static str {
-    match name {
-        "claim" => rows::claim(),
-        "other_claim" => rows::other_claim(),
-        "cut" => "device = [",
-        _ => THREE_PACKETS,
-    }
-}
-
 /// What is on the error sink, by its name.
 fn error_of(name: &str) -> &'static str {
     match name {
@@ -118,52 +84,46 @@ fn digit(text: &str, place: usize) -> u64 {
     }
 }
 
-fn source(alloc: Global, text: &str, fail: u64) -> Result<MemorySource, AllocError> {
-    let bytes = Vec::from_slice(alloc, text.as_bytes())?;
-    Ok(MemorySource::new(bytes, Vec::from_slice(alloc, &[fail])?))
-}
-
-fn sink(alloc: Global, fail: u64) -> Result<MemorySink, Fail> {
-    let fails = Vec::from_slice(alloc, &[fail])?;
-    Ok(MemorySink::new(alloc, 4096, fails).ok().ok_or("memory")?)
-}
-
-/// The streams of a call with this input, where the calls of these numbers fail.
-fn streams_of(alloc: Global, text: &str, fails: &str) -> Result<Streams, Fail> {
-    Ok(Streams {
-        input: source(alloc, text, digit(fails, 0))?,
-        out: sink(alloc, digit(fails, 1))?,
-        err: sink(alloc, digit(fails, 2))?,
-    })
-}
-
-fn words_of(alloc: Global, line: &str) -> Result<Vec<String>, AllocError> {
-    let mut words = Vec::new(alloc);
-    for word in line.split(" ") {
-        if !word.is_empty() {
-            words.push(String::from_str(alloc, word)?)?;
-        }
-    }
-    Ok(words)
-}
-
 /// Whether a call left this status, this on the error sink, and a book, and wrote where it was served.
-fn is_left(ended: &Ended, streams: &Streams, status: u64, error: &str, book: &str) -> bool {
+pub fn is_left(ended: &Ended, streams: &Streams, status: u64, error: &str, book: &str) -> bool {
     let writes = status == 0 || status == 8;
     let told = streams.err.bytes() == error.as_bytes() && streams.out.bytes().is_empty() != writes;
     let has_book = ended.book.is_some() == (book == "book");
     told && has_book && u64::from(ended.status) == status
 }
 
-/// Whether a line of the table is so.
-fn is_so<R: Threads + Wait + Sync>(rt: &R, alloc: Global, line: &str) -> Result<bool, Fail> {
+/// A call, and what it leaves.
+#[derive(Drop)]
+struct Call<'a> {
+    fails: (u64, u64, u64),
+    status: u64,
+    error: &'a str,
+    input: &'a str,
+    book: &'a str,
+    words: &'a str,
+}
+
+/// The call of a line.
+fn call_of(line: &str) -> Result<Call<'_>, Fail> {
     let (head, words) = line.split_once(" =>").ok_or("no arrow")?;
     let (fails, head) = head.split_once(" ").ok_or("no status")?;
     let (status, head) = head.split_once(" ").ok_or("no error")?;
     let (error, head) = head.split_once(" ").ok_or("no input")?;
     let (input, book) = head.split_once(" ").ok_or("no book")?;
-    let words = words_of(alloc, words)?;
-    let mut streams = streams_of(alloc, input_of(input), fails)?;
+    Ok(Call {
+        fails: (digit(fails, 0), digit(fails, 1), digit(fails, 2)),
+        status: digit(status, 0),
+        error: error_of(error),
+        input: input_of(input),
+        book,
+        words,
+    })
+}
+
+/// Whether a call leaves what is told of it.
+fn leaves<R: Threads + Wait + Sync>(rt: &R, alloc: Global, call: &Call<'_>) -> Result<bool, Fail> {
+    let words = words_of(alloc, call.words)?;
+    let mut streams = streams_of(alloc, call.input, call.fails)?;
     let ended = speedlight(
         rt,
         alloc,
@@ -173,8 +133,7 @@ fn is_so<R: Threads + Wait + Sync>(rt: &R, alloc: Global, line: &str) -> Result<
         &mut streams.err,
         &FreeGate,
     );
-    let status = digit(status, 0);
-    Ok(is_left(&ended, &streams, status, error_of(error), book))
+    Ok(is_left(&ended, &streams, call.status, call.error, call.book))
 }
 
 /// The first line of the table that is not so.
@@ -184,7 +143,7 @@ fn wrong_line<'a, R: Threads + Wait + Sync>(
     table: &'a str,
 ) -> Result<Option<&'a str>, Fail> {
     for line in table.lines() {
-        if !is_so(rt, alloc, line)? {
+        if !leaves(rt, alloc, &call_of(line)?)? {
             return Ok(Some(line));
         }
     }
@@ -201,7 +160,7 @@ fn words_and_faults(rt: HostRuntime) -> Result<(), Fail> {
 /// Without a word the call that takes no handle tells how the program is used.
 #[test]
 fn no_words(rt: HostRuntime) -> Result<(), Fail> {
-    let mut streams = streams_of(rt.alloc(), "", "000")?;
+    let mut streams = streams_of(rt.alloc(), "", (0, 0, 0))?;
     let ended = one_thread(
         rt.alloc(),
         &[],
@@ -210,123 +169,5 @@ fn no_words(rt: HostRuntime) -> Result<(), Fail> {
         &mut streams.err,
     );
     assert!(rt; is_left(&ended, &streams, 2, USAGE, "none"));
-    Ok(())
-}
-
-fn told_parts(alloc: Global, parts: &Parts) -> Result<String, AllocError> {
-    format!(in alloc; "{parts:?}")
-}
-
-fn told_tables(alloc: Global, snapshot: Snapshot, loss: &LossSpec) -> Result<String, AllocError> {
-    format!(in alloc; "{snapshot:?} {loss:?}")
-}
-
-fn told_lists(
-    alloc: Global,
-    flows: &[Flow],
-    raws: &[RawPart],
-    script: &[Script1],
-) -> Result<String, AllocError> {
-    format!(in alloc; "{flows:?} {raws:?} {script:?}")
-}
-
-/// All that an input says, written out.
-fn told_input(alloc: Global, input: &Input) -> Result<String, AllocError> {
-    let mut text = told_parts(alloc, input.net.parts())?;
-    text.push_str(told_tables(alloc, input.snapshot, &input.loss)?.as_str())?;
-    let lists = told_lists(
-        alloc,
-        input.flows.as_slice(),
-        input.raws.as_slice(),
-        input.script.as_slice(),
-    )?;
-    text.push_str(lists.as_str())?;
-    Ok(text)
-}
-
-fn told_text(alloc: Global, text: &[u8]) -> Result<String, Fail> {
-    match read_input(alloc, text) {
-        Ok(input) => Ok(told_input(alloc, &input)?),
-        Err(_) => Err("refused".into()),
-    }
-}
-
-fn told_sample(alloc: Global, number: u64) -> Result<String, Fail> {
-    match sample_parts(alloc, number) {
-        Ok(input) => Ok(told_input(alloc, &input)?),
-        Err(_) => Err("no sample".into()),
-    }
-}
-
-/// The text of a sample.
-fn sample_text(alloc: Global, number: u64) -> Result<Vec<u8>, Fail> {
-    match sample_input(alloc, number) {
-        Ok(text) => Ok(text),
-        Err(_) => Err("no text".into()),
-    }
-}
-
-/// The text of each sample is read as the sample's input.
-#[test]
-fn samples_are_read(rt: HostRuntime) -> Result<(), Fail> {
-    let alloc = rt.alloc();
-    for number in 1..65 {
-        let text = sample_text(alloc, number)?;
-        let read = told_text(alloc, text.as_slice())?;
-        let made = told_sample(alloc, number)?;
-        assert_eq!(rt; read.as_str(), made.as_str());
-    }
-    Ok(())
-}
-
-/// The turns of lines that spell them.
-fn turns(alloc: Global, net: &Net, lines: &str) -> Result<Vec<(u32, u32)>, Fail> {
-    let mut turns = Vec::new(alloc);
-    for line in lines.lines() {
-        turns.push(find_choice(net, line).ok_or("no choice")?)?;
-    }
-    Ok(turns)
-}
-
-/// The report of the findings of a schedule, computed from whole histories.
-fn told_of(alloc: Global, input: &Input, lines: &str) -> Result<Vec<u8>, Fail>
-    requires { All HasAddresses input.now.flows }
-{
-    let schedule = turns(alloc, &input.net, lines)?;
-    if schedule.len() >= 1 << 40 {
-        return Err("too long".into());
-    }
-    let findings = findings_of(alloc, input, schedule.as_slice())
-        .ok()
-        .ok_or("memory")?;
-    Ok(report_bytes(alloc, input, &findings).ok().ok_or("memory")?)
-}
-
-/// The same for the text of an input.
-fn report_of(alloc: Global, text: &str, lines: &str) -> Result<Vec<u8>, Fail> {
-    accepted_inputs_can_run();
-    match read_input(alloc, text.as_bytes()) {
-        Ok(input) => told_of(alloc, &input, lines),
-        Err(_) => Err("refused".into()),
-    }
-}
-
-/// The name of the first row whose schedule has other findings.
-fn wrong_schedule<'a>(alloc: Global, table: &'a str) -> Result<Option<&'a str>, Fail> {
-    for row in table.split("==\n") {
-        let (name, rest) = row.split_once("\n").ok_or("no input")?;
-        let (input, rest) = rest.split_once("--\n").ok_or("no schedule")?;
-        let (lines, report) = rest.split_once("--\n").ok_or("no report")?;
-        if report_of(alloc, input, lines)?.as_slice() != report.as_bytes() {
-            return Ok(Some(name));
-        }
-    }
-    Ok(None)
-}
-
-/// The findings of schedules that are written down.
-#[test]
-fn written_schedules(rt: HostRuntime) -> Result<(), Fail> {
-    assert_eq!(rt; wrong_schedule(rt.alloc(), rows::schedules())?, None);
     Ok(())
 }

@@ -1,13 +1,11 @@
-// Tests of calls between the machines and the top call: scripts, settling, a trace, how schedules
-// end, a world of nodes, actors of nodes in one thread, and values.
+// Tests of calls between the machines and the top call: scripts, settling, a trace, a world of nodes,
+// actors of nodes in one thread, and values.
 #![tactic(auto)]
 
 #[cfg(test)]
 mod actors;
 #[cfg(test)]
 mod calls;
-#[cfg(test)]
-mod endings;
 #[cfg(test)]
 mod in_flight;
 #[cfg(test)]

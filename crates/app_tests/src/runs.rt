@@ -1,8 +1,8 @@
 // The command run, where two actors meet.
-use crate::call::{sink, source, words_of};
+use crate::app::is_left;
 use crate::meeting::Meeting;
-use sl_app::{Ended, speedlight};
-use sl_io::MemorySink;
+use crate::streams::{streams_of, words_of};
+use sl_app::speedlight;
 use std::alloc::Global;
 use std::sync::Wait;
 use std::test::Fail;
@@ -40,20 +40,21 @@ lost cable 0 crossbar 0 init 0 notice 0
 end
 "#;
 
-fn is_right(ended: &Ended, out: &MemorySink, err: &MemorySink) -> bool {
-    let told = out.bytes() == REPORT.as_bytes() && err.bytes().is_empty();
-    told && ended.status == 0 && ended.book.is_some()
-}
-
 /// Whether a run whose actors pass this gate has the report that it should.
 fn runs_at<R: Threads + Wait + Sync>(rt: &R, alloc: Global, gate: &Meeting) -> Result<bool, Fail> {
     let words = words_of(alloc, "run")?;
-    let mut input = source(alloc, NO_PACKET)?;
-    let mut out = sink(alloc, &[])?;
-    let mut err = sink(alloc, &[])?;
-    let words = words.as_slice();
-    let ended = speedlight(rt, alloc, words, &mut input, &mut out, &mut err, gate);
-    Ok(is_right(&ended, &out, &err))
+    let mut streams = streams_of(alloc, NO_PACKET, (0, 0, 0))?;
+    let ended = speedlight(
+        rt,
+        alloc,
+        words.as_slice(),
+        &mut streams.input,
+        &mut streams.out,
+        &mut streams.err,
+        gate,
+    );
+    let is_told = streams.out.bytes() == REPORT.as_bytes();
+    Ok(is_told && is_left(&ended, &streams, 0, "", "book"))
 }
 
 /// How many of two actors see the other in its first round, and whether the report is right.

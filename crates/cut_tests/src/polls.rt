@@ -1,21 +1,15 @@
 // The trail of a schedule, and what reading the units one after the other shows of it.
-ghost use Rattle.std.specs.Prelude.{◌<◌, IfOk, IsTrue};
+ghost use Rattle.std.specs.Prelude.{◌<◌, IsTrue};
 ghost use Rattle.std.specs.List.{All};
 ghost use Rattle.sl_flow.specs.Flow.{HasAddresses};
 
+use crate::inputs::input_of;
+use crate::rows::ONE_PACKET;
 use sl_cut::{Ending, ending_of};
 use sl_net::{Input, Net};
 use sl_poll::{Counted, Listed, Pair, Polled, Read1, Trail, reading_of, trail_of};
-use sl_read::read_input;
 use std::alloc::{AllocError, Global};
 use std::test::Fail;
-
-/// A device with two hosts, one packet and one snapshot.
-const ONE_PACKET: &str = r#"device = [{name = "a", ports = 2}]
-host = [{name = "h0", at = "a.0"}, {name = "h1", at = "a.1"}]
-flow = [{from = "h0", to = "h1", count = 1, bytes = 100, hops = 8}]
-snapshot = {bits = 2, window = 3, ring = 3, count = 1, retries = 0}
-"#;
 
 /// The packet's way: its host sends it, the ingress unit takes it from there, the egress unit of the
 /// other port from the crossbar, and the other host takes it.
@@ -53,15 +47,6 @@ fn pairs() -> &'static [Pair] {
 
 fn counted() -> &'static [Counted] {
     &COUNTED
-}
-
-fn input_of(alloc: Global, text: &str) -> Result<Input, Fail>
-    ensures { IfOk result (λ i. All HasAddresses i.flows) }
-{
-    match read_input(alloc, text.as_bytes()) {
-        Ok(input) => Ok(input),
-        Err(_) => Err("refused".into()),
-    }
 }
 
 /// The trail of a schedule that is legal and leaves its world unfinished.

@@ -1,0 +1,43 @@
+// The words and the streams of a call.
+use sl_io::{MemorySink, MemorySource};
+use std::alloc::{AllocError, Global};
+use std::test::Fail;
+
+/// The streams of a call.
+#[derive(Drop)]
+pub struct Streams {
+    pub input: MemorySource,
+    pub out: MemorySink,
+    pub err: MemorySink,
+}
+
+fn source(alloc: Global, text: &str, fail: u64) -> Result<MemorySource, AllocError> {
+    let bytes = Vec::from_slice(alloc, text.as_bytes())?;
+    Ok(MemorySource::new(bytes, Vec::from_slice(alloc, &[fail])?))
+}
+
+fn sink(alloc: Global, fail: u64) -> Result<MemorySink, Fail> {
+    let fails = Vec::from_slice(alloc, &[fail])?;
+    Ok(MemorySink::new(alloc, 4096, fails).ok().ok_or("memory")?)
+}
+
+/// The streams of a call with this input, where the read, the write and the write of errors of these
+/// numbers fail; none does at 0.
+pub fn streams_of(alloc: Global, text: &str, fails: (u64, u64, u64)) -> Result<Streams, Fail> {
+    Ok(Streams {
+        input: source(alloc, text, fails.0)?,
+        out: sink(alloc, fails.1)?,
+        err: sink(alloc, fails.2)?,
+    })
+}
+
+/// The words of a line.
+pub fn words_of(alloc: Global, line: &str) -> Result<Vec<String>, AllocError> {
+    let mut words = Vec::new(alloc);
+    for word in line.split(" ") {
+        if !word.is_empty() {
+            words.push(String::from_str(alloc, word)?)?;
+        }
+    }
+    Ok(words)
+}

@@ -1,14 +1,10 @@
 -- Actors that have the numbers of a plan, and one of which takes a turn.
-use Rattle.std.proofs.Common.{◌≡◌, ℕ, zero, suc, List, [], ◌∷◌, map, get_or, refl, ap, sym, ◌∙◌}
+use Rattle.std.proofs.Common.{◌≡◌, ℕ, List, [], ◌∷◌, map, get_or, refl, ap, sym, ◌∙◌}
+use Rattle.std.proofs.Math.Seq.{map-set_same}
 use Rattle.std.specs.Prelude.{slice_set}
 use Rattle.sl_machine.specs.Machine.{Counts}
 use Rattle.sl_machine.specs.Plan.{Plan}
 use Rattle.sl_machine.specs.Fit.{HasCounts}
-
-same_set : {A B : Type 0} (f : A → B) (xs : List A) (i : ℕ) (x d : A) → f x ≡ f (get_or xs i d) → map f (slice_set xs i x) ≡ map f xs
-same_set f [] i x d is = refl
-same_set f (a ∷ xs) zero x d is = ap (λ y. y ∷ map f xs) is
-same_set f (a ∷ xs) (suc i) x d is = ap (λ l. f a ∷ l) (same_set f xs i x d is)
 
 twice : {A B C : Type 0} (f : A → B) (g : B → C) (xs : List A) → map (λ a. g (f a)) xs ≡ map g (map f xs)
 twice f g [] = refl
@@ -18,9 +14,9 @@ pub fit_set : {A : Type 0} (counts : A → Counts) (plan : Plan) (xs : List A) (
 fit_set counts plan xs i x d at same fit =
     let is = same ∙ ap counts at in
     record {
-      ins_are = same_set (λ a. (counts a).ins) xs i x d (ap (λ (n : Counts). n.ins) is) ∙ fit.ins_are;
-      outs_are = same_set (λ a. (counts a).outs) xs i x d (ap (λ (n : Counts). n.outs) is) ∙ fit.outs_are;
-      actions_are = same_set (λ a. (counts a).actions) xs i x d (ap (λ (n : Counts). n.actions) is) ∙ fit.actions_are;
+      ins_are = map-set_same (λ a. (counts a).ins) xs i x d (ap (λ (n : Counts). n.ins) is) ∙ fit.ins_are;
+      outs_are = map-set_same (λ a. (counts a).outs) xs i x d (ap (λ (n : Counts). n.outs) is) ∙ fit.outs_are;
+      actions_are = map-set_same (λ a. (counts a).actions) xs i x d (ap (λ (n : Counts). n.actions) is) ∙ fit.actions_are;
     }
 
 -- actors fit where they have the numbers of machines that fit

@@ -1,5 +1,5 @@
 // Worked nets, and parts that are refused.
-use crate::plan::{Plan, built, parts};
+use crate::plan::{Plan, Port, built, parts};
 use sl_net::{
     ActorId, Line, LinkKind, LinkPart, Net, NetFault, Place, Side, Sort, UnitId, choice_text,
     find_choice,
@@ -332,189 +332,160 @@ const MANY: &[(&str, u32)] = &[("d", 1); 65];
 
 const CROWD: &[(&str, (u32, u32))] = &[("h", (0, 0)); 129];
 
+/// A list of devices, one of cables and one of hosts, and why they make no net.
+struct Case {
+    fault: NetFault,
+    devices: &'static [(&'static str, u32)],
+    cables: &'static [(Port, Port)],
+    hosts: &'static [(&'static str, Port)],
+}
+
 /// The first fault of each kind, the last place where it can stand, and two faults at once.
-static CASES: [(Plan, NetFault); 21] = [
-    (
-        Plan {
-            devices: &[],
-            cables: &[],
-            hosts: &[],
-        },
-        NetFault::N1,
-    ),
-    (
-        Plan {
-            devices: MANY,
-            cables: &[],
-            hosts: &[],
-        },
-        NetFault::N2(65),
-    ),
-    (
-        Plan {
-            devices: &[("a", 0), ("b", 9)],
-            cables: &[],
-            hosts: &[],
-        },
-        NetFault::N3(0),
-    ),
-    (
-        Plan {
-            devices: &[("a", 8), ("b", 9)],
-            cables: &[],
-            hosts: &[],
-        },
-        NetFault::N3(1),
-    ),
-    (
-        Plan {
-            devices: SOME,
-            cables: &[((0, 0), (2, 0))],
-            hosts: &[],
-        },
-        NetFault::N4(Place::Cable(0)),
-    ),
-    (
-        Plan {
-            devices: SOME,
-            cables: &[((0, 0), (1, 0)), ((1, 2), (0, 1))],
-            hosts: &[],
-        },
-        NetFault::N4(Place::Cable(1)),
-    ),
-    (
-        Plan {
-            devices: SOME,
-            cables: &[],
-            hosts: &[("h", (0, 2))],
-        },
-        NetFault::N4(Place::Host(0)),
-    ),
-    (
-        Plan {
-            devices: SOME,
-            cables: &[((0, 0), (0, 0))],
-            hosts: &[],
-        },
-        NetFault::N5(0),
-    ),
-    (
-        Plan {
-            devices: SOME,
-            cables: &[((0, 0), (0, 1)), ((1, 0), (0, 1))],
-            hosts: &[],
-        },
-        NetFault::N5(1),
-    ),
-    (
-        Plan {
-            devices: SOME,
-            cables: &[],
-            hosts: CROWD,
-        },
-        NetFault::N6(129),
-    ),
-    (
-        Plan {
-            devices: SOME,
-            cables: &[((0, 0), (1, 1))],
-            hosts: &[("g", (0, 1)), ("h", (1, 1))],
-        },
-        NetFault::N7(1),
-    ),
-    (
-        Plan {
-            devices: SOME,
-            cables: &[],
-            hosts: &[("g", (0, 1)), ("h", (0, 1))],
-        },
-        NetFault::N7(1),
-    ),
-    (
-        Plan {
-            devices: &[("a", 1), ("a", 1)],
-            cables: &[],
-            hosts: &[],
-        },
-        NetFault::N8(Place::Device(1)),
-    ),
-    (
-        Plan {
-            devices: SOME,
-            cables: &[],
-            hosts: &[("a", (0, 1)), ("h", (0, 0)), ("h", (1, 0))],
-        },
-        NetFault::N8(Place::Host(2)),
-    ),
-    (
-        Plan {
-            devices: SOME,
-            cables: &[((2, 0), (0, 0))],
-            hosts: &[],
-        },
-        NetFault::N4(Place::Cable(0)),
-    ),
-    (
-        Plan {
-            devices: SOME,
-            cables: &[((0, 0), (1, 0))],
-            hosts: &[("g", (0, 1)), ("h", (2, 0))],
-        },
-        NetFault::N4(Place::Host(1)),
-    ),
-    (
-        Plan {
-            devices: SOME,
-            cables: &[((0, 0), (1, 1))],
-            hosts: &[("g", (0, 0)), ("h", (1, 0))],
-        },
-        NetFault::N7(0),
-    ),
-    (
-        Plan {
-            devices: &[("a", 1), ("b", 1), ("a", 1), ("b", 1)],
-            cables: &[],
-            hosts: &[],
-        },
-        NetFault::N8(Place::Device(2)),
-    ),
-    (
-        Plan {
-            devices: MANY,
-            cables: &[((0, 0), (0, 1))],
-            hosts: CROWD,
-        },
-        NetFault::N2(65),
-    ),
-    (
-        Plan {
-            devices: &[("a", 1), ("a", 9)],
-            cables: &[((0, 0), (0, 1))],
-            hosts: &[],
-        },
-        NetFault::N3(1),
-    ),
-    (
-        Plan {
-            devices: &[("a", 2), ("a", 2)],
-            cables: &[((0, 0), (0, 0))],
-            hosts: &[("h", (0, 2))],
-        },
-        NetFault::N4(Place::Host(0)),
-    ),
+static CASES: [Case; 21] = [
+    Case {
+        fault: NetFault::N1,
+        devices: &[],
+        cables: &[],
+        hosts: &[],
+    },
+    Case {
+        fault: NetFault::N2(65),
+        devices: MANY,
+        cables: &[],
+        hosts: &[],
+    },
+    Case {
+        fault: NetFault::N3(0),
+        devices: &[("a", 0), ("b", 9)],
+        cables: &[],
+        hosts: &[],
+    },
+    Case {
+        fault: NetFault::N3(1),
+        devices: &[("a", 8), ("b", 9)],
+        cables: &[],
+        hosts: &[],
+    },
+    Case {
+        fault: NetFault::N4(Place::Cable(0)),
+        devices: SOME,
+        cables: &[((0, 0), (2, 0))],
+        hosts: &[],
+    },
+    Case {
+        fault: NetFault::N4(Place::Cable(1)),
+        devices: SOME,
+        cables: &[((0, 0), (1, 0)), ((1, 2), (0, 1))],
+        hosts: &[],
+    },
+    Case {
+        fault: NetFault::N4(Place::Host(0)),
+        devices: SOME,
+        cables: &[],
+        hosts: &[("h", (0, 2))],
+    },
+    Case {
+        fault: NetFault::N5(0),
+        devices: SOME,
+        cables: &[((0, 0), (0, 0))],
+        hosts: &[],
+    },
+    Case {
+        fault: NetFault::N5(1),
+        devices: SOME,
+        cables: &[((0, 0), (0, 1)), ((1, 0), (0, 1))],
+        hosts: &[],
+    },
+    Case {
+        fault: NetFault::N6(129),
+        devices: SOME,
+        cables: &[],
+        hosts: CROWD,
+    },
+    Case {
+        fault: NetFault::N7(1),
+        devices: SOME,
+        cables: &[((0, 0), (1, 1))],
+        hosts: &[("g", (0, 1)), ("h", (1, 1))],
+    },
+    Case {
+        fault: NetFault::N7(1),
+        devices: SOME,
+        cables: &[],
+        hosts: &[("g", (0, 1)), ("h", (0, 1))],
+    },
+    Case {
+        fault: NetFault::N8(Place::Device(1)),
+        devices: &[("a", 1), ("a", 1)],
+        cables: &[],
+        hosts: &[],
+    },
+    Case {
+        fault: NetFault::N8(Place::Host(2)),
+        devices: SOME,
+        cables: &[],
+        hosts: &[("a", (0, 1)), ("h", (0, 0)), ("h", (1, 0))],
+    },
+    Case {
+        fault: NetFault::N4(Place::Cable(0)),
+        devices: SOME,
+        cables: &[((2, 0), (0, 0))],
+        hosts: &[],
+    },
+    Case {
+        fault: NetFault::N4(Place::Host(1)),
+        devices: SOME,
+        cables: &[((0, 0), (1, 0))],
+        hosts: &[("g", (0, 1)), ("h", (2, 0))],
+    },
+    Case {
+        fault: NetFault::N7(0),
+        devices: SOME,
+        cables: &[((0, 0), (1, 1))],
+        hosts: &[("g", (0, 0)), ("h", (1, 0))],
+    },
+    Case {
+        fault: NetFault::N8(Place::Device(2)),
+        devices: &[("a", 1), ("b", 1), ("a", 1), ("b", 1)],
+        cables: &[],
+        hosts: &[],
+    },
+    Case {
+        fault: NetFault::N2(65),
+        devices: MANY,
+        cables: &[((0, 0), (0, 1))],
+        hosts: CROWD,
+    },
+    Case {
+        fault: NetFault::N3(1),
+        devices: &[("a", 1), ("a", 9)],
+        cables: &[((0, 0), (0, 1))],
+        hosts: &[],
+    },
+    Case {
+        fault: NetFault::N4(Place::Host(0)),
+        devices: &[("a", 2), ("a", 2)],
+        cables: &[((0, 0), (0, 0))],
+        hosts: &[("h", (0, 2))],
+    },
 ];
 
-fn cases() -> &'static [(Plan, NetFault)] {
+fn cases() -> &'static [Case] {
     &CASES
 }
 
-fn fault(alloc: Global, plan: &Plan) -> Result<Option<NetFault>, Fail> {
-    Ok(Net::build(alloc, parts(alloc, plan)?).err())
+fn fault(alloc: Global, case: &Case) -> Result<Option<NetFault>, Fail> {
+    let plan = Plan {
+        devices: case.devices,
+        cables: case.cables,
+        hosts: case.hosts,
+    };
+    Ok(Net::build(alloc, parts(alloc, &plan)?).err())
 }
 
-fn first_wrong_fault(alloc: Global, cases: &[(Plan, NetFault)]) -> Result<Option<usize>, Fail> {
-    for (place, (plan, wanted)) in cases.iter().enumerate() {
-        if fault(alloc, plan)? != Some(*wanted) {
+fn first_wrong_fault(alloc: Global, cases: &[Case]) -> Result<Option<usize>, Fail> {
+    for (place, case) in cases.iter().enumerate() {
+        if fault(alloc, case)? != Some(case.fault) {
             return Ok(Some(place));
         }
     }

@@ -12,6 +12,20 @@ const NONE: Total = Total {
     bytes: 0,
 };
 
+/// So many packets of 100 bytes, with some in flight on the first channel.
+fn value(packets: u64, in_flight: u64) -> Saved {
+    let mut inflight = [NONE; 8];
+    inflight[0] = Total {
+        packets: in_flight,
+        bytes: in_flight.saturating_mul(100),
+    };
+    Saved::Value {
+        packets,
+        bytes: packets.saturating_mul(100),
+        inflight,
+    }
+}
+
 /// What a view of three slots at the number `id` says of `k`.
 fn answer(view: &View, id: u64, k: u64) -> Option<Saved>
     requires least { 1 ≤ k }
@@ -31,30 +45,15 @@ fn check_entries<S: Saves>(rt: &impl Abort, saves: &mut S) -> Result<(), Memory>
     requires window { S.window saves.old ≡ 3 }
     requires size { S.size saves.old ≡ 3 }
 {
-    let mut inflight = [NONE; 8];
     saves.ready()?;
     saves.adopt(1, 5, 500);
-    let five = Saved::Value {
-        packets: 5,
-        bytes: 500,
-        inflight,
-    };
     saves.ready()?;
     saves.adopt(2, 7, 700);
     saves.credit(0, 2, 100);
     let mut view = saves.view()?;
-    inflight[0] = Total {
-        packets: 1,
-        bytes: 100,
-    };
-    let seven = Saved::Value {
-        packets: 7,
-        bytes: 700,
-        inflight,
-    };
-    assert_eq!(rt; answer(&view, 3, 3), Some(seven));
+    assert_eq!(rt; answer(&view, 3, 3), Some(value(7, 1)));
     assert_eq!(rt; answer(&view, 3, 2), Some(Saved::Skipped { to: 3 }));
-    assert_eq!(rt; answer(&view, 3, 1), Some(five));
+    assert_eq!(rt; answer(&view, 3, 1), Some(value(5, 0)));
     saves.credit(0, 3, 100);
     saves.fill(&mut view);
     let late = Saved::Miscredited { by: 3, reach: 3 };
@@ -67,30 +66,15 @@ fn check_two_credits<S: Saves>(rt: &impl Abort, saves: &mut S) -> Result<(), Mem
     requires window { S.window saves.old ≡ 3 }
     requires size { S.size saves.old ≡ 3 }
 {
-    let mut inflight = [NONE; 8];
     saves.ready()?;
     saves.adopt(1, 5, 500);
     saves.ready()?;
     saves.adopt(2, 7, 700);
     saves.credit(0, 3, 100);
     let view = saves.view()?;
-    inflight[0] = Total {
-        packets: 1,
-        bytes: 100,
-    };
-    let seven = Saved::Value {
-        packets: 7,
-        bytes: 700,
-        inflight,
-    };
-    let five = Saved::Value {
-        packets: 5,
-        bytes: 500,
-        inflight,
-    };
-    assert_eq!(rt; answer(&view, 3, 3), Some(seven));
+    assert_eq!(rt; answer(&view, 3, 3), Some(value(7, 1)));
     assert_eq!(rt; answer(&view, 3, 2), Some(Saved::Skipped { to: 3 }));
-    assert_eq!(rt; answer(&view, 3, 1), Some(five));
+    assert_eq!(rt; answer(&view, 3, 1), Some(value(5, 1)));
     Ok(())
 }
 

@@ -1,23 +1,14 @@
 -- Actors of which one takes a turn.
-use Rattle.std.proofs.Common.{◌≡◌, ℕ, zero, suc, ◌<◌, List, [], ◌∷◌, length, map, get_or, refl, ap, sym, ◌∙◌, subst, inl, inr}
+use Rattle.std.proofs.Common.{◌≡◌, ℕ, ◌<◌, List, length, map, get_or, refl, ap, sym, ◌∙◌, subst, inl, inr}
 use Rattle.std.specs.Prelude.{slice_set}
 use Rattle.std.proofs.lemmas.Bool.{cases_eq}
-use Rattle.std.proofs.lemmas.List.{length-map, length-set, get_or-map, get_or-set_same, get_or-set_other, get_or_default}
+use Rattle.std.proofs.lemmas.List.{length-map, length-set, map-set, get_or-map, get_or-set_same, get_or-set_other, get_or_default}
+use Rattle.std.proofs.Math.Seq.{map-set_same}
 use Rattle.sl_machine.specs.Machine.{Rules}
 use Rattle.sl_actor.specs.Follows.{ActorView, Follows}
 use Rattle.sl_actor.specs.Made.{EachFollows}
 use Rattle.sl_actor.specs.Turns.{KeepsEnds}
 use Rattle.sl_merge.specs.Merged.{AreKept}
-
-pub map_set : {A B : Type 0} (f : A → B) (xs : List A) (i : ℕ) (x : A) → map f (slice_set xs i x) ≡ slice_set (map f xs) i (f x)
-map_set f [] i x = refl
-map_set f (a ∷ xs) zero x = refl
-map_set f (a ∷ xs) (suc i) x = ap (λ l. f a ∷ l) (map_set f xs i x)
-
-same_set : {A B : Type 0} (f : A → B) (xs : List A) (i : ℕ) (x d : A) → f x ≡ f (get_or xs i d) → map f (slice_set xs i x) ≡ map f xs
-same_set f [] i x d is = refl
-same_set f (a ∷ xs) zero x d is = ap (λ y. y ∷ map f xs) is
-same_set f (a ∷ xs) (suc i) x d is = ap (λ l. f a ∷ l) (same_set f xs i x d is)
 
 module _ {S M : Type 0} where
   unchanged : (a : ActorView S M) → KeepsEnds a a
@@ -26,7 +17,7 @@ module _ {S M : Type 0} where
   pub kept : (actors : List (ActorView S M)) (i : ℕ) (x d : ActorView S M) → i < length actors → KeepsEnds (get_or actors i d) x → x.counts ≡ (get_or actors i d).counts → AreKept actors (slice_set actors i x)
   kept actors i x d low ends counts = record {
     each = length-set actors i x;
-    counts = same_set (λ (a : ActorView S M). a.counts) actors i x d counts;
+    counts = map-set_same (λ (a : ActorView S M). a.counts) actors i x d counts;
     ends = λ k a b here. elim (cases_eq k i) [
       | inl same ↦ subst (λ (n : ℕ). KeepsEnds (get_or actors n a) (get_or (slice_set actors i x) n b)) (sym same)
           (subst (λ (y : ActorView S M). KeepsEnds (get_or actors i a) y) (sym (get_or-set_same actors i x b low))
@@ -53,6 +44,6 @@ module _ {S M : Type 0} where
       let keeps = subst (λ (y : ActorView S M). KeepsEnds y (view x)) was ends in
       let same = counts ∙ ap (λ (a : ActorView S M). a.counts) was in
       let moves = subst (λ (y : ActorView S M). (first : S) → Follows rules first y → Follows rules first (view x)) was goes in (
-        subst (AreKept (map view xs)) (sym (map_set view xs i x)) (kept (map view xs) i (view x) (view old) here keeps same),
-        subst (EachFollows rules firsts) (sym (map_set view xs i x)) (each_follows rules firsts (map view xs) i (view x) (view old) here moves all),
+        subst (AreKept (map view xs)) (sym (map-set view xs i x)) (kept (map view xs) i (view x) (view old) here keeps same),
+        subst (EachFollows rules firsts) (sym (map-set view xs i x)) (each_follows rules firsts (map view xs) i (view x) (view old) here moves all),
       )

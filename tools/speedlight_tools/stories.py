@@ -1,16 +1,13 @@
-"""What happened to a snapshot, in words: its verdict in a sentence, and the turns that led to it."""
+"""What happened to a snapshot, in words: the turns that led to its verdict."""
 
-from bisect import bisect_left, bisect_right
+from bisect import bisect_left
 from dataclasses import dataclass
 
-from .channels import LATE, LOST, ROOT, Channels, a_number, channel_name, joined, others_in_words, own_ingress, way_name
-from .nets import port_of
+from .channels import ROOT, Channels, a_number, channel_name, joined, others_in_words, own_ingress, way_name
 
 MOST_STEPS = 6
 # Of so many channels of a unit that skipped a number, the turns in which something was lost are shown together.
 MOST_KEYS = 3
-# As many saved entries as an input may let a packet be credited to.
-MOST_CREDITS = 4
 
 
 @dataclass
@@ -143,7 +140,7 @@ class Stories:
 
     def keys(self, verdict):
         """The places of the few turns that show how a failed or pending snapshot came about, in order."""
-        places = {self.cause(verdict)[1], self.fault(verdict)[0]}
+        places = {self.cause(verdict)[0], self.fault(verdict)[0]}
         if verdict.verdict == "miscredited":
             places.add(moved_on(self.world, verdict).place)
             reason = self.behind(verdict)
@@ -156,155 +153,32 @@ class Stories:
         return sorted(place for place in places if place is not None)
 
     def cause(self, verdict):
-        """What a failed or pending snapshot came of, in a sentence, with the places of its turn and its message; None
-        for what isn't known."""
+        """The places of the turn and of the message that a failed or pending snapshot came of; None for what isn't known."""
         if verdict.verdict == "skipped":
-            first, *_ = self.unheard(verdict)
-            return (first.words if first.place is None else f"At turn {first.place + 1} {first.words}"), first.place, first.message
-        if verdict.verdict == "miscredited":
-            return self.overtaken(verdict)
-        if verdict.verdict != "pending" or not self.first_lags(verdict):
-            return None, None, None
-        step, *behind = self.first_lags(verdict)
-        words = step.words if step.place is None else f"At turn {step.place + 1} {step.words}"
-        return " ".join([words, *(s.words for s in behind)]), step.place, step.message
+            first = self.unheard(verdict)[0]
+        elif verdict.verdict == "miscredited":
+            packet = crediting(self.world, verdict).took
+            return packet.put.place, packet.place
+        else:
+            first = self.first_lag(verdict) if verdict.verdict == "pending" else None
+        return (first.place, first.message) if first else (None, None)
 
     def others(self, verdict):
-        """Why the other channels of a unit that skipped a number, or isn't at it yet, brought none, in a sentence; None
-        where there is nothing to say."""
-        k, unit = verdict.number, verdict.unit
-        if verdict.verdict == "skipped":
-            first, *rest = self.reasons(verdict)
-            if first.rank > ROOT:
-                return None
-            return others_in_words(k, rest) if rest else self.no_other(unit)
-        if verdict.verdict != "pending" or verdict.channel != "id":
-            return None
-        told = {s.link for s in self.first_lags(verdict)}
-        rest = [r for r in self.reasons(verdict) if r.link not in told]
-        if not told:
-            return others_in_words(k, rest, "So far {} doesn't come")
-        return others_in_words(k, rest, f"Nor does {{}} come to {unit}") if rest else self.no_other(unit)
-
-    def no_other(self, unit):
-        """That one channel is all that a unit has, in a sentence."""
-        host = self.world.net.port_host.get(port_of(unit.partition(" ")[2])) if unit.startswith("in ") else None
-        if host is None:
-            return f"{unit} has no other channel."
-        return f"The other channel of {unit} is from host {host}, which sends no numbers."
-
-    def whys(self, verdict):
-        """What is said of a snapshot: the sentence that comes first is what it came of, where that is known; then what
-        that led to, and what else failed it, or would have."""
-        if verdict.verdict == "not issued":
-            return [self.not_issued(verdict)]
-        besides = self.besides(verdict)
-        last = f"At turn {besides.place + 1} {besides.words}" if besides else None
-        first = " ".join(words for words in (self.cause(verdict)[0], self.others(verdict)) if words)
-        return [words for words in (first, self.sentence(verdict), self.more(verdict), last) if words]
-
-    def sentence(self, verdict):
-        """The verdict on an issued snapshot in a sentence."""
-        v, k, world = verdict, verdict.number, self.world
-        if v.verdict == "skipped":
-            return f"At turn {skipping(world, v).place + 1} {self.gone_over(v)}"
-        if v.verdict == "miscredited":
-            return f"At turn {crediting(world, v).place + 1} {self.too_late(v)}"
-        if v.verdict == "pending" and v.channel == "id":
-            return f"At the end of the run {v.unit} is still at {v.other}: {a_number(k)} has not come to it."
-        if v.verdict == "pending":
-            link, turn = world.net.links[f"{v.unit} {v.channel}"], world.crossing(v.unit, k)
-            last = f"the last number that came from there is {v.other}" if v.other else "no number came from there"
-            since = f", since turn {turn.place + 1}" if world.ids[v.unit] == k else f" (it reached {k} at turn {turn.place + 1})"
-            words = f"At the end {v.unit} is at {world.ids[v.unit]} itself{since}, but waits for {a_number(k)} {channel_name(link)}: {last}."
-            return f"{words} Until then it isn't known which packets from before the cut are still to come."
-        return "No unit took before the cut what was sent after it."
-
-    def more(self, verdict):
-        """Which other turns failed the snapshot, or which other units wait, in a sentence; None where there are none."""
-        k, world, found = verdict.number, self.world, []
-        if verdict.verdict == "pending":
-            waiting = self.waiting_too(verdict)
-            return f"{listed(waiting)} {'wait' if waiting[1:] else 'waits'} too." if waiting else None
-        if verdict.verdict not in ("skipped", "miscredited"):
-            return None
-        first = self.fault(verdict)[0]
-        skips = [t for t in world.skips(k) if t.place != first]
-        late = [t for t in world.late(k) if t.place != first]
-        if skips:
-            found.append(f"{self.turns_in_words(skips)} {'go' if skips[1:] else 'goes'} over {k} too.")
-        if late:
-            what = "packets come too late and are" if late[1:] else "packet comes too late and is"
-            number = f"{len(late)} more" if verdict.verdict == "miscredited" else len(late)
-            found.append(f"{number} {what} missing from snapshot {k}: to {self.turns_in_words(late)}.")
-        return " ".join(found) or None
+        """The other turns that failed a snapshot, or would once nothing waited: the first of each further unit."""
+        if verdict.verdict not in ("skipped", "miscredited", "pending"):
+            return []
+        own = None if verdict.verdict == "pending" else verdict.unit
+        found = {}
+        for turn in (*self.world.skips(verdict.number), *self.world.late(verdict.number)):
+            if turn.actor != own:
+                found.setdefault(turn.actor, turn)
+        return list(found.values())
 
     def waiting_too(self, verdict):
         """The units that wait beside the one that a pending snapshot names."""
         if verdict.verdict != "pending":
             return []
         return [u for u in self.world.net.units if u != verdict.unit and self.world.lag(u, verdict.number) is not None]
-
-    @staticmethod
-    def turns_in_words(turns):
-        """Units with their turns: the first few, and how many more."""
-        few = [f"{t.actor} (turn {t.place + 1})" for t in turns[:MOST_STEPS]]
-        return joined([*few, f"{len(turns) - MOST_STEPS} more"] if turns[MOST_STEPS:] else few)
-
-    def right(self, verdict):
-        """What should have happened for the snapshot to be right, in a sentence; None where it is, or was not issued."""
-        told = {"skipped": self.right_of_skipped, "miscredited": self.right_of_miscredited, "pending": self.right_of_pending}
-        if verdict.verdict not in told:
-            return None
-        words = f"It would have been right if {told[verdict.verdict](verdict)}"
-        fault = self.fault(verdict)[0]
-        others = {t.place + 1 for t in (*self.world.skips(verdict.number), *self.world.late(verdict.number)) if t.place != fault}
-        if verdict.verdict == "pending" or not others:
-            return f"{words}."
-        few = [str(turn) for turn in sorted(others)[:MOST_STEPS]]
-        few += [f"{len(others) - MOST_STEPS} more"] if len(others) > MOST_STEPS else []
-        return f"{words}; and if turn{'s' if few[1:] else ''} {joined(few)} had not failed it too."
-
-    def right_of_skipped(self, verdict):
-        k, unit, turn = verdict.number, verdict.unit, skipping(self.world, verdict)
-        ways = [self.rescue(k, r) for r in self.reasons(verdict) if r.rank <= ROOT][:MOST_STEPS] or [a_number(k)]
-        return f"{' or '.join(ways)} had come to {unit} before turn {turn.place + 1}: {unit} would have saved its counters for snapshot {k}"
-
-    def rescue(self, k, reason):
-        """The message with a number that a channel would have brought, in words."""
-        if reason.rank == ROOT:
-            m = reason.root
-            lost = f"the {name_of(self.world, m)} to {m.link.target}, lost at turn {m.put.place + 1}"
-            return f"{a_number(k)} {channel_name(reason.link)} (which {lost}, would have brought)"
-        m = reason.message
-        state = "lost" if reason.rank == LOST else "sent"
-        return f"the {name_of(self.world, m)}{sent_over(m)}, {state} at turn {m.put.place + 1},"
-
-    def right_of_miscredited(self, verdict):
-        k, unit, turn = verdict.number, verdict.unit, crediting(self.world, verdict)
-        saved = bisect_right(self.world.adopting[unit], turn.place, key=lambda t: t.place)
-        needed, credits = saved - bisect_left(self.world.adopted[unit], k), self.source.snapshot["credits"]
-        words = f"the packet had come to {unit} before turn {moved_on(self.world, verdict).place + 1}"
-        if self.behind(verdict) is not None and self.issues[k].place < turn.took.put.place:
-            words += f", or {a_number(k)} to {turn.took.put.actor} before turn {turn.took.put.place + 1}"
-        return f"{words}, or with credits = {needed} in place of {credits}" if needed <= MOST_CREDITS else words
-
-    def right_of_pending(self, verdict):
-        k, unit, world = verdict.number, verdict.unit, self.world
-        links = world.net.links
-        ways = self.channels.links(unit) if verdict.channel == "id" else [links[f"{unit} {verdict.channel}"]]
-        over = channel_name(ways[0]) if len(ways) == 1 else f"to {unit}"
-        # A message with a number above k would do where it moves nobody over k.
-        found = [m for m in self.missed(verdict) if m.stamp == k or verdict.channel != "id" and m.stamp > k and world.ids[m.link.target] >= k]
-        is_above = verdict.channel != "id" and world.ids.get(ways[0].source, 0) >= k
-        number = f"{a_number(k)}{' or more' if is_above else ''}"
-        if not found:
-            words = f"{number} had come {over}"
-        else:
-            words = f"{self.lost_in_words(found)} had come"
-            later = f"or a later message with {k}{' or more' if is_above else ''}"
-            words += f", {later if all(m.link in ways for m in found) else f'and so {number}'} {over}"
-        return f"{words}: then {unit} would not wait" + (", but the snapshot could not be consistent" if self.besides(verdict) else "")
 
     def missed(self, verdict):
         """The messages that were lost by which a unit waits, in the order in which they are told."""
@@ -313,13 +187,6 @@ class Stories:
         places = [s.message for s in steps if s.message is not None]
         more = [r.message or r.root for r in self.reasons(verdict) if r.link not in told] if verdict.channel == "id" else []
         return list(dict.fromkeys([*(self.world.messages[place] for place in places), *(m for m in more if m is not None and m.lost)]))
-
-    def lost_in_words(self, messages):
-        """Messages that were lost, those of one name and one link together, as a choice."""
-        groups = {}
-        for m in messages[:MOST_STEPS]:
-            groups.setdefault(f"the {name_of(self.world, m)} to {m.link.target}", []).append(m.put.place + 1)
-        return " or ".join(f"{name}, lost at turn{'s' if turns[1:] else ''} {joined(map(str, turns))}," for name, turns in groups.items())
 
     def besides(self, verdict):
         """Of a pending snapshot, the first turn that would fail it once nothing waited: it went over the number, or took
@@ -346,7 +213,17 @@ class Stories:
         found = [Step(self.issues[k].place, f"The observer issues snapshot {k}.")]
         told = {"skipped": self.skipped, "miscredited": self.miscredited, "pending": self.pending}
         found += told.get(verdict.verdict, self.consistent)(verdict)
+        if verdict.verdict != "pending":
+            found += [self.other_step(verdict.number, turn) for turn in self.others(verdict)[:MOST_STEPS]]
         return sorted(found, key=lambda s: (s.place is None, s.place or 0))
+
+    def other_step(self, k, turn):
+        """What a further unit does that failed the snapshot too."""
+        if turn.before < k < turn.id:
+            return Step(turn.place, f"{turn.actor} goes over {k} too, from {turn.before} to {turn.id}.", turn.took.place)
+        packet = turn.took
+        words = f"The {name_of(self.world, packet)}, sent at turn {packet.put.place + 1} with {packet.stamp}, comes to {turn.actor} too late"
+        return Step(turn.place, f"{words}: it is missing from snapshot {k} too.", packet.place)
 
     def consistent(self, verdict):
         k = verdict.number
@@ -425,16 +302,6 @@ class Stories:
 
     # Of a miscredited one.
 
-    def overtaken(self, verdict):
-        """Which packet was sent, and what moved its unit on before it came, in a sentence, with the packet's place."""
-        k, turn, on = verdict.number, crediting(self.world, verdict), moved_on(self.world, verdict)
-        packet, took = turn.took, on.took
-        words = f"At turn {packet.put.place + 1} {self.sends(packet, f', still at {packet.stamp}{self.because(verdict)},')}. "
-        words += f"Before it comes, at turn {on.place + 1}, {verdict.unit} takes the {name_of(self.world, took)} {channel_name(took.link)}{carried(took)}: "
-        issued = [f"at turn {self.issues[n].place + 1}" for n in (k, on.id)]
-        words += f"it goes on from {on.before} to {on.id}. Snapshot {k} was issued {issued[0]}, snapshot {on.id} {issued[1]}."
-        return words, packet.put.place, packet.place
-
     def behind(self, verdict):
         """Why the sender of the packet had not reached the number; None where that isn't known."""
         put = crediting(self.world, verdict).took.put
@@ -501,11 +368,10 @@ class Stories:
         link = self.world.net.links[f"{unit} {verdict.channel}"]
         return f"{unit} still waits for {a_number(k)} {channel_name(link)}"
 
-    def first_lags(self, verdict):
-        """Of why a unit lags, the first step with a message, and behind it the units that lag by that."""
+    def first_lag(self, verdict):
+        """Of why a unit lags, the first step with a message, or else the first."""
         found = self.lags(verdict.number, verdict.unit, verdict.channel, verdict.other, [])
-        place = next((i for i, s in enumerate(found) if s.message is not None), 0)
-        return [*found[place : place + 1], *(s for s in found[:place] if s.place is None)]
+        return next((s for s in found if s.message is not None), found[0] if found else None)
 
     def lags(self, k, unit, channel, number, seen):
         """Why a unit, or one of its channels, stays below k: what was lost on the way, or the sender that lags itself."""

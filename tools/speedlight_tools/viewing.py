@@ -6,6 +6,7 @@ import json
 import sys
 from array import array
 
+from .banners import Banner
 from .drawing import ordered
 from .stories import Stories, moved_on
 
@@ -211,14 +212,15 @@ class Run:
     def told(self, stories, s):
         """What is said of a snapshot, and the turns, messages and actors that this tells of."""
         place, message = stories.fault(s)
-        _, begun, carried = stories.cause(s)
+        begun, carried = stories.cause(s)
+        banner = Banner(stories, s)
         sender = lambda step: self.actors[step.link.source] if step.link else -1
         return {
             "verdict": s.verdict,
             "line": s.line,
             "unit": self.actors.get(s.unit, -1) if s.unit else -1,
-            "whys": stories.whys(s),
-            "right": stories.right(s),
+            "lines": [[line.name, line.words, line.why] for line in banner.lines()],
+            "right": banner.right(),
             "keys": stories.keys(s),
             "causeTurn": begun,
             "causeMessage": carried,

@@ -129,7 +129,7 @@ class Diagram(unittest.TestCase):
         self.assertFalse([w for w in self.words(draw("two_in_flight")[1]) if w.startswith("turns ")])
 
     def test_what_is_involved(self):
-        for name, wanted in (("too_late_packet", ["in a.0", "in a.1", "out a.1"]), ("lost_initiation", ["control a", "in a.0"])):
+        for name, wanted in (("too_late_packet", ["in a.0", "in a.1", "out a.1"]), ("lost_initiation", ["control a", "in a.0", "out a.0"])):
             words = self.words(draw(name, "--involved")[1])
             actors = [w for w in words if re.fullmatch(r"observer|control a|host h\d|(in|out) a\.\d", w)]
             self.assertEqual(sorted(set(actors)), wanted, name)

@@ -10,6 +10,7 @@ from pathlib import Path
 
 from shared import EXAMPLES, TOP
 
+from speedlight_tools.banners import Banner
 from speedlight_tools.channels import Channels, a_number, joined
 from speedlight_tools.inputs import read_input
 from speedlight_tools.replay import replay
@@ -62,15 +63,18 @@ class Sentences(unittest.TestCase):
     def test_each_channel_of_a_unit_that_skips(self):
         stories, snapshots = ran(TWO_WAYS)
         self.assertEqual(snapshots[0].line, "snapshot 1 inconsistent in a.1 skipped to 2")
+        said = [line.text for line in Banner(stories, snapshots[0]).lines()]
         self.assertEqual(
-            stories.whys(snapshots[0])[0],
-            "At turn 2 control a sends the initiation 1 to in a.1: it is lost on the way. Nor does a 1 come over the cable from out b.0: "
-            "that unit is still at 0 itself, and goes over 1 only at turn 27, as the initiation 1 to in b.0, which passes probes on, is "
-            "lost at turn 6.",
+            said,
+            [
+                "in a.1 goes from 0 to 2 at turn 18, by initiation 2: no 1 came before.",
+                "init from control a: initiation 1 is lost at turn 2.",
+                "cable from out b.0: still at 0, as initiation 1 to in b.0 is lost at turn 6 (goes over 1 only at turn 27).",
+                "in b.0 failed it too: goes over 1 at turn 25; so does out b.0.",
+            ],
         )
-        right = stories.right(snapshots[0])
-        rescues = "the initiation 1, lost at turn 2, or a 1 over the cable from out b.0 (which the initiation 1 to in b.0, lost at turn 6, "
-        self.assertTrue(right.startswith(f"It would have been right if {rescues}would have brought) had come to in a.1 before turn"), right)
+        right = Banner(stories, snapshots[0]).right()
+        self.assertTrue(right.startswith("Right if initiation 1 (turn 2), or to in b.0 (turn 6), had come before turn 18; and a 1 to in b.0"), right)
 
     def test_many_channels_have_few_clauses(self):
         """Of a switch with five ports, on which probes are lost or late."""
@@ -82,40 +86,39 @@ snapshot = {bits = 2, window = 2, ring = 2, count = 2, retries = 0}
         entries = [*["observer issue"] * 2, *["control a begin"] * 2, *["in a.0 init"] * 2, "out a.0 x0", *(f"in a.{q} init" for q in range(1, 5))]
         stories, snapshots = ran(f'{text}loss = {{drop = [{{link = "out a.0 x0", n = 1}}, {lost}]}}\nscript = {{entries = {entries}}}\n')
         self.assertEqual(snapshots[0].line, "snapshot 1 inconsistent out a.0 skipped to 2")
-        self.assertRegex(
-            stories.whys(snapshots[0])[0],
-            r"^At turn 5 in a.0 sends the probe 1 over x0 to out a.0: it is lost on the way. Nor does a 1 come over x1, x2, x3 and x4 "
-            r"\(their units are still below 1\)\.$",
-        )
+        said = [line.text for line in Banner(stories, snapshots[0]).lines()]
+        self.assertEqual(said[1:3], ["x0 from in a.0: probe 1 is lost at turn 5.", "x1, x2, x3 and x4 bring none: their units are still below 1."])
         steps = " ".join(step.words for step in stories.steps(snapshots[0]))
         for q in range(1, 5):
             self.assertIn(f"A 1 doesn't come to out a.0 over x{q} from in a.{q}: that unit is still at 0 itself", steps)
 
     def test_a_host_brings_no_numbers(self):
         stories, snapshots = ran((EXAMPLES / "lost_initiation.toml").read_text())
-        self.assertTrue(stories.whys(snapshots[0])[0].endswith("The other channel of in a.0 is from host h0, which sends no numbers."))
-        self.assertEqual(
-            stories.right(snapshots[0]),
-            "It would have been right if the initiation 1, lost at turn 2, had come to in a.0 before turn 5: in a.0 would have saved "
-            "its counters for snapshot 1; and if turn 6 had not failed it too.",
-        )
+        banner = Banner(stories, snapshots[0])
+        self.assertIn("host h0 sends no numbers.", [line.text for line in banner.lines()])
+        self.assertEqual(banner.right(), "Right if initiation 1 (turn 2) had come before turn 5; and a 1 to out a.0 before turn 6.")
 
     def test_what_moved_the_unit_on(self):
         stories, snapshots = ran((EXAMPLES / "too_late_packet.toml").read_text())
         self.assertEqual(stories.keys(snapshots[0]), [1, 9, 10])
-        self.assertIn("at turn 10, out a.1 takes the probe 2 over x1 from in a.1: it goes on from 1 to 2.", stories.whys(snapshots[0])[0])
-        self.assertIn("Snapshot 1 was issued at turn 3, snapshot 2 at turn 4.", stories.whys(snapshots[0])[0])
-        told = "It would have been right if the packet had come to out a.1 before turn 10, or with credits = 2 in place of 1."
-        self.assertEqual(stories.right(snapshots[0]), told, "its sender could not know of snapshot 1 yet")
+        banner = Banner(stories, snapshots[0])
+        moved = banner.lines()[2]
+        self.assertEqual(moved.text.partition(" (")[0], "x1 from in a.1: probe 2 moved the unit on to 2 at turn 10")
+        self.assertEqual(moved.why, "snapshot 1 was issued at turn 3, snapshot 2 at turn 4")
+        told = "Right if the packet had come before turn 10, or with credits = 2."
+        self.assertEqual(banner.right(), told, "its sender could not know of snapshot 1 yet")
         stories, snapshots = ran((EXAMPLES / "too_late_packet.toml").read_text().replace("retries = 0", "retries = 0, credits = 2"))
-        self.assertEqual((snapshots[0].verdict, stories.right(snapshots[0])), ("consistent", None))
+        self.assertEqual((snapshots[0].verdict, Banner(stories, snapshots[0]).right()), ("consistent", None))
 
     def test_what_a_unit_waits_for(self):
         stories, snapshots = ran((EXAMPLES / "dead_cable.toml").read_text())
-        self.assertIn("in a.1 is at 1 itself, since turn 5, but waits for a 1 over the cable from out b.0", stories.sentence(snapshots[0]))
+        banner = Banner(stories, snapshots[0])
+        said = [line.text for line in banner.lines()]
+        self.assertEqual(said[0], "in a.1 is at 1 itself, but waits for a 1 over the cable: nothing came.")
+        self.assertEqual(said[1:3], ["cable from out b.0: probe 1 is lost at turn 10.", "init from control a: brought 1 at turn 5."])
         last = stories.steps(snapshots[0])[-1].words
         self.assertIn("The run ends, after turn 89, while in a.1 still waits for a 1 over the cable from out b.0", last)
-        self.assertIn("the probe 1 to in a.1, lost at turn 10, had come", stories.right(snapshots[0]))
+        self.assertEqual(banner.right(), "Right if probe 1 (turn 10) had come.")
 
     def test_what_the_retries_began(self):
         """A retry begins the newest snapshot, and not the one that waits."""
@@ -127,6 +130,8 @@ snapshot = {bits = 2, window = 2, ring = 2, count = 2, retries = 0}
         self.assertIn("The observer begins again, but with snapshot 2, its newest, not 1, as not all is collected.", steps)
         self.assertIn("(begun again: snapshot 2 at turn", steps[-1])
         self.assertIn(str(turn), steps[-1])
+        said = [line.text for line in Banner(stories, snapshots[0]).lines()]
+        self.assertRegex(" ".join(said), rf"retries began 2, not 1 \(turn {turn}\)")
         self.assertIn("The observer begins snapshot 2 once more, as not all is collected.", [s.words for s in stories.steps(snapshots[1])])
         again = {2: [stories.world.turns[4], stories.world.turns[6]], 3: [stories.world.turns[9]]}
         self.assertEqual(begun_again(again), " (begun again: snapshot 2 at turns 5 and 7, snapshot 3 at turn 10)")
@@ -162,45 +167,51 @@ class Runs(unittest.TestCase):
                 with self.subTest(seed=seed, snapshot=snapshot.line):
                     seen[snapshot.verdict] = seen.get(snapshot.verdict, 0) + 1
                     check = getattr(self, f"told_of_{snapshot.verdict.replace(' ', '_')}")
-                    check(stories, snapshot, " ".join(stories.whys(snapshot)))
+                    banner = Banner(stories, snapshot)
+                    check(stories, snapshot, banner, " ".join(line.text for line in banner.lines()))
+                    self.assertLess(len([w for line in banner.lines() for w in f"{line.name} {line.words}".split()]), 110)
         for verdict in ("skipped", "miscredited", "pending", "consistent"):
             self.assertGreater(seen.get(verdict, 0), 3, seen)
 
-    def told_of_consistent(self, stories, snapshot, said):
-        self.assertEqual((said, stories.right(snapshot)), ("No unit took before the cut what was sent after it.", None))
+    def told_of_consistent(self, stories, snapshot, banner, said):
+        self.assertEqual((said, banner.right()), ("No unit took before the cut what was sent after it.", None))
 
-    def told_of_not_issued(self, stories, snapshot, said):
+    def told_of_not_issued(self, stories, snapshot, banner, said):
         self.assertIn("The observer never began it", said)
 
-    def told_of_skipped(self, stories, snapshot, said):
+    def told_of_skipped(self, stories, snapshot, banner, said):
         """The turn, and each link over which the unit hears of numbers with why none came over it."""
         world, k, unit = stories.world, snapshot.number, snapshot.unit
         turn = next(t for t in world.turns if t.actor == unit and t.before < k < t.id)
-        self.assertIn(f"At turn {turn.place + 1} {unit} is at {turn.before} and takes the", said)
-        rest = [str(n) for n in range(turn.before + 1, turn.id) if n != k]
-        nor = f", nor for {joined(rest)}" if rest else ""
-        self.assertIn(f"it goes to {turn.id} at once, and saves nothing for snapshot {k}{nor}.", said)
-        first = stories.whys(snapshot)[0]
+        self.assertIn(f"{unit} goes from {turn.before} to {turn.id} at turn {turn.place + 1}, by ", said)
         reasons = {r.link.spelling: r for r in stories.reasons(snapshot)}
         sorts = ("init", "cable", "crossbar")
         self.assertEqual(set(reasons), {k for k, link in world.net.links.items() if link.target == unit and link.sort in sorts})
         steps = " ".join(step.words for step in stories.steps(snapshot))
+        named = {name for line in banner.lines() for name in re.findall(r"init|cable|x\d+", line.name)}
+        self.assertLessEqual({link.rpartition(" ")[2] for link in reasons}, named)
         for reason in reasons.values():
-            self.assertIn(reason.link.source, first)
             self.assertIn(reason.link.source, steps)
             self.reason(world, reason, k, turn.place)
-        for other in (*world.skips(k), *world.late(k)):
-            if other is not turn and len(world.skips(k)) < 7:
-                self.assertIn(f"{other.actor} (turn {other.place + 1})", said)
-        right = stories.right(snapshot)
+        right = banner.right()
         self.assertIn(f"before turn {turn.place + 1}", right)
         for reason in reasons.values():
             lost = reason.message or reason.root
             if lost is not None:
-                self.assertRegex(right, rf"(lost|sent) at turn {lost.put.place + 1}\b")
-        for other in (*world.skips(k), *world.late(k))[:6]:
-            if other is not turn and len(world.skips(k)) + len(world.late(k)) < 7:
-                self.assertRegex(right, rf"and if turns? .*\b{other.place + 1}\b.* had not failed it too")
+                self.assertRegex(right, rf"\(turns? [^)]*\b{lost.put.place + 1}\b")
+        self.others(stories, snapshot, said, right)
+
+    def others(self, stories, snapshot, said, right):
+        """The first other unit that failed it is named, with what it would have needed, and how many more there are."""
+        turns = [t for t in (*stories.world.skips(snapshot.number), *stories.world.late(snapshot.number)) if t.actor != snapshot.unit]
+        units = list(dict.fromkeys(t.actor for t in turns))
+        self.assertEqual(bool(units), "failed it too" in said)
+        if units:
+            self.assertRegex(said, rf"{re.escape(units[0])} failed it too: .*\bturn {turns[0].place + 1}\b")
+            self.assertRegex(right, rf"; and .* to {re.escape(units[0])} before turn \d+")
+            self.assertEqual(f"for {len(units) - 1} more unit" in right, len(units) > 1)
+            steps = {step.place for step in stories.steps(snapshot)}
+            self.assertIn(turns[0].place, steps)
 
     def reason(self, world, reason, k, until):
         """The reason is so."""
@@ -232,7 +243,7 @@ class Runs(unittest.TestCase):
             passes = ", which passes probes on," if reason.root.kind == "init" else ""
             self.assertIn(f"to {reason.root.link.target}{passes} is lost at turn {reason.root.put.place + 1}", reason.told)
 
-    def told_of_miscredited(self, stories, snapshot, said):
+    def told_of_miscredited(self, stories, snapshot, banner, said):
         """The packet, the turn that moved its unit on too far, what it took there, and when both snapshots were issued."""
         world, k, unit, credits = stories.world, snapshot.number, snapshot.unit, stories.source.snapshot["credits"]
         came = next(t for t in world.late(k) if t.actor == unit)
@@ -241,51 +252,64 @@ class Runs(unittest.TestCase):
         issues = [t.place + 1 for t in world.turns if t.actor == "observer" and t.choice == "issue"]
         above = [t for t in world.turns if t.actor == unit and t.id > max(t.before, k)]
         self.assertTrue(on is above[credits - 1] and came.actor == unit and came.took in sent.puts)
-        begin = rf"^At turn {sent.place + 1} {re.escape(sent.actor)}, still at {sent.id}( \([^()]*\))?, sends the packet"
+        begin = rf"from {re.escape(sent.actor)}: sent it at turn {sent.place + 1}, still at {sent.id}( \([^()]*\))?"
         self.assertRegex(said, begin)
-        self.behind(stories, snapshot, sent, re.search(begin, said)[1])
+        self.behind(stories, snapshot, sent, re.search(begin, said)[1], banner.right())
         for words in (
-            f"Before it comes, at turn {on.place + 1}, {unit} takes the",
-            f"from {on.took.link.source}",
-            f"it goes on from {on.before} to {on.id}. Snapshot {k} was issued at turn {issues[k - 1]}, snapshot {on.id} at turn {issues[on.id - 1]}.",
-            f"At turn {came.place + 1} the packet",
+            f"too late, at turn {came.place + 1}: already at {came.id}",
+            f"from {on.took.link.source}: ",
+            f"moved the unit on to {on.id} at turn {on.place + 1}",
+            f"snapshot {k} was issued at turn {issues[k - 1]}, snapshot {on.id} at turn {issues[on.id - 1]}",
         ):
             self.assertIn(words, said)
         saved = len({t.id for t in world.turns if t.actor == unit and t.place <= came.place and t.id >= k})
-        right = stories.right(snapshot)
+        right = banner.right()
         self.assertIn(f"before turn {on.place + 1}", right)
-        self.assertEqual(f"with credits = {saved} in place of {credits}" in right, saved <= 4)
+        self.assertEqual(f"with credits = {saved}" in right, saved <= 4)
+        self.others(stories, snapshot, said, right)
 
-    def behind(self, stories, snapshot, sent, why):
+    def behind(self, stories, snapshot, sent, why, right):
         """Why the sender had not reached the number: its own initiation, or a message over its cable, was lost or had not come."""
         begins = [t.place for t in stories.world.turns if t.actor == "observer" and t.choice == "issue"]
-        for found in re.finditer(r"to it(?:, sent at turn (\d+)|.*is lost at turn (\d+))", why or ""):
-            put = stories.world.turns[int(found[1] or found[2]) - 1]
-            message = next(m for m in put.puts if m.link.target == sent.actor)
-            self.assertEqual(message.lost, found[2] is not None)
+        for found in re.finditer(r"comes only at turn (\d+)|is lost at turn (\d+)", why or ""):
+            turn = stories.world.turns[int(found[1] or found[2]) - 1]
+            message = turn.took if found[1] else next(m for m in turn.puts if m.link.target == sent.actor)
+            self.assertEqual((message.lost, message.link.target), (found[2] is not None, sent.actor))
             self.assertTrue(message.take is None or message.take.place > sent.place)
-            self.assertIn(f", or {a_number(snapshot.number)} to {sent.actor} before turn {sent.place + 1}", stories.right(snapshot))
+            self.assertIn(f", or {a_number(snapshot.number)} to {sent.actor} before turn {sent.place + 1}", right)
         if begins[snapshot.number - 1] > sent.place:
-            self.assertNotIn(f"to {sent.actor} before turn", stories.right(snapshot))
+            self.assertNotIn(f"to {sent.actor} before turn", right.partition(";")[0])
 
-    def told_of_pending(self, stories, snapshot, said):
+    def told_of_pending(self, stories, snapshot, banner, said):
         world, k, unit = stories.world, snapshot.number, snapshot.unit
         if snapshot.channel == "id":
-            self.assertIn(f"{unit} is still at {snapshot.other}", said)
-            for reason in stories.reasons(snapshot):
-                self.assertIn(reason.link.source, stories.whys(snapshot)[0])
+            self.assertIn(f"{unit} stays at {snapshot.other}", said)
         else:
-            self.assertIn(f"{unit} is at {world.ids[unit]} itself", said)
-            self.assertIn(f"but waits for {a_number(k)} over", said)
+            self.assertIn(f"{unit} is at {world.ids[unit]} itself, but waits for {a_number(k)} over", said)
             self.assertIn(world.net.sender(unit, snapshot.channel), said)
-        self.assertIn(f"then {unit} would not wait", stories.right(snapshot))
+        named = {name for line in banner.lines() for name in re.findall(r"init|cable|x\d+", line.name)}
+        self.assertLessEqual({link.spelling.rpartition(" ")[2] for link in stories.channels.links(unit)}, named)
+        for found in re.finditer(r"(init|cable|x\d+) from [^:.]+\.?\d*: brought (\d+) at turn (\d+)", said):
+            came = world.turns[int(found[3]) - 1]
+            self.assertEqual((came.actor, came.choice, str(came.took.stamp)), (unit, found[1], found[2]))
+            self.assertGreaterEqual(came.took.stamp, k)
+        right = banner.right()
+        self.assertTrue(right.startswith("Right if "))
         for message in stories.missed(snapshot):
             self.assertTrue(message.lost and message.stamp >= k)
-            if message.stamp == k and len(stories.missed(snapshot)) < 7:
-                self.assertRegex(stories.right(snapshot), rf"lost at turns? .*\b{message.put.place + 1}\b")
-        for found in re.finditer(r"[Aa]t turn (\d+) (\S+ \S+) sends the (?:initiation|probe) \d+.*? to (\S+ \S+): it is lost", said):
-            puts = [m for m in world.turns[int(found[1]) - 1].puts if m.lost and m.link.target == found[3]]
-            self.assertTrue(puts and puts[0].link.source == found[2])
+            if message.stamp == k and len(stories.missed(snapshot)) < 4:
+                self.assertEqual(bool(re.search(rf"\(turns? [^)]*\b{message.put.place + 1}\b", right)), self.brings(world, snapshot, message), right)
+
+    def brings(self, world, snapshot, message):
+        """Whether the message would have brought the number to the unit: over a channel that waits, or by its sender's probes."""
+        waiting = [link for name, link in world.net.links.items() if link.target == snapshot.unit and (snapshot.channel == "id" or name.endswith(f" {snapshot.channel}"))]
+        if message.link in waiting:
+            return True
+        senders = {link.source for link in waiting}
+        firsts = {sender.replace("out ", "in ", 1): sender for sender in senders}
+        if message.kind == "init":
+            return message.link.target in firsts
+        return firsts.get(message.link.source) == message.link.target and message.link.sort == "crossbar"
 
 
 if __name__ == "__main__":

@@ -20,6 +20,7 @@ from browser import Browser, in_a_python_with_selenium, lack
 in_a_python_with_selenium()
 
 from speedlight_tools import program
+from speedlight_tools.banners import Banner
 from speedlight_tools.inputs import read_input
 from speedlight_tools.replay import replay
 from speedlight_tools.reports import read_report
@@ -51,6 +52,7 @@ STORIES = {
         [0, "The observer issues snapshot 1."],
         [1, "control a sends the initiation 1 to in a.0: it is lost on the way."],
         [4, "in a.0 is at 0 and takes the initiation 2 from control a: it goes to 2 at once, and saves nothing for snapshot 1."],
+        [5, "out a.0 goes over 1 too, from 0 to 2."],
     ],
     "too_late_packet": [
         [
@@ -76,34 +78,32 @@ STORIES = {
 }
 
 
-# Why the first snapshot of some examples failed or isn't finished: the banner has the first sentences, and the rest below.
-WHYS = {
+# Why the first snapshot of some examples failed or isn't finished: the lines of the banner, each with what opens below it.
+LINES = {
     "lost_initiation": [
-        "At turn 2 control a sends the initiation 1 to in a.0: it is lost on the way. The other channel of in a.0 is from host "
-        "h0, which sends no numbers.",
-        "At turn 5 in a.0 is at 0 and takes the initiation 2 from control a: it goes to 2 at once, and saves nothing for snapshot 1.",
-        "out a.0 (turn 6) goes over 1 too.",
+        ["in a.0", "goes from 0 to 2 at turn 5, by initiation 2: no 1 came before", None],
+        ["init", "from control a: initiation 1 is lost at turn 2", None],
+        ["host", "h0 sends no numbers", None],
+        ["out a.0", "failed it too: goes over 1 at turn 6", None],
     ],
     "too_late_packet": [
-        "At turn 2 in a.0, still at 0 (control a begins snapshot 1 only at turn 5), sends the packet 0 from h0 to h1 over x0 to out a.1. "
-        "Before it comes, at turn 10, out a.1 takes the probe 2 over x1 from in a.1: it goes on from 1 to 2. Snapshot 1 was issued at turn 3, snapshot 2 at turn 4.",
-        "At turn 11 the packet 0 from h0 to h1 comes to out a.1, which is at 2 already and can credit it to snapshot 2 alone: so it is "
-        "missing from snapshot 1.",
+        ["out a.1", "takes packet 0 from h0 to h1 too late, at turn 11: already at 2", None],
+        ["x0", "from in a.0: sent it at turn 2, still at 0 (control a begins snapshot 1 only at turn 5)", None],
+        ["x1", "from in a.1: probe 2 moved the unit on to 2 at turn 10", "snapshot 1 was issued at turn 3, snapshot 2 at turn 4"],
     ],
     "dead_cable": [
-        "At turn 10 out b.0 sends the probe 1 over the cable to in a.1: it is lost.",
-        "At the end in a.1 is at 1 itself, since turn 5, but waits for a 1 over the cable from out b.0: no number came from there. Until "
-        "then it isn't known which packets from before the cut are still to come.",
-        "in b.0 waits too.",
+        ["in a.1", "is at 1 itself, but waits for a 1 over the cable: nothing came", None],
+        ["cable", "from out b.0: probe 1 is lost at turn 10", None],
+        ["init", "from control a: brought 1 at turn 5", None],
+        ["in b.0", "waits too", None],
     ],
 }
+WHOLE = [[None, "No unit took before the cut what was sent after it.", None]]
 # What would have been right.
 RIGHT = {
-    "lost_initiation": "It would have been right if the initiation 1, lost at turn 2, had come to in a.0 before turn 5: in a.0 would have "
-    "saved its counters for snapshot 1; and if turn 6 had not failed it too.",
-    "too_late_packet": "It would have been right if the packet had come to out a.1 before turn 10, or with credits = 2 in place of 1.",
-    "dead_cable": "It would have been right if the probe 1 to in a.1, lost at turn 10, had come, or a later message with 1 or more over the "
-    "cable from out b.0: then in a.1 would not wait.",
+    "lost_initiation": "Right if initiation 1 (turn 2) had come before turn 5; and a 1 to out a.0 before turn 6.",
+    "too_late_packet": "Right if the packet had come before turn 10, or with credits = 2.",
+    "dead_cable": "Right if probe 1 (turn 10) had come.",
 }
 TITLES = {"consistent": ": consistent", "pending": ": not finished (pending)", "not issued": ": not begun (not issued)"}
 
@@ -166,10 +166,11 @@ class Words(unittest.TestCase):
         for name in ("dead_cable", "lost_initiation", "too_late_packet", "two_in_flight"):
             given = [EXAMPLES / f"{name}.toml", TOP / "docs" / f"{name}.trace"]
             words = json.loads(gzip.decompress(base64.b64decode(re.search(r'id="words">(.*?)</script>', run("view", *given)[1])[1])))
-            self.assertEqual(words["snapshots"][0]["whys"], WHYS.get(name, ["No unit took before the cut what was sent after it."]))
+            self.assertEqual(words["snapshots"][0]["lines"], LINES.get(name, WHOLE))
             drawn = re.findall(r"<text [^>]*>([^<]*)<", run("diagram", *given)[1])
             self.assertEqual(words["snapshots"][0]["right"], RIGHT.get(name))
-            said = escape(" ".join([*words["snapshots"][0]["whys"], *([RIGHT[name]] if name in RIGHT else [])]))
+            lines = [f"{line} {said}{f' ({why})' if why else ''}." if line else said for line, said, why in words["snapshots"][0]["lines"]]
+            said = escape(" ".join([*lines, *([RIGHT[name]] if name in RIGHT else [])]))
             self.assertTrue(" ".join(drawn[1:]).startswith(said), drawn[:4])
             self.assertEqual([[place, said] for place, said, *_ in words["snapshots"][-1 if name == "dead_cable" else 0]["steps"]], STORIES[name])
 
@@ -215,18 +216,20 @@ class Page(unittest.TestCase):
         for s in [*report.snapshots[:2], *(s for s in first.values() if s.number > 2)]:
             self.browser.click(f'#snapshots [data-snapshot="{s.number}"]')
             told = self.browser.text("#verdict")
-            self.assertIn(s.line, told)
+            self.assertIn(s.line, self.browser.text("#panel .line"))
             self.assertIn(f"Snapshot {s.number}{TITLES.get(s.verdict, f' failed: {s.verdict}')}", told)
             self.assertLessEqual(*self.browser.run("const p = document.getElementById('panel'); return [p.scrollWidth, p.clientWidth]"))
             if s.verdict == "not issued":
                 continue
-            whys = stories.whys(s)
-            self.assertTrue(self.browser.text("#verdict .why").endswith(whys[0]), whys)
-            if whys[1:]:
-                self.assertEqual(self.browser.text("#verdict .then"), " ".join(whys[1:]))
+            banner = Banner(stories, s)
+            shown = [f"{line.name} {line.words}{f' why? {line.why}' if line.why else ''}" if line.name else line.words for line in banner.lines()]
+            items = "return [...document.querySelectorAll('#verdict .why li')].map(l => l.textContent)"
+            self.assertEqual(self.browser.run(items), shown)
             self.assertEqual(stories.besides(s) is not None, "could not become consistent any more" in told)
-            if stories.right(s):
-                self.assertEqual(self.browser.text("#verdict .right"), stories.right(s))
+            if banner.right():
+                self.assertEqual(self.browser.text("#verdict .right"), banner.right())
+                self.assertIn(s.unit, self.browser.text("#verdict .head"))
+            self.columns_of_others(stories, s)
             late = self.lates(s, world)
             rows = self.browser.rows(1 if late else 0)
             waiting = [u for u in world.net.units if s.verdict == "pending" and u != s.unit and world.lag(u, s.number)]
@@ -244,6 +247,14 @@ class Page(unittest.TestCase):
                 self.assertNotIn("fault", panel)
                 self.assertNotIn("failed", told)
         self.cut_in_the_net(report, world)
+
+    def columns_of_others(self, stories, s):
+        """Among what is involved, a further unit that failed the snapshot has its column, and its sender too."""
+        if s.verdict not in ("skipped", "miscredited") or not stories.others(s):
+            return
+        other = stories.others(s)[0]
+        shown = self.browser.run("return speedlight.columns().map(([who]) => who)")
+        self.assertLessEqual({other.actor, other.took.link.source}, set(shown))
 
     def lates(self, s, world):
         """The packets that came too late, each with its turns, which are links; how many they are."""
@@ -404,28 +415,36 @@ class Page(unittest.TestCase):
         self.assertEqual(self.browser.told(), [])
 
     def test_why(self):
-        """The banner has the cause in one sentence; the rest and the report's line stand below it, smaller."""
-        for name, (first, *rest) in WHYS.items():
+        """The banner has a line for the unit and one for each of its channels, which begin with their names, and what would
+        have been right; it is read within a minute. The report's line stands below what happened."""
+        for name, lines in LINES.items():
             page = built(name, self.folder.name, self.program)[1]
             self.browser.open(page, "#snapshot=1")
-            self.assertEqual(self.browser.text("#verdict .why"), f"Why: {first}")
-            self.assertEqual(self.browser.text("#verdict .then"), " ".join(rest))
+            code = "return [...document.querySelectorAll('#verdict .why li')].map(l => [l.firstElementChild.textContent, getComputedStyle(l.firstElementChild).fontWeight])"
+            self.assertEqual(self.browser.run(code), [[line[0], "700"] for line in lines])
             self.assertEqual(self.browser.text("#verdict .right"), RIGHT[name])
-            sizes = self.browser.run("return ['.why', '.then', '.line'].map(n => parseFloat(getComputedStyle(document.querySelector('#verdict ' + n)).fontSize))")
-            self.assertEqual(sizes, sorted(set(sizes), reverse=True))
+            self.assertLess(len(self.browser.run("return document.getElementById('verdict').innerText").split()), 110)
+            for beyond in self.browser.run("return [...document.querySelectorAll('#verdict .beyond')].map(d => d.open)"):
+                self.assertFalse(beyond)
             tips = self.browser.run("return [...document.querySelectorAll('#verdict abbr')].map(a => [a.textContent, a.dataset.tip])")
             self.assertTrue(all(said for _, said in tips))
-            whole = " ".join([first, *rest, RIGHT[name]])
-            self.assertEqual([word for word, _ in tips], re.findall(r"initiation|probe|(?<=the )cable|(?<=over )x\d", whole))
+            names = self.browser.run("return [...document.querySelectorAll('#verdict .why b')].map(a => [a.textContent, a.dataset.tip])")
+            for channel, tip in names:
+                self.assertIn({"init": "a control plane gives", "cable": "the channel over the cable", "host": "from the host"}.get(channel, "the channel over the crossbar"), tip)
+            self.assertLessEqual({"initiation", "probe"} & set(re.findall(r"\w+", RIGHT[name])), {word for word, _ in tips})
             turns = self.browser.run("return [...document.querySelectorAll('#verdict .inline:not(.unit-name)')].map(b => b.textContent)")
+            whole = " ".join([*(f"{line[1]} {line[2] or ''}" for line in lines), RIGHT[name]])
             self.assertEqual(turns, re.findall(r"turn \d+", whole))
+            if self.browser.run("return document.querySelectorAll('#verdict .beyond').length"):
+                self.browser.click("#verdict .beyond summary")
+                self.assertTrue(self.browser.run("return document.querySelector('#verdict .beyond').open"))
             self.browser.click("#verdict .inline:not(.unit-name)")
             self.assertTrue(self.browser.text("#now").startswith(f"{turns[0]} of"))
             self.assertIn(f"T{turns[0][1:]}: ", self.browser.text("#panel"))
             self.browser.click("#to-story")
             self.assertIn("What happened, in order", self.browser.text("#panel"))
             self.browser.click('#tabs [data-tab="unit"]')
-            unit = re.search(r"(in|out) \w+\.\d", self.browser.text("#verdict code"))[0]
+            unit = re.search(r"(in|out) \w+\.\d", lines[0][0])[0]
             self.assertIn(f"{unit}, after {turns[0]}, {'waiting' if name == 'dead_cable' else 'at fault in snapshot 1'}", self.browser.text("#panel h2"))
 
     def test_the_turns_of_a_failure_are_seen_together(self):
@@ -510,6 +529,12 @@ class Page(unittest.TestCase):
         self.assertIn(f"initiation {lost.stamp} to {lost.link.target}, lost", self.browser.text("#panel"))
         self.assertEqual(self.browser.told(), [])
 
+    @staticmethod
+    def covering(boxes):
+        """The pairs of labels of which one lies on the other."""
+        meet = lambda a, b: a[0] < b[2] and b[0] < a[2] and a[1] < b[3] and b[1] < a[3]
+        return [(said, other) for i, (said, box) in enumerate(boxes) for other, there in boxes[:i] if meet(box, there)]
+
     def test_labels_stand_in_order(self):
         """In the diagram no label is cut off or lies on another one, and those of turns out of view stand as the turns do."""
         for name in ("ring", "ring_of_window_3", "leaf_spine_with_losses", "line"):
@@ -520,12 +545,14 @@ class Page(unittest.TestCase):
                 wide, high = self.browser.run("const p = document.getElementById('plot'); return [p.clientWidth, p.clientHeight]")
                 boxes = self.browser.run("return speedlight.labels()")
                 self.assertFalse([said for said, (l, t, r, b) in boxes if l < 0 or t < 0 or r > wide or b > high], s.line)
-                for i, (said, (l, t, r, b)) in enumerate(boxes):
-                    self.assertFalse([other for other, (x, y, z, w) in boxes[:i] if l < z and x < r and t < w and y < b], (s.line, said))
+                self.assertEqual(self.covering(boxes), [], s.line)
+                self.assertEqual([said for said, _ in boxes if said.startswith("reached") and s.verdict == "skipped"], [])
             for turn in (0, len(report.trace)):
                 self.browser.find(f"turn {turn}")
                 told = [int(re.search(r"\d+$", said)[0]) for said in self.browser.run("return speedlight.edges()")]
                 self.assertEqual(told, sorted(told, reverse=turn == 0))
+                boxes = self.browser.run("return [...speedlight.labels(), ...speedlight.edgeBoxes()]")
+                self.assertEqual(self.covering(boxes), [])
             self.assertEqual(self.browser.told(), [])
 
     def test_tips_words_and_colours(self):
@@ -537,7 +564,7 @@ class Page(unittest.TestCase):
         failed = "[...document.querySelectorAll('#snapshots .skipped, #snapshots .miscredited')]"
         colours = f"return [...new Set({failed}.map(b => getComputedStyle(b).color))].length"
         self.assertEqual(self.browser.run(colours), 1)
-        for place, part in (("#verdict abbr", "gives an in unit the number"), ("#verdict .why abbr:nth-of-type(2)", "the channel over the crossbar"), ("#fold", "Folds what lies"), ("#help-open", "Words")):
+        for place, part in (("#verdict abbr", "gives an in unit the number"), ("#verdict .why b", "the channel over the crossbar"), ("#fold", "Folds what lies"), ("#help-open", "Words")):
             self.browser.point(place)
             self.assertIn(part, self.browser.text("#tip"))
             inside = """const b = document.getElementById('tip').getBoundingClientRect();
@@ -549,7 +576,7 @@ class Page(unittest.TestCase):
         self.browser.size(1280, 500)
         self.browser.click("#help-open")
         self.assertEqual(self.browser.run("return document.getElementById('help').scrollTop"), 0)
-        for word in ("initiation", "probe", "x0", "Ring", "reached 5: no cut", "cut 5?"):
+        for word in ("initiation", "probe", "x0", "Ring", "no cut: 5 not reached", "cut 5?"):
             self.assertIn(word, self.browser.run("return [...document.querySelectorAll('#glossary dt')].map(d => d.textContent)"))
         self.browser.size(1280, 800)
         self.assertEqual(self.browser.told(), [])

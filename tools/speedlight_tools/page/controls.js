@@ -240,7 +240,7 @@ window.addEventListener("hashchange", () => { const next = readAddress(); change
 // For those who drive the page: where a message, a turn and the name of a column are drawn in the diagram, how often it was
 // drawn, the labels, and the marks at its edges.
 function middleOf(m) { const { k, y } = d3.zoomTransform(plot), [x1, y1, x2, y2] = endsOf(m, (turn) => y + rowOf(turn + 0.5) * k, k); return [(x1 + x2) / 2, (y1 + y2) / 2]; }
-window.speedlight = { state, words, column, change, show, middleOf, frames: () => frames, edges: () => edges.map((edge) => edge.said), heightOf: (t) => { const { k, y } = d3.zoomTransform(plot); return y + rowOf(t + 0.5) * k; }, folds: () => folds.map(({ from, to }) => [from, to]), labels: () => labels.map(({ said, box }) => [said, box]), columns: () => view.shown.map((who) => [nameOf(who), ...headOf(who)]), ready: false };
+window.speedlight = { state, words, column, change, show, middleOf, frames: () => frames, edges: () => edges.map((edge) => edge.said), heightOf: (t) => { const { k, y } = d3.zoomTransform(plot); return y + rowOf(t + 0.5) * k; }, folds: () => folds.map(({ from, to }) => [from, to]), labels: () => labels.map(({ said, box }) => [said, box]), edgeBoxes: () => edges.map(({ said, box }) => [said, box]), columns: () => view.shown.map((who) => [nameOf(who), ...headOf(who)]), ready: false };
 
 theme(wish.matches ? "dark" : "light");
 head();

@@ -26,10 +26,10 @@ const MEANING = {
 function inline(said, title, address, call, kind = "") {
   return made("a", { class: `inline${kind}`, title, href: `#${state.snapshot ? `snapshot=${state.snapshot}&` : ""}${address}`, onclick: (event) => { event.preventDefault(); call(); } }, said);
 }
+const ofCrossbar = (word) => `${word}: the channel over the crossbar inside the switch, from the in unit of port ${word.slice(1)}`;
 // A sentence with its turns as links and its words explained; `own` is a turn that stands beside it already.
 function explained(text, own) {
-  const ofCrossbar = (word) => `${word}: the channel over the crossbar inside the switch, from the in unit of port ${word.slice(1)}`;
-  return text.split(/\b(turn \d+|(?<=turns (?:\d+, |\d+ and )*)\d+(?! more)|\d+ more units|(?:in|out) [\w-]+\.\d+|initiation|probe|notice|poll|dump|Begin|Done|(?<=over the )cable|(?<=over (?:x\d+, |x\d+ and )*)x\d+)\b/).map((part, i) => {
+  return text.split(/\b(turn \d+|(?<=turns (?:\d+, |\d+ and |\d+ or )*)\d+(?! more)|\d+ more units|(?:in|out) [\w-]+\.\d+|initiation|probe|notice|poll|dump|Begin|Done|(?<=over the )cable|(?<=over (?:x\d+, |x\d+ and |x\d+ or )*)x\d+)\b/).map((part, i) => {
     if (i % 2 === 0) return part;
     const who = actorOf.get(part);
     if (who !== undefined) return inline(part, `Say more of unit ${part}`, `unit=${part.replace(" ", "_")}`, () => change({ unit: who, tab: "unit" }), " unit-name");
@@ -86,7 +86,21 @@ function showStrip(k) {
 
 function titleOf(k) {
   const { verdict } = words.snapshots[k - 1];
-  return { consistent: `Snapshot ${k}: consistent`, pending: `Snapshot ${k}: not finished (pending)`, "not issued": `Snapshot ${k}: not begun (not issued)` }[verdict] || `Snapshot ${k} failed: ${verdict} (${{ skipped: "a unit went over its number", miscredited: "a packet came too late for it" }[verdict]})`;
+  return { consistent: `Snapshot ${k}: consistent`, pending: `Snapshot ${k}: not finished (pending)`, "not issued": `Snapshot ${k}: not begun (not issued)`, skipped: `Snapshot ${k} failed: skipped`, miscredited: `Snapshot ${k} failed: miscredited` }[verdict];
+}
+// The verdict with its unit, in a heading.
+function headline(k) {
+  const told = words.snapshots[k - 1], unit = told.unit >= 0 ? nameOf(told.unit) : "";
+  const by = { skipped: ` by ${unit}`, miscredited: ` at ${unit}`, pending: `, ${unit} waits` }[told.verdict];
+  return titleOf(k) + (by || "");
+}
+// A line of the banner: the name that it begins with, its words, and what lies one step beyond, which opens in place.
+function lineOf([name, said, why]) {
+  if (!name) return made("li", {}, ...explained(said));
+  const meaning = (word) => ({ init: MEANING.initiation, cable: MEANING.cable, host: "the channel from the host" }[word] || (/^x\d+$/.test(word) ? ofCrossbar(word) : ""));
+  const first = actorOf.has(name) ? explained(name) : [made("b", { title: meaning(name) }, name)];
+  const beyond = why ? [" ", made("details", { class: "beyond" }, made("summary", {}, "why?"), ...explained(` ${why}`))] : [];
+  return made("li", {}, ...first, " ", ...explained(said), ...beyond);
 }
 // What is said of the unit that the verdict names.
 const waits = (told) => told.verdict === "pending" || told.verdict === "not issued";
@@ -105,16 +119,9 @@ function verdictBanner() {
   }
   const k = state.snapshot, told = words.snapshots[k - 1];
   place.className = told.verdict.replace(" ", "-");
-  place.append(made("div", { class: "head" }, made("b", {}, `${MARKS[told.verdict]} ${titleOf(k)}`)));
-  const [first, ...more] = told.whys;
-  const why = made("p", { class: "why" }, told.verdict === "consistent" ? "" : made("b", {}, "Why: "), ...explained(first));
-  const then = more.length ? [made("p", { class: "then" }, ...explained(more.join(" ")))] : [];
-  if (told.right) then.push(made("p", { class: "right" }, ...explained(told.right)));
-  const line = made("p", { class: "line" }, "In the report: ", made("code", {}, told.line), " ");
-  const by = / miscredited by (\d+)$/.exec(told.line);
-  if (by) line.append(`(“by ${by[1]}”: the packet is credited to snapshot ${by[1]}, not to ${k}) `);
-  for (const turn of new Set([told.causeTurn, told.turn])) if (turn !== null) line.append(toTurn(turn, `show turn ${turn + 1}`));
-  place.append(why, ...then, line);
+  place.append(made("div", { class: "head" }, made("b", {}, `${MARKS[told.verdict]} ${headline(k)}`)));
+  place.append(made("ul", { class: "why" }, ...told.lines.map(lineOf)));
+  if (told.right) place.append(made("p", { class: "right" }, ...explained(told.right)));
 }
 
 // The details.
@@ -170,8 +177,17 @@ function snapshotPanel() {
   if (!k) return [made("p", {}, "No snapshot is chosen. Choose one in the strip above, or press n for the next that isn't consistent.")];
   const told = words.snapshots[k - 1], isWhole = told.verdict === "consistent";
   const parts = [made("h2", {}, isWhole ? "How it was taken" : "What happened, in order"), storyOf(told)];
+  parts.push(reportLine(k, told));
   if (told.verdict === "not issued") return parts;
   return [...parts, ...latePart(k), ...(isWhole ? valuesPart(k) : unitsPart(k, told)), ...flightPart(k, told)];
+}
+// What the report says of it, with links to what it came of and to where it failed.
+function reportLine(k, told) {
+  const line = made("p", { class: "line" }, "In the report: ", made("code", {}, told.line), " ");
+  const by = / miscredited by (\d+)$/.exec(told.line);
+  if (by) line.append(`(“by ${by[1]}”: the packet is credited to snapshot ${by[1]}, not to ${k}) `);
+  for (const turn of new Set([told.causeTurn, told.turn])) if (turn !== null) line.append(toTurn(turn, `show turn ${turn + 1}`));
+  return line;
 }
 function storyOf(told) {
   const story = made("ol", { class: "story" });

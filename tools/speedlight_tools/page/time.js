@@ -231,14 +231,19 @@ function writeLabels(context, c, here, told, cut, found, units, half) {
   const spots = told && told.turn !== null && told.unit >= 0 ? spotsOf(told) : [];
   const seen = spots.filter((spot) => isSeen(here, spot)), own = new Set(told ? [told.message, told.causeMessage, ...told.steps.map((step) => step[2])] : []);
   here.isTold = (m) => own.has(m);
-  for (const [m, , , x, y] of here.lines) if (m >= 0 && own.has(m) && isLost(m)) here.taken.push([x - 8, y - 8, x + 8, y + 8]);
-  for (const spot of seen) spotMark(context, c, spot, here);
-  for (const spot of seen) here.above = label(context, spot.said, [[xs[spot.who], here.at(spot.turn)]], c[spot.colour], c.paper, here);
-  here.above = null;
-  names(context, c, cut, found, units, half, here);
   edges = [];
   for (const spot of spots) if (here.at(spot.turn) < 0) edgeMark(context, c, spot, here);
   for (const spot of [...spots].reverse()) if (here.at(spot.turn) > here.h) edgeMark(context, c, spot, here);
+  for (const { box } of edges) here.taken.push(box);
+  for (const [m, , , x, y] of here.lines) if (m >= 0 && own.has(m) && isLost(m)) here.taken.push([x - 8, y - 8, x + 8, y + 8]);
+  for (const spot of seen) spotMark(context, c, spot, here);
+  for (const spot of seen) {
+    here.side = spot.side;
+    const written = label(context, spot.said, [spot.end ? endsOf(spot.lost, here.at, here.k).slice(2, 4) : [xs[spot.who], here.at(spot.turn)]], c[spot.colour], c.paper, here);
+    here.above = spot.side ? null : written;
+  }
+  here.above = here.side = null;
+  names(context, c, cut, found, units, half, here);
 }
 // Whether only what is involved in a failed snapshot is shown: then what the snapshot tells of is thick, and all else thin.
 const isNarrowed = (told) => state.focus && told && !["consistent", "not issued"].includes(told.verdict);
@@ -366,10 +371,13 @@ function spotsOf(told) {
   const more = told.verdict === "miscredited" ? lateOf(state.snapshot).length - 1 : 0;
   const said = { skipped: `skips ${state.snapshot}`, miscredited: more > 0 && isNarrowed(told) ? `too late, and ${more} more` : "too late", pending: lost ? "lost here" : "waits" }[told.verdict];
   if (told.verdict === "miscredited") spots.push({ turn: told.moved, who: told.unit, said: `moved on to ${column.id[told.moved]}`, cross: false, colour: "fault" });
-  spots.push({ turn: told.turn, who: lost ? ends(told.message) : told.unit, said, cross: lost && isHidden(told.message), colour: isPending && !lost ? "pending" : "fault" });
-  for (const [, , lost] of told.steps) if (lost !== null && lost !== told.causeMessage && isLost(lost) && told.keys.includes(put[lost])) spots.push({ turn: put[lost], who: ends(lost), said: told.verdict === "miscredited" ? "lost here" : "lost too", cross: isHidden(lost), colour: "fault" });
+  spots.push({ turn: told.turn, who: lost ? ends(told.message) : told.unit, said, cross: lost && isHidden(told.message), colour: isPending && !lost ? "pending" : "fault", lost: lost ? told.message : null });
+  for (const [, , lost] of told.steps) if (lost !== null && lost !== told.causeMessage && isLost(lost) && told.keys.includes(put[lost])) spots.push({ turn: put[lost], who: ends(lost), said: told.verdict === "miscredited" ? "lost here" : "lost too", cross: isHidden(lost), colour: "fault", lost });
   const m = told.causeMessage;
   if (m !== null && told.causeTurn !== null && told.causeTurn !== told.turn) spots.push({ turn: told.causeTurn, who: ends(m), said: isLost(m) ? "lost here" : "sent here", cross: isLost(m) && isHidden(m), colour: "fault" });
+  // Of two that were lost in one turn it is said for whom each was.
+  const twice = spots.filter((spot) => spots.some((other) => other !== spot && other.turn === spot.turn));
+  for (const [i, spot] of twice.entries()) if (spot.lost !== null && spot.lost !== undefined) { spot.side = i % 2 ? -1 : 1; spot.said += `: to ${nameOf(links[column.link[spot.lost]].target)}`; spot.end = !isHidden(spot.lost); }
   return spots.sort((a, b) => a.turn - b.turn);
 }
 // Whether a message isn't drawn, as the column of its sender isn't there.
@@ -385,16 +393,16 @@ function spotMark(context, c, spot, here) {
 let labels = [];
 function labelMeaning(said) {
   const k = state.snapshot;
-  if (/no cut$/.test(said)) return `Snapshot ${k} failed: the line goes through the turns in which the units reached ${k} or went over it, and that is no cut.`;
+  if (/no cut/.test(said)) return `Snapshot ${k} failed: the line goes through the turns in which the units reached ${k} or went over it, and that is no cut.`;
   if (/^cut .*\?$/.test(said)) return `Snapshot ${k} isn't finished: the line goes through the turns in which the units reached ${k}, and one or a channel of it hasn't.`;
   if (/^cut/.test(said)) return `Cut ${k}: the turns in which the units reached ${k}. What they counted before are the snapshot's values.`;
   if (/^skips/.test(said)) return `The unit goes over ${k} and saves nothing for it.`;
   if (/^too late/.test(said)) return `A packet from before ${k} comes when its unit can't credit it to ${k} any more.${/ more$/.test(said) ? "\nA click lists all of them." : ""}`;
   if (/^moved on/.test(said)) return "Here the unit goes on to a newer number, before the packet has come.";
-  return { "lost here": "The message is lost on its way.", "lost too": "One more message is lost that would have brought the number, or a newer one.", "sent here": "The message is sent here.", waits: `The unit still waits for ${k} at the end.` }[said] || said;
+  return { "lost here": "The message is lost on its way.", "lost too": "One more message is lost that would have brought the number, or a newer one.", "sent here": "The message is sent here.", waits: `The unit still waits for ${k} at the end.` }[said.replace(/: to .*/, "")] || said;
 }
 // Writes a label where it covers least, beside one of its anchors or above or below it.
-const PLACES = [[1, 0], [-1, 0], [1, 1], [1, -1], [-1, 1], [-1, -1], [0, 1], [0, -1], [1, 2], [1, -2], [-1, 2], [-1, -2], [0, 2], [0, -2]];
+const PLACES = [[1, 0], [-1, 0], [1, 1], [1, -1], [-1, 1], [-1, -1], [0, 1], [0, -1], [1, 2], [1, -2], [-1, 2], [-1, -2], [0, 2], [0, -2], [1, 3], [1, -3], [-1, 3], [-1, -3], [0, 3], [0, -3]];
 function label(context, said, anchors, fill, ink, here, edge) {
   context.font = 'bold 12px "DejaVu Sans", system-ui, sans-serif';
   const wide = context.measureText(said).width + 10, high = 18, near = here.lines.filter(([, , y1, , y2]) => anchors.some(([, y]) => Math.max(y1, y2) > y - 70 && Math.min(y1, y2) < y + 70));
@@ -402,11 +410,12 @@ function label(context, said, anchors, fill, ink, here, edge) {
   for (const [x, y] of anchors) for (const [dx, dy] of PLACES) {
     const l = Math.max(here.left + 2, Math.min(here.w - 2 - wide, x + (dx > 0 ? 15 : dx < 0 ? -15 - wide : -wide / 2))), t = y - high / 2 + dy * 24, box = [l, t, l + wide, t + high];
     let cost = rank++ * 0.5 + (Math.abs(dy) > 1 ? 30 : 0);
+    if (here.side && dy * here.side < 1) cost += 150;
     if (t < 1 || t + high > here.h - 1) cost += 1000;
     // Labels of turns stand in the order of their turns.
     if (here.above && t < here.above[1] + high && l < here.above[2] + 160 && l + wide > here.above[0] - 160) cost += 100;
-    for (const other of here.taken) if (meets(other, box)) cost += 200;
-    for (const [m, x1, y1, x2, y2] of near) if (through({ x1, y1, x2, y2 }, m >= 0 && isLost(m) ? [l - 6, t - 6, l + wide + 6, t + high + 6] : box)) cost += m >= 0 && here.isTold(m) ? 60 : 12;
+    for (const other of here.taken) if (meets(other, box)) cost += 400;
+    for (const [m, x1, y1, x2, y2] of near) if (through({ x1, y1, x2, y2 }, m >= 0 && isLost(m) ? [l - 6, t - 6, l + wide + 6, t + high + 6] : box)) cost += m < 0 ? 40 : here.isTold(m) ? 60 : 12;
     for (const who of view.shown) { const at = view.xs[who]; if (at > l && at < l + wide) cost += 1; }
     if (here.k >= 5) for (let row = Math.floor((t - 6 - here.y) / here.k); row < (t + high + 6 - here.y) / here.k; row++) { const n = Math.floor(turnOf(row + 0.5)), at = n >= here.from && n < here.to ? view.xs[actor[n]] : NaN; if (at > l - 6 && at < l + wide + 6) cost += 25; }
     if (cost < least) { least = cost; best = box; from = [x, y]; }
@@ -427,7 +436,7 @@ let edges = [];
 function edgeMark(context, c, spot, here) {
   const y = here.at(spot.turn), up = y < 0;
   if (y >= 0 && y <= here.h) return;
-  const said = `${up ? "↑" : "↓"} ${spot.said.replace(/ here$/, "")} at turn ${spot.turn + 1}`;
+  const said = `${up ? "↑" : "↓"} ${spot.said.replace(/ here\b/, "")} at turn ${spot.turn + 1}`;
   context.font = 'bold 12px "DejaVu Sans", system-ui, sans-serif';
   const wide = context.measureText(said).width + 12, x = view.xs[spot.who], middle = Number.isNaN(x) ? (here.left + here.w) / 2 : x;
   const l = Math.max(here.left + 2, Math.min(here.w - wide - 4, middle - wide / 2));
@@ -460,6 +469,8 @@ function rows(context, c, from, to, k, at, h) {
   }
   context.textBaseline = "alphabetic";
 }
+// What is written at the line of a failed snapshot, which is no cut.
+const noCut = (verdict) => (verdict === "skipped" ? `no cut: ${state.snapshot} not reached` : `reached ${state.snapshot}: no cut`);
 // The names of the cut and of the reading, at either end of their lines.
 function names(context, c, cut, found, units, half, here) {
   if (!units.length) return;
@@ -470,7 +481,7 @@ function names(context, c, cut, found, units, half, here) {
   };
   if (cut) {
     const { verdict } = words.snapshots[state.snapshot - 1];
-    tag(verdict === "consistent" ? `cut ${state.snapshot}` : verdict === "pending" ? `cut ${state.snapshot}?` : `reached ${state.snapshot}: no cut`, cut, verdict === "consistent" ? c.consistent : c.dim);
+    tag(verdict === "consistent" ? `cut ${state.snapshot}` : verdict === "pending" ? `cut ${state.snapshot}?` : noCut(verdict), cut, verdict === "consistent" ? c.consistent : c.dim);
   }
   if (found) tag(found.broken < 0 ? "whole reading" : "broken reading", (who) => here.y + rowOf(found.at[unitOf.get(who)]) * here.k, c.poll);
 }

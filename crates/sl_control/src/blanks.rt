@@ -4,7 +4,7 @@ ghost use Rattle.std.specs.Vec.{vec_capacity};
 
 use sl_machine::Memory;
 use sl_saves::Saved;
-use sl_wire::{Boxed, Done, Dump, Rows};
+use sl_wire::{Boxed, Done, Dump, Rows, Spare};
 use std::alloc::{AllocError, Global};
 use std::mem;
 
@@ -42,7 +42,7 @@ pub struct Blanks {
     pub rows: Vec<(u64, Saved)>,
     one: Option<OneRow>,
     pub done: Option<Boxed<Done>>,
-    pub spares: Vec<Boxed<Dump>>,
+    pub spares: Vec<Spare>,
     // how many dumps more are given up before the first is kept
     early: usize,
 }
@@ -85,7 +85,7 @@ impl Blanks {
         if self.early > 0 {
             self.early -= 1;
         } else if self.spares.len() < self.spares.capacity() {
-            self.spares.push_reserved(dump);
+            self.spares.push_reserved(Spare::new(Some(dump)));
         }
     }
 

@@ -79,10 +79,10 @@ pub(crate) struct Told {
 }
 
 /// A poll, which takes back one of the dumps that were read.
-fn poll(spares: &mut Vec<Boxed<Dump>>) -> Msg
+fn poll(spares: &mut Vec<Spare>) -> Msg
     ensures { result ≡ poll }
 {
-    Msg::Poll(Spare::new(spares.pop()))
+    Msg::Poll(spares.pop().unwrap_or(Spare::new(None)))
 }
 
 /// Whether each id of a dump is one of this width.
@@ -143,7 +143,7 @@ impl Known {
     }
 
     /// Polls the unit, or notes that it is to be polled again.
-    pub(crate) fn ask(&mut self, spares: &mut Vec<Boxed<Dump>>, out: &mut Outputs<Msg>)
+    pub(crate) fn ask(&mut self, spares: &mut Vec<Spare>, out: &mut Outputs<Msg>)
         requires { length out.old.items < out.old.room }
         ensures known { self.new ≡ asked self.old }
         ensures puts { out.new.items ≡ out.old.items ++ poll_by self.old }
@@ -212,7 +212,7 @@ impl Known {
     }
 
     /// Polls the unit where it was asked for again.
-    fn poll_again(&self, spares: &mut Vec<Boxed<Dump>>, out: &mut Outputs<Msg>)
+    fn poll_again(&self, spares: &mut Vec<Spare>, out: &mut Outputs<Msg>)
         requires { length out.old.items < out.old.room }
         ensures puts { out.new.items ≡ out.old.items
             ++ (if self.now.again then (self.now.wires.poll, poll) ∷ [] else []) }
@@ -231,7 +231,7 @@ impl Known {
         view: &View,
         mut report: Boxed<Done>,
         rows: Vec<(u64, Saved)>,
-        spares: &mut Vec<Boxed<Dump>>,
+        spares: &mut Vec<Spare>,
         out: &mut Outputs<Msg>,
     )
         requires rows { rows.items ≡ rows_by told.now view.now self.old }

@@ -16,7 +16,7 @@ use sl_ids::{Width, wrap};
 use sl_machine::Outputs;
 use sl_net::Packet;
 use sl_saves::View;
-use sl_wire::{Boxed, Dump, Framed, Header, Kind, Msg};
+use sl_wire::{Dump, Framed, Header, Kind, Msg, Spare};
 
 /// The place of the unit to which a choice belongs, where the choices after the first are two for
 /// each unit in order, as a net's are.
@@ -25,7 +25,7 @@ fn usual_place(choice: u32) -> usize {
 }
 
 /// What a sweep does to the units.
-pub fn ask_all(units: &mut Vec<Known>, spares: &mut Vec<Boxed<Dump>>, out: &mut Outputs<Msg>)
+pub fn ask_all(units: &mut Vec<Known>, spares: &mut Vec<Spare>, out: &mut Outputs<Msg>)
     requires { length out.old.items + length units.old.items ≤ out.old.room }
     ensures units { units.new.items ≡ map (ask_by None) units.old.items }
     ensures puts { out.new.items ≡ out.old.items ++ flat_map (ask_puts None) units.old.items }
@@ -87,7 +87,7 @@ fn find(units: &[Known], sent: Sent, choice: u32) -> Option<usize>
 pub fn ask_one(
     units: &mut Vec<Known>,
     choice: u32,
-    spares: &mut Vec<Boxed<Dump>>,
+    spares: &mut Vec<Spare>,
     out: &mut Outputs<Msg>,
 )
     requires apart { AreApart (choices_of Sent.Notice units.old.items) }

@@ -1,29 +1,16 @@
--- Slots in pieces of 16 that several lists share, and writes over them.
-use Rattle.std.specs.Prelude.{◌≡◌, ◌≢◌, ℕ, zero, suc, ◌*◌, ◌≤◌, List, [], ◌∷◌, length, slice_set}
-use Rattle.std.specs.List.{AllByRecursion, flat_map}
+-- Slots that a ring shares with its views.
+--     AgreesBut places a b         two lists have the same slots but at some places
+--     IsKeptAs held slots          what is shared are these slots, but where it is noted that they were written
+use Rattle.std.specs.Prelude.{◌≡◌, ◌≢◌, ℕ, false, List, length, slice_index_or}
+use Rattle.std.specs.Arc.{arc_value}
+use Rattle.std.specs.List.{AllByRecursion}
 use Rattle.sl_saves.specs.declared.entry.Slot.{Slot}
-use Rattle.sl_saves.specs.declared.pieces.Write.{Write}
+use Rattle.sl_saves.specs.declared.shared.Shared.{Shared}
+use Rattle.sl_saves.specs.Views.{no_slot}
 
--- pieces, joined
-abbrev pub joined : List (List Slot) → List Slot
-joined ps = flat_map (λ p. p) ps
+abbrev pub AgreesBut : List ℕ → List Slot → List Slot → Type 0
+AgreesBut places a b = (p : ℕ) → AllByRecursion (λ q. q ≢ p) places → slice_index_or a p no_slot ≡ slice_index_or b p no_slot
 
--- each piece has 16 slots, and together they have so many at least
-pub record Are16 (size : ℕ) (pieces : List (List Slot)) : Type 0 where
-  pub each : AllByRecursion (λ p. length p ≡ 16) pieces
-  pub fits : size ≤ length pieces * 16
-
--- slots after writes, in order
-abbrev pub overwritten : List Slot → List Write → List Slot
-overwritten slots [] = slots
-overwritten slots (w ∷ ws) = overwritten (slice_set slots w.place w.slot) ws
-
--- none of some writes is at a place
-abbrev pub IsNoneAt : ℕ → List Write → Type 0
-IsNoneAt place ws = AllByRecursion (λ w. w.place ≢ place) ws
-
--- of some writes the i-th is the last one at a place
-abbrev pub IsLastAt : ℕ → ℕ → List Write → Type 0
-IsLastAt place i [] = ⊥
-IsLastAt place zero (w ∷ ws) = (w.place ≡ place) × IsNoneAt place ws
-IsLastAt place (suc i) (w ∷ ws) = IsLastAt place i ws
+pub record IsKeptAs (held : Shared) (slots : List Slot) : Type 0 where
+  pub long : length (arc_value held.slots).items ≡ length slots
+  pub same : held.stale ≡ false → AgreesBut held.written.items (arc_value held.slots).items slots

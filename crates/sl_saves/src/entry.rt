@@ -2,7 +2,6 @@
 // Totals, saved slots, views and answers.
 ghost use Rattle.std.specs.Prelude.{◌≡◌, ◌<◌, ◌≤◌, ◌^◌, length};
 
-use crate::place::{place_above, place_below};
 use crate::slots::Slots;
 
 /// Packets and bytes of a channel that were in flight.
@@ -105,37 +104,5 @@ impl Slot {
         if is_foot {
             self.reach = self.reach.max(age);
         }
-    }
-}
-
-impl View {
-    ghost use Rattle.sl_saves.specs.Keeping.{view_adopted, view_credited};
-
-    /// Moves on to another number, and saves the counters there.
-    #[inline(never)]
-    pub(crate) fn adopt(&mut self, by: u16, packets: u64, bytes: u64)
-        requires at { self.old.at < length self.old.slots }
-        requires by { by ≤ length self.old.slots }
-        requires size { length self.old.slots < 2 ^ 16 }
-        ensures { self.new ≡ view_adopted by packets bytes self.old }
-    {
-        let size = self.slots.len();
-        let place = place_above(size, self.at as usize, by as usize);
-        self.slots.set(place, Slot::adopted(by, packets, bytes));
-        self.at = place as u16;
-    }
-
-    /// Adds a data packet in flight to the slots of the last numbers, to so many at most.
-    #[inline(never)]
-    pub(crate) fn credit(&mut self, credits: u8, channel: u32, age: u16, bytes: u64)
-        requires at { self.old.at < length self.old.slots }
-        requires channel { channel < 8 }
-        requires age { age ≤ length self.old.slots }
-        ensures value { self.new ≡ view_credited credits
-            (record { channel = channel; age = age; bytes = bytes }) self.old }
-        ensures size { length self.new.slots ≡ length self.old.slots }
-    {
-        self.slots
-            .credit_from(self.at as usize, credits, channel, age, bytes);
     }
 }

@@ -7,10 +7,10 @@ mod entry;
 mod keep;
 mod laws;
 mod list;
-mod pieces;
 mod place;
 mod read;
 mod ring;
+mod ring_slots;
 mod shared;
 mod slots;
 

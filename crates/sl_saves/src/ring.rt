@@ -1,25 +1,76 @@
-// Trusted types: for nodes RingSaves.
+// Trusted types: for nodes Ring, RingSaves.
 // Saved entries in a ring of slots.
 ghost use Rattle.std.specs.Prelude.{◌≡◌, ◌<◌, ◌≤◌, ◌^◌, length, replicate, [], IfOk, OnOk};
 
-use crate::entry::View;
+use crate::entry::{Slot, View};
 use crate::keep::Saves;
-use crate::slots::Slots;
+use crate::place::place_above;
+use crate::ring_slots::RingSlots;
 use sl_machine::Memory;
 use std::alloc::Global;
 
-/// Saved entries in a ring of slots, each number in the slot that it has modulo the ring's size.
+/// A ring of slots, each number in the slot that it has modulo the ring's size.
+#[derive(Drop)]
+pub struct Ring {
+    at: u16,
+    slots: RingSlots,
+}
+
+impl Ring {
+    ghost use Rattle.sl_saves.specs.Keeping.{view_adopted, view_credited};
+    ghost use Rattle.sl_saves.specs.Rings.{view_of};
+
+    /// Moves on to another number, and saves the counters there.
+    #[inline(never)]
+    fn adopt(&mut self, by: u16, packets: u64, bytes: u64)
+        requires at { self.old.at < length self.old.slots }
+        requires by { by ≤ length self.old.slots }
+        requires size { length self.old.slots < 2 ^ 16 }
+        ensures { view_of self.new ≡ view_adopted by packets bytes (view_of self.old) }
+    {
+        let size = self.slots.items().len();
+        let place = place_above(size, self.at as usize, by as usize);
+        self.slots.set(place, Slot::adopted(by, packets, bytes));
+        self.at = place as u16;
+    }
+
+    /// Adds a data packet in flight to the slots of the last numbers, to so many at most.
+    #[inline(never)]
+    fn credit(&mut self, credits: u8, channel: u32, age: u16, bytes: u64)
+        requires at { self.old.at < length self.old.slots }
+        requires channel { channel < 8 }
+        requires age { age ≤ length self.old.slots }
+        ensures value { view_of self.new ≡ view_credited credits
+            (record { channel = channel; age = age; bytes = bytes }) (view_of self.old) }
+        ensures size { length self.new.slots ≡ length self.old.slots }
+    {
+        self.slots
+            .credit_from(self.at as usize, credits, channel, age, bytes);
+    }
+
+    /// Makes a view that of the ring. Memory that it has is used again.
+    fn show(&mut self, view: &mut View) -> Result<(), Memory>
+        ensures same { self.new ≡ self.old }
+        ensures shown { OnOk result (view.new ≡ view_of self.old) }
+    {
+        self.slots.show(&mut view.slots)?;
+        view.at = self.at;
+        Ok(())
+    }
+}
+
+/// Saved entries in a ring of slots.
 #[derive(Drop)]
 pub struct RingSaves {
     window: u16,
     credits: u8,
-    view: View,
+    ring: Ring,
     ghost least: { 1 ≤ window },
-    ghost most: { window ≤ length view.slots },
+    ghost most: { window ≤ length ring.slots },
     ghost some: { 1 ≤ credits },
     ghost few: { credits ≤ 4 },
-    ghost at: { view.at < length view.slots },
-    ghost size: { length view.slots < 2 ^ 16 },
+    ghost at: { ring.at < length ring.slots },
+    ghost size: { length ring.slots < 2 ^ 16 },
 }
 
 impl RingSaves {
@@ -40,22 +91,22 @@ impl RingSaves {
         ensures size { IfOk result (λ saves. ring_size saves ≡ ring) }
         ensures credits { IfOk result (λ saves. ring_credits saves ≡ credits) }
     {
-        let slots = Slots::for_ring(alloc, ring)?;
+        let slots = RingSlots::free(alloc, ring)?;
         Ok(RingSaves {
             window,
             credits,
-            view: View { at: 0, slots },
+            ring: Ring { at: 0, slots },
         })
     }
 
     /// Makes a view what `view` gives. Unlike `fill` it may take memory, but where the view was one of
-    /// as large a ring it takes hardly any, and shares the slots of a large ring.
-    pub fn show(&self, view: &mut View) -> Result<(), Memory>
-        ensures { OnOk result (view.new ≡ ring_view self.now) }
+    /// as large a ring it takes hardly any, and shares the slots of a large ring: those that were
+    /// written since it was last shown are copied, where nobody holds them any more.
+    pub fn show(&mut self, view: &mut View) -> Result<(), Memory>
+        ensures same { self.new ≡ self.old }
+        ensures shown { OnOk result (view.new ≡ ring_view self.old) }
     {
-        view.slots.show(&self.view.slots)?;
-        view.at = self.view.at;
-        Ok(())
+        self.ring.show(view)
     }
 }
 
@@ -86,27 +137,27 @@ impl Saves for RingSaves {
     ghost has_room = { λ _. Unit {0} };
 
     fn ready(&mut self) -> Result<(), Memory> {
-        self.view.slots.ready()
+        Ok(())
     }
 
     fn adopt(&mut self, by: u16, packets: u64, bytes: u64) {
-        self.view.adopt(by, packets, bytes);
+        self.ring.adopt(by, packets, bytes);
     }
 
     fn credit(&mut self, channel: u32, age: u16, bytes: u64) {
-        self.view.credit(self.credits, channel, age, bytes);
+        self.ring.credit(self.credits, channel, age, bytes);
     }
 
     fn view(&self) -> Result<View, Memory> {
-        let slots = self.view.slots.view()?;
+        let slots = self.ring.slots.copied()?;
         Ok(View {
-            at: self.view.at,
+            at: self.ring.at,
             slots,
         })
     }
 
     fn fill(&self, view: &mut View) {
-        view.slots.copy_from(&self.view.slots);
-        view.at = self.view.at;
+        view.slots.copy_from(self.ring.slots.items());
+        view.at = self.ring.at;
     }
 }

@@ -1,151 +1,103 @@
-// Shared slots, and recent writes over them.
-ghost use Rattle.std.specs.Prelude.{◌≡◌, ◌<◌, ◌≤◌, length, replicate, slice_index_or, slice_set};
-ghost use Rattle.std.specs.Prelude.{vec_capacity, IfOk, OnOk, IfSome, if◌then◌else◌};
-ghost use Rattle.std.specs.Option.{IfNone};
-ghost use Rattle.sl_saves.specs.Views.{free_slot, no_slot};
-ghost use Rattle.sl_saves.specs.Shares.{IsLastAt, IsNoneAt};
+// Slots that a ring shares with its views.
+ghost use Rattle.std.specs.Prelude.{◌≡◌, ◌≢◌, ◌<◌, ℕ, List, length, slice_set, IfOk, OnOk, OnErr, false};
+ghost use Rattle.std.specs.Arc.{arc_value};
+ghost use Rattle.sl_saves.specs.declared.entry.Slot.{Slot};
+ghost use Rattle.sl_saves.specs.Shares.{AgreesBut, IsKeptAs};
 
 use crate::entry::Slot;
-use crate::pieces::{Pieces, Write};
 use sl_machine::Memory;
 use std::alloc::Global;
-use std::marker::Model;
 use std::sync::Arc;
 
-/// So many writes a turn finds at most.
-const MOST_WRITES: usize = 8;
+/// So many written places are noted at most.
+const MOST_PLACES: usize = 8;
 
-/// So many places a turn writes at most: that of the number that it adopts, and those of the four
-/// numbers to which a credit goes.
-const TURN_WRITES: usize = 5;
-
-/// The last write at a place.
-fn last_at(writes: &[Write], place: usize) -> Option<usize>
-    ensures some { IfSome result (λ i. IsLastAt place i writes.now) }
-    ensures none { IfNone result (IsNoneAt place writes.now) }
-{
-    let mut i = writes.len();
-    while i > 0 {
-        i -= 1;
-        if writes[i].place == place {
-            return Some(i);
-        }
-    }
-    None
-}
-
-/// Slots that views share, with recent writes over them that are not shared.
+/// The slots of a ring as its last view showed them, and where they were written since.
 #[derive(Debug, Drop)]
 pub struct Shared {
-    base: Arc<Pieces>,
-    recent: Vec<Write>,
+    slots: Arc<Vec<Slot>>,
+    written: Vec<usize>,
+    // whether more places were written than are noted
+    stale: bool,
 }
 
-impl Model for Shared {
-    ghost use Rattle.std.specs.Prelude.{List};
-    ghost use Rattle.std.specs.Arc.{arc_value};
-    ghost use Rattle.sl_saves.specs.declared.entry.Slot.{Slot};
-    ghost use Rattle.sl_saves.specs.Shares.{overwritten};
+/// Copies the slots at some places.
+fn copy_places(shown: &mut [Slot], slots: &[Slot], places: &[usize])
+    requires length { length shown.old ≡ length slots.now }
+    requires agree { AgreesBut places.now shown.old slots.now }
+    ensures { shown.new ≡ slots.now }
+{
+    for place in places {
+        if *place < slots.len() {
+            shown[*place] = slots[*place];
+        }
+    }
+}
 
-    ghost Value = { List Slot };
-
-    ghost view = { λ s. overwritten (arc_value s.base) s.recent.items };
+/// Makes shared slots what others are: in place where nobody else holds them, and else as a copy.
+fn refresh(
+    alloc: Global,
+    shared: &mut Arc<Vec<Slot>>,
+    slots: &[Slot],
+    written: &[usize],
+    stale: bool,
+) -> Result<(), Memory>
+    requires length { length (arc_value shared.old).items ≡ length slots.now }
+    requires agree { stale ≡ false → AgreesBut written.now (arc_value shared.old).items slots.now }
+    ensures ok { OnOk result ((arc_value shared.new).items ≡ slots.now) }
+    ensures err { OnErr result (shared.new ≡ shared.old) }
+{
+    if let Some(shown) = Arc::get_mut(shared) {
+        if stale {
+            shown.as_mut_slice().copy_from_slice(slots);
+        } else {
+            copy_places(shown, slots, written);
+        }
+        return Ok(());
+    }
+    *shared = Arc::new(alloc, Vec::from_slice(alloc, slots)?)?;
+    Ok(())
 }
 
 impl Shared {
-    /// So many slots in which nothing is saved.
-    pub fn free(alloc: Global, size: usize) -> Result<Shared, Memory>
-        ensures { IfOk result (λ shared. shared ≡ replicate size free_slot) }
+    /// These slots, shared.
+    pub fn new(alloc: Global, slots: &[Slot]) -> Result<Shared, Memory>
+        ensures { IfOk result (λ shared. IsKeptAs shared slots.now) }
     {
-        let base = Arc::new(alloc, Pieces::free(alloc, size)?)?;
-        let recent = Vec::with_capacity(alloc, MOST_WRITES + TURN_WRITES)?;
-        Ok(Shared { base, recent })
+        Ok(Shared {
+            slots: Arc::new(alloc, Vec::from_slice(alloc, slots)?)?,
+            written: Vec::with_capacity(alloc, MOST_PLACES)?,
+            stale: false,
+        })
     }
 
-    /// How many slots there are.
-    pub fn len(&self) -> usize
-        ensures { result ≡ length self.now }
+    /// Notes that a slot is written.
+    pub fn note(&mut self, place: usize)
+        ensures { (slots : List Slot) (slot : Slot) → IsKeptAs self.old slots
+            → IsKeptAs self.new (slice_set slots place slot) }
     {
-        self.base.len()
-    }
-
-    /// The slot at a place.
-    pub fn get(&self, place: usize) -> &Slot
-        requires { place < length self.now }
-        ensures { result.now ≡ slice_index_or self.now place no_slot }
-    {
-        match last_at(&self.recent, place) {
-            Some(i) => &self.recent[i].slot,
-            None => self.base.get(place),
+        for other in &self.written {
+            if *other == place {
+                return;
+            }
+        }
+        if self.written.len() < self.written.capacity() {
+            self.written.push_reserved(place);
+        } else {
+            self.stale = true;
         }
     }
 
-    /// Writes a slot, where there is room for the write or one at its place. It takes no memory.
-    pub fn set(&mut self, place: usize, slot: Slot) -> bool
-        ensures { self.new ≡ (if result then slice_set self.old place slot else self.old) }
+    /// The slots as they are now, to be shared.
+    pub fn show(&mut self, slots: &[Slot]) -> Result<Arc<Vec<Slot>>, Memory>
+        requires { IsKeptAs self.old slots.now }
+        ensures kept { IsKeptAs self.new slots.now }
+        ensures shown { IfOk result (λ shown. (arc_value shown).items ≡ slots.now) }
     {
-        let write = Write { place, slot };
-        if let Some(i) = last_at(&self.recent, place) {
-            self.recent[i] = write;
-            return true;
-        }
-        let has_room = self.recent.len() < self.recent.capacity();
-        if has_room {
-            self.recent.push_reserved(write);
-        }
-        has_room
-    }
-
-    /// Makes room for the writes of a turn: where there are many, they go into pieces.
-    pub fn ready(&mut self) -> Result<(), Memory>
-        ensures { self.new ≡ self.old }
-    {
-        if self.recent.len() <= MOST_WRITES {
-            return Ok(());
-        }
-        self.fold()
-    }
-
-    /// Puts the recent writes into pieces. It stands by itself, so that a turn without it is short.
-    #[inline(never)]
-    fn fold(&mut self) -> Result<(), Memory>
-        ensures { self.new ≡ self.old }
-    {
-        let alloc = *self.recent.allocator();
-        self.base = Arc::new(alloc, self.base.written(alloc, &self.recent)?)?;
-        self.recent.clear();
-        Ok(())
-    }
-
-    /// A view of the slots as they are. It shares the pieces.
-    pub fn view(&self) -> Result<Shared, Memory>
-        ensures { IfOk result (λ shared. shared ≡ self.now) }
-    {
-        let base = Arc::try_clone(&self.base)?;
-        let recent = Vec::from_slice(*self.recent.allocator(), &self.recent)?;
-        Ok(Shared { base, recent })
-    }
-
-    /// Makes it a view of others as they are. The room for recent writes is used again.
-    pub fn show(&mut self, other: &Shared) -> Result<(), Memory>
-        requires { length self.old ≡ length other.now }
-        ensures shown { OnOk result (self.new ≡ other.now) }
-        ensures length { length self.new ≡ length self.old }
-    {
-        self.base = Arc::try_clone(&other.base)?;
-        self.recent.clear();
-        self.recent.extend_from_slice(&other.recent)?;
-        Ok(())
-    }
-
-    /// Writes the slots into a list that has room for them. It takes no memory.
-    pub fn write_to(&self, items: &mut Vec<Slot>)
-        requires { length self.now ≤ vec_capacity items.old }
-        ensures { items.new.items ≡ self.now }
-    {
-        items.clear();
-        for place in 0..self.len() {
-            items.push_reserved(*self.get(place));
-        }
+        let alloc = *self.written.allocator();
+        refresh(alloc, &mut self.slots, slots, &self.written, self.stale)?;
+        self.written.clear();
+        self.stale = false;
+        Ok(Arc::try_clone(&self.slots)?)
     }
 }

@@ -9,7 +9,7 @@ ghost use Rattle.sl_unit.specs.Registers.{after_stamp, after_bytes, more, dump_o
 
 use sl_ids::{Wid, Width, wrap};
 use sl_machine::Memory;
-use sl_saves::{RingSaves, Saves};
+use sl_saves::{RingSaves, Saves, Slots, View};
 use sl_wire::{Boxed, Dump};
 use std::alloc::Global;
 
@@ -265,10 +265,24 @@ impl Registers {
     }
 
     /// Makes a dump that of the registers. Memory that it has is used again.
-    pub fn refill(&self, dump: &mut Boxed<Dump>) -> Result<(), Memory>
-        ensures { OnOk result (dump.new ≡ dump_of (registers_of self.now)) }
+    pub fn refill(&mut self, dump: &mut Boxed<Dump>) -> Result<(), Memory>
+        ensures same { self.new ≡ self.old }
+        ensures dump { OnOk result (dump.new ≡ dump_of (registers_of self.old)) }
     {
-        dump.refill(self.id, self.cpu, self.last, &self.saves)
+        dump.refill(self.id, self.cpu, self.last, &mut self.saves)
+    }
+
+    /// A dump in which nothing is saved.
+    pub fn blank(&self, alloc: Global) -> Dump {
+        Dump {
+            id: self.id,
+            cpu: self.cpu,
+            last: self.last,
+            view: View {
+                at: 0,
+                slots: Slots::new(Vec::new(alloc)),
+            },
+        }
     }
 
     /// The registers as a dump.

@@ -27,29 +27,31 @@ fn count_outs(wires: &Wires, way: Way) -> usize
 /// A dump of the registers: one that is there filled anew, or a new one.
 fn make_dump(
     alloc: Global,
-    registers: &Registers,
+    registers: &mut Registers,
     spare: &mut Option<Boxed<Dump>>,
 ) -> Result<Boxed<Dump>, Memory>
-    ensures { IfOk result (λ dump. dump ≡ dump_of (registers_of registers.now)) }
+    ensures same { registers.new ≡ registers.old }
+    ensures dump { IfOk result (λ dump. dump ≡ dump_of (registers_of registers.old)) }
 {
-    match spare.take() {
-        Some(mut dump) => {
-            registers.refill(&mut dump)?;
-            Ok(dump)
-        }
-        None => Ok(Boxed::new(alloc, registers.dump()?)?),
-    }
+    let mut dump = match spare.take() {
+        Some(dump) => dump,
+        None => Boxed::new(alloc, registers.blank(alloc))?,
+    };
+    registers.refill(&mut dump)?;
+    Ok(dump)
 }
 
 /// Makes dumps of the registers, as many as there are links of dumps.
 #[inline(never)]
 pub fn make_dumps(
     wires: &Wires,
-    registers: &Registers,
+    registers: &mut Registers,
     dumps: &mut Vec<Boxed<Dump>>,
     spare: &mut Option<Boxed<Dump>>,
 ) -> Result<(), Memory>
-    ensures { OnOk result (HasDumps wires.now (registers_of registers.now) dumps.new.items) }
+    ensures same { registers.new ≡ registers.old }
+    ensures dumps { OnOk result
+        (HasDumps wires.now (registers_of registers.old) dumps.new.items) }
 {
     let count = count_outs(wires, Way::All(Sort::Dump));
     dumps.clear();

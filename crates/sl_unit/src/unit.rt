@@ -150,7 +150,7 @@ impl Machine for Unit {
         if let Entrance::Poll = self.wires.entrance(choice) {
             make_dumps(
                 &self.wires,
-                &self.registers,
+                &mut self.registers,
                 &mut self.dumps,
                 &mut self.spare,
             )?;

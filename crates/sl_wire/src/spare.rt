@@ -24,8 +24,12 @@ impl Model for Spare {
 }
 
 impl Spare {
-    /// Such a dump, or none.
+    /// Such a dump, or none. It shares no slots any more, so that its unit can write there.
     pub fn new(dump: Option<Boxed<Dump>>) -> Spare {
+        let mut dump = dump;
+        if let Some(dump) = &mut dump {
+            dump.inner.view.slots.release();
+        }
         Spare { dump }
     }
 
@@ -42,10 +46,11 @@ impl Boxed<Dump> {
         id: Wid,
         cpu: Wid,
         last: [Wid; 8],
-        saves: &RingSaves,
+        saves: &mut RingSaves,
     ) -> Result<(), Memory>
-        ensures { OnOk result
-            (self.new ≡ record { id = id; cpu = cpu; last = last; view = ring_view saves.now }) }
+        ensures saves { saves.new ≡ saves.old }
+        ensures dump { OnOk result
+            (self.new ≡ record { id = id; cpu = cpu; last = last; view = ring_view saves.old }) }
     {
         let dump = &mut *self.inner;
         saves.show(&mut dump.view)?;

@@ -5,7 +5,7 @@ use Rattle.sl_saves.specs.Calls.{Credit}
 use Rattle.sl_saves.specs.Views.{no_slot, place_below}
 use Rattle.sl_saves.specs.Keeping.{slot_credited, slots_credited}
 use Rattle.sl_saves.proofs.Rings.{slots-end, slots-on, on-above}
-use Rattle.sl_saves.proofs.slots.Slots.credit_from.Goals as goal
+use Rattle.sl_saves.proofs.ring_slots.RingSlots.credit_from.Goals as goal
 
 pub returns-then-is_foot-clause-value : goal.returns-then-is_foot-clause-value
 returns-then-is_foot-clause-value c =

@@ -1,6 +1,6 @@
 use Rattle.std.proofs.Common.{◌≡◌, ◌<◌, ◌≤◌, length}
 use Rattle.sl_saves.specs.Keeping.{slots_credited}
-use Rattle.sl_saves.proofs.slots.Slots.credit_from.Given as goal
+use Rattle.sl_saves.proofs.ring_slots.RingSlots.credit_from.Given as goal
 
 abbrev pub invariant-loop-left : goal.invariant-loop-left
 invariant-loop-left l = record {

@@ -1,11 +1,11 @@
 // Numbers grouped by keys.
-ghost use Rattle.std.specs.Prelude.{ℕ, ◌≡◌, ◌<◌, ◌++◌, ◌∷◌, ◌^◌, [], OnOk, IfOk, length, map};
+ghost use Rattle.std.specs.Prelude.{◌≡◌, ◌<◌, ◌++◌, ◌∷◌, ◌^◌, [], OnOk, IfOk, length, map};
 ghost use Rattle.std.specs.Prelude.{slice_index_or, slice_set};
 ghost use Rattle.std.specs.List.{All};
 ghost use Rattle.sl_parts.specs.Parts.{below};
 ghost use Rattle.sl_layout.specs.Groups.{grouped, places_in_groups};
 
-use sl_parts::{Numbers, row};
+use sl_parts::{Numbers, empty_lists, row};
 use std::alloc::{AllocError, Global};
 use std::marker::Model;
 
@@ -40,18 +40,6 @@ impl Groups {
     {
         self.places.as_slice()
     }
-}
-
-fn empty_lists(alloc: Global, count: usize) -> Result<Vec<Numbers>, AllocError>
-    ensures { IfOk result (λ lists. lists.items ≡ map (λ (a : ℕ). []) (below count)) }
-{
-    let mut lists = Vec::new(alloc);
-    for _i in 0..count {
-        lists.push(Numbers {
-            items: Vec::new(alloc),
-        })?;
-    }
-    Ok(lists)
 }
 
 /// Adds a number to one of the lists, and answers how many were in it.

@@ -15,7 +15,7 @@ mod text;
 pub use checking::check;
 pub use fault::{NetFault, Place};
 pub use number::{plain_number, plain_numbers};
-pub use numbers::{Numbers, push_if, row};
+pub use numbers::{Numbers, empty_lists, push_if, row};
 pub use parts::{CablePart, DevicePart, HostPart, Parts, PortRef};
 pub use ports::{PortTable, slot_of};
 pub use table::filled;

@@ -1,22 +1,13 @@
-// Lists of numbers.
-ghost use Rattle.std.specs.Prelude.{◌≡◌, ◌++◌, ◌∷◌, [], ◌<◌, OnOk, cond, length, slice_index_or};
+// Lists of numbers, and tables of lists.
+ghost use Rattle.std.specs.Prelude.{◌≡◌, ℕ, ◌++◌, ◌∷◌, [], ◌<◌, OnOk, IfOk, cond, length, map};
+ghost use Rattle.std.specs.Prelude.{slice_index_or};
+ghost use Rattle.sl_parts.specs.Parts.{below};
 
-use std::alloc::AllocError;
-use std::marker::Model;
+use sl_machine::Listed;
+use std::alloc::{AllocError, Global};
 
 /// A list of numbers.
-#[derive(Debug, Drop)]
-pub struct Numbers {
-    pub items: Vec<u32>,
-}
-
-impl Model for Numbers {
-    ghost use Rattle.std.specs.Prelude.{List, ℕ};
-
-    ghost Value = { List ℕ };
-
-    ghost view = { λ n. n.items.items };
-}
+pub type Numbers = Listed<u32>;
 
 /// Adds the number at the end where it passes.
 pub fn push_if(numbers: &mut Vec<u32>, passes: bool, number: u32) -> Result<(), AllocError>
@@ -35,4 +26,17 @@ pub fn row(table: &[Numbers], i: usize) -> &[u32]
 {
     let list = &table[i];
     list.items.as_slice()
+}
+
+/// A table of so many empty lists.
+pub fn empty_lists<T: Drop>(alloc: Global, count: usize) -> Result<Vec<Listed<T>>, AllocError>
+    ensures { IfOk result (λ lists. lists.items ≡ map (λ (i : ℕ). []) (below count)) }
+{
+    let mut lists = Vec::new(alloc);
+    for _i in 0..count {
+        lists.push(Listed {
+            items: Vec::new(alloc),
+        })?;
+    }
+    Ok(lists)
 }

@@ -225,6 +225,13 @@ pub record HostStep (parts : Parts) (i : ℕ) (ends : List (Option PortRef)) (gu
   pub is : h ≡ get_or parts.hosts i h
   pub free_is : free ≡ (is_none (get_or ends (slot_of h.at) None) && is_none (get_or guests (slot_of h.at) None))
 
+-- the step at a host of a list that is the parts'
+pub host_step : (parts : Parts) (i : ℕ) (ends : List (Option PortRef)) (guests : List (Option ℕ)) (hosts : List HostPart) (h : HostPart) (free : Bool) → IsValid parts
+    → HasEnds (length parts.devices) parts.cables ends → HasGuests (length parts.devices) (take i parts.hosts) guests → hosts ≡ parts.hosts → i < length hosts → h ≡ get_or hosts i h
+    → free ≡ (is_none (get_or ends (slot_of h.at) None) && is_none (get_or guests (slot_of h.at) None)) → HostStep parts i ends guests h free
+host_step parts i ends guests hosts h free valid ends_are guests_are same within is free_is =
+    record { valid = valid; ends_are = ends_are; guests_are = guests_are; within = subst (λ hs. i < length hs) same within; is = rw same at is; free_is = free_is }
+
 host_near : {parts : Parts} {i : ℕ} {ends : List (Option PortRef)} {guests : List (Option ℕ)} {h : HostPart} {free : Bool} → HostStep parts i ends guests h free → IsNear (length parts.devices) h.at
 host_near {parts} {i} {h = h} s = near parts h.at s.valid (subst (λ x. IsPort parts x.at) (sym s.is) (s.valid.hosts i h s.within))
 

@@ -21,6 +21,7 @@ use Rattle.sl_layout.specs.declared.actor.ActorId.TheVariants.{Unit as OfUnit}
 use Rattle.sl_layout.specs.declared.actor.UnitId.{UnitId}
 use Rattle.sl_layout.specs.Serving.{choice_from, serving, served}
 use Rattle.sl_layout.proofs.Actors.{same_actor_true}
+use Rattle.sl_layout.proofs.Sorts.{by_sort}
 
 -- Sorts.
 
@@ -29,16 +30,7 @@ abbrev sort_at : ℕ → Sort
 sort_at n = slice_index_or (FromHost ∷ ToHost ∷ Cable ∷ Crossbar ∷ Init ∷ Poll ∷ Notice ∷ Dump ∷ Begin ∷ Done ∷ []) n Done
 
 at-number : (s : Sort) → sort_at (sort_number s) ≡ s
-at-number FromHost = refl
-at-number ToHost = refl
-at-number Cable = refl
-at-number Crossbar = refl
-at-number Init = refl
-at-number Poll = refl
-at-number Notice = refl
-at-number Dump = refl
-at-number Begin = refl
-at-number Done = refl
+at-number = by_sort (λ s. sort_at (sort_number s) ≡ s) refl refl refl refl refl refl refl refl refl refl
 
 pub same-sort-is : (s t : Sort) → same_sort s t ≡ true → s ≡ t
 same-sort-is s t h = sym (at-number s) ∙ ap sort_at (eqb-true (sort_number s) (sort_number t) h) ∙ at-number t

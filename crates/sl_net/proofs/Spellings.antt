@@ -31,6 +31,7 @@ use Rattle.sl_parts.specs.Fault.{fault_of}
 use Rattle.sl_layout.specs.Wiring.{actions_of}
 use Rattle.sl_net.proofs.NetWired.{Joined, each-joined, link_from, incoming-distinct, into-links}
 use Rattle.sl_net.specs.Spelled.{HasOneSpelling}
+use Rattle.sl_layout.proofs.Sorts.{by_sort}
 
 -- Numbers of ports are single digits.
 
@@ -132,16 +133,7 @@ sort_in text = let first = get_or text 0 0 in let second = get_or text 1 0 in
     else if first == 110 then (if second == 101 then ToHost else Notice) else if second == 117 then Dump else Done
 
 sort_read : (s : Sort) (r : List ℕ) → sort_in (link_word s ++ r) ≡ s
-sort_read FromHost r = refl
-sort_read ToHost r = refl
-sort_read Cable r = refl
-sort_read Crossbar r = refl
-sort_read Init r = refl
-sort_read Poll r = refl
-sort_read Notice r = refl
-sort_read Dump r = refl
-sort_read Begin r = refl
-sort_read Done r = refl
+sort_read s r = by_sort (λ t. sort_in (link_word t ++ r) ≡ t) refl refl refl refl refl refl refl refl refl refl s
 
 -- the first sender of a list
 abbrev pub front : List Incoming → ActorId
@@ -277,41 +269,15 @@ abbrev head : List ℕ → ℕ
 head text = get_or text 0 0
 
 observer_word : (s : Sort) (r : List ℕ) → receives Observer s ≡ true → head (link_word s ++ r) ≡ 100
-observer_word Done r h = refl
-observer_word FromHost r h = absurd (cc)
-observer_word ToHost r h = absurd (cc)
-observer_word Cable r h = absurd (cc)
-observer_word Crossbar r h = absurd (cc)
-observer_word Init r h = absurd (cc)
-observer_word Poll r h = absurd (cc)
-observer_word Notice r h = absurd (cc)
-observer_word Dump r h = absurd (cc)
-observer_word Begin r h = absurd (cc)
+observer_word s r = by_sort (λ t. receives Observer t ≡ true → head (link_word t ++ r) ≡ 100) (λ h. absurd (cc)) (λ h. absurd (cc)) (λ h. absurd (cc)) (λ h. absurd (cc)) (λ h. absurd (cc)) (λ h. absurd (cc)) (λ h. absurd (cc)) (λ h. absurd (cc)) (λ h. absurd (cc)) (λ h. refl) s
 
 host_word : (h : ℕ) (s : Sort) (r : List ℕ) → receives (OfHost h) s ≡ true → head (link_word s ++ r) ≡ 110
-host_word i ToHost r h = refl
-host_word i FromHost r h = absurd (cc)
-host_word i Cable r h = absurd (cc)
-host_word i Crossbar r h = absurd (cc)
-host_word i Init r h = absurd (cc)
-host_word i Poll r h = absurd (cc)
-host_word i Notice r h = absurd (cc)
-host_word i Dump r h = absurd (cc)
-host_word i Begin r h = absurd (cc)
-host_word i Done r h = absurd (cc)
+host_word i s r = by_sort (λ t. receives (OfHost i) t ≡ true → head (link_word t ++ r) ≡ 110) (λ h. absurd (cc)) (λ h. refl) (λ h. absurd (cc)) (λ h. absurd (cc)) (λ h. absurd (cc)) (λ h. absurd (cc)) (λ h. absurd (cc)) (λ h. absurd (cc)) (λ h. absurd (cc)) (λ h. absurd (cc)) s
 
 -- no link's word begins as the word sweep does
 link_word_low : (s : Sort) (r : List ℕ) → head (link_word s ++ r) ≡ 115 → ⊥
-link_word_low ToHost r e = differ 110 115 e refl
-link_word_low FromHost r e = differ 104 115 e refl
-link_word_low Cable r e = differ 99 115 e refl
-link_word_low Crossbar r e = differ 120 115 e refl
-link_word_low Init r e = differ 105 115 e refl
-link_word_low Poll r e = differ 112 115 e refl
-link_word_low Notice r e = differ 110 115 e refl
-link_word_low Dump r e = differ 100 115 e refl
-link_word_low Begin r e = differ 98 115 e refl
-link_word_low Done r e = differ 100 115 e refl
+link_word_low s r = by_sort (λ t. head (link_word t ++ r) ≡ 115 → ⊥)
+    (λ e. differ 104 115 e refl) (λ e. differ 110 115 e refl) (λ e. differ 99 115 e refl) (λ e. differ 120 115 e refl) (λ e. differ 105 115 e refl) (λ e. differ 112 115 e refl) (λ e. differ 110 115 e refl) (λ e. differ 100 115 e refl) (λ e. differ 98 115 e refl) (λ e. differ 100 115 e refl) s
 
 no_action : (x : ActorId) (s : Sort) (r : List ℕ) (m : ℕ) → receives x s ≡ true → m < actions_of x → link_word s ++ r ≡ action_text x m → ⊥
 no_action Observer s r zero h p e = differ 100 105 (sym (observer_word s r h) ∙ ap head e) refl

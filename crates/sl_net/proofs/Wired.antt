@@ -8,7 +8,7 @@ use Rattle.sl_layout.specs.declared.actor.ActorId.TheVariants.{Observer, Control
 use Rattle.sl_layout.specs.declared.actor.Side.{Side}
 use Rattle.sl_layout.specs.declared.actor.Side.TheVariants.{Ingress, Egress}
 use Rattle.sl_layout.specs.declared.actor.Sort.{Sort}
-use Rattle.sl_layout.specs.declared.actor.Sort.TheVariants.{FromHost, ToHost, Cable, Crossbar, Init, Poll, Notice, Dump, Begin, Done}
+use Rattle.sl_layout.specs.declared.actor.Sort.TheVariants.{FromHost, Cable, Crossbar, Init, Poll, Done}
 use Rattle.sl_layout.specs.declared.actor.LinkPart.{LinkPart}
 use Rattle.sl_parts.specs.declared.parts.PortRef.{PortRef}
 use Rattle.sl_parts.specs.declared.parts.HostPart.{HostPart}
@@ -32,6 +32,7 @@ use Rattle.std.proofs.lemmas.List.FromFn.{get_or-map-range_with_len, length-map-
 use Rattle.sl_net.proofs.EndKinds.{begin-receiver, poll-sender, data-sender, init-sender, done-sender, begin-sender, poll-receiver}
 use Rattle.sl_net.proofs.Sorts.{has-ways}
 use Rattle.sl_net.proofs.Namesakes.{no_clash}
+use Rattle.sl_layout.proofs.Sorts.{by_sort}
 
 -- Hosts by their ports.
 
@@ -97,16 +98,7 @@ one-into parts h l = sym (length-map (links_into (net_of parts) (place_of (OfHos
 -- The link from a host.
 
 from-host : (h : ℕ) (t : Sort) → sends (OfHost h) t ≡ true → t ≡ FromHost
-from-host h FromHost q = refl
-from-host h ToHost q = absurd cc
-from-host h Cable q = absurd cc
-from-host h Crossbar q = absurd cc
-from-host h Init q = absurd cc
-from-host h Poll q = absurd cc
-from-host h Notice q = absurd cc
-from-host h Dump q = absurd cc
-from-host h Begin q = absurd cc
-from-host h Done q = absurd cc
+from-host h = by_sort (λ t. sends (OfHost h) t ≡ true → t ≡ FromHost) (λ q. refl) (λ q. absurd (cc)) (λ q. absurd (cc)) (λ q. absurd (cc)) (λ q. absurd (cc)) (λ q. absurd (cc)) (λ q. absurd (cc)) (λ q. absurd (cc)) (λ q. absurd (cc)) (λ q. absurd (cc))
 
 to-ingress : (r : ActorId) → receives r FromHost ≡ true → (p : PortRef) × (r ≡ ingress p.device p.port)
 to-ingress (OfUnit u) q = of_side u.side refl

@@ -3,7 +3,6 @@ ghost use Rattle.std.specs.Prelude.{◌≡◌, ◌<◌, ◌≤◌, ◌+◌, ◌+
 ghost use Rattle.std.specs.Prelude.{◌&&◌, ◌==◌, nat_lt, slice_index, Option, Some};
 ghost use Rattle.sl_net.specs.Spelling.{skip, link_word, port_of, side_text, actor_text};
 ghost use Rattle.sl_net.specs.Spelling.{sender_text, link_text, action_text, device_name};
-ghost use Rattle.sl_net.specs.Spelling.{host_name};
 ghost use Rattle.sl_parts.specs.Valid.{IsValid};
 ghost use Rattle.sl_layout.specs.Roster.{IsActor};
 
@@ -52,16 +51,6 @@ fn skip_device(text: &[u8], parts: &Parts, device: u32, at: usize) -> Option<usi
     skip(text, name.as_str().as_bytes(), at)
 }
 
-fn skip_host(text: &[u8], parts: &Parts, host: u32, at: usize) -> Option<usize>
-    requires host { host < length parts.now.hosts }
-    requires at { at ≤ length text.now }
-    ensures next { result ≡ skip text.now (host_name parts.now host) at }
-    ensures within { IfSome result (λ next. next ≤ length text.now) }
-{
-    let name = &parts.hosts[host as usize].name;
-    skip(text, name.as_str().as_bytes(), at)
-}
-
 /// How a side is spelled.
 pub fn side_word(side: Side) -> &'static [u8]
     ensures { result.now ≡ side_text side }
@@ -95,29 +84,8 @@ fn skip_unit(text: &[u8], parts: &Parts, unit: UnitId, at: usize) -> Option<usiz
     skip_digit(text, unit.port, at)
 }
 
-#[tactic(auto, using(crate::proofs::Skips::skip_append))]
-fn skip_control(text: &[u8], parts: &Parts, device: u32, at: usize) -> Option<usize>
-    requires device { device < length parts.now.devices }
-    requires at { at ≤ length text.now }
-    ensures next { result ≡ skip text.now (actor_text parts.now (ActorId.Control device)) at }
-    ensures within { IfSome result (λ next. next ≤ length text.now) }
-{
-    let at = skip(text, b"control ", at)?;
-    skip_device(text, parts, device, at)
-}
-
-#[tactic(auto, using(crate::proofs::Skips::skip_append))]
-fn skip_named_host(text: &[u8], parts: &Parts, host: u32, at: usize) -> Option<usize>
-    requires host { host < length parts.now.hosts }
-    requires at { at ≤ length text.now }
-    ensures next { result ≡ skip text.now (actor_text parts.now (ActorId.Host host)) at }
-    ensures within { IfSome result (λ next. next ≤ length text.now) }
-{
-    let at = skip(text, b"host ", at)?;
-    skip_host(text, parts, host, at)
-}
-
 /// Where the text goes on past an actor.
+#[tactic(auto, using(crate::proofs::Skips::skip_append))]
 pub fn skip_actor(text: &[u8], parts: &Parts, actor: ActorId, at: usize) -> Option<usize>
     requires valid { IsValid parts.now }
     requires actor { IsActor parts.now actor }
@@ -127,9 +95,19 @@ pub fn skip_actor(text: &[u8], parts: &Parts, actor: ActorId, at: usize) -> Opti
 {
     match actor {
         ActorId::Observer => skip(text, b"observer", at),
-        ActorId::Control(device) => skip_control(text, parts, device, at),
+        ActorId::Control(device) => {
+            let at = skip(text, b"control ", at)?;
+            skip_device(text, parts, device, at)
+        }
         ActorId::Unit(unit) => skip_unit(text, parts, unit, at),
-        ActorId::Host(host) => skip_named_host(text, parts, host, at),
+        ActorId::Host(host) => {
+            let at = skip(text, b"host ", at)?;
+            skip(
+                text,
+                parts.hosts[host as usize].name.as_str().as_bytes(),
+                at,
+            )
+        }
     }
 }
 

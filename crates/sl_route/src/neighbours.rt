@@ -1,14 +1,15 @@
 // The neighbours of each device.
-ghost use Rattle.std.specs.Prelude.{ℕ, ◌≡◌, ◌<◌, ◌++◌, ◌∷◌, [], OnOk, IfOk, length, map};
+ghost use Rattle.std.specs.Prelude.{◌≡◌, ◌<◌, ◌++◌, ◌∷◌, [], OnOk, IfOk, length, map};
 ghost use Rattle.std.specs.Prelude.{slice_index_or, slice_set};
 ghost use Rattle.sl_parts.specs.Parts.{below};
 ghost use Rattle.sl_parts.specs.Valid.{IsValid};
 ghost use Rattle.sl_route.specs.Route.{turned};
 ghost use Rattle.sl_route.specs.Graph.{neighbour_by, neighbours_of};
 
+use sl_machine::Listed;
 use sl_net::{CablePart, Parts};
+use sl_parts::empty_lists;
 use std::alloc::{AllocError, Global};
-use std::marker::Model;
 
 /// A port of a device, and the device that its cable leads to.
 #[derive(Clone, Copy)]
@@ -19,21 +20,8 @@ pub struct Neighbour {
     pub device: u32,
 }
 
-/// The neighbours of one device.
-#[derive(Drop)]
-pub struct Neighbours {
-    /// The neighbours, one for each cable at the device.
-    pub items: Vec<Neighbour>,
-}
-
-impl Model for Neighbours {
-    ghost use Rattle.std.specs.Prelude.{List};
-    ghost use Rattle.sl_route.specs.declared.neighbours.Neighbour.{Neighbour};
-
-    ghost Value = { List Neighbour };
-
-    ghost view = { λ n. n.items.items };
-}
+/// The neighbours of one device, one for each cable at the device.
+pub type Neighbours = Listed<Neighbour>;
 
 fn turned(cable: CablePart) -> CablePart
     ensures { result ≡ turned cable }
@@ -66,18 +54,6 @@ fn neighbour_by(cable: CablePart) -> Neighbour
     }
 }
 
-fn no_neighbours(alloc: Global, count: usize) -> Result<Vec<Neighbours>, AllocError>
-    ensures { IfOk result (λ table. table.items ≡ map (λ (d : ℕ). []) (below count)) }
-{
-    let mut table = Vec::new(alloc);
-    for _place in 0..count {
-        table.push(Neighbours {
-            items: Vec::new(alloc),
-        })?;
-    }
-    Ok(table)
-}
-
 /// Adds a neighbour to those of a device.
 fn add_neighbour(
     table: &mut Vec<Neighbours>,
@@ -101,7 +77,7 @@ pub fn list_neighbours(alloc: Global, parts: &Parts) -> Result<Vec<Neighbours>, 
         (λ table. table.items ≡ map (neighbours_of parts.now) (below (length parts.now.devices))) }
 {
     let cables = both_ways(alloc, &parts.cables)?;
-    let mut table = no_neighbours(alloc, parts.devices.len())?;
+    let mut table = empty_lists(alloc, parts.devices.len())?;
     for cable in &cables {
         add_neighbour(&mut table, cable.a.device, neighbour_by(*cable))?;
     }

@@ -1,5 +1,5 @@
 -- The search against the definition by walks.
-use Rattle.std.proofs.Common.{◌≡◌, ℕ, zero, suc, ◌+◌, ◌<◌, ◌≤◌, List, [], ◌∷◌, ◌++◌, length, get_or, take, refl, sym, ap, ◌∙◌, arith, append-nil, add-one, zero-add}
+use Rattle.std.proofs.Common.{◌≡◌, ℕ, zero, suc, ◌+◌, ◌<◌, ◌≤◌, List, [], ◌∷◌, ◌++◌, length, get_or, take, refl, sym, ap, subst, ◌∙◌, arith, append-nil, add-one, zero-add}
 use Rattle.std.specs.Prelude.{Bool, true, false, cond, ◌&&◌, ◌||◌, ◌==◌, map, filter, flat_map, Option, Some, None, is_none, min, unwrap_or, option_and_then, slice_get}
 use Rattle.std.specs.List.{AllByRecursion, list_any}
 use Rattle.std.proofs.lemmas.List.{map-append}
@@ -9,7 +9,7 @@ use Rattle.sl_parts.specs.declared.parts.PortRef.{PortRef}
 use Rattle.sl_parts.specs.declared.parts.CablePart.{CablePart}
 use Rattle.sl_parts.specs.declared.parts.HostPart.{HostPart}
 use Rattle.sl_parts.specs.Parts.{Parts, below}
-use Rattle.sl_parts.specs.Valid.{IsValid}
+use Rattle.sl_parts.specs.Valid.{IsValid, IsPort}
 use Rattle.sl_layout.proofs.Grouping.{map_same}
 use Rattle.sl_route.specs.declared.neighbours.Neighbour.{Neighbour}
 use Rattle.sl_route.specs.Least.{least, least_in}
@@ -173,6 +173,21 @@ pub host-at : (hs : List HostPart) (i : ℕ) (h : HostPart) → i < length hs �
 host-at [] i h l q = absurd (omega (arith, l))
 host-at (x ∷ hs) zero h l q = ap (λ (host : HostPart). Some host.at) (sym q)
 host-at (x ∷ hs) (suc i) h l q = host-at hs i h (omega (arith, l)) q
+
+-- a host of a list that is the parts' stands at one of their ports
+pub record IsHost (parts : Parts) (i : ℕ) (h : HostPart) : Type 0 where
+  pub within : i < length parts.hosts
+  pub is : h ≡ get_or parts.hosts i h
+  pub port : IsPort parts h.at
+
+pub is-host : (parts : Parts) (hosts : List HostPart) (i : ℕ) (h : HostPart) → IsValid parts → hosts ≡ parts.hosts → i < length hosts → h ≡ get_or hosts i h → IsHost parts i h
+is-host parts hosts i h valid same l is = record { within = within; is = here; port = subst (λ (x : HostPart). IsPort parts x.at) (sym here) (valid.hosts i h within) }
+  where
+    within : i < length parts.hosts
+    within = subst (λ (hs : List HostPart). i < length hs) same l
+
+    here : h ≡ get_or parts.hosts i h
+    here = is ∙ ap (λ hs. get_or hs i h) same
 
 -- Loops.
 

@@ -1,11 +1,11 @@
 // Trusted types: PortText.
 // Forms of texts: names, ports, bytes in hexadecimal, numbers of passes.
-ghost use Rattle.std.specs.Prelude.{◌≡◌, ◌+◌, ◌<◌, ◌≤◌, IfOk, IfSome, length, drop, option_map};
+ghost use Rattle.std.specs.Prelude.{◌≡◌, ℕ, ◌+◌, ◌<◌, ◌≤◌, IfOk, IfSome, List, length, drop};
+ghost use Rattle.std.specs.Prelude.{Option, option_map};
 ghost use Rattle.toml.specs.View.{table_view};
 ghost use Rattle.sl_form.specs.Refusals.{Answers};
 ghost use Rattle.sl_form.specs.Fields.{required_form};
-ghost use Rattle.sl_form.specs.Forms.{name_of, port_of, hex_of, digit_of, byte_of, pairs_of};
-ghost use Rattle.sl_form.specs.Forms.{pass_of};
+ghost use Rattle.sl_form.specs.Forms.{digit_of, byte_of, pairs_of, pass_of};
 
 use crate::fields::required_text;
 use crate::path::{Key, Path, TableName};
@@ -15,6 +15,31 @@ use sl_net::{Bytes, Name, plain_number};
 use std::alloc::Global;
 use toml::Table;
 
+/// What a text at a key may be read as.
+pub trait Form: Sized + Drop {
+    ghost form_of: { List ℕ → Option Self };
+
+    /// What the text says, or none where it has another form.
+    fn read(alloc: Global, text: &str) -> Result<Option<Self>, Memory>
+        ensures { IfOk result (λ made. made ≡ form_of text.now) };
+}
+
+/// What the text at a key says, which has to be there.
+pub fn required<F: Form>(
+    alloc: Global,
+    table: &Table,
+    at: TableName,
+    key: Key,
+) -> Result<F, ReadError>
+    ensures { Answers result (required_form F.form_of at key (table_view table.now)) }
+{
+    let text = required_text(table, at, key)?;
+    match F::read(alloc, text)? {
+        Some(value) => Ok(value),
+        None => Err(ReadError::Refused(Refusal::Form(Path::at(at, key)))),
+    }
+}
+
 /// A port, by the name of its device.
 #[derive(Drop)]
 pub struct PortText {
@@ -23,65 +48,41 @@ pub struct PortText {
 }
 
 #[tactic(auto, using(crate::proofs::FormLemmas::no_name, crate::proofs::FormLemmas::a_name))]
-fn name_of(alloc: Global, text: &str) -> Result<Option<Name>, Memory>
-    ensures { IfOk result (λ made. made ≡ name_of text.now) }
-{
-    match Name::new(alloc, text)? {
-        Some(name) => Ok(Some(name)),
-        None => Ok(None),
+impl Form for Name {
+    ghost use Rattle.sl_form.specs.Forms.{name_of};
+
+    ghost form_of = { name_of };
+
+    fn read(alloc: Global, text: &str) -> Result<Option<Name>, Memory> {
+        match Name::new(alloc, text)? {
+            Some(name) => Ok(Some(name)),
+            None => Ok(None),
+        }
     }
 }
 
 #[tactic(auto, using(std::proofs::lemmas::Str::Pattern::split_once_first))]
-fn port_of(alloc: Global, text: &str) -> Result<Option<PortText>, Memory>
-    ensures { IfOk result (λ made. made ≡ port_of text.now) }
-{
-    let (device, port) = match text.split_once('.') {
-        Some(parts) => parts,
-        None => return Ok(None),
-    };
-    let device = match name_of(alloc, device)? {
-        Some(device) => device,
-        None => return Ok(None),
-    };
-    match plain_number(65535, port) {
-        Some(port) => Ok(Some(PortText {
-            device,
-            port: port as u32,
-        })),
-        None => Ok(None),
-    }
-}
+impl Form for PortText {
+    ghost use Rattle.sl_form.specs.Forms.{port_of};
 
-/// The name at a key that has to be there.
-pub fn required_name(
-    alloc: Global,
-    table: &Table,
-    at: TableName,
-    key: Key,
-) -> Result<Name, ReadError>
-    ensures { Answers result (required_form name_of at key (table_view table.now)) }
-{
-    let text = required_text(table, at, key)?;
-    match name_of(alloc, text)? {
-        Some(name) => Ok(name),
-        None => Err(ReadError::Refused(Refusal::Form(Path::at(at, key)))),
-    }
-}
+    ghost form_of = { port_of };
 
-/// The port at a key that has to be there.
-pub fn required_port(
-    alloc: Global,
-    table: &Table,
-    at: TableName,
-    key: Key,
-) -> Result<PortText, ReadError>
-    ensures { Answers result (required_form port_of at key (table_view table.now)) }
-{
-    let text = required_text(table, at, key)?;
-    match port_of(alloc, text)? {
-        Some(port) => Ok(port),
-        None => Err(ReadError::Refused(Refusal::Form(Path::at(at, key)))),
+    fn read(alloc: Global, text: &str) -> Result<Option<PortText>, Memory> {
+        let (device, port) = match text.split_once('.') {
+            Some(parts) => parts,
+            None => return Ok(None),
+        };
+        let device = match Name::read(alloc, device)? {
+            Some(device) => device,
+            None => return Ok(None),
+        };
+        match plain_number(65535, port) {
+            Some(port) => Ok(Some(PortText {
+                device,
+                port: port as u32,
+            })),
+            None => Ok(None),
+        }
     }
 }
 
@@ -136,31 +137,19 @@ fn pairs_of(alloc: Global, text: &[u8]) -> Result<Option<Vec<u8>>, Memory>
     }
 }
 
-fn hex_of(alloc: Global, text: &str) -> Result<Option<Bytes>, Memory>
-    ensures { IfOk result (λ made. made ≡ hex_of text.now) }
-{
-    if text.len() > 128 {
-        return Ok(None);
-    }
-    match pairs_of(alloc, text.as_bytes())? {
-        Some(items) => Ok(Some(Bytes { items })),
-        None => Ok(None),
-    }
-}
+impl Form for Bytes {
+    ghost use Rattle.sl_form.specs.Forms.{hex_of};
 
-/// The bytes in hexadecimal at a key that has to be there.
-pub fn required_hex(
-    alloc: Global,
-    table: &Table,
-    at: TableName,
-    key: Key,
-) -> Result<Bytes, ReadError>
-    ensures { Answers result (required_form hex_of at key (table_view table.now)) }
-{
-    let text = required_text(table, at, key)?;
-    match hex_of(alloc, text)? {
-        Some(bytes) => Ok(bytes),
-        None => Err(ReadError::Refused(Refusal::Form(Path::at(at, key)))),
+    ghost form_of = { hex_of };
+
+    fn read(alloc: Global, text: &str) -> Result<Option<Bytes>, Memory> {
+        if text.len() > 128 {
+            return Ok(None);
+        }
+        match pairs_of(alloc, text.as_bytes())? {
+            Some(items) => Ok(Some(Bytes { items })),
+            None => Ok(None),
+        }
     }
 }
 

@@ -3,14 +3,14 @@
 
 mod fields;
 mod forms;
-mod listed;
 mod path;
 mod refusal;
+mod text;
 
 pub use fields::{
     find, given_number, only, optional_number, required_number, required_text, text_at,
 };
-pub use forms::{PortText, pass_of, required_hex, required_name, required_port};
-pub use listed::{Listed, Text};
+pub use forms::{Form, PortText, pass_of, required};
 pub use path::{Key, Path, TableName};
 pub use refusal::{ReadError, Refusal};
+pub use text::Text;

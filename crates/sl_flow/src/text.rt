@@ -149,11 +149,14 @@ fn push_list<R: Row>(
 fn push_snapshot(out: &mut String, table: Snapshot) -> Result<(), AllocError>
     ensures { OnOk result (string_bytes out.new ≡ string_bytes out.old ++ snapshot_line table) }
 {
-    let bits = table.width;
-    let window = table.window;
-    let ring = table.ring;
-    let count = table.count;
-    let retries = table.retries;
+    let Snapshot {
+        width: bits,
+        window,
+        ring,
+        count,
+        retries,
+        ..
+    } = table;
     write!(
         out,
         "snapshot = {{bits = {bits}, window = {window}, ring = {ring}, \

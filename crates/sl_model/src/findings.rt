@@ -1,8 +1,8 @@
 // Trusted types: Row, Rows1, Finding, FindingList, Counts, Drops, Lost, Findings.
 // Findings: what a run showed, as the report prints it.
 use crate::verdict::Verdict;
+use sl_machine::Listed;
 use sl_saves::Total;
-use std::marker::Model;
 
 /// What a unit saved for a snapshot: the data packets and bytes that it counted before, and for
 /// each of its data channels, in order, those in flight. Places past its channels are 0.
@@ -14,19 +14,7 @@ pub struct Row {
 }
 
 /// One row per unit in order, or none.
-#[derive(Debug, Drop)]
-pub struct Rows1 {
-    pub items: Vec<Row>,
-}
-
-impl Model for Rows1 {
-    ghost use Rattle.std.specs.Prelude.{List};
-    ghost use Rattle.sl_model.specs.declared.findings.Row.{Row};
-
-    ghost Value = { List Row };
-
-    ghost view = { λ r. r.items.items };
-}
+pub type Rows1 = Listed<Row>;
 
 /// The verdict on snapshot `k`, with a row for each unit where it is consistent.
 #[derive(Debug, Drop)]
@@ -37,33 +25,10 @@ pub struct Finding {
 }
 
 /// Findings in order.
-#[derive(Debug, Drop)]
-pub struct FindingList {
-    pub items: Vec<Finding>,
-}
-
-impl Model for FindingList {
-    ghost use Rattle.std.specs.Prelude.{List};
-    ghost use Rattle.sl_model.specs.declared.findings.Finding.{Finding};
-
-    ghost Value = { List Finding };
-
-    ghost view = { λ l. l.items.items };
-}
+pub type FindingList = Listed<Finding>;
 
 /// One number per host in order.
-#[derive(Debug, Drop)]
-pub struct Counts {
-    pub items: Vec<u64>,
-}
-
-impl Model for Counts {
-    ghost use Rattle.std.specs.Prelude.{List, ℕ};
-
-    ghost Value = { List ℕ };
-
-    ghost view = { λ c. c.items.items };
-}
+pub type Counts = Listed<u64>;
 
 /// What the units dropped: frames that are no plain frames, packets whose hop limit was 0, and
 /// packets without a route.

@@ -1,7 +1,7 @@
 // Trusted types: Message, Put, Puts, Step.
 // Messages, and the steps that actors make with them.
+use sl_machine::Listed;
 use sl_net::{Bytes, Packet};
-use std::marker::Model;
 
 /// A message on a link. Stamps are whole numbers, as all numbers of the definitions.
 #[derive(Debug, Drop)]
@@ -34,19 +34,7 @@ pub struct Put {
 }
 
 /// The puts of a step, in order.
-#[derive(Debug, Drop)]
-pub struct Puts {
-    pub items: Vec<Put>,
-}
-
-impl Model for Puts {
-    ghost use Rattle.std.specs.Prelude.{List};
-    ghost use Rattle.sl_model.specs.declared.message.Put.{Put};
-
-    ghost Value = { List Put };
-
-    ghost view = { λ p. p.items.items };
-}
+pub type Puts = Listed<Put>;
 
 /// A step of an actor: its choice, the message that it took or none, and what it put. An event in
 /// the sense of Chandy and Lamport 1985.

@@ -18,8 +18,7 @@ ghost use Rattle.sl_model.specs.Knowledge.{observer, issued, floor, collected, u
 ghost use Rattle.sl_model.specs.World.{Entry, next_step, world};
 ghost use Rattle.sl_model.specs.Verdict.{miscredits, cause, lag};
 ghost use Rattle.sl_model.specs.End.{IsFinished};
-ghost use Rattle.sl_model.specs.Findings.{finding, findings};
-ghost use Rattle.sl_model.specs.Findings.{row as world_row};
+ghost use Rattle.sl_model.specs.Findings.{finding, findings, row as world_row};
 ghost use Rattle.sl_model.specs.Calls.{calls, step_calls};
 ghost use Rattle.sl_model.specs.Rows.{row};
 ghost use Rattle.sl_model.specs.UnitWindow.{IsWithin, IsTakeable};

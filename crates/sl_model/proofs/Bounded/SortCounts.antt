@@ -2,7 +2,7 @@
 use Rattle.std.proofs.Common.{◌*◌, ◌+◌, ◌≤◌, List, None, Option, Some, ap, get_or, length, refl, suc, sym, ℕ, ◌∙◌, ◌∷◌, ◌≡◌, arith, [], ◌<◌, ◌^◌, subst, zero, add-mul, mul-add}
 use Rattle.std.specs.Prelude.{Bool, false, filter, flat_map, if◌then◌else◌, map, slice_get}
 use Rattle.sl_layout.specs.Net.{Incoming, Net, actor_of, actors_of, egress, from_host_or_cable, from_outside, incoming, ingress, is_unit, link_numbers, link_of, links_to, net_of, nobody, place_of, same_sort, to_host, units, units_of}
-use Rattle.std.proofs.lemmas.List.Sums.{length-filter, count_by-le-length}
+use Rattle.std.proofs.lemmas.List.Sums.{length-filter, count_by-le-length, sum_by-cons}
 use Rattle.sl_parts.specs.Parts.{Parts, below, host_at, other_end, used_ports}
 use Rattle.sl_net.specs.Wired.{IsWired, IsNet}
 use Rattle.sl_layout.specs.declared.actor.ActorId.{ActorId}
@@ -19,7 +19,6 @@ use Rattle.sl_model.proofs.Bounded.Prices.{weigh-map}
 use Rattle.sl_model.proofs.Lists.Weighed.{tally-is, weigh-append, weigh-at-most, weigh-each, weigh-flat, weigh-nothing, weigh-ones-is, weigh-same-each, weigh-times}
 use Rattle.sl_model.proofs.Bounded.BoundedTurns.{mul-right}
 use Rattle.std.specs.List.{sum}
-use Rattle.std.proofs.lemmas.List.Sums.{sum_by-cons}
 use Rattle.std.proofs.lemmas.List.FromFn.{fill_by_all, length-range_with_len}
 use Rattle.sl_net.specs.Input.{Input}
 use Rattle.sl_net.specs.declared.input.Flow.{Flow}

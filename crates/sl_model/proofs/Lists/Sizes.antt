@@ -7,11 +7,10 @@ use Rattle.sl_layout.specs.Net.{Net, units, is_unit, actor_of}
 use Rattle.sl_layout.specs.declared.actor.ActorId.{ActorId}
 use Rattle.sl_model.specs.declared.message.Step.{Step}
 use Rattle.sl_model.specs.Words.{weigh}
-use Rattle.sl_model.specs.History.{History, World, Losses, history}
+use Rattle.sl_model.specs.History.{History, World, Losses, history, steps_in}
 use Rattle.sl_model.specs.Setup.{Setup}
 use Rattle.sl_model.specs.World.{Entry, start, next_step, after, turn, run}
 use Rattle.sl_model.specs.Findings.{ingress_units, is_ingress}
-use Rattle.sl_model.specs.History.{steps_in}
 
 weigh-set : (w : World) (a : ℕ) (h : History) → weigh length (slice_set w a h) + length (history w a) ≤ weigh length w + length h
 weigh-set [] a h = omega arith

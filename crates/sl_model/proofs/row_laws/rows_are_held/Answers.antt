@@ -1,10 +1,9 @@
-use Rattle.std.proofs.Common.{arith}
+use Rattle.std.proofs.Common.{arith, refl}
 use Rattle.sl_saves.proofs.Held.{held-fitting}
 use Rattle.sl_model.specs.History.{history, first}
 use Rattle.sl_model.specs.World.{world}
 use Rattle.sl_model.proofs.Worlds.Steps.{history_size}
 use Rattle.sl_model.proofs.Lists.Sizes.{world_size}
-use Rattle.std.proofs.Common.{refl}
 use Rattle.sl_model.specs.Rows.{row}
 use Rattle.sl_model.proofs.Saved.Fits.{fits-row, first-le, first-short}
 use Rattle.sl_model.proofs.Worlds.Passing.{all-short}

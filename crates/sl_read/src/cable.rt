@@ -6,7 +6,7 @@ ghost use Rattle.sl_form.specs.declared.path.Key.TheVariants.{Version};
 ghost use Rattle.sl_form.specs.Fields.{given_number};
 
 use crate::rows::Row;
-use sl_form::{Key, PortText, ReadError, Refusal, TableName, given_number, only, required_port};
+use sl_form::{Key, PortText, ReadError, Refusal, TableName, given_number, only, required};
 use std::alloc::Global;
 use toml::Table;
 
@@ -35,8 +35,8 @@ impl Row for CableRow {
     fn read(alloc: Global, index: u64, table: &Table) -> Result<CableRow, ReadError> {
         let at = TableName::Cable(index);
         only(at, &[Key::A, Key::B, Key::Version], table)?;
-        let a = required_port(alloc, table, at, Key::A)?;
-        let b = required_port(alloc, table, at, Key::B)?;
+        let a = required::<PortText>(alloc, table, at, Key::A)?;
+        let b = required::<PortText>(alloc, table, at, Key::B)?;
         let version = given_version(table, at)?;
         Ok(CableRow { a, b, version })
     }

@@ -8,7 +8,8 @@ ghost use Rattle.sl_read.specs.Choices.{choice_named, lossy_link, link_named, dr
 ghost use Rattle.sl_read.specs.Choices.{entry_of, fitting, entries_of, passes};
 
 use crate::loss::DropRow;
-use sl_form::{Key, Listed, Path, ReadError, Refusal, TableName, Text, pass_of};
+use sl_form::{Key, Path, ReadError, Refusal, TableName, Text, pass_of};
+use sl_machine::Listed;
 use sl_net::{Drop1, Net, Script1, find_choice};
 use std::alloc::Global;
 
@@ -73,7 +74,7 @@ pub fn place_drops(alloc: Global, net: &Net, drops: &[DropRow]) -> Result<Listed
     for (index, drop) in drops.iter().enumerate() {
         found.push(drop_part(net, index as u64, drop)?)?;
     }
-    Ok(Listed::from_vec(found))
+    Ok(Listed { items: found })
 }
 
 #[tactic(auto, unfolding(crate::specs::Choices::entry_of))]
@@ -127,5 +128,5 @@ pub fn read_entries(alloc: Global, net: &Net, texts: &[Text]) -> Result<Listed<S
         used += passes(entry);
         found.push(entry)?;
     }
-    Ok(Listed::from_vec(found))
+    Ok(Listed { items: found })
 }

@@ -1,7 +1,7 @@
 // Devices.
 use crate::rows::Row;
-use sl_form::{Key, ReadError, TableName, only, required_name, required_number};
-use sl_net::DevicePart;
+use sl_form::{Key, ReadError, TableName, only, required, required_number};
+use sl_net::{DevicePart, Name};
 use std::alloc::Global;
 use toml::Table;
 
@@ -13,7 +13,7 @@ impl Row for DevicePart {
     fn read(alloc: Global, index: u64, table: &Table) -> Result<DevicePart, ReadError> {
         let at = TableName::Device(index);
         only(at, &[Key::Name, Key::Ports], table)?;
-        let name = required_name(alloc, table, at, Key::Name)?;
+        let name = required::<Name>(alloc, table, at, Key::Name)?;
         let ports = required_number(table, at, Key::Ports, 0, 65_535)?;
         Ok(DevicePart {
             name,

@@ -1,7 +1,7 @@
 // Trusted types: FlowRow.
 // Flows, by the names of their hosts.
 use crate::rows::Row;
-use sl_form::{Key, ReadError, TableName, only, required_name, required_number};
+use sl_form::{Key, ReadError, TableName, only, required, required_number};
 use sl_net::Name;
 use std::alloc::Global;
 use toml::Table;
@@ -28,8 +28,8 @@ impl Row for FlowRow {
             &[Key::From, Key::To, Key::Count, Key::Bytes, Key::Hops],
             table,
         )?;
-        let from = required_name(alloc, table, at, Key::From)?;
-        let to = required_name(alloc, table, at, Key::To)?;
+        let from = required::<Name>(alloc, table, at, Key::From)?;
+        let to = required::<Name>(alloc, table, at, Key::To)?;
         let count = required_number(table, at, Key::Count, 0, 20_000)?;
         let bytes = required_number(table, at, Key::Bytes, 0, 65_535)?;
         let hops = required_number(table, at, Key::Hops, 0, 255)?;

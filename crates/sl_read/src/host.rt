@@ -1,7 +1,7 @@
 // Trusted types: HostRow.
 // Hosts, and the ports that they stand at.
 use crate::rows::Row;
-use sl_form::{Key, PortText, ReadError, TableName, only, required_name, required_port};
+use sl_form::{Key, PortText, ReadError, TableName, only, required};
 use sl_net::Name;
 use std::alloc::Global;
 use toml::Table;
@@ -21,8 +21,8 @@ impl Row for HostRow {
     fn read(alloc: Global, index: u64, table: &Table) -> Result<HostRow, ReadError> {
         let table_name = TableName::Host(index);
         only(table_name, &[Key::Name, Key::At], table)?;
-        let name = required_name(alloc, table, table_name, Key::Name)?;
-        let at = required_port(alloc, table, table_name, Key::At)?;
+        let name = required::<Name>(alloc, table, table_name, Key::Name)?;
+        let at = required::<PortText>(alloc, table, table_name, Key::At)?;
         Ok(HostRow { name, at })
     }
 }

@@ -7,9 +7,10 @@ ghost use Rattle.sl_read.specs.Tables.{loss_of, drops_at, any_loss_of};
 
 use crate::rows::{Row, optional_tables, rows};
 use sl_form::{
-    Key, Listed, Path, ReadError, Refusal, TableName, Text, only, optional_number, required_number,
+    Key, Path, ReadError, Refusal, TableName, Text, only, optional_number, required_number,
     required_text,
 };
+use sl_machine::Listed;
 use std::alloc::Global;
 use toml::{Table, Value};
 
@@ -107,7 +108,9 @@ pub fn read_loss(alloc: Global, table: Option<&Table>) -> Result<LossRow, ReadEr
             crossbar: 0,
             init: 0,
             notice: 0,
-            drops: Listed::from_vec(Vec::new(alloc)),
+            drops: Listed {
+                items: Vec::new(alloc),
+            },
         }),
     }
 }

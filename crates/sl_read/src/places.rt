@@ -9,7 +9,8 @@ use crate::cable::CableRow;
 use crate::flow::FlowRow;
 use crate::host::HostRow;
 use crate::raw::RawRow;
-use sl_form::{Key, Listed, Path, PortText, ReadError, Refusal, TableName};
+use sl_form::{Key, Path, PortText, ReadError, Refusal, TableName};
+use sl_machine::Listed;
 use sl_net::{Bytes, CablePart, DevicePart, Flow, HostPart, Name, Parts, PortRef, RawPart};
 use std::alloc::Global;
 
@@ -107,7 +108,7 @@ fn cable_parts(
     for (index, cable) in cables.iter().enumerate() {
         found.push(cable_part(devices, version, index as u64, cable)?)?;
     }
-    Ok(Listed::from_vec(found))
+    Ok(Listed { items: found })
 }
 
 #[tactic(auto, using(crate::proofs::RowLemmas::each_steps))]
@@ -122,7 +123,7 @@ fn host_parts(
     for (index, host) in hosts.iter().enumerate() {
         found.push(host_part(alloc, devices, index as u64, host)?)?;
     }
-    Ok(Listed::from_vec(found))
+    Ok(Listed { items: found })
 }
 
 fn copy_device(alloc: Global, device: &DevicePart) -> Result<DevicePart, ReadError>
@@ -142,7 +143,7 @@ fn copy_devices(alloc: Global, devices: &[DevicePart]) -> Result<Listed<DevicePa
     for device in devices {
         found.push(copy_device(alloc, device)?)?;
     }
-    Ok(Listed::from_vec(found))
+    Ok(Listed { items: found })
 }
 
 /// The parts of the net, with ports by the places of their devices. A cable that gives no version
@@ -161,9 +162,9 @@ pub fn place_parts(
     let hosts = host_parts(alloc, devices, hosts)?;
     let devices = copy_devices(alloc, devices)?;
     Ok(Parts {
-        devices: devices.into_vec(),
-        cables: cables.into_vec(),
-        hosts: hosts.into_vec(),
+        devices: devices.items,
+        cables: cables.items,
+        hosts: hosts.items,
     })
 }
 
@@ -216,7 +217,7 @@ pub fn place_flows(
     for (index, flow) in flows.iter().enumerate() {
         found.push(flow_part(hosts, index as u64, flow)?)?;
     }
-    Ok(Listed::from_vec(found))
+    Ok(Listed { items: found })
 }
 
 /// The raw frames, with hosts by their places.
@@ -232,5 +233,5 @@ pub fn place_raws(
     for (index, raw) in raws.iter().enumerate() {
         found.push(raw_part(alloc, hosts, index as u64, raw)?)?;
     }
-    Ok(Listed::from_vec(found))
+    Ok(Listed { items: found })
 }

@@ -1,7 +1,7 @@
 // Trusted types: RawRow.
 // Raw frames, by the names of their hosts.
 use crate::rows::Row;
-use sl_form::{Key, ReadError, TableName, only, required_hex, required_name};
+use sl_form::{Key, ReadError, TableName, only, required};
 use sl_net::{Bytes, Name};
 use std::alloc::Global;
 use toml::Table;
@@ -21,8 +21,8 @@ impl Row for RawRow {
     fn read(alloc: Global, index: u64, table: &Table) -> Result<RawRow, ReadError> {
         let at = TableName::Raw(index);
         only(at, &[Key::From, Key::Hex], table)?;
-        let from = required_name(alloc, table, at, Key::From)?;
-        let bytes = required_hex(alloc, table, at, Key::Hex)?;
+        let from = required::<Name>(alloc, table, at, Key::From)?;
+        let bytes = required::<Bytes>(alloc, table, at, Key::Hex)?;
         Ok(RawRow { from, bytes })
     }
 }

@@ -17,7 +17,8 @@ use crate::fault::{InputFault, fault_of};
 use crate::limits::limits_kept;
 use crate::loss::LossRow;
 use crate::places::{place_flows, place_parts, place_raws};
-use sl_form::{Listed, ReadError, Refusal};
+use sl_form::{ReadError, Refusal};
+use sl_machine::Listed;
 use sl_net::{
     Drop1, Flow, HostPart, Input, LossSpec, Net, NetFault, Parts, RawPart, Script1, one_spelling,
 };
@@ -102,7 +103,7 @@ fn losses(loss: &LossRow, drops: Listed<Drop1>) -> LossSpec
         crossbar: loss.crossbar,
         init: loss.init,
         notice: loss.notice,
-        drops: drops.into_vec(),
+        drops: drops.items,
     }
 }
 
@@ -169,9 +170,9 @@ fn settle(alloc: Global, document: &Document) -> Result<Input, ReadError>
         net,
         snapshot: document.snapshot,
         loss: contents.loss,
-        flows: contents.flows.into_vec(),
-        raws: contents.raws.into_vec(),
-        script: contents.script.into_vec(),
+        flows: contents.flows.items,
+        raws: contents.raws.items,
+        script: contents.script.items,
     })
 }
 

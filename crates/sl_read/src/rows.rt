@@ -7,7 +7,8 @@ ghost use Rattle.sl_form.specs.Refusals.{Answers, Shows};
 ghost use Rattle.sl_read.specs.Rows.{table_at, items_at, all_tables, tables_at, required_tables};
 ghost use Rattle.sl_read.specs.Rows.{optional_tables, required_table, rows, row};
 
-use sl_form::{Key, Listed, Path, ReadError, Refusal, TableName, find};
+use sl_form::{Key, Path, ReadError, Refusal, TableName, find};
+use sl_machine::Listed;
 use std::alloc::Global;
 use toml::{Table, Value};
 
@@ -56,7 +57,7 @@ pub fn rows<R: Row>(
     for (index, value) in values.iter().enumerate() {
         found.push(read_row::<R>(alloc, at, key, index as u64, value)?)?;
     }
-    Ok(Listed::from_vec(found))
+    Ok(Listed { items: found })
 }
 
 /// A value that has to be a list.

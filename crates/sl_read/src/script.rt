@@ -9,7 +9,8 @@ ghost use Rattle.sl_form.specs.Fields.{text_at};
 ghost use Rattle.sl_read.specs.Tables.{script_of, entries_at, texts_of, any_script_of};
 
 use crate::rows::items_at;
-use sl_form::{Key, Listed, Path, ReadError, Refusal, TableName, Text, find, only, text_at};
+use sl_form::{Key, Path, ReadError, Refusal, TableName, Text, find, only, text_at};
+use sl_machine::Listed;
 use std::alloc::Global;
 use toml::{Table, Value};
 
@@ -37,7 +38,7 @@ fn texts_of(alloc: Global, values: &[Value]) -> Result<Listed<Text>, ReadError>
     for (index, value) in values.iter().enumerate() {
         found.push(text_of(alloc, index as u64, value)?)?;
     }
-    Ok(Listed::from_vec(found))
+    Ok(Listed { items: found })
 }
 
 fn script_of(alloc: Global, table: &Table) -> Result<Listed<Text>, ReadError>
@@ -54,6 +55,8 @@ pub fn read_script(alloc: Global, table: Option<&Table>) -> Result<Listed<Text>,
 {
     match table {
         Some(table) => script_of(alloc, table),
-        None => Ok(Listed::from_vec(Vec::new(alloc))),
+        None => Ok(Listed {
+            items: Vec::new(alloc),
+        }),
     }
 }

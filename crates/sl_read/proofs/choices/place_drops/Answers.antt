@@ -14,4 +14,4 @@ pub returns-in_err-drop_part : goal.returns-in_err-drop_part
 returns-in_err-drop_part c = each_stops (drop_part c.args.net.now) c.args.drops.now c.loop-index.index _ c.loop-index.found.items (Refused c.in_err-drop_part.field-0.0) _ c.from_residual.result c.from_residual.ensures c.loop-index-test.true c.index-drops-index.is (sym c.in_err-drop_part.ensures) c.loop-index.invariant
 
 pub returns : goal.returns
-returns c = rw c.from_vec.ensures (each_end (drop_part c.args.net.now) c.args.drops.now c.loop-index.index c.loop-index.found.items _ c.loop-index-test.false c.loop-index.invariant)
+returns c = each_end (drop_part c.args.net.now) c.args.drops.now c.loop-index.index c.loop-index.found.items _ c.loop-index-test.false c.loop-index.invariant

@@ -26,5 +26,4 @@ returns-in_err-entry c =
     (λ x h. sym c.loop-index.invariant.entries ∙ refused x (same ∙ h)) (sym c.in_err-entry.ensures.entry)
 
 pub returns : goal.returns
-returns c = rw c.from_vec.ensures
-    (sym c.loop-index.invariant.entries ∙ ap (λ ts. with_front c.loop-index.found.items (entries_of c.args.net.now c.loop-index.index c.loop-index.used ts)) (drop_all c.loop-index.index c.args.texts.now c.loop-index-test.false) ∙ with_front_all _)
+returns c = sym c.loop-index.invariant.entries ∙ ap (λ ts. with_front c.loop-index.found.items (entries_of c.args.net.now c.loop-index.index c.loop-index.used ts)) (drop_all c.loop-index.index c.args.texts.now c.loop-index-test.false) ∙ with_front_all _

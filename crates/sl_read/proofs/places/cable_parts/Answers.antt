@@ -12,4 +12,4 @@ pub returns-in_err-cable_part : goal.returns-in_err-cable_part
 returns-in_err-cable_part c = each_stops (cable_part c.args.devices.now c.args.version) c.args.cables.now c.loop-index.index _ c.loop-index.found.items c.in_err-cable_part.field-0.0 _ c.from_residual.result c.from_residual.ensures c.loop-index-test.true c.index-cables-index.is c.in_err-cable_part.ensures c.loop-index.invariant
 
 pub returns : goal.returns
-returns c = rw c.from_vec.ensures (each_end (cable_part c.args.devices.now c.args.version) c.args.cables.now c.loop-index.index c.loop-index.found.items _ c.loop-index-test.false c.loop-index.invariant)
+returns c = each_end (cable_part c.args.devices.now c.args.version) c.args.cables.now c.loop-index.index c.loop-index.found.items _ c.loop-index-test.false c.loop-index.invariant

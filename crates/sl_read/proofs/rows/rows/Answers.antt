@@ -23,5 +23,4 @@ returns-in_err-read_row g c =
     (λ x h. sym c.loop-index.invariant ∙ refused x (same ∙ h)) c.in_err-read_row.ensures
 
 pub returns : goal.returns
-returns g c = rw c.from_vec.ensures
-    (sym c.loop-index.invariant ∙ ap (λ vs. with_front c.loop-index.found.items (rows c.args.at c.args.key g.R.Row.row_of c.loop-index.index (items_view vs))) (drop_all c.loop-index.index c.args.values.now c.loop-index-test.false) ∙ with_front_all _)
+returns g c = sym c.loop-index.invariant ∙ ap (λ vs. with_front c.loop-index.found.items (rows c.args.at c.args.key g.R.Row.row_of c.loop-index.index (items_view vs))) (drop_all c.loop-index.index c.args.values.now c.loop-index-test.false) ∙ with_front_all _

@@ -25,5 +25,4 @@ returns-in_err-text_of c =
     (λ x h. sym c.loop-index.invariant ∙ texts_refused c.args.values.now c.loop-index.index c.index-values-index.result c.loop-index.found.items x c.loop-index-test.true (same ∙ h)) c.in_err-text_of.ensures
 
 pub returns : goal.returns
-returns c = rw c.from_vec.ensures
-    (sym c.loop-index.invariant ∙ ap (λ vs. with_front c.loop-index.found.items (texts_of c.loop-index.index (items_view vs))) (drop_all c.loop-index.index c.args.values.now c.loop-index-test.false) ∙ with_front_all _)
+returns c = sym c.loop-index.invariant ∙ ap (λ vs. with_front c.loop-index.found.items (texts_of c.loop-index.index (items_view vs))) (drop_all c.loop-index.index c.args.values.now c.loop-index-test.false) ∙ with_front_all _

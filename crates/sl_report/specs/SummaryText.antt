@@ -7,26 +7,20 @@ use Rattle.sl_model.specs.declared.verdict.Verdict.TheVariants.{Consistent, Inco
 use Rattle.sl_model.specs.declared.findings.Finding.{Finding}
 use Rattle.sl_model.specs.declared.findings.Lost.{Lost}
 use Rattle.sl_model.specs.declared.findings.Findings.{Findings}
+use Rattle.sl_report.specs.declared.summary.Outcome.{Outcome}
+use Rattle.sl_report.specs.declared.summary.Outcome.TheVariants as outcome
 
-abbrev pub is_consistent : Verdict → Bool
-is_consistent Consistent = true
-is_consistent _ = false
-
-abbrev pub is_inconsistent : Verdict → Bool
-is_inconsistent (Inconsistent unit cause) = true
-is_inconsistent _ = false
-
-abbrev pub is_pending : Verdict → Bool
-is_pending (Pending unit lag) = true
-is_pending _ = false
-
-abbrev pub is_not_issued : Verdict → Bool
-is_not_issued (NotIssued unit floor) = true
-is_not_issued _ = false
+-- the verdict is of this kind
+abbrev pub is_of : Outcome → Verdict → Bool
+is_of outcome.Consistent Consistent = true
+is_of outcome.Inconsistent (Inconsistent unit cause) = true
+is_of outcome.Pending (Pending unit lag) = true
+is_of outcome.NotIssued (NotIssued unit floor) = true
+is_of _ _ = false
 
 -- how many snapshots have such a verdict
-abbrev pub count_verdicts : (Verdict → Bool) → List Finding → ℕ
-count_verdicts is findings = length (filter (λ f. is f.verdict) findings)
+abbrev pub count_outcomes : Outcome → List Finding → ℕ
+count_outcomes kind findings = length (filter (λ f. is_of kind f.verdict) findings)
 
 unfoldable pub sample_line : ℕ → List ℕ
 sample_line n = codes "sample " ++ (decimal n ++ codes "\n")
@@ -42,7 +36,7 @@ verdicts_line consistent inconsistent pending not_issued = codes "consistent " +
     ++ (codes " pending " ++ (decimal pending ++ (codes " not issued " ++ (decimal not_issued ++ codes "\n")))))))
 
 abbrev pub verdicts_text : List Finding → List ℕ
-verdicts_text fs = verdicts_line (count_verdicts is_consistent fs) (count_verdicts is_inconsistent fs) (count_verdicts is_pending fs) (count_verdicts is_not_issued fs)
+verdicts_text fs = verdicts_line (count_outcomes outcome.Consistent fs) (count_outcomes outcome.Inconsistent fs) (count_outcomes outcome.Pending fs) (count_outcomes outcome.NotIssued fs)
 
 -- messages of every sort, lost on links of every kind
 abbrev pub lost_in_all : Lost → ℕ

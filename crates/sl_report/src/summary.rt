@@ -1,74 +1,44 @@
+// Trusted types: Outcome.
 // The summary of a sample.
 ghost use Rattle.std.specs.Prelude.{◌≡◌, ◌++◌, IfOk, OnOk, length, sum, string_bytes};
 ghost use Rattle.sl_layout.specs.Net.{units};
-ghost use Rattle.sl_report.specs.SummaryText.{is_consistent, is_inconsistent, is_pending};
-ghost use Rattle.sl_report.specs.SummaryText.{is_not_issued, count_verdicts};
-ghost use Rattle.sl_report.specs.SummaryText.{sample_line, sizes_line, traffic_line};
-ghost use Rattle.sl_report.specs.SummaryText.{verdicts_line, verdicts_text, lost_in_all};
-ghost use Rattle.sl_report.specs.SummaryText.{total_lost_line, summary_text};
+ghost use Rattle.sl_report.specs.SummaryText.{is_of, count_outcomes, sample_line, sizes_line};
+ghost use Rattle.sl_report.specs.SummaryText.{traffic_line, verdicts_line, verdicts_text};
+ghost use Rattle.sl_report.specs.SummaryText.{lost_in_all, total_lost_line, summary_text};
 
 use sl_machine::Memory;
 use sl_model::{Finding, Findings, Lost, Verdict};
 use sl_net::{Input, Net};
 use std::alloc::{AllocError, Global};
 
-fn is_consistent(verdict: Verdict) -> bool
-    ensures { result ≡ is_consistent verdict }
-{
-    matches!(verdict, Verdict::Consistent)
+/// The four verdicts on a snapshot, without what each tells.
+#[derive(Clone, Copy)]
+enum Outcome {
+    Consistent,
+    Inconsistent,
+    Pending,
+    NotIssued,
 }
 
-fn is_inconsistent(verdict: Verdict) -> bool
-    ensures { result ≡ is_inconsistent verdict }
-{
-    matches!(verdict, Verdict::Inconsistent { .. })
+impl Outcome {
+    fn is_of(self, verdict: Verdict) -> bool
+        ensures { result ≡ is_of self verdict }
+    {
+        match self {
+            Outcome::Consistent => matches!(verdict, Verdict::Consistent),
+            Outcome::Inconsistent => matches!(verdict, Verdict::Inconsistent { .. }),
+            Outcome::Pending => matches!(verdict, Verdict::Pending { .. }),
+            Outcome::NotIssued => matches!(verdict, Verdict::NotIssued { .. }),
+        }
+    }
 }
 
-fn is_pending(verdict: Verdict) -> bool
-    ensures { result ≡ is_pending verdict }
-{
-    matches!(verdict, Verdict::Pending { .. })
-}
-
-fn is_not_issued(verdict: Verdict) -> bool
-    ensures { result ≡ is_not_issued verdict }
-{
-    matches!(verdict, Verdict::NotIssued { .. })
-}
-
-fn count_consistent(findings: &[Finding]) -> usize
-    ensures { result ≡ count_verdicts is_consistent findings.now }
+fn count_outcomes(findings: &[Finding], outcome: Outcome) -> usize
+    ensures { result ≡ count_outcomes outcome findings.now }
 {
     findings
         .iter()
-        .filter(|finding| is_consistent(finding.verdict))
-        .count()
-}
-
-fn count_inconsistent(findings: &[Finding]) -> usize
-    ensures { result ≡ count_verdicts is_inconsistent findings.now }
-{
-    findings
-        .iter()
-        .filter(|finding| is_inconsistent(finding.verdict))
-        .count()
-}
-
-fn count_pending(findings: &[Finding]) -> usize
-    ensures { result ≡ count_verdicts is_pending findings.now }
-{
-    findings
-        .iter()
-        .filter(|finding| is_pending(finding.verdict))
-        .count()
-}
-
-fn count_not_issued(findings: &[Finding]) -> usize
-    ensures { result ≡ count_verdicts is_not_issued findings.now }
-{
-    findings
-        .iter()
-        .filter(|finding| is_not_issued(finding.verdict))
+        .filter(|finding| outcome.is_of(finding.verdict))
         .count()
 }
 
@@ -144,10 +114,10 @@ fn push_verdicts(out: &mut String, findings: &[Finding]) -> Result<(), AllocErro
 {
     push_counts(
         out,
-        count_consistent(findings),
-        count_inconsistent(findings),
-        count_pending(findings),
-        count_not_issued(findings),
+        count_outcomes(findings, Outcome::Consistent),
+        count_outcomes(findings, Outcome::Inconsistent),
+        count_outcomes(findings, Outcome::Pending),
+        count_outcomes(findings, Outcome::NotIssued),
     )
 }
 

@@ -39,7 +39,7 @@ fn push_snapshots(
     let channels = list_channels(alloc, net)?;
     for done in 0..count {
         let finding = finding(alloc, net, observer, done + 1)?;
-        push_finding(alloc, out, net, channels.as_slice(), &finding)?;
+        push_finding(out, net, channels.as_slice(), &finding)?;
     }
     Ok(())
 }

@@ -3,10 +3,9 @@ ghost use Rattle.std.specs.Prelude.{◌≡◌, ◌++◌, OnOk, string_bytes, fla
 ghost use Rattle.std.specs.Prelude.{length, map, ◌<◌};
 ghost use Rattle.sl_layout.specs.Net.{units};
 ghost use Rattle.sl_model.specs.Findings.{channel_links};
-ghost use Rattle.sl_report.specs.Report.{unit_text, unit_at, channel_text, channel_at};
-ghost use Rattle.sl_report.specs.Report.{cause_text, lag_text};
-ghost use Rattle.sl_report.specs.Report.{verdict_text, verdict_line, totals_text, row_line};
-ghost use Rattle.sl_report.specs.Report.{rows_text, finding_text};
+ghost use Rattle.sl_report.specs.Report.{unit_text, unit_at, channel_text, channel_at, cause_text};
+ghost use Rattle.sl_report.specs.Report.{lag_text, verdict_text, verdict_line, totals_text};
+ghost use Rattle.sl_report.specs.Report.{row_line, rows_text, finding_text};
 
 use crate::channels::{channel_links, list_channels};
 use crate::numbers::push_spaced;
@@ -15,7 +14,7 @@ use sl_model::{Cause, Finding, Lag, Row, Verdict};
 use sl_net::Net;
 use sl_parts::Numbers;
 use sl_saves::Total;
-use std::alloc::{AllocError, Global};
+use std::alloc::AllocError;
 
 fn push_cause(out: &mut String, cause: Cause) -> Result<(), AllocError>
     ensures { OnOk result (string_bytes out.new ≡ string_bytes out.old ++ cause_text cause) }
@@ -27,29 +26,17 @@ fn push_cause(out: &mut String, cause: Cause) -> Result<(), AllocError>
 }
 
 /// Writes the data channel of a unit at a place among its data channels.
-fn push_channel_at(
-    alloc: Global,
-    out: &mut String,
-    net: &Net,
-    unit: u32,
-    place: u32,
-) -> Result<(), AllocError>
+fn push_channel_at(out: &mut String, net: &Net, unit: u32, place: u32) -> Result<(), AllocError>
     requires { unit < length net.now.actors }
     ensures { OnOk result
         (string_bytes out.new ≡ string_bytes out.old ++ channel_at net.now unit place) }
 {
-    let links = channel_links(alloc, net, unit)?;
+    let links = channel_links(*out.allocator(), net, unit)?;
     let link = links.get(place as usize).copied().unwrap_or(0);
     push_channel(out, net, link)
 }
 
-fn push_lag(
-    alloc: Global,
-    out: &mut String,
-    net: &Net,
-    unit: u32,
-    lag: Lag,
-) -> Result<(), AllocError>
+fn push_lag(out: &mut String, net: &Net, unit: u32, lag: Lag) -> Result<(), AllocError>
     requires { unit < length net.now.actors }
     ensures { OnOk result
         (string_bytes out.new ≡ string_bytes out.old ++ lag_text net.now unit lag) }
@@ -57,7 +44,7 @@ fn push_lag(
     match lag {
         Lag::Id(number) => write!(out, "id {number}"),
         Lag::Channel { channel, seen } => {
-            push_channel_at(alloc, out, net, unit, channel)?;
+            push_channel_at(out, net, unit, channel)?;
             write!(out, " {seen}")
         }
     }
@@ -73,13 +60,7 @@ fn push_inconsistent(out: &mut String, net: &Net, unit: u32, cause: Cause) -> Re
     push_cause(out, cause)
 }
 
-fn push_pending(
-    alloc: Global,
-    out: &mut String,
-    net: &Net,
-    unit: u32,
-    lag: Lag,
-) -> Result<(), AllocError>
+fn push_pending(out: &mut String, net: &Net, unit: u32, lag: Lag) -> Result<(), AllocError>
     requires { unit < length net.now.actors }
     ensures { OnOk result (string_bytes out.new ≡ string_bytes out.old
         ++ (codes "pending "
@@ -88,7 +69,7 @@ fn push_pending(
     write!(out, "pending ")?;
     push_unit(out, net, unit)?;
     write!(out, " ")?;
-    push_lag(alloc, out, net, unit, lag)
+    push_lag(out, net, unit, lag)
 }
 
 fn push_not_issued(out: &mut String, net: &Net, unit: u32, floor: u64) -> Result<(), AllocError>
@@ -114,12 +95,7 @@ pub fn unit_at(net: &Net, place: u32) -> u32
     }
 }
 
-fn push_verdict(
-    alloc: Global,
-    out: &mut String,
-    net: &Net,
-    verdict: Verdict,
-) -> Result<(), AllocError>
+fn push_verdict(out: &mut String, net: &Net, verdict: Verdict) -> Result<(), AllocError>
     ensures { OnOk result
         (string_bytes out.new ≡ string_bytes out.old ++ verdict_text net.now verdict) }
 {
@@ -131,7 +107,7 @@ fn push_verdict(
             unit_at(net, unit),
             cause,
         ),
-        Verdict::Pending { unit, lag } => push_pending(alloc, out, net, unit_at(net, unit), lag),
+        Verdict::Pending { unit, lag } => push_pending(out, net, unit_at(net, unit), lag),
         Verdict::NotIssued { unit, floor } => push_not_issued(out, net, unit_at(net, unit), floor),
     }
 }
@@ -139,7 +115,6 @@ fn push_verdict(
 /// Writes the verdict on snapshot `k`.
 #[tactic(auto, unfolding(crate::specs::Report::verdict_line))]
 pub fn push_verdict_line(
-    alloc: Global,
     out: &mut String,
     net: &Net,
     k: u64,
@@ -149,7 +124,7 @@ pub fn push_verdict_line(
         (string_bytes out.new ≡ string_bytes out.old ++ verdict_line net.now k verdict) }
 {
     write!(out, "snapshot {k} ")?;
-    push_verdict(alloc, out, net, verdict)?;
+    push_verdict(out, net, verdict)?;
     write!(out, "\n")
 }
 
@@ -224,7 +199,6 @@ fn push_rows(
 
 /// Writes what was found of a snapshot, by the data channels of each unit.
 pub fn push_finding(
-    alloc: Global,
     out: &mut String,
     net: &Net,
     channels: &[Numbers],
@@ -234,7 +208,7 @@ pub fn push_finding(
     ensures { OnOk result
         (string_bytes out.new ≡ string_bytes out.old ++ finding_text net.now finding.now) }
 {
-    push_verdict_line(alloc, out, net, finding.k, finding.verdict)?;
+    push_verdict_line(out, net, finding.k, finding.verdict)?;
     push_rows(
         out,
         net,
@@ -246,19 +220,14 @@ pub fn push_finding(
 
 /// Writes what was found of each snapshot.
 #[tactic(auto, using(crate::proofs::TextLemmas::findings_more))]
-pub fn push_findings(
-    alloc: Global,
-    out: &mut String,
-    net: &Net,
-    findings: &[Finding],
-) -> Result<(), AllocError>
+pub fn push_findings(out: &mut String, net: &Net, findings: &[Finding]) -> Result<(), AllocError>
     ensures { OnOk result
         (string_bytes out.new ≡ string_bytes out.old ++ flat_map
         (finding_text net.now) findings.now) }
 {
-    let channels = list_channels(alloc, net)?;
+    let channels = list_channels(*out.allocator(), net)?;
     for finding in findings {
-        push_finding(alloc, out, net, channels.as_slice(), finding)?;
+        push_finding(out, net, channels.as_slice(), finding)?;
     }
     Ok(())
 }

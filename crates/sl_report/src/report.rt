@@ -46,7 +46,7 @@ pub fn report_bytes(alloc: Global, input: &Input, findings: &Findings) -> Result
         (λ bytes. bytes.items ≡ report_text input.now.net input.now.snapshot.count findings.now) }
 {
     let mut out = report_front(alloc, input, findings)?;
-    push_findings(alloc, &mut out, &input.net, findings.list.items.as_slice())?;
+    push_findings(&mut out, &input.net, findings.list.items.as_slice())?;
     push_back(&mut out, &input.net, findings)?;
     Ok(out.into_bytes())
 }

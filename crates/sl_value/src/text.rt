@@ -15,7 +15,6 @@ use std::alloc::{AllocError, Global};
 /// Writes the verdict on a snapshot.
 #[tactic(auto, unfolding(crate::specs::ValuesText::whole_line))]
 fn push_verdict(
-    alloc: Global,
     out: &mut String,
     net: &Net,
     k: u64,
@@ -27,10 +26,10 @@ fn push_verdict(
     match verdict {
         ValueVerdict::Whole => write!(out, "snapshot {k} whole\n"),
         ValueVerdict::Pending { unit, lag } => {
-            push_verdict_line(alloc, out, net, k, Verdict::Pending { unit, lag })
+            push_verdict_line(out, net, k, Verdict::Pending { unit, lag })
         }
         ValueVerdict::NotIssued { unit, floor } => {
-            push_verdict_line(alloc, out, net, k, Verdict::NotIssued { unit, floor })
+            push_verdict_line(out, net, k, Verdict::NotIssued { unit, floor })
         }
     }
 }
@@ -64,33 +63,23 @@ fn push_values(
     Ok(())
 }
 
-fn push_finding(
-    alloc: Global,
-    out: &mut String,
-    net: &Net,
-    finding: &ValueFinding,
-) -> Result<(), AllocError>
+fn push_finding(out: &mut String, net: &Net, finding: &ValueFinding) -> Result<(), AllocError>
     ensures { OnOk result
         (string_bytes out.new ≡ string_bytes out.old ++ value_finding_text net.now finding.now) }
 {
-    push_verdict(alloc, out, net, finding.k, finding.verdict)?;
+    push_verdict(out, net, finding.k, finding.verdict)?;
     push_values(out, net, net.unit_actors(), finding.values.items.as_slice())
 }
 
 /// Writes what was found of each snapshot.
 #[tactic(auto, using(crate::proofs::Texts::findings_more))]
-fn push_findings(
-    alloc: Global,
-    out: &mut String,
-    net: &Net,
-    findings: &[ValueFinding],
-) -> Result<(), AllocError>
+fn push_findings(out: &mut String, net: &Net, findings: &[ValueFinding]) -> Result<(), AllocError>
     ensures { OnOk result
         (string_bytes out.new ≡ string_bytes out.old ++ flat_map
         (value_finding_text net.now) findings.now) }
 {
     for finding in findings {
-        push_finding(alloc, out, net, finding)?;
+        push_finding(out, net, finding)?;
     }
     Ok(())
 }
@@ -104,7 +93,7 @@ pub fn values_bytes(alloc: Global, input: &Input, run: &ValueRun) -> Result<Vec<
     let net = &input.net;
     let mut out = String::new(alloc);
     write!(out, "values 1\n")?;
-    push_findings(alloc, &mut out, net, run.list.items.as_slice())?;
+    push_findings(&mut out, net, run.list.items.as_slice())?;
     push_hosts(
         &mut out,
         net.parts(),

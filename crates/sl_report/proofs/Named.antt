@@ -21,7 +21,7 @@ use Rattle.sl_layout.specs.declared.actor.UnitId.{UnitId}
 use Rattle.sl_layout.specs.declared.actor.ActorId.{ActorId}
 use Rattle.sl_layout.specs.declared.actor.ActorId.TheVariants.{Observer, Control, Unit as OfUnit, Host as OfHost}
 use Rattle.sl_layout.specs.declared.actor.Sort.{Sort}
-use Rattle.sl_layout.specs.declared.actor.Sort.TheVariants.{FromHost, ToHost, Cable, Crossbar, Init, Poll, Notice, Dump, Begin, Done}
+use Rattle.sl_layout.specs.declared.actor.Sort.TheVariants.{Cable, Crossbar}
 use Rattle.sl_layout.specs.Net.{Net, actor_of, link_of, link_at, links_into, action_choice, choices_of, choice_of, is_unit, units, data_channels, net_of, nobody, ingress, egress, units_of, actors_of, is_host, hosts}
 use Rattle.sl_net.specs.Spelling.{device_name, side_text, actor_text, port_of, link_text, action_text, choice_word, HasChoice}
 use Rattle.sl_net.specs.Spelled.{HasOneSpelling}
@@ -31,6 +31,7 @@ use Rattle.sl_model.specs.Findings.{channel_links}
 use Rattle.sl_net.specs.Names.{HasNames}
 use Rattle.sl_report.specs.Report.{port_text, unit_or_none, unit_text, unit_at, sort_text, channel_text, channel_at}
 use Rattle.sl_report.specs.Sayable.{IsUnitPlace}
+use Rattle.sl_layout.proofs.Sorts.{by_sort}
 
 -- the byte doesn't stand in the text
 abbrev pub Lacks : ℕ → List ℕ → Type 0
@@ -118,37 +119,13 @@ side_lacks Egress = lacks_of_test 46 (codes "out") refl
 
 -- a channel's text has no space, and doesn't begin as the word id
 pub sort_lacks : (s : Sort) (q : ℕ) → Lacks 32 (sort_text s q)
-sort_lacks s q = go s
+sort_lacks s q = by_sort (λ t. Lacks 32 (sort_text t q)) numbered numbered (lacks_of_test 32 (codes "cable") refl) numbered numbered numbered numbered numbered numbered numbered s
   where
     numbered : Lacks 32 (codes "x" ++ decimal q)
     numbered = each-append (λ b. b ≡ 32 → ⊥) (codes "x") (decimal q) (lacks_of_test 32 (codes "x") refl) (decimal_lacks 32 q (omega arith))
 
-    go : (s : Sort) → Lacks 32 (sort_text s q)
-    go Cable = lacks_of_test 32 (codes "cable") refl
-    go FromHost = numbered
-    go ToHost = numbered
-    go Crossbar = numbered
-    go Init = numbered
-    go Poll = numbered
-    go Notice = numbered
-    go Dump = numbered
-    go Begin = numbered
-    go Done = numbered
-
 pub sort_begins : (s : Sort) (q : ℕ) (r : List ℕ) → get_or (sort_text s q ++ r) 0 0 ≡ 105 → ⊥
-sort_begins s q r = go s
-  where
-    go : (s : Sort) → get_or (sort_text s q ++ r) 0 0 ≡ 105 → ⊥
-    go Cable e = omega (arith, e)
-    go FromHost e = omega (arith, e)
-    go ToHost e = omega (arith, e)
-    go Crossbar e = omega (arith, e)
-    go Init e = omega (arith, e)
-    go Poll e = omega (arith, e)
-    go Notice e = omega (arith, e)
-    go Dump e = omega (arith, e)
-    go Begin e = omega (arith, e)
-    go Done e = omega (arith, e)
+sort_begins s q r = by_sort (λ t. get_or (sort_text t q ++ r) 0 0 ≡ 105 → ⊥) (λ e. omega (arith, e)) (λ e. omega (arith, e)) (λ e. omega (arith, e)) (λ e. omega (arith, e)) (λ e. omega (arith, e)) (λ e. omega (arith, e)) (λ e. omega (arith, e)) (λ e. omega (arith, e)) (λ e. omega (arith, e)) (λ e. omega (arith, e)) s
 
 -- a device's side and name, before the port
 abbrev before_port : Parts → UnitId → List ℕ

@@ -1,5 +1,5 @@
 -- Marks of the links that have a message.
-use Rattle.std.proofs.Common.{◌≡◌, ◌≢◌, ◌*◌, ℕ, ◌+◌, ◌<◌, ◌↔◌, List, [], length, get_or, set, refl, ap, ◌∙◌, arith, Bool, true, false, inl, inr}
+use Rattle.std.proofs.Common.{◌≡◌, ◌≢◌, ◌*◌, ℕ, ◌+◌, ◌<◌, ◌↔◌, List, [], length, get_or, set, refl, sym, ap, ◌∙◌, arith, Bool, true, false, inl, inr}
 use Rattle.std.specs.Prelude.{IsTrue, not, if◌then◌else◌}
 use Rattle.std.proofs.lemmas.Bool.{cases_eq}
 use Rattle.std.proofs.lemmas.List.{map-set, length-set, get_or-set_same, get_or-set_other}
@@ -23,18 +23,17 @@ pub record IsWritten (old new : List ℕ) (k : ℕ) (on : Bool) : Type 0 where
   pub others : (j : ℕ) → j ≢ k → mark_at new j ≡ mark_at old j
   pub room : length new ≡ length old
 
--- one link is written, and its mark as it is read there
-pub marked-set : {M : Type 0} (views : List (LineView M)) (old words : List ℕ) (k : ℕ) (new e : LineView M) (empty : Bool) → IsMarked views old → IsWritten old words k (not empty) → k < length views → e ≡ get_or (set views k new) k e → (IsTrue empty ↔ (e.line.queue ≡ [])) → IsMarked (set views k new) words
-marked-set views old words k new e empty marked written low read holds =
-    let is : e ≡ new = read ∙ get_or-set_same views k new e low in
+-- one link is written, and its mark
+pub marked-set : {M : Type 0} (views : List (LineView M)) (old words : List ℕ) (k : ℕ) (new : LineView M) (empty : Bool) → IsMarked views old → IsWritten old words k (not empty) → k < length views → (IsTrue empty ↔ (new.line.queue ≡ [])) → IsMarked (set views k new) words
+marked-set views old words k new empty marked written low holds =
     let long : length (set views k new) ≡ length views = length-set views k new in
     record {
       room = omega (arith, marked.room, written.room, long);
       is = λ j h.
           elim (cases_eq j k) [
             | inl same ↦
-                let here : line_at (lines_of (set views k new)) k ≡ e.line = line_is (set views k new) k e (omega (arith, low, long)) read in
-                rw (same, here) (mark empty (mark_at words k) e.line.queue written.same holds)
+                let here : line_at (lines_of (set views k new)) k ≡ new.line = line_is (set views k new) k new (omega (arith, low, long)) (sym (get_or-set_same views k new new low)) in
+                rw (same, here) (mark empty (mark_at words k) new.line.queue written.same holds)
             | inr other ↦
                 let here : line_at (lines_of (set views k new)) j ≡ line_at (lines_of views) j = ap (λ ls. line_at ls j) (map-set (λ v. v.line) views k new) ∙ get_or-set_other (lines_of views) k j new.line empty_line other in
                 rw (here, written.others j other) (marked.is j (omega (arith, h, long)))

@@ -129,12 +129,13 @@ impl<M: Drop> Line<M> {
         ensures line { self.new.line ≡ without_first self.old.line self.new.line.queue }
         ensures room { 0 < self.old.room → 0 < self.new.room }
     {
-        let taken = self.first.take();
-        if !self.rest.is_empty() {
-            self.first = take_next(&mut self.rest);
-        }
-        match taken {
-            Some(m) => m,
+        match self.first.take() {
+            Some(m) => {
+                if !self.rest.is_empty() {
+                    self.first = take_next(&mut self.rest);
+                }
+                m
+            }
             None => unreachable!(),
         }
     }

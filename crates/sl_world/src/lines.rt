@@ -49,16 +49,14 @@ impl<M: Drop> Lines<M> {
         self.lines[link].is_empty()
     }
 
-    /// The first link with a message from one on and below another, or the place past the last
-    /// link, which stands for actions; the other where there is none.
+    /// The first link with a message from one on, or the place past the last link, which stands for
+    /// actions. Where none of these is below another place, it is some place from that on.
     #[inline(always)]
     pub fn next(&self, from: usize, end: usize) -> usize
-        requires order { from ≤ end }
         requires within { end ≤ length self.now + 1 }
         requires small { end < 2 ^ 40 }
         ensures from { from ≤ result }
-        ensures end { result ≤ end }
-        ensures none { (k : ℕ) → from ≤ k → k < result
+        ensures none { (k : ℕ) → from ≤ k → k < result → k < end
             → (k < length self.now) × ((line_at (lines_of self.now) k).queue ≡ []) }
         ensures some { result < end → result < length self.now
             → (line_at (lines_of self.now) result).queue ≢ [] }
@@ -93,8 +91,9 @@ impl<M: Drop> Lines<M> {
         ensures others { (k : ℕ) → k ≢ link → room_at self.new k ≡ room_at self.old k }
         ensures room { IsTrue result → 0 < room_at self.new link }
     {
-        let has_room = self.lines[link].put(m);
-        self.filled.write(link, !self.lines[link].is_empty());
+        let line = &mut self.lines[link];
+        let has_room = line.put(m);
+        self.filled.write(link, !line.is_empty());
         has_room
     }
 
@@ -110,8 +109,9 @@ impl<M: Drop> Lines<M> {
             (without_first line (drop 1 line.queue)) }
         ensures keeps { KeepsSomeRoom self.old self.new }
     {
-        let m = self.lines[link].take();
-        self.filled.write(link, !self.lines[link].is_empty());
+        let line = &mut self.lines[link];
+        let m = line.take();
+        self.filled.write(link, !line.is_empty());
         m
     }
 }

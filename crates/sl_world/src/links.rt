@@ -152,10 +152,10 @@ impl<M: Drop> Links<M> {
             let link = step.link as usize;
             let end = link + step.run as usize;
             let found = self.lines.next(link, end);
-            at += found - link;
             if found < end {
-                return at;
+                return at + (found - link);
             }
+            at += step.run as usize;
         }
         at
     }

@@ -38,32 +38,30 @@ impl Marks {
         ensures others { (j : ℕ) → j ≢ k → mark_at self.new j ≡ mark_at self.old j }
         ensures room { length self.new ≡ length self.old }
     {
-        let at = k / 64;
-        let word = self.words[at];
-        self.words[at] = (word & !(1 << (k % 64))) | (u64::from(on) << (k % 64));
+        let word = self.words[k / 64];
+        let bit = 1 << (k % 64);
+        let marked = if on { word | bit } else { word & !bit };
+        self.words[k / 64] = marked;
     }
 
-    /// The first marked number from one on and below another; the other where there is none.
+    /// The first marked number from one on. Where none below another is marked, it is some number
+    /// from that on.
     #[inline(always)]
     pub fn next(&self, from: usize, end: usize) -> usize
-        requires order { from ≤ end }
         requires room { end ≤ 64 * length self.now }
         requires small { end < 2 ^ 40 }
         ensures from { from ≤ result }
-        ensures end { result ≤ end }
         ensures none { (k : ℕ) → from ≤ k → k < result → mark_at self.now k ≡ 0 }
         ensures some { result < end → mark_at self.now result ≡ 1 }
     {
         let mut at = from;
         while at < end {
-            let base = at / 64 * 64;
-            let word = self.words[at / 64] & (u64::MAX << (at % 64));
-            if word != 0 {
-                let found = base + word.trailing_zeros() as usize;
-                return found.min(end);
+            let ahead = self.words[at / 64] >> (at % 64);
+            if ahead != 0 {
+                return at + ahead.trailing_zeros() as usize;
             }
-            at = base + 64;
+            at += 64 - at % 64;
         }
-        end
+        at
     }
 }

@@ -14,8 +14,7 @@ use Rattle.sl_model.specs.Setup.{setup_of}
 use Rattle.sl_model.specs.World.{world}
 use Rattle.sl_model.specs.Books.{schedule_of}
 use Rattle.sl_model.specs.Findings.{findings}
-use Rattle.sl_proto.specs.declared.node.Node.{Node}
-use Rattle.sl_proto.specs.Nodes.{NodeState, node_state}
+use Rattle.sl_proto.specs.Nodes.{NodeState, NodeView, node_state}
 use Rattle.sl_emul.specs.declared.fault.EmulFault.{EmulFault}
 use Rattle.sl_emul.specs.declared.fault.EmulFault.TheVariants.{TooMany, Memory as OutOfMemory}
 use Rattle.sl_proto.specs.RunBook.{IsRunBook}
@@ -44,7 +43,7 @@ pub record IsPrinted (IsBook : Input → Losses → List Entry → ℕ → Type 
   pub text_is : text ≡ run_text i lost book trace
 
 -- what nodes that are kept stand for
-abbrev pub states_of : Option (Vec Node Global) → Option (List NodeState)
+abbrev pub states_of : Option (Vec NodeView Global) → Option (List NodeState)
 states_of nodes = option_map (λ ns. map node_state ns.items) nodes
 
 -- such a run, with its book and its nodes

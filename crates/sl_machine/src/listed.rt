@@ -1,3 +1,4 @@
+// Trusted types: Listed.
 // Lists, as contracts see them.
 ghost use Rattle.std.specs.Prelude.{◌≡◌};
 

@@ -1,10 +1,9 @@
 -- The numbers of the links and actions of the nodes.
-use Rattle.std.proofs.Common.{◌≡◌, ℕ, suc, ◌+◌, ◌-◌, ◌<◌, ◌≤◌, List, [], ◌∷◌, ◌++◌, length, sym, ap, subst, ◌∙◌, Option, Some, None, get_or, map, arith, inl, inr, zero-add}
+use Rattle.std.proofs.Common.{◌≡◌, ℕ, suc, ◌+◌, ◌-◌, ◌<◌, ◌≤◌, List, [], ◌∷◌, ◌++◌, length, sym, ap, subst, ◌∙◌, Option, Some, get_or, map, arith, inl, inr, zero-add}
 use Rattle.std.specs.Prelude.{◌⊎◌, true, false, if◌then◌else◌, nat_eq, slice_index}
 use Rattle.std.proofs.lemmas.Bool.Decides.{eqb_tells}
 use Rattle.std.proofs.lemmas.List.{length-map, map_push}
 use Rattle.std.proofs.lemmas.Option.{slice_get-get_or}
-use Rattle.std.proofs.lemmas.List.Elements.{All-push}
 use Rattle.sl_machine.specs.Machine.{Counts}
 use Rattle.sl_machine.specs.Fit.{HasCounts}
 use Rattle.sl_layout.specs.declared.actor.ActorId.{ActorId}
@@ -25,12 +24,10 @@ use Rattle.std.proofs.lemmas.List.FromFn.{length-range_with_len, map-range_with_
 use Rattle.sl_model.proofs.Bounded.SortCounts.{all_at}
 use Rattle.sl_unit.specs.Step.{UnitState, counts_of}
 use Rattle.sl_layout.specs.Devices.{device_of}
-use Rattle.sl_unit.specs.Made.{wires_of, entrance_by, exit_by, ports_of, ingress_state, egress_state}
+use Rattle.sl_unit.specs.Made.{wires_of, entrance_by, exit_by, ports_of}
 use Rattle.sl_host.specs.Host.{host_counts}
 use Rattle.sl_net.specs.declared.input.Snapshot.{Snapshot}
-use Rattle.sl_proto.specs.declared.node.Node.{Node}
-use Rattle.sl_proto.specs.Nodes.{UnitNode, node_state, node_counts, node_ready}
-use Rattle.sl_proto.specs.Built.{counts_at, first_unit, first_at, AreNodes}
+use Rattle.sl_proto.specs.Built.{counts_at, first_unit}
 
 -- an actor's place is its number
 pub place_is : (net : Net) (a : ℕ) (x : ActorId) → net ≡ net_of net.parts → a < length net.actors → actor_of net a ≡ x → place_of x net.actors ≡ a
@@ -45,13 +42,11 @@ unit_fits net a u ports n q =
     let actions : 0 ≡ actions_of (actor_of net a) = sym (ap actions_of q) in
     λ i. record { ins = ins i; outs = outs i; actions = actions i }
 
-pub unit_counts_are : (input : Input) (a : ℕ) (u : UnitId) (side : Side) (s : UnitState) → actor_of input.net a ≡ OfUnit u → UnitNode s ≡ first_unit input a side → counts_of s.wires ≡ counts_at input.net a
+pub unit_counts_are : (input : Input) (a : ℕ) (u : UnitId) (side : Side) (s : UnitState) → actor_of input.net a ≡ OfUnit u → s ≡ first_unit input a side → counts_of s.wires ≡ counts_at input.net a
 unit_counts_are input a u Ingress s q e =
-    let z : s ≡ ingress_state input.net a input.snapshot = cc in
-    ap (λ t. counts_of t.wires) z ∙ unit_fits input.net a u (ports_of input.net (device_of (actor_of input.net a))) input.snapshot q
+    ap (λ t. counts_of t.wires) e ∙ unit_fits input.net a u (ports_of input.net (device_of (actor_of input.net a))) input.snapshot q
 unit_counts_are input a u Egress s q e =
-    let z : s ≡ egress_state input.net a input.snapshot = cc in
-    ap (λ t. counts_of t.wires) z ∙ unit_fits input.net a u [] input.snapshot q
+    ap (λ t. counts_of t.wires) e ∙ unit_fits input.net a u [] input.snapshot q
 
 pub host_fits : (net : Net) (a h : ℕ) → IsWired net → a < length net.actors → actor_of net a ≡ OfHost h → host_counts ≡ counts_at net a
 host_fits net a h t low q =
@@ -63,13 +58,13 @@ host_fits net a h t low q =
 
 -- The numbers of all of them.
 
-pub fits_of : (net : Net) (nodes : List Node) → map node_counts nodes ≡ map (counts_at net) (below (length net.actors)) → HasCounts node_counts (plan_of net) nodes
-fits_of net nodes h =
+pub fits_of : {A : Type 0} (counts : A → Counts) (net : Net) (nodes : List A) → map counts nodes ≡ map (counts_at net) (below (length net.actors)) → HasCounts counts (plan_of net) nodes
+fits_of counts net nodes h =
     let actors = below (length net.actors) in
     record {
-      ins_are = sym (map-map (λ (n : Counts). n.ins) node_counts nodes) ∙ ap (map (λ (n : Counts). n.ins)) h ∙ map-map (λ (n : Counts). n.ins) (counts_at net) actors;
-      outs_are = sym (map-map (λ (n : Counts). n.outs) node_counts nodes) ∙ ap (map (λ (n : Counts). n.outs)) h ∙ map-map (λ (n : Counts). n.outs) (counts_at net) actors;
-      actions_are = sym (map-map (λ (n : Counts). n.actions) node_counts nodes) ∙ ap (map (λ (n : Counts). n.actions)) h ∙ map-map (λ (n : Counts). n.actions) (counts_at net) actors
+      ins_are = sym (map-map (λ (n : Counts). n.ins) counts nodes) ∙ ap (map (λ (n : Counts). n.ins)) h ∙ map-map (λ (n : Counts). n.ins) (counts_at net) actors;
+      outs_are = sym (map-map (λ (n : Counts). n.outs) counts nodes) ∙ ap (map (λ (n : Counts). n.outs)) h ∙ map-map (λ (n : Counts). n.outs) (counts_at net) actors;
+      actions_are = sym (map-map (λ (n : Counts). n.actions) counts nodes) ∙ ap (map (λ (n : Counts). n.actions)) h ∙ map-map (λ (n : Counts). n.actions) (counts_at net) actors
           ∙ sym (map-map actions_of (actor_of net) actors) ∙ ap (map actions_of) (all_at net.actors nobody);
     }
 
@@ -109,12 +104,6 @@ observer_at net a wired q = wired.one_observer a q
 
 -- One node more.
 
-pub node_added : (input : Input) (count : ℕ) (nodes more : List Node) (node : Node) → more ≡ nodes ++ node ∷ [] → AreNodes input count nodes → node_state node ≡ first_at input count
-    → node_counts node ≡ counts_at input.net count → node_ready node ≡ None → AreNodes input (count + 1) more
-node_added input count nodes more node pushed so_far state counts ready =
-    subst (AreNodes input (count + 1)) (sym pushed)
-    (record {
-      states = map_push node_state nodes node ∙ ap (λ xs. xs ++ node_state node ∷ []) so_far.states ∙ ap (λ x. map (first_at input) (below count) ++ x ∷ []) state ∙ sym (map-range_with_len_more (first_at input) 0 count _ (zero-add count));
-      counts = map_push node_counts nodes node ∙ ap (λ xs. xs ++ node_counts node ∷ []) so_far.counts ∙ ap (λ x. map (counts_at input.net) (below count) ++ x ∷ []) counts ∙ sym (map-range_with_len_more (counts_at input.net) 0 count _ (zero-add count));
-      ready = All-push (λ n. node_ready n ≡ None) nodes node so_far.ready ready;
-    })
+pub one-more : {A B : Type 0} (f : A → B) (of : ℕ → B) (count : ℕ) (nodes more : List A) (node : A) → more ≡ nodes ++ node ∷ [] → map f nodes ≡ map of (below count) → f node ≡ of count → map f more ≡ map of (below (count + 1))
+one-more f of count nodes more node pushed so_far is = ap (map f) pushed ∙ map_push f nodes node ∙ ap (λ xs. xs ++ f node ∷ []) so_far ∙ ap (λ x. map of (below count) ++ x ∷ []) is
+    ∙ sym (map-range_with_len_more of 0 count _ (zero-add count))

@@ -6,17 +6,17 @@ use Rattle.sl_wire.specs.declared.message.Msg.{Msg}
 use Rattle.sl_observe.specs.Observer.{ObserverState, observer_rules, observer_counts}
 use Rattle.sl_world.proofs.TurnLaws.{KeptByTurns, all_kept}
 use Rattle.sl_world.specs.Scene.{Scene, after_all}
-use Rattle.sl_proto.specs.Nodes.{NodeState, ObserverNode, as_node, node_take, node_act, node_rules}
+use Rattle.sl_proto.specs.Nodes.{NodeState, ObserverNode, as_node, node_rules}
 use Rattle.sl_proto.specs.Standing.{HasObserver}
 
 abbrev IsObserverNode : NodeState → Type 0
 IsObserverNode s = (o : ObserverState) × (s ≡ ObserverNode o)
 
-take-keeps : (s : NodeState) (link : ℕ) (m : Msg) → IsObserverNode s → IsObserverNode (node_take s link m).state
-take-keeps s link m h = ((observer_rules.take h.0 link m).state, ap (λ t. (node_take t link m).state) h.1)
+take-keeps : (s : NodeState) (link : ℕ) (m : Msg) → IsObserverNode s → IsObserverNode (node_rules.take s link m).state
+take-keeps s link m h = ((observer_rules.take h.0 link m).state, ap (λ t. (node_rules.take t link m).state) h.1)
 
-act-keeps : (s : NodeState) (action : ℕ) (after : After NodeState Msg) → node_act s action ≡ Some after → IsObserverNode s → IsObserverNode after.state
-act-keeps s action after acts h = by_test (nat_lt action ((observer_counts h.0).ins + (observer_counts h.0).actions)) (observer_rules.act h.0 action) (ap (λ t. node_act t action) (sym h.1) ∙ acts)
+act-keeps : (s : NodeState) (action : ℕ) (after : After NodeState Msg) → node_rules.act s action ≡ Some after → IsObserverNode s → IsObserverNode after.state
+act-keeps s action after acts h = by_test (nat_lt action ((observer_counts h.0).ins + (observer_counts h.0).actions)) (observer_rules.act h.0 action) (ap (λ t. node_rules.act t action) (sym h.1) ∙ acts)
   where
     by_test : (b : Bool) (acted : Option (After ObserverState Msg)) → (if b then option_map (as_node ObserverNode) acted else None) ≡ Some after → IsObserverNode after.state
     by_test true (Some a) e = let is : after ≡ as_node ObserverNode a = cc in (a.state, ap (λ (t : After NodeState Msg). t.state) is)
@@ -31,7 +31,7 @@ set-keeps (s ∷ states) (suc actor) old new here keeps o first = (o, first)
 
 kept-by-turns : KeptByTurns node_rules HasObserver
 kept-by-turns = record {
-  by_take = λ w actor choice t h. let k = set-keeps w.states actor t.state (node_take t.state choice t.message).state t.state_is (take-keeps t.state choice t.message) h.observer h.first in
+  by_take = λ w actor choice t h. let k = set-keeps w.states actor t.state (node_rules.take t.state choice t.message).state t.state_is (take-keeps t.state choice t.message) h.observer h.first in
       record { observer = k.0; first = k.1 };
   by_act = λ w actor choice t h. let k = set-keeps w.states actor t.state t.after.state t.state_is (act-keeps t.state choice t.after t.act_is) h.observer h.first in
       record { observer = k.0; first = k.1 };

@@ -19,7 +19,7 @@ use Rattle.sl_model.specs.Accounts.{Account, finding_by}
 use Rattle.sl_simulation.specs.ObserverImage.{account_of}
 use Rattle.sl_world.specs.Scene.{Scene, line_at}
 use Rattle.sl_proto.specs.declared.node.Traffic.{Traffic}
-use Rattle.sl_proto.specs.Nodes.{NodeState, UnitNode, HostNode}
+use Rattle.sl_proto.specs.Nodes.{NodeOf, NodeState, UnitNode, HostNode}
 
 -- The observer.
 
@@ -43,16 +43,16 @@ IsValue _ = ⊥
 -- Nodes.
 
 -- how many frames a host sent, and how many it took
-abbrev pub sent_told : NodeState → Option ℕ
+abbrev pub sent_told : {S : Type 0} → NodeOf S → Option ℕ
 sent_told (HostNode h) = Some h.sent
 sent_told _ = None
 
-abbrev pub delivered_told : NodeState → Option ℕ
+abbrev pub delivered_told : {S : Type 0} → NodeOf S → Option ℕ
 delivered_told (HostNode h) = Some h.delivered
 delivered_told _ = None
 
 -- what a node tells of the host that it is
-pub record IsTraffic (s : NodeState) (told : Option Traffic) : Type 0 where
+pub record IsTraffic {S : Type 0} (s : NodeOf S) (told : Option Traffic) : Type 0 where
   pub sent : option_map (λ t. t.sent) told ≡ sent_told s
   pub delivered : option_map (λ t. t.delivered) told ≡ delivered_told s
 

@@ -1,39 +1,95 @@
 // The nodes of an input, and the world of them.
-ghost use Rattle.std.specs.Prelude.{◌≡◌, ◌<◌, ◌++◌, ◌∷◌, [], IfOk, OnOk, None, Some, length, map};
+ghost use Rattle.std.specs.Prelude.{◌≡◌, ◌<◌, ℕ, IfOk, None, Option, Some, length, map};
 ghost use Rattle.std.specs.Prelude.{slice_index};
 ghost use Rattle.std.specs.List.{All};
 ghost use Rattle.sl_machine.specs.Fit.{HasCounts};
-ghost use Rattle.sl_layout.specs.Net.{actor_of, units};
+ghost use Rattle.sl_machine.specs.Machine.{Counts};
+ghost use Rattle.sl_layout.specs.Net.{Net, actor_of, units};
 ghost use Rattle.sl_layout.specs.Wiring.{plan_of};
 ghost use Rattle.sl_route.specs.Routes.{IsRoutesOf};
 ghost use Rattle.sl_loss.specs.Loss.{IsFresh};
-ghost use Rattle.sl_unit.specs.Made.{side_of, unit_at};
+ghost use Rattle.sl_wire.specs.Sizes.{Sizes, sizes_of};
+ghost use Rattle.sl_unit.specs.Made.{IsRanged, side_of, unit_at};
+ghost use Rattle.sl_unit.specs.Units.{unit_state, unit_ready};
+ghost use Rattle.sl_control.specs.Wires.{control_of, control_counts};
 ghost use Rattle.sl_world.specs.Scene.{first_scene};
 ghost use Rattle.sl_world.specs.World.{scene};
-ghost use Rattle.sl_proto.specs.Nodes.{node_state, node_counts, node_ready};
+ghost use Rattle.sl_proto.specs.Nodes.{node_state_by, node_counts_by, node_ready_by};
 ghost use Rattle.sl_proto.specs.Built.{IsBuildable, first_unit, first_node, first_at};
-ghost use Rattle.sl_proto.specs.Built.{first_states, counts_at, AreNodes};
+ghost use Rattle.sl_proto.specs.Built.{first_states, first_states_by, counts_at};
 
 use crate::node::Node;
 use sl_control::Control;
 use sl_host::Host;
 use sl_loss::Loss;
 use sl_machine::Memory;
-use sl_net::{ActorId, Input, Side, UnitId, nets_are_wired, nets_have_ways};
+use sl_net::{ActorId, Input, Net, Side, Snapshot, UnitId, nets_are_wired, nets_have_ways};
 use sl_observe::Observer;
 use sl_route::Routes;
 use sl_unit::Unit;
 use sl_world::World;
 use std::alloc::Global;
 
+/// A control plane that nodes can be made with.
+pub trait ControlPlane: Drop {
+    /// What it stands for.
+    ghost State: { Type 0 };
+
+    ghost state: { Self → State };
+
+    /// How many incoming links, outgoing links and actions it has.
+    ghost counts: { Self → Counts };
+
+    /// The choice that it is ready for.
+    ghost ready_for: { Self → Option ℕ };
+
+    /// What it stands for before its first turn, by its number in a net.
+    ghost first: { Net → ℕ → Sizes → State };
+
+    /// The control plane of a device, by its place in the net.
+    fn make(alloc: Global, net: &Net, device: u32, snapshot: &Snapshot) -> Result<Self, Memory>
+        requires device { device < length net.now.parts.devices }
+        requires snapshot { IsRanged snapshot.now }
+        ensures state { IfOk result
+            (λ c. state c ≡ first net.now (control_of net.now device) (sizes_of snapshot.now)) }
+        ensures counts { IfOk result
+            (λ c. counts c ≡ control_counts net.now (control_of net.now device)) }
+        ensures ready { IfOk result (λ c. ready_for c ≡ None) };
+}
+
+impl ControlPlane for Control {
+    ghost use Rattle.sl_control.specs.Control.{ControlState};
+    ghost use Rattle.sl_control.specs.Wires.{first_control};
+
+    ghost State = { ControlState };
+
+    ghost state = { λ c. c.state };
+
+    ghost counts = { λ c. c.counts };
+
+    ghost ready_for = { λ c. c.ready };
+
+    ghost first = { first_control };
+
+    fn make(alloc: Global, net: &Net, device: u32, snapshot: &Snapshot) -> Result<Control, Memory> {
+        Control::new(alloc, net, device, snapshot)
+    }
+}
+
 /// The observer's node.
 #[tactic(auto, using(crate::proofs::Counts::observer_at))]
-fn make_observer(alloc: Global, input: &Input, actor: u32) -> Result<Node, Memory>
+fn make_observer<C: ControlPlane>(
+    alloc: Global,
+    input: &Input,
+    actor: u32,
+) -> Result<Node<C>, Memory>
     requires actor { actor_of input.now.net actor ≡ ActorId.Observer }
     ensures state { IfOk result
-        (λ node. node_state node ≡ first_node input.now actor ActorId.Observer) }
-    ensures counts { IfOk result (λ node. node_counts node ≡ counts_at input.now.net actor) }
-    ensures ready { IfOk result (λ node. node_ready node ≡ None) }
+        (λ node. node_state_by C.state node
+        ≡ first_node C.first input.now actor ActorId.Observer) }
+    ensures counts { IfOk result
+        (λ node. node_counts_by C.counts node ≡ counts_at input.now.net actor) }
+    ensures ready { IfOk result (λ node. node_ready_by C.ready_for node ≡ None) }
 {
     // A net is that of its parts, so its first actor alone is the observer.
     let _parts = input.net.parts();
@@ -44,18 +100,25 @@ fn make_observer(alloc: Global, input: &Input, actor: u32) -> Result<Node, Memor
 
 /// The node of a control plane.
 #[tactic(auto, using(crate::proofs::Counts::place_is))]
-fn make_control(alloc: Global, input: &Input, actor: u32, device: u32) -> Result<Node, Memory>
+fn make_control<C: ControlPlane>(
+    alloc: Global,
+    input: &Input,
+    actor: u32,
+    device: u32,
+) -> Result<Node<C>, Memory>
     requires below { actor < length input.now.net.actors }
     requires actor { actor_of input.now.net actor ≡ ActorId.Control device }
     requires device { device < length input.now.net.parts.devices }
     requires input { IsBuildable input.now }
     ensures state { IfOk result
-        (λ node. node_state node ≡ first_node input.now actor (ActorId.Control device)) }
-    ensures counts { IfOk result (λ node. node_counts node ≡ counts_at input.now.net actor) }
-    ensures ready { IfOk result (λ node. node_ready node ≡ None) }
+        (λ node. node_state_by C.state node
+        ≡ first_node C.first input.now actor (ActorId.Control device)) }
+    ensures counts { IfOk result
+        (λ node. node_counts_by C.counts node ≡ counts_at input.now.net actor) }
+    ensures ready { IfOk result (λ node. node_ready_by C.ready_for node ≡ None) }
 {
     let _parts = input.net.parts();
-    let control = Control::new(alloc, &input.net, device, &input.snapshot)?;
+    let control = C::make(alloc, &input.net, device, &input.snapshot)?;
     Ok(Node::Control(control))
 }
 
@@ -72,9 +135,9 @@ fn unit_at(
     requires routes { IsRoutesOf input.now.net routes.now }
     requires input { IsBuildable input.now }
     ensures state { IfOk result
-        (λ unit. node_state (Node.Unit unit) ≡ first_unit input.now
+        (λ unit. unit_state unit ≡ first_unit input.now
         (slice_index (units input.now.net) place) side) }
-    ensures ready { IfOk result (λ unit. node_ready (Node.Unit unit) ≡ None) }
+    ensures ready { IfOk result (λ unit. unit_ready unit ≡ None) }
 {
     match side {
         Side::Ingress => Unit::ingress(alloc, &input.net, routes, place, &input.snapshot),
@@ -84,21 +147,23 @@ fn unit_at(
 
 /// The node of a unit.
 #[tactic(auto, using(crate::proofs::Counts::unit_stands, crate::proofs::Counts::unit_fits))]
-fn make_unit(
+fn make_unit<C: ControlPlane>(
     alloc: Global,
     input: &Input,
     routes: &Routes,
     actor: u32,
     unit: UnitId,
-) -> Result<Node, Memory>
+) -> Result<Node<C>, Memory>
     requires below { actor < length input.now.net.actors }
     requires actor { actor_of input.now.net actor ≡ ActorId.Unit unit }
     requires routes { IsRoutesOf input.now.net routes.now }
     requires input { IsBuildable input.now }
     ensures state { IfOk result
-        (λ node. node_state node ≡ first_node input.now actor (ActorId.Unit unit)) }
-    ensures counts { IfOk result (λ node. node_counts node ≡ counts_at input.now.net actor) }
-    ensures ready { IfOk result (λ node. node_ready node ≡ None) }
+        (λ node. node_state_by C.state node
+        ≡ first_node C.first input.now actor (ActorId.Unit unit)) }
+    ensures counts { IfOk result
+        (λ node. node_counts_by C.counts node ≡ counts_at input.now.net actor) }
+    ensures ready { IfOk result (λ node. node_ready_by C.ready_for node ≡ None) }
 {
     nets_have_ways();
     let place = input.net.unit_place(actor);
@@ -107,14 +172,21 @@ fn make_unit(
 }
 
 /// The node of a host.
-fn make_host(alloc: Global, input: &Input, actor: u32, host: u32) -> Result<Node, Memory>
+fn make_host<C: ControlPlane>(
+    alloc: Global,
+    input: &Input,
+    actor: u32,
+    host: u32,
+) -> Result<Node<C>, Memory>
     requires below { actor < length input.now.net.actors }
     requires actor { actor_of input.now.net actor ≡ ActorId.Host host }
     requires input { IsBuildable input.now }
     ensures state { IfOk result
-        (λ node. node_state node ≡ first_node input.now actor (ActorId.Host host)) }
-    ensures counts { IfOk result (λ node. node_counts node ≡ counts_at input.now.net actor) }
-    ensures ready { IfOk result (λ node. node_ready node ≡ None) }
+        (λ node. node_state_by C.state node
+        ≡ first_node C.first input.now actor (ActorId.Host host)) }
+    ensures counts { IfOk result
+        (λ node. node_counts_by C.counts node ≡ counts_at input.now.net actor) }
+    ensures ready { IfOk result (λ node. node_ready_by C.ready_for node ≡ None) }
 {
     nets_are_wired();
     let _parts = input.net.parts();
@@ -123,13 +195,20 @@ fn make_host(alloc: Global, input: &Input, actor: u32, host: u32) -> Result<Node
 }
 
 /// The node of an actor.
-fn make_node(alloc: Global, input: &Input, routes: &Routes, actor: u32) -> Result<Node, Memory>
+fn make_node<C: ControlPlane>(
+    alloc: Global,
+    input: &Input,
+    routes: &Routes,
+    actor: u32,
+) -> Result<Node<C>, Memory>
     requires below { actor < length input.now.net.actors }
     requires routes { IsRoutesOf input.now.net routes.now }
     requires input { IsBuildable input.now }
-    ensures state { IfOk result (λ node. node_state node ≡ first_at input.now actor) }
-    ensures counts { IfOk result (λ node. node_counts node ≡ counts_at input.now.net actor) }
-    ensures ready { IfOk result (λ node. node_ready node ≡ None) }
+    ensures state { IfOk result
+        (λ node. node_state_by C.state node ≡ first_at C.first input.now actor) }
+    ensures counts { IfOk result
+        (λ node. node_counts_by C.counts node ≡ counts_at input.now.net actor) }
+    ensures ready { IfOk result (λ node. node_ready_by C.ready_for node ≡ None) }
 {
     match input.net.actor(actor) {
         ActorId::Observer => make_observer(alloc, input, actor),
@@ -139,30 +218,23 @@ fn make_node(alloc: Global, input: &Input, routes: &Routes, actor: u32) -> Resul
     }
 }
 
-/// The nodes of all actors in order.
-fn list_nodes(alloc: Global, input: &Input, routes: &Routes) -> Result<Vec<Node>, Memory>
-    requires routes { IsRoutesOf input.now.net routes.now }
-    requires input { IsBuildable input.now }
-    ensures { IfOk result (λ nodes. AreNodes input.now (length input.now.net.actors) nodes.items) }
-{
-    let mut nodes = Vec::new(alloc);
-    for actor in 0..input.net.actors().len() {
-        let node = make_node(alloc, input, routes, actor as u32)?;
-        nodes.push(node)?;
-    }
-    Ok(nodes)
-}
-
 /// The nodes of an input before their first turn, one per actor in the order of its net's actors.
 /// They fit the net's wiring, and none is ready for a turn.
-pub fn build_nodes(alloc: Global, input: &Input) -> Result<Vec<Node>, Memory>
+pub fn build_nodes<C: ControlPlane>(alloc: Global, input: &Input) -> Result<Vec<Node<C>>, Memory>
     requires { IsBuildable input.now }
-    ensures states { IfOk result (λ nodes. map node_state nodes.items ≡ first_states input.now) }
-    ensures fit { IfOk result (λ nodes. HasCounts node_counts (plan_of input.now.net) nodes.items) }
-    ensures ready { IfOk result (λ nodes. All (λ node. node_ready node ≡ None) nodes.items) }
+    ensures states { IfOk result
+        (λ nodes. map (node_state_by C.state) nodes.items ≡ first_states_by C.first input.now) }
+    ensures fit { IfOk result
+        (λ nodes. HasCounts (node_counts_by C.counts) (plan_of input.now.net) nodes.items) }
+    ensures ready { IfOk result
+        (λ nodes. All (λ node. node_ready_by C.ready_for node ≡ None) nodes.items) }
 {
     let routes = Routes::make(alloc, &input.net)?;
-    let nodes = list_nodes(alloc, input, &routes)?;
+    let mut nodes = Vec::new(alloc);
+    for actor in 0..input.net.actors().len() {
+        let node = make_node(alloc, input, &routes, actor as u32)?;
+        nodes.push(node)?;
+    }
     Ok(nodes)
 }
 

@@ -18,7 +18,7 @@ mod script;
 mod taker;
 mod verdicts;
 
-pub use build::{build_nodes, build_world};
+pub use build::{ControlPlane, build_nodes, build_world};
 pub use finishing::{end_run, finish, settle};
 pub use gather::{count_traffic, findings, findings_but_list, nodes_tell_findings, observer_of};
 pub use laws::{

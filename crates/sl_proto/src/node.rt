@@ -2,7 +2,8 @@
 // The machine of any actor.
 ghost use Rattle.std.specs.Prelude.{◌≡◌, ◌<◌, ◌≤◌, [], Some, None, true, OnOk, OnErr};
 ghost use Rattle.sl_machine.specs.Machine.{IsChoice, is_fitting};
-ghost use Rattle.sl_proto.specs.Nodes.{node_state, node_rules, node_counts, node_ready};
+ghost use Rattle.sl_proto.specs.Nodes.{node_state_by, node_take};
+ghost use Rattle.sl_proto.specs.Nodes.{node_counts_by, node_ready_by};
 ghost use Rattle.sl_proto.specs.Told.{IsTraffic};
 
 use sl_control::Control;
@@ -21,17 +22,17 @@ pub struct Traffic {
 
 /// A node of a net: the machine of one of its actors. A turn of it is its machine's turn.
 #[derive(Drop)]
-pub enum Node {
+pub enum Node<C = Control> {
     Observer(Observer),
-    Control(Control),
+    Control(C),
     Unit(Unit),
     Host(Host),
 }
 
-impl Node {
+impl<C: Machine<Msg = Msg>> Node<C> {
     /// How many frames it sent and took, where it is a host.
     pub fn traffic(&self) -> Option<Traffic>
-        ensures { IsTraffic (node_state self.now) result }
+        ensures { IsTraffic (node_state_by C.state self.now) result }
     {
         match self {
             Node::Host(host) => Some(Traffic {
@@ -44,15 +45,15 @@ impl Node {
 }
 
 // Most turns are of units. Those of other machines stand apart, so that one comparison tells.
-impl Node {
+impl<C: Machine<Msg = Msg>> Node<C> {
     /// `ready` of a machine that is no unit.
     #[inline(never)]
     fn ready_apart(&mut self, choice: u32) -> Result<(), Memory>
-        requires { IsChoice (node_counts self.old) choice }
-        ensures state { node_state self.new ≡ node_state self.old }
-        ensures counts { node_counts self.new ≡ node_counts self.old }
-        ensures ok { OnOk result (node_ready self.new ≡ Some choice) }
-        ensures err { OnErr result (node_ready self.new ≡ None) }
+        requires { IsChoice (node_counts_by C.counts self.old) choice }
+        ensures state { node_state_by C.state self.new ≡ node_state_by C.state self.old }
+        ensures counts { node_counts_by C.counts self.new ≡ node_counts_by C.counts self.old }
+        ensures ok { OnOk result (node_ready_by C.ready_for self.new ≡ Some choice) }
+        ensures err { OnErr result (node_ready_by C.ready_for self.new ≡ None) }
     {
         match self {
             Node::Observer(observer) => observer.ready(choice),
@@ -65,16 +66,18 @@ impl Node {
     /// `take` of a machine that is no unit.
     #[inline(never)]
     fn take_apart(&mut self, link: u32, m: Msg, out: &mut Outputs<Msg>)
-        requires link { link < (node_counts self.old).ins }
-        requires ready { node_ready self.old ≡ Some link }
+        requires link { link < (node_counts_by C.counts self.old).ins }
+        requires ready { node_ready_by C.ready_for self.old ≡ Some link }
         requires empty { out.old.items ≡ [] }
-        requires room { (node_counts self.old).outs ≤ out.old.room }
-        ensures state { node_state self.new ≡ (node_rules.take (node_state self.old) link m).state }
-        ensures puts { out.new.items ≡ (node_rules.take (node_state self.old) link m).puts }
-        ensures fitting { is_fitting (node_counts self.old).outs out.new.items ≡ true }
+        requires room { (node_counts_by C.counts self.old).outs ≤ out.old.room }
+        ensures state { node_state_by C.state self.new
+            ≡ (node_take C.rules (node_state_by C.state self.old) link m).state }
+        ensures puts { out.new.items
+            ≡ (node_take C.rules (node_state_by C.state self.old) link m).puts }
+        ensures fitting { is_fitting (node_counts_by C.counts self.old).outs out.new.items ≡ true }
         ensures room { out.new.room ≡ out.old.room }
-        ensures counts { node_counts self.new ≡ node_counts self.old }
-        ensures spent { node_ready self.new ≡ None }
+        ensures counts { node_counts_by C.counts self.new ≡ node_counts_by C.counts self.old }
+        ensures spent { node_ready_by C.ready_for self.new ≡ None }
     {
         match self {
             Node::Observer(observer) => observer.take(link, m, out),
@@ -85,21 +88,21 @@ impl Node {
     }
 }
 
-impl Machine for Node {
-    ghost use Rattle.sl_proto.specs.Nodes.{NodeState, node_state, node_rules, node_counts};
-    ghost use Rattle.sl_proto.specs.Nodes.{node_ready};
+impl<C: Machine<Msg = Msg>> Machine for Node<C> {
+    ghost use Rattle.sl_proto.specs.Nodes.{NodeOf, node_state_by, node_rules_by};
+    ghost use Rattle.sl_proto.specs.Nodes.{node_counts_by, node_ready_by};
 
     type Msg = Msg;
 
-    ghost State = { NodeState };
+    ghost State = { NodeOf C.State };
 
-    ghost state = { node_state };
+    ghost state = { node_state_by C.state };
 
-    ghost rules = { node_rules };
+    ghost rules = { node_rules_by C.rules };
 
-    ghost counts = { node_counts };
+    ghost counts = { node_counts_by C.counts };
 
-    ghost ready_for = { node_ready };
+    ghost ready_for = { node_ready_by C.ready_for };
 
     fn ready(&mut self, choice: u32) -> Result<(), Memory> {
         match self {

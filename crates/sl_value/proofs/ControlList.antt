@@ -12,18 +12,18 @@ use Rattle.sl_machine.specs.declared.wiring.Entry.{Entry}
 use Rattle.sl_net.specs.Input.{Input}
 use Rattle.sl_net.specs.Wired.{IsNet, IsWired}
 use Rattle.sl_control.specs.Wires.{control_of}
-use Rattle.sl_model.specs.Words.{numbers}
+use Rattle.sl_model.specs.Words.{listed, numbers}
 use Rattle.sl_model.specs.Books.{schedule_of}
 use Rattle.sl_model.specs.History.{World}
 use Rattle.sl_model.specs.Losses.{losses}
 use Rattle.sl_model.specs.World.{world}
 use Rattle.sl_model.specs.Setup.{Setup, setup_of}
-use Rattle.sl_proto.specs.Meaning.{StandsAs}
-use Rattle.sl_proto.specs.Nodes.{ControlNode}
+use Rattle.sl_proto.specs.Meaning.{StandsAs, NodeStands}
+use Rattle.sl_proto.specs.Nodes.{NodeState, ObserverNode, ControlNode, UnitNode, HostNode}
 use Rattle.sl_value.specs.Valued.{ValueState}
-use Rattle.sl_value.specs.Nodes.{ValueNodeState, Other, Valued}
-use Rattle.sl_value.specs.Standing.{IsNoControl, ValueStands}
-use Rattle.sl_value.specs.Controls.{controls_in, AreControls}
+use Rattle.sl_value.specs.Nodes.{ValueNodeState, plain, control_in, controls_in}
+use Rattle.sl_value.specs.Standing.{ValueStands}
+use Rattle.sl_value.specs.Controls.{AreControls}
 use Rattle.sl_value.proofs.Listed.{numbers-map, numbers-append}
 
 -- The devices of the control planes among actors.
@@ -54,20 +54,20 @@ devices-are parts =
     ∙ ap (λ ns. numbers device_kept inner ++ ns) (of-hosts (below (length parts.hosts)))
     ∙ append-nil (numbers device_kept inner) ∙ of-devices parts (below (length parts.devices))
 
--- The nodes that keep values, where the others have no device here.
+-- The control planes among nodes, where the others have no device here.
 
-abbrev IsKeeper : Option ℕ → ValueNodeState → Type 0
-IsKeeper (Some d) (Valued s) = Unit {0}
-IsKeeper None (Other s) = Unit {0}
+abbrev IsKeeper : Option ℕ → Option ValueState → Type 0
+IsKeeper (Some d) (Some s) = Unit {0}
+IsKeeper None None = Unit {0}
 IsKeeper _ _ = ⊥
 
 abbrev AreKeepers : List (Option ℕ) → List ValueNodeState → Type 0
 AreKeepers [] [] = Unit {0}
-AreKeepers (o ∷ os) (s ∷ ss) = IsKeeper o s × AreKeepers os ss
+AreKeepers (o ∷ os) (s ∷ ss) = IsKeeper o (control_in s) × AreKeepers os ss
 AreKeepers _ _ = ⊥
 
 are-keepers : (xs : List ActorId) (ss : List ValueNodeState) → length ss ≡ length xs
-    → ((a : ℕ) (s : ValueNodeState) → slice_get ss a ≡ Some s → IsKeeper (device_kept (slice_index_or xs a nobody)) s) → AreKeepers (map device_kept xs) ss
+    → ((a : ℕ) (s : ValueNodeState) → slice_get ss a ≡ Some s → IsKeeper (device_kept (slice_index_or xs a nobody)) (control_in s)) → AreKeepers (map device_kept xs) ss
 are-keepers [] [] e h = tt
 are-keepers (x ∷ xs) (s ∷ ss) e h = (h 0 s refl, are-keepers xs ss (omega (arith, e)) (λ a t q. h (suc a) t q))
 are-keepers [] (s ∷ ss) e h = absurd (omega (arith, e))
@@ -75,30 +75,42 @@ are-keepers (x ∷ xs) [] e h = absurd (omega (arith, e))
 
 as-many : (os : List (Option ℕ)) (ss : List ValueNodeState) → AreKeepers os ss → length (controls_in ss) ≡ length (numbers (λ o. o) os)
 as-many [] [] h = refl
-as-many (Some d ∷ os) (Valued s ∷ ss) h = ap suc (as-many os ss h.1)
-as-many (None ∷ os) (Other s ∷ ss) h = as-many os ss h.1
-as-many (Some d ∷ os) (Other s ∷ ss) h = absurd h.0
-as-many (None ∷ os) (Valued s ∷ ss) h = absurd h.0
+as-many (o ∷ os) (s ∷ ss) h = by_control (as-many os ss h.1) o (control_in s) h.0
+  where
+    by_control : length (controls_in ss) ≡ length (numbers (λ o. o) os) → (o : Option ℕ) (c : Option ValueState) → IsKeeper o c → length (listed c ++ controls_in ss) ≡ length (listed o ++ numbers (λ o. o) os)
+    by_control rest (Some d) (Some c) k = ap suc rest
+    by_control rest None None k = rest
+    by_control rest (Some d) None k = absurd k
+    by_control rest None (Some c) k = absurd k
 as-many [] (s ∷ ss) h = absurd h
 as-many (o ∷ os) [] h = absurd h
+
+control-of : (s : ValueNodeState) (c : ValueState) → control_in s ≡ Some c → s ≡ ControlNode c
+control-of (ControlNode s) c e = let q : s ≡ c = cc in ap ControlNode q
+control-of (ObserverNode s) c e = absurd (cc)
+control-of (UnitNode s) c e = absurd (cc)
+control-of (HostNode s) c e = absurd (cc)
 
 record IsAt (os : List (Option ℕ)) (ss : List ValueNodeState) (place : ℕ) (c : ValueState) : Type 0 where
   actor : ℕ
   device : ℕ
-  node : slice_get ss actor ≡ Some (Valued c)
+  node : slice_get ss actor ≡ Some (ControlNode c)
   keeps : slice_get os actor ≡ Some (Some device)
-  listed : slice_get (numbers (λ o. o) os) place ≡ Some device
+  listed_at : slice_get (numbers (λ o. o) os) place ≡ Some device
 
 at-place : (os : List (Option ℕ)) (ss : List ValueNodeState) (place : ℕ) (c : ValueState)
     → AreKeepers os ss → slice_get (controls_in ss) place ≡ Some c → IsAt os ss place c
-at-place (Some d ∷ os) (Valued s ∷ ss) zero c h e = let q : s ≡ c = cc in
-    record { actor = 0; device = d; node = ap (λ x. Some (Valued x)) q; keeps = refl; listed = refl }
-at-place (Some d ∷ os) (Valued s ∷ ss) (suc place) c h e = let r = at-place os ss place c h.1 e in
-    record { actor = suc r.actor; device = r.device; node = r.node; keeps = r.keeps; listed = r.listed }
-at-place (None ∷ os) (Other s ∷ ss) place c h e = let r = at-place os ss place c h.1 e in
-    record { actor = suc r.actor; device = r.device; node = r.node; keeps = r.keeps; listed = r.listed }
-at-place (Some d ∷ os) (Other s ∷ ss) place c h e = absurd h.0
-at-place (None ∷ os) (Valued s ∷ ss) place c h e = absurd h.0
+at-place (o ∷ os) (s ∷ ss) place c h e = by_control (λ p q. at-place os ss p c h.1 q) o (control_in s) refl h.0 place e
+  where
+    by_control : ((p : ℕ) → slice_get (controls_in ss) p ≡ Some c → IsAt os ss p c) → (o : Option ℕ) (d : Option ValueState) → control_in s ≡ d → IsKeeper o d → (place : ℕ) → slice_get (listed d ++ controls_in ss) place ≡ Some c → IsAt (o ∷ os) (s ∷ ss) place c
+    by_control rest (Some d) (Some b) q k zero e = let is : b ≡ c = cc in
+        record { actor = 0; device = d; node = ap Some (control-of s c (q ∙ ap Some is)); keeps = refl; listed_at = refl }
+    by_control rest (Some d) (Some b) q k (suc place) e = let r = rest place e in
+        record { actor = suc r.actor; device = r.device; node = r.node; keeps = r.keeps; listed_at = r.listed_at }
+    by_control rest None None q k place e = let r = rest place e in
+        record { actor = suc r.actor; device = r.device; node = r.node; keeps = r.keeps; listed_at = r.listed_at }
+    by_control rest (Some d) None q k place e = absurd k
+    by_control rest None (Some b) q k place e = absurd k
 at-place [] [] place c h e = absurd (cc)
 at-place [] (s ∷ ss) place c h e = absurd h
 at-place (o ∷ os) [] place c h e = absurd h
@@ -117,7 +129,7 @@ is-control (x ∷ xs) zero d e = by_actor x e
 -- In a net.
 
 module _ (net : Net) (made : IsNet net) (z : IsWired net) (ss : List ValueNodeState) (each : length ss ≡ length net.actors)
-    (keepers : (a : ℕ) (s : ValueNodeState) → slice_get ss a ≡ Some s → IsKeeper (device_kept (actor_of net a)) s) where
+    (keepers : (a : ℕ) (s : ValueNodeState) → slice_get ss a ≡ Some s → IsKeeper (device_kept (actor_of net a)) (control_in s)) where
   all : AreKeepers (map device_kept net.actors) ss
   all = are-keepers net.actors ss each keepers
 
@@ -128,31 +140,32 @@ module _ (net : Net) (made : IsNet net) (z : IsWired net) (ss : List ValueNodeSt
   control-each = as-many (map device_kept net.actors) ss all ∙ ap length devices ∙ length-range_with_len 0 (length net.parts.devices)
 
   -- the control at a place is that of the device with this number
-  control-node : (d : ℕ) (c : ValueState) → slice_get (controls_in ss) d ≡ Some c → slice_get ss (control_of net d) ≡ Some (Valued c)
+  control-node : (d : ℕ) (c : ValueState) → slice_get (controls_in ss) d ≡ Some c → slice_get ss (control_of net d) ≡ Some (ControlNode c)
   control-node d c e =
       let r = at-place (map device_kept net.actors) ss d c all e in
       let low = slice_get_within (controls_in ss) d c e in
       let n : ℕ = length net.parts.devices in
       let within : d < length net.parts.devices = omega (arith, low, control-each) in
       let found : Some d ≡ Some r.device = sym (slice_get_read (below n) n d d (sym (length-range_with_len 0 n)) within (sym (get_or-range_with_len 0 n d d within ∙ zero-add d)))
-      ∙ sym (ap (λ ns. slice_get ns d) devices) ∙ r.listed in
+      ∙ sym (ap (λ ns. slice_get ns d) devices) ∙ r.listed_at in
       let is : r.device ≡ d = cc in
       let actor : actor_of net r.actor ≡ Control d = is-control net.actors r.actor r.device r.keeps ∙ ap Control is in
       ap (slice_get ss) (z.numbered r.actor (Control d) actor (λ x. cc)) ∙ r.node
 
--- A node that stands for the history of its actor keeps values just where this is a control plane.
-keeper : (s : Setup) (table : Snapshot) (w : World) (a : ℕ) (state : ValueNodeState) → ValueStands s table w a state
-    → IsKeeper (device_kept (actor_of s.net a)) state
-keeper s table w a (Other n) st = by_actor (actor_of s.net a) st.values
+-- A node that stands for the history of its actor is a control plane just where this is one.
+no-device : (s : Setup) (table : Snapshot) (w : World) (a : ℕ) (n : NodeState) → ((d : ℕ) → StandsAs s table w a (Control d) n → ⊥) → (x : ActorId) → StandsAs s table w a x n → IsKeeper (device_kept x) None
+no-device s table w a n other Observer h = tt
+no-device s table w a n other (Control d) h = other d h
+no-device s table w a n other (OfUnit i) h = tt
+no-device s table w a n other (OfHost i) h = tt
+
+keeper : (s : Setup) (table : Snapshot) (w : World) (a : ℕ) (state : ValueNodeState) → NodeStands s table w a (plain state) → IsKeeper (device_kept (actor_of s.net a)) (control_in state)
+keeper s table w a (ObserverNode o) st = no-device s table w a (ObserverNode o) (λ d h. h) (actor_of s.net a) st
+keeper s table w a (UnitNode o) st = no-device s table w a (UnitNode o) (λ d h. h) (actor_of s.net a) st
+keeper s table w a (HostNode o) st = no-device s table w a (HostNode o) (λ d h. h) (actor_of s.net a) st
+keeper s table w a (ControlNode c) st = by_actor (actor_of s.net a) st
   where
-    by_actor : (x : ActorId) → IsNoControl x → IsKeeper (device_kept x) (Other n)
-    by_actor Observer h = tt
-    by_actor (Control d) h = h
-    by_actor (OfUnit i) h = tt
-    by_actor (OfHost i) h = tt
-keeper s table w a (Valued c) st = by_actor (actor_of s.net a) st.node
-  where
-    by_actor : (x : ActorId) → StandsAs s table w a x (ControlNode c.control) → IsKeeper (device_kept x) (Valued c)
+    by_actor : (x : ActorId) → StandsAs s table w a x (ControlNode c.control) → IsKeeper (device_kept x) (Some c)
     by_actor Observer h = h
     by_actor (Control d) h = tt
     by_actor (OfUnit i) h = h
@@ -160,10 +173,10 @@ keeper s table w a (Valued c) st = by_actor (actor_of s.net a) st.node
 
 module _ (i : Input) (w : World) (ss : List ValueNodeState) (made : IsNet i.net) (z : IsWired i.net) (each : length ss ≡ length i.net.actors)
     (stands : (a : ℕ) (state : ValueNodeState) → slice_get ss a ≡ Some state → ValueStands (setup_of i) i.snapshot w a state) where
-  keepers : (a : ℕ) (s : ValueNodeState) → slice_get ss a ≡ Some s → IsKeeper (device_kept (actor_of i.net a)) s
-  keepers a s e = keeper (setup_of i) i.snapshot w a s (stands a s e)
+  keepers : (a : ℕ) (s : ValueNodeState) → slice_get ss a ≡ Some s → IsKeeper (device_kept (actor_of i.net a)) (control_in s)
+  keepers a s e = keeper (setup_of i) i.snapshot w a s (stands a s e).node
 
-  pub control-at : (d : ℕ) (c : ValueState) → slice_get (controls_in ss) d ≡ Some c → slice_get ss (control_of i.net d) ≡ Some (Valued c)
+  pub control-at : (d : ℕ) (c : ValueState) → slice_get (controls_in ss) d ≡ Some c → slice_get ss (control_of i.net d) ≡ Some (ControlNode c)
   control-at d c e = control-node i.net made z ss each keepers d c e
 
 pub are-controls : (i : Input) (book : List Entry) (ss : List ValueNodeState) → IsNet i.net → IsWired i.net → length ss ≡ length i.net.actors
@@ -171,7 +184,7 @@ pub are-controls : (i : Input) (book : List Entry) (ss : List ValueNodeState) �
     → AreControls i book (controls_in ss)
 are-controls i book ss made z each stands = record {
   each = control-each i.net made z ss each (keepers i w ss made z each stands);
-  stand = λ d c e. stands (control_of i.net d) (Valued c) (control-at i w ss made z each stands d c e);
+  stand = λ d c e. stands (control_of i.net d) (ControlNode c) (control-at i w ss made z each stands d c e);
 }
   where
     w : World

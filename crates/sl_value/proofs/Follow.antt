@@ -1,6 +1,6 @@
 -- Nodes that keep values follow the steps of histories.
-use Rattle.std.proofs.Common.{◌≡◌, ℕ, ◌^◌, ◌<◌, ◌≤◌, List, ◌∷◌, length, map, refl, sym, ap, subst, ◌∙◌, Option, Some, None, arith, inl, inr}
-use Rattle.std.specs.Prelude.{Bool, true, false, cond, ◌==◌, ◌⊎◌, flat_map, slice_get, option_map, option_and_then}
+use Rattle.std.proofs.Common.{◌≡◌, ℕ, ◌+◌, ◌^◌, ◌<◌, ◌≤◌, List, ◌∷◌, length, map, refl, sym, ap, subst, ◌∙◌, Option, Some, None, arith, inl, inr}
+use Rattle.std.specs.Prelude.{Bool, true, false, cond, if◌then◌else◌, ◌==◌, ◌⊎◌, nat_lt, flat_map, slice_get, option_map, option_and_then}
 use Rattle.sl_machine.specs.Machine.{After}
 use Rattle.sl_parts.specs.Lists.{Each, Member}
 use Rattle.sl_layout.specs.declared.actor.ActorId.{ActorId}
@@ -14,6 +14,9 @@ use Rattle.sl_wire.specs.declared.message.Dump.{Dump as UnitDump}
 use Rattle.sl_wire.specs.declared.message.Msg.{Msg}
 use Rattle.sl_wire.specs.declared.message.Msg.TheVariants as wire
 use Rattle.sl_wire.specs.Sizes.{Sizes, sizes_of, lengths}
+use Rattle.sl_observe.specs.Observer.{observer_rules, observer_counts}
+use Rattle.sl_unit.specs.Step.{unit_rules}
+use Rattle.sl_host.specs.Host.{host_rules, host_counts}
 use Rattle.sl_control.specs.Control.{ControlState, numbers_told, dump_by, dump_puts, control_take, control_act}
 use Rattle.sl_model.specs.declared.message.Message.{Message}
 use Rattle.sl_model.specs.declared.message.Message.TheVariants.{Host, Data, Probe, Init, Poll as PollMsg, Notice, Dump as DumpMsg, Begin, Done as DoneMsg}
@@ -27,13 +30,14 @@ use Rattle.sl_model.specs.Reported.{AreReported}
 use Rattle.sl_model.specs.Brought.{IsBrought}
 use Rattle.sl_simulation.specs.Messages.{HoldWindow, IsMessage, IsDumpOf, numbers_after}
 use Rattle.sl_simulation.specs.ControlImage.{known_of, IsControlOf}
-use Rattle.sl_proto.specs.Nodes.{ControlNode, as_node, node_rules}
+use Rattle.sl_proto.specs.Nodes.{ObserverNode, ControlNode, UnitNode, HostNode, as_node, node_rules}
 use Rattle.sl_proto.specs.Meaning.{StandsAs, NodeStands, IsRunnable}
 use Rattle.sl_proto.specs.Image.{told_by}
 use Rattle.sl_proto.specs.Machines.{MachineSimulates, MachineActSimulates, FollowHistories}
 use Rattle.sl_value.specs.Valued.{UnitValues, ValueState, kept_after, kept_by, first_done, with_kept}
-use Rattle.sl_value.specs.Nodes.{ValueNodeState, Other, Valued, value_node_take, value_node_act, value_node_rules}
-use Rattle.sl_value.specs.Standing.{values_told, kept_told, AreKept, ValueStands}
+use Rattle.sl_value.specs.Nodes.{ValueNodeState, plain, value_node_rules}
+use Rattle.sl_value.specs.Standing.{values_told, kept_told, AreKept, KeepsValues, ValueStands}
+use Rattle.sl_value.proofs.Plain.{take-plain, act-plain}
 use Rattle.sl_value.proofs.Takes.{Counts, joined, of_some, same-map, kept-same, kept-dump}
 
 -- What laws of lower crates say.
@@ -59,6 +63,23 @@ control-at s table w a Observer t h = absurd h
 control-at s table w a (Control d) t h = record { device = d; actor = refl; stands = h }
 control-at s table w a (OfUnit i) t h = absurd h
 control-at s table w a (OfHost i) t h = absurd h
+
+-- An action of a machine, where it is one of it, leaves a state of that machine.
+
+acted : {S : Type 0} (wrap : S → ValueNodeState) (P : ValueNodeState → Type 0) → ((s : S) → P (wrap s)) → (b : Bool) (o : Option (After S Msg)) (r : After ValueNodeState Msg) → (if b then option_map (as_node wrap) o else None) ≡ Some r → P r.state
+acted wrap P each true (Some x) r e = subst (λ (y : After ValueNodeState Msg). P y.state) (of_some e) (each x.state)
+acted wrap P each true None r e = absurd (cc)
+acted wrap P each false o r e = absurd (cc)
+
+acted-keeps : (net : Net) (w : World) (a c : ℕ) (state : ValueNodeState) (r : After ValueNodeState Msg) → value_node_rules.act state c ≡ Some r → KeepsValues net w a state → KeepsValues net w a r.state
+acted-keeps net w a c (ObserverNode o) r e h = acted ObserverNode (KeepsValues net w a) (λ s. tt) (nat_lt c ((observer_counts o).ins + (observer_counts o).actions)) (observer_rules.act o c) r e
+acted-keeps net w a c (UnitNode o) r e h = acted UnitNode (KeepsValues net w a) (λ s. tt) true (unit_rules.act o c) r e
+acted-keeps net w a c (HostNode o) r e h = acted HostNode (KeepsValues net w a) (λ s. tt) (nat_lt c (host_counts.ins + host_counts.actions)) (host_rules.act o c) r e
+acted-keeps net w a c (ControlNode o) r e h = by_act (control_act o.control c) e
+  where
+    by_act : (b : Option (After ControlState Msg)) → option_map (as_node ControlNode) (option_map (with_kept o.kept) b) ≡ Some r → KeepsValues net w a r.state
+    by_act (Some b) e = subst (λ (y : After ValueNodeState Msg). KeepsValues net w a y.state) (of_some e) h
+    by_act None e = absurd (cc)
 
 -- Messages that are no dumps.
 
@@ -138,18 +159,24 @@ module _ (s : Setup) (table : Snapshot) (lost : Losses) (r : IsRunnable s table 
       by_message (Begin k) t h = still (Begin k) refl t h
       by_message (DoneMsg place n) t h = still (DoneMsg place n) refl t h
 
+  taken-keeps : (es : List Entry) (a c l : ℕ) (step : Step) (m : Message) (x : Msg) (state : ValueNodeState) → next_step s lost (world s lost es) (a, c) ≡ Some step → slice_get (links_into s.net a) c ≡ Some l → step.taken ≡ Some m
+      → IsMessage s.net (sizes_of table) (history (world s lost es)) (link_of s.net l).from (told_by c (history (world s lost es) a)) m x → ValueStands s table (world s lost es) a state
+      → NodeStands s table (turn s lost (world s lost es) (a, c)) a (plain (value_node_rules.take state c x).state) → KeepsValues s.net (turn s lost (world s lost es) (a, c)) a (value_node_rules.take state c x).state
+  taken-keeps es a c l step m x (ControlNode o) next into taken msg st g =
+      let old = control-at s table (world s lost es) a (actor_of s.net a) o.control st.node in
+      let new = control-at s table (turn s lost (world s lost es) (a, c)) a (actor_of s.net a) (control_take o.control c x).state g in
+      take-kept es a c l old.device step m x o next into taken msg old.actor old.stands st.values new.stands
+  taken-keeps es a c l step m x (ObserverNode o) next into taken msg st g = tt
+  taken-keeps es a c l step m x (UnitNode o) next into taken msg st g = tt
+  taken-keeps es a c l step m x (HostNode o) next into taken msg st g = tt
+
   takes : (es : List Entry) (a c l : ℕ) (step : Step) (m : Message) (x : Msg) (state : ValueNodeState) → length es < 2 ^ 40 → next_step s lost (world s lost es) (a, c) ≡ Some step → slice_get (links_into s.net a) c ≡ Some l → step.taken ≡ Some m
       → IsMessage s.net (sizes_of table) (history (world s lost es)) (link_of s.net l).from (told_by c (history (world s lost es) a)) m x → ValueStands s table (world s lost es) a state
-      → MachineSimulates s (sizes_of table) (ValueStands s table) (world s lost es) (turn s lost (world s lost es) (a, c)) a step (value_node_take state c x)
-  takes es a c l step m x (Other o) few next into taken msg st =
-      let g = node.steps.take es a c l step m x o few next into taken msg st.node in record { state = record { node = g.state; values = st.values }; puts = g.puts }
-  takes es a c l step m x (Valued o) few next into taken msg st =
-      let g = node.steps.take es a c l step m x (ControlNode o.control) few next into taken msg st.node in
-      let old = control-at s table (world s lost es) a (actor_of s.net a) o.control st.node in
-      let new = control-at s table (turn s lost (world s lost es) (a, c)) a (actor_of s.net a) (control_take o.control c x).state g.state in record {
-        state = record { node = g.state; values = take-kept es a c l old.device step m x o next into taken msg old.actor old.stands st.values new.stands };
-        puts = g.puts;
-      }
+      → MachineSimulates s (sizes_of table) (ValueStands s table) (world s lost es) (turn s lost (world s lost es) (a, c)) a step (value_node_rules.take state c x)
+  takes es a c l step m x state few next into taken msg st =
+      let g = subst (MachineSimulates s (sizes_of table) (NodeStands s table) (world s lost es) (turn s lost (world s lost es) (a, c)) a step) (take-plain state c x)
+      (node.steps.take es a c l step m x (plain state) few next into taken msg st.node) in
+      record { state = record { node = g.state; values = taken-keeps es a c l step m x state next into taken msg st g.state }; puts = g.puts }
 
   -- Actions.
 
@@ -160,15 +187,21 @@ module _ (s : Setup) (table : Snapshot) (lost : Losses) (r : IsRunnable s table 
       of_view (inr y) = y.acted.taken
       of_view (inl y) = absurd (let k : Some y.took.link ≡ None = sym y.took.into ∙ ap (slice_get (links_into s.net a)) (turns.choice s lost w (a, c) step next) ∙ none in cc)
 
+  -- a step that takes no message leaves what is kept
+  still-keeps : (es : List Entry) (a c : ℕ) (step : Step) (state : ValueNodeState) → next_step s lost (world s lost es) (a, c) ≡ Some step → slice_get (links_into s.net a) c ≡ None → ValueStands s table (world s lost es) a state
+      → KeepsValues s.net (turn s lost (world s lost es) (a, c)) a state
+  still-keeps es a c step (ControlNode o) next none st =
+      let old = control-at s table (world s lost es) a (actor_of s.net a) o.control st.node in
+      let g = turns.grows s lost es (a, c) step next in
+      st.values ∙ kept-same s.net (history (world s lost es)) (history (turn s lost (world s lost es) (a, c))) a old.device step old.actor g.same g.other z
+      (ap (option_and_then dump_of) (takes-none (world s lost es) a c step next none))
+  still-keeps es a c step (ObserverNode o) next none st = tt
+  still-keeps es a c step (UnitNode o) next none st = tt
+  still-keeps es a c step (HostNode o) next none st = tt
+
   acts : (es : List Entry) (a c : ℕ) (step : Step) (state : ValueNodeState) → length es < 2 ^ 40 → next_step s lost (world s lost es) (a, c) ≡ Some step → slice_get (links_into s.net a) c ≡ None → ValueStands s table (world s lost es) a state
-      → MachineActSimulates s (sizes_of table) (ValueStands s table) (world s lost es) (turn s lost (world s lost es) (a, c)) a step (value_node_act state c)
-  acts es a c step (Other o) few next none st =
-      let g = node.steps.act es a c step o few next none st.node in record {
-        after = as_node Other g.after;
-        is = ap (option_map (as_node Other)) g.is;
-        simulates = record { state = record { node = g.simulates.state; values = st.values }; puts = g.simulates.puts };
-      }
-  acts es a c step (Valued o) few next none st = by_act (control_act o.control c) refl (node.steps.act es a c step (ControlNode o.control) few next none st.node)
+      → MachineActSimulates s (sizes_of table) (ValueStands s table) (world s lost es) (turn s lost (world s lost es) (a, c)) a step (value_node_rules.act state c)
+  acts es a c step state few next none st = by_act (value_node_rules.act state c) refl (sym (act-plain state c) ∙ g.is)
     where
       w : World
       w = world s lost es
@@ -176,32 +209,25 @@ module _ (s : Setup) (table : Snapshot) (lost : Losses) (r : IsRunnable s table 
       v : World
       v = turn s lost w (a, c)
 
-      old : IsControlAt s table w a (actor_of s.net a) o.control
-      old = control-at s table w a (actor_of s.net a) o.control st.node
+      g : MachineActSimulates s (sizes_of table) (NodeStands s table) w v a step (node_rules.act (plain state) c)
+      g = node.steps.act es a c step (plain state) few next none st.node
 
-      grown : AreKept s.net (history v) a o.kept
-      grown = let g = turns.grows s lost es (a, c) step next in
-          st.values ∙ kept-same s.net (history w) (history v) a old.device step old.actor g.same g.other z (ap (option_and_then dump_of) (takes-none w a c step next none))
-
-      by_act : (b : Option (After ControlState Msg)) → control_act o.control c ≡ b → MachineActSimulates s (sizes_of table) (NodeStands s table) w v a step (option_map (as_node ControlNode) (control_act o.control c))
-          → MachineActSimulates s (sizes_of table) (ValueStands s table) w v a step (option_map (as_node Valued) (option_map (with_kept o.kept) (control_act o.control c)))
-      by_act None e g = absurd (let k : None ≡ Some g.after = sym (ap (option_map (as_node ControlNode)) e) ∙ g.is in cc)
-      by_act (Some b) e g =
-          let is : as_node ControlNode b ≡ g.after = of_some (sym (ap (option_map (as_node ControlNode)) e) ∙ g.is) in
-          let h = subst (MachineSimulates s (sizes_of table) (NodeStands s table) w v a step) (sym is) g.simulates in record {
-            after = as_node Valued (with_kept o.kept b);
-            is = ap (λ b. option_map (as_node Valued) (option_map (with_kept o.kept) b)) e;
-            simulates = record { state = record { node = h.state; values = grown }; puts = h.puts };
+      by_act : (b : Option (After ValueNodeState Msg)) → value_node_rules.act state c ≡ b → option_map (as_node plain) b ≡ Some g.after → MachineActSimulates s (sizes_of table) (ValueStands s table) w v a step b
+      by_act None e is = absurd (cc)
+      by_act (Some b) e is =
+          let h = subst (MachineSimulates s (sizes_of table) (NodeStands s table) w v a step) (sym (of_some is)) g.simulates in record {
+            after = b;
+            is = refl;
+            simulates = record { state = record { node = h.state; values = acted-keeps s.net v a c state b e (still-keeps es a c step state next none st) }; puts = h.puts };
           }
 
   idles : (es : List Entry) (a c : ℕ) (state : ValueNodeState) → length es < 2 ^ 40 → a < length s.net.actors → next_step s lost (world s lost es) (a, c) ≡ None → slice_get (links_into s.net a) c ≡ None → ValueStands s table (world s lost es) a state
-      → value_node_act state c ≡ None
-  idles es a c (Other o) few low next none st = ap (option_map (as_node Other)) (node.steps.idle es a c o few low next none st.node)
-  idles es a c (Valued o) few low next none st = by_act (control_act o.control c) refl (node.steps.idle es a c (ControlNode o.control) few low next none st.node)
+      → value_node_rules.act state c ≡ None
+  idles es a c state few low next none st = by_act (value_node_rules.act state c) (sym (act-plain state c) ∙ node.steps.idle es a c (plain state) few low next none st.node)
     where
-      by_act : (b : Option (After ControlState Msg)) → control_act o.control c ≡ b → option_map (as_node ControlNode) (control_act o.control c) ≡ None → option_map (as_node Valued) (option_map (with_kept o.kept) (control_act o.control c)) ≡ None
-      by_act None e g = ap (λ b. option_map (as_node Valued) (option_map (with_kept o.kept) b)) e
-      by_act (Some b) e g = absurd (let k : Some (as_node ControlNode b) ≡ None = sym (ap (option_map (as_node ControlNode)) e) ∙ g in cc)
+      by_act : (b : Option (After ValueNodeState Msg)) → option_map (as_node plain) b ≡ None → b ≡ None
+      by_act None e = refl
+      by_act (Some b) e = absurd (cc)
 
   -- A step of another actor.
 
@@ -228,10 +254,15 @@ module _ (s : Setup) (table : Snapshot) (lost : Losses) (r : IsRunnable s table 
           let g : first (dumped (serving s.net b k).dump (us b)) (us u) ≡ first (dumped (serving s.net b k).dump (ws b)) (ws u) = f ∙ ap (λ x. first (dumped (serving s.net b k).dump x) (ws u)) e in
           λ i. record { unit = unit_place s.net u; values = values_told s.net u (g i) }
 
+  stay-keeps : (es : List Entry) (a b c : ℕ) (state : ValueNodeState) → (b ≡ a → ⊥) → KeepsValues s.net (world s lost es) b state → KeepsValues s.net (turn s lost (world s lost es) (a, c)) b state
+  stay-keeps es a b c (ControlNode o) ne h = stay-kept es a b c o.kept ne h
+  stay-keeps es a b c (ObserverNode o) ne h = tt
+  stay-keeps es a b c (UnitNode o) ne h = tt
+  stay-keeps es a b c (HostNode o) ne h = tt
+
   stays : (es : List Entry) (a b c : ℕ) (step : Step) (state : ValueNodeState) → length es < 2 ^ 40 → next_step s lost (world s lost es) (a, c) ≡ Some step → (b ≡ a → ⊥)
       → ValueStands s table (world s lost es) b state → ValueStands s table (turn s lost (world s lost es) (a, c)) b state
-  stays es a b c step (Other o) few next ne st = record { node = node.steps.stays es a b c step o few next ne st.node; values = st.values }
-  stays es a b c step (Valued o) few next ne st = record { node = node.steps.stays es a b c step (ControlNode o.control) few next ne st.node; values = stay-kept es a b c o.kept ne st.values }
+  stays es a b c step state few next ne st = record { node = node.steps.stays es a b c step (plain state) few next ne st.node; values = stay-keeps es a b c state ne st.values }
 
   pub follow : FollowHistories s lost (sizes_of table) (ValueStands s table) value_node_rules
   follow = record {

@@ -5,9 +5,7 @@ mod Told
 mod Takes
 mod Follow
 mod Plain
-mod Made
 mod Runs
-mod Counts
 mod Stand
 mod Collected
 mod Listed

@@ -29,17 +29,19 @@ use Rattle.sl_model.specs.Setup.{setup_of}
 use Rattle.sl_model.specs.Window.{IsInWindow}
 use Rattle.sl_model.specs.World.{world}
 use Rattle.sl_world.specs.Scene.{Scene}
+use Rattle.sl_proto.specs.Meaning.{StandsAs, NodeStands}
+use Rattle.sl_proto.specs.Nodes.{NodeState, ObserverNode, ControlNode, UnitNode, HostNode}
 use Rattle.sl_proto.specs.Standing.{case_of, StandsFor}
 use Rattle.sl_proto.specs.Told.{HasAllRows, accounts_of, told}
 use Rattle.sl_value.specs.Reading.{counted}
 use Rattle.sl_value.specs.Valued.{ValueState, value_in}
-use Rattle.sl_value.specs.Nodes.{ValueNodeState, Other, Valued, plain, plain_scene}
-use Rattle.sl_value.specs.Standing.{IsNoControl, ValueStands}
+use Rattle.sl_value.specs.Nodes.{ValueNodeState, plain, plain_scene, controls_in}
+use Rattle.sl_value.specs.Standing.{ValueStands}
 use Rattle.sl_value.specs.Verdicts.{value_verdict, values_for, value_finding, valued}
 use Rattle.sl_value.specs.declared.verdict.ValueVerdict.{ValueVerdict}
 use Rattle.sl_value.specs.declared.verdict.ValueVerdict.TheVariants.{Whole as IsWhole, Pending, NotIssued}
 use Rattle.sl_value.specs.Outcome.{control_for, value_at, CanList}
-use Rattle.sl_value.specs.Controls.{controls_in, device_at, answer_of, IsAnswered}
+use Rattle.sl_value.specs.Controls.{device_at, answer_of, IsAnswered}
 use Rattle.sl_value.proofs.Lists.{number-place}
 use Rattle.sl_value.proofs.Collected.{KnownVerdicts, valued-is, told-value}
 use Rattle.sl_value.proofs.ControlList.{control-at, are-controls}
@@ -113,9 +115,14 @@ module _ (i : Input) (v : Scene ValueNodeState Msg) (z : IsWired i.net) (stands 
       here : (x : ValueNodeState) × (slice_get v.states r.control ≡ Some x)
       here = get-some v.states r.control low
 
+      no-control : (n : NodeState) → (StandsAs (setup_of i) i.snapshot w r.control (Control r.device) n → ⊥) → NodeStands (setup_of i) i.snapshot w r.control n → ⊥
+      no-control n other st = other (subst (λ y. StandsAs (setup_of i) i.snapshot w r.control y n) r.is_control st)
+
       by_state : (x : ValueNodeState) → ValueStands (setup_of i) i.snapshot w r.control x → value_at (Some x) (unit_place i.net u) k ≡ Some (counted k (history w u))
-      by_state (Other n) st = absurd (subst IsNoControl r.is_control st.values)
-      by_state (Valued s) st = told-value (setup_of i) (losses i) w z window known u id q r k s.kept st.values one whole
+      by_state (ObserverNode o) st = absurd (no-control (ObserverNode o) (λ h. h) st.node)
+      by_state (UnitNode o) st = absurd (no-control (UnitNode o) (λ h. h) st.node)
+      by_state (HostNode o) st = absurd (no-control (HostNode o) (λ h. h) st.node)
+      by_state (ControlNode s) st = told-value (setup_of i) (losses i) w z window known u id q r k s.kept st.values one whole
 
   pub can-list : (o : ObserverState) → HasAllRows i.net o
       → told i.net i.snapshot.count (plain_scene v) o ≡ findings (setup_of i) (losses i) (schedule_of v.book)
@@ -156,7 +163,7 @@ module _ (i : Input) (v : Scene ValueNodeState Msg) (z : IsWired i.net) (stands 
       c : (x : ValueState) × (slice_get cs id.device ≡ Some x)
       c = let d = part.0 in let n = (are-controls i v.book v.states made z each keeps).each in get-some cs id.device (omega (arith, d, n))
 
-      node : slice_get v.states (control_of i.net id.device) ≡ Some (Valued c.0)
+      node : slice_get v.states (control_of i.net id.device) ≡ Some (ControlNode c.0)
       node = control-at i w v.states made z each keeps id.device c.0 c.1
 
   answered-by : IsNet i.net → (k : ℕ) → 1 ≤ k → IsAnswered i.net (controls_in v.states) (value_finding i.net w k)

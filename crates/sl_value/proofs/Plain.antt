@@ -1,31 +1,46 @@
 -- A scene of nodes that keep values takes the turns of the scene without the values.
-use Rattle.std.proofs.Common.{◌≡◌, ℕ, suc, List, [], ◌∷◌, length, map, refl, sym, ap, ◌∙◌, Option, Some, None}
-use Rattle.std.specs.Prelude.{Bool, true, false, cond, nat_lt, slice_get, slice_set, option_map, unwrap_or}
+use Rattle.std.proofs.Common.{◌≡◌, ℕ, ◌+◌, List, [], ◌∷◌, length, map, refl, sym, ap, ◌∙◌, Option, Some, None}
+use Rattle.std.specs.Prelude.{Bool, true, false, cond, if◌then◌else◌, nat_lt, slice_get, slice_set, option_map, unwrap_or}
 use Rattle.std.proofs.lemmas.List.{map-set}
 use Rattle.std.proofs.lemmas.Option.{slice_get-map}
 use Rattle.sl_machine.specs.Machine.{After}
 use Rattle.sl_machine.specs.Plan.{link_in}
-use Rattle.sl_layout.specs.Net.{Net}
+use Rattle.sl_layout.specs.declared.actor.ActorId.{ActorId}
+use Rattle.sl_layout.specs.declared.actor.ActorId.TheVariants.{Observer, Control, Unit as OfUnit, Host as OfHost}
+use Rattle.sl_layout.specs.Net.{actor_of}
+use Rattle.sl_net.specs.Input.{Input}
 use Rattle.sl_wire.specs.declared.message.Msg.{Msg}
+use Rattle.sl_observe.specs.Observer.{observer_rules, observer_counts}
 use Rattle.sl_control.specs.Control.{ControlState, control_act}
+use Rattle.sl_control.specs.Wires.{first_control}
+use Rattle.sl_unit.specs.Step.{unit_rules}
+use Rattle.sl_host.specs.Host.{host_rules, host_counts}
 use Rattle.sl_world.specs.Scene.{Line, Scene, done, without_first, take_first, take_turn, act_turn, turn_of, after_turn, after_all}
-use Rattle.sl_proto.specs.Nodes.{NodeState, ObserverNode, ControlNode, UnitNode, HostNode, as_node, node_rules}
-use Rattle.sl_value.specs.Valued.{with_kept}
-use Rattle.sl_value.specs.Nodes.{ValueNodeState, Other, Valued, value_node_rules, with_values, with_all, plain, plain_scene}
+use Rattle.sl_proto.specs.Built.{first_node, first_at}
+use Rattle.sl_proto.specs.Nodes.{ObserverNode, ControlNode, UnitNode, HostNode, as_node, node_rules}
+use Rattle.sl_value.specs.Valued.{first_value, with_kept}
+use Rattle.sl_value.specs.Nodes.{ValueNodeState, value_node_rules, plain, plain_scene}
 
-take-plain : (s : ValueNodeState) (c : ℕ) (m : Msg) → node_rules.take (plain s) c m ≡ as_node plain (value_node_rules.take s c m)
-take-plain (Other s) c m = refl
-take-plain (Valued s) c m = refl
+pub take-plain : (s : ValueNodeState) (c : ℕ) (m : Msg) → node_rules.take (plain s) c m ≡ as_node plain (value_node_rules.take s c m)
+take-plain (ObserverNode s) c m = refl
+take-plain (ControlNode s) c m = refl
+take-plain (UnitNode s) c m = refl
+take-plain (HostNode s) c m = refl
 
-act-plain : (s : ValueNodeState) (c : ℕ) → node_rules.act (plain s) c ≡ option_map (as_node plain) (value_node_rules.act s c)
-act-plain (Other s) c = by_act (node_rules.act s c)
+-- an action of a machine that keeps no values, where it is one of it
+acts-plain : {S : Type 0} (wrap : S → ValueNodeState) (b : Bool) (o : Option (After S Msg))
+    → (if b then option_map (as_node (λ s. plain (wrap s))) o else None) ≡ option_map (as_node plain) (if b then option_map (as_node wrap) o else None)
+acts-plain wrap true None = refl
+acts-plain wrap true (Some a) = refl
+acts-plain wrap false o = refl
+
+pub act-plain : (s : ValueNodeState) (c : ℕ) → node_rules.act (plain s) c ≡ option_map (as_node plain) (value_node_rules.act s c)
+act-plain (ObserverNode s) c = acts-plain ObserverNode (nat_lt c ((observer_counts s).ins + (observer_counts s).actions)) (observer_rules.act s c)
+act-plain (UnitNode s) c = acts-plain UnitNode true (unit_rules.act s c)
+act-plain (HostNode s) c = acts-plain HostNode (nat_lt c (host_counts.ins + host_counts.actions)) (host_rules.act s c)
+act-plain (ControlNode s) c = by_act (control_act s.control c)
   where
-    by_act : (o : Option (After NodeState Msg)) → o ≡ option_map (as_node plain) (option_map (as_node Other) o)
-    by_act None = refl
-    by_act (Some a) = refl
-act-plain (Valued s) c = by_act (control_act s.control c)
-  where
-    by_act : (o : Option (After ControlState Msg)) → option_map (as_node ControlNode) o ≡ option_map (as_node plain) (option_map (as_node Valued) (option_map (with_kept s.kept) o))
+    by_act : (o : Option (After ControlState Msg)) → option_map (as_node ControlNode) o ≡ option_map (as_node plain) (option_map (as_node ControlNode) (option_map (with_kept s.kept) o))
     by_act None = refl
     by_act (Some a) = refl
 
@@ -76,12 +91,12 @@ all-plain w (e ∷ es) = all-plain (after_turn value_node_rules w e) es ∙ ap (
 
 -- The first nodes.
 
-pub with-plain : (net : Net) (a : ℕ) (s : NodeState) → plain (with_values net a s) ≡ s
-with-plain net a (ObserverNode s) = refl
-with-plain net a (ControlNode s) = refl
-with-plain net a (UnitNode s) = refl
-with-plain net a (HostNode s) = refl
-
-pub with-all-plain : (net : Net) (a : ℕ) (ss : List NodeState) → map plain (with_all net a ss) ≡ ss
-with-all-plain net a [] = refl
-with-all-plain net a (s ∷ ss) = let x = with-plain net a s in let y = with-all-plain net (suc a) ss in λ i. x i ∷ y i
+pub first-states-plain : (i : Input) (actors : List ℕ) → map plain (map (first_at first_value i) actors) ≡ map (first_at first_control i) actors
+first-states-plain i [] = refl
+first-states-plain i (a ∷ actors) = let x = by_actor (actor_of i.net a) in let y = first-states-plain i actors in λ k. x k ∷ y k
+  where
+    by_actor : (x : ActorId) → plain (first_node first_value i a x) ≡ first_node first_control i a x
+    by_actor Observer = refl
+    by_actor (Control d) = refl
+    by_actor (OfUnit u) = refl
+    by_actor (OfHost h) = refl

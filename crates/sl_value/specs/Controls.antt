@@ -1,7 +1,7 @@
 -- The control planes that a run leaves, which keep values.
 --     AreControls i book controls   one per device in order, each of which stands for its history in the world that the book leads to
 --     IsAnswered net controls f     each value of a finding is what the control plane of the unit's device answers
-use Rattle.std.specs.Prelude.{◌≡◌, ℕ, List, [], ◌∷◌, length, Option, Some, None, slice_get, slice_index}
+use Rattle.std.specs.Prelude.{◌≡◌, ℕ, List, length, Option, Some, None, slice_get, slice_index}
 use Rattle.sl_machine.specs.declared.wiring.Entry.{Entry}
 use Rattle.sl_layout.specs.Net.{Net, actor_of, units}
 use Rattle.sl_net.specs.Input.{Input}
@@ -13,20 +13,14 @@ use Rattle.sl_model.specs.Setup.{setup_of}
 use Rattle.sl_model.specs.World.{world}
 use Rattle.sl_value.specs.declared.whole.Whole.{Whole}
 use Rattle.sl_value.specs.declared.verdict.ValueFinding.{ValueFinding}
+use Rattle.sl_proto.specs.Nodes.{ControlNode}
 use Rattle.sl_value.specs.Valued.{ValueState, value_in}
-use Rattle.sl_value.specs.Nodes.{ValueNodeState, Other, Valued}
 use Rattle.sl_value.specs.Standing.{ValueStands}
-
--- those of some nodes, in order
-abbrev pub controls_in : List ValueNodeState → List ValueState
-controls_in [] = []
-controls_in (Other s ∷ ss) = controls_in ss
-controls_in (Valued s ∷ ss) = s ∷ controls_in ss
 
 pub record AreControls (i : Input) (book : List Entry) (controls : List ValueState) : Type 0 where
   pub each : length controls ≡ length i.net.parts.devices
   pub stand : (d : ℕ) (control : ValueState) → slice_get controls d ≡ Some control
-      → ValueStands (setup_of i) i.snapshot (world (setup_of i) (losses i) (schedule_of book)) (control_of i.net d) (Valued control)
+      → ValueStands (setup_of i) i.snapshot (world (setup_of i) (losses i) (schedule_of book)) (control_of i.net d) (ControlNode control)
 
 -- the device of a unit, by its place among the units
 abbrev pub device_at : Net → ℕ → ℕ

@@ -14,12 +14,13 @@ use Rattle.sl_model.specs.History.{World, history}
 use Rattle.sl_model.specs.Losses.{losses}
 use Rattle.sl_model.specs.Setup.{setup_of}
 use Rattle.sl_model.specs.World.{world}
+use Rattle.sl_proto.specs.Nodes.{ControlNode}
 use Rattle.sl_proto.specs.Told.{HasAllRows, accounts_of}
 use Rattle.sl_value.specs.declared.whole.Whole.{Whole}
 use Rattle.sl_value.specs.declared.verdict.ValueVerdict.TheVariants.{Whole as IsWhole}
 use Rattle.sl_value.specs.Reading.{counted}
 use Rattle.sl_value.specs.Valued.{value_in}
-use Rattle.sl_value.specs.Nodes.{ValueNodeState, Other, Valued}
+use Rattle.sl_value.specs.Nodes.{ValueNodeState}
 use Rattle.sl_value.specs.Verdicts.{value_verdict, valued}
 use Rattle.sl_value.specs.Run.{ValueRunning}
 
@@ -29,9 +30,8 @@ control_for net (OfUnit i) = control_of net i.device
 control_for net _ = 0
 
 abbrev pub value_at : Option ValueNodeState → ℕ → ℕ → Option Whole
-value_at (Some (Valued s)) unit k = value_in s.kept unit k
-value_at (Some (Other s)) unit k = None
-value_at None unit k = None
+value_at (Some (ControlNode s)) unit k = value_in s.kept unit k
+value_at _ unit k = None
 
 abbrev pub value_told : ValueRunning → ℕ → ℕ → Option Whole
 value_told r unit k = value_at (slice_get r.scene.states (control_for r.input.net (actor_of r.input.net (slice_index (units r.input.net) unit)))) (unit_place r.input.net (slice_index (units r.input.net) unit)) k

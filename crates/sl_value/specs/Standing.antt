@@ -6,19 +6,18 @@
 use Rattle.std.specs.Prelude.{◌≡◌, ℕ, ◌<◌, ◌≤◌, List, map, Option, Some, None}
 use Rattle.std.specs.List.{range_with_len}
 use Rattle.sl_parts.specs.Lists.{Each}
-use Rattle.sl_layout.specs.declared.actor.ActorId.{ActorId}
-use Rattle.sl_layout.specs.declared.actor.ActorId.TheVariants.{Control}
-use Rattle.sl_layout.specs.Net.{Net, actor_of, unit_place}
+use Rattle.sl_layout.specs.Net.{Net, unit_place}
 use Rattle.sl_layout.specs.Serving.{Served, served}
 use Rattle.sl_net.specs.declared.input.Snapshot.{Snapshot}
 use Rattle.sl_model.specs.History.{History, World, history}
 use Rattle.sl_model.specs.Setup.{Setup}
 use Rattle.sl_model.specs.Knowledge.{upto_of, told_of}
 use Rattle.sl_proto.specs.Meaning.{NodeStands}
+use Rattle.sl_proto.specs.Nodes.{ControlNode}
 use Rattle.sl_value.specs.declared.whole.Whole.{Whole}
 use Rattle.sl_value.specs.Reading.{counted}
 use Rattle.sl_value.specs.Valued.{UnitValues, value_in}
-use Rattle.sl_value.specs.Nodes.{ValueNodeState, Other, Valued, plain}
+use Rattle.sl_value.specs.Nodes.{ValueNodeState, plain}
 
 abbrev pub values_told : Net → ℕ → History → List Whole
 values_told net u g = map (λ k. counted k g) (range_with_len 1 (upto_of net u g))
@@ -29,14 +28,9 @@ kept_told net us a v = record { unit = unit_place net v.unit; values = values_to
 abbrev pub AreKept : Net → (ℕ → History) → ℕ → List UnitValues → Type 0
 AreKept net us a kept = kept ≡ map (kept_told net us a) (served net a)
 
-abbrev pub IsNoControl : ActorId → Type 0
-IsNoControl (Control d) = ⊥
-IsNoControl _ = Unit {0}
-
--- each control plane keeps values, and no other actor
 abbrev pub KeepsValues : Net → World → ℕ → ValueNodeState → Type 0
-KeepsValues net w a (Other s) = IsNoControl (actor_of net a)
-KeepsValues net w a (Valued s) = AreKept net (history w) a s.kept
+KeepsValues net w a (ControlNode s) = AreKept net (history w) a s.kept
+KeepsValues net w a _ = Unit {0}
 
 pub record ValueStands (s : Setup) (table : Snapshot) (w : World) (a : ℕ) (state : ValueNodeState) : Type 0 where
   pub node : NodeStands s table w a (plain state)

@@ -13,7 +13,8 @@ use crate::kept::{Kept, first_done, keep, make_room, value_in};
 use crate::whole::Whole;
 use sl_control::{Control, control_of};
 use sl_machine::{Machine, Memory, Outputs};
-use sl_net::{Net, Snapshot, Sort, nets_are_wired};
+use sl_net::{Net, Snapshot, Sort};
+use sl_proto::{ControlPlane, Node};
 use sl_wire::{Dump, Msg};
 use std::alloc::Global;
 use std::marker::Model;
@@ -103,23 +104,7 @@ impl ValueControl {
         ensures ready { IfOk result (λ c. c.ready ≡ None) }
     {
         let control = Control::new(alloc, net, device, snapshot)?;
-        ValueControl::around(alloc, net, control_of(net, device), control)
-    }
-
-    /// The control plane that an actor of the net is, with no value yet.
-    pub fn around(
-        alloc: Global,
-        net: &Net,
-        actor: u32,
-        control: Control,
-    ) -> Result<ValueControl, Memory>
-        requires { actor < length net.now.actors }
-        ensures state { IfOk result
-            (λ c. c.state ≡ record { control = control.state; kept = first_kept net.now actor }) }
-        ensures counts { IfOk result (λ c. c.counts ≡ control.counts) }
-        ensures ready { IfOk result (λ c. c.ready ≡ None) }
-    {
-        let kept = kept_units(alloc, net, actor)?;
+        let kept = kept_units(alloc, net, control_of(net, device))?;
         Ok(ValueControl {
             control,
             kept,
@@ -156,6 +141,32 @@ impl ValueControl {
         if let Some(done) = first_done(out.items()) {
             keep(&mut self.kept, self.control.ring(), &dump.view, done);
         }
+    }
+}
+
+/// A node of a net whose control planes keep values.
+pub type ValueNode = Node<ValueControl>;
+
+impl ControlPlane for ValueControl {
+    ghost use Rattle.sl_value.specs.Valued.{ValueState, first_value};
+
+    ghost State = { ValueState };
+
+    ghost state = { λ c. c.state };
+
+    ghost counts = { λ c. c.counts };
+
+    ghost ready_for = { λ c. c.ready };
+
+    ghost first = { first_value };
+
+    fn make(
+        alloc: Global,
+        net: &Net,
+        device: u32,
+        snapshot: &Snapshot,
+    ) -> Result<ValueControl, Memory> {
+        ValueControl::new(alloc, net, device, snapshot)
     }
 }
 

@@ -6,7 +6,6 @@ mod control;
 mod kept;
 mod laws;
 mod meaning;
-mod node;
 mod read;
 mod run;
 mod tell;
@@ -15,13 +14,12 @@ mod verdict;
 mod whole;
 mod world;
 
-pub use control::ValueControl;
+pub use control::{ValueControl, ValueNode};
 pub use laws::{values_are_counts, values_are_none_exactly};
 pub use meaning::{
     ValueMeaning, values_are_those_collected, values_change_no_turn, values_follow,
     values_stand_for_histories,
 };
-pub use node::ValueNode;
 pub use read::read_value;
 pub use run::{ValueRun, run_values};
 pub use text::values_bytes;

@@ -17,9 +17,10 @@ ghost use Rattle.sl_control.specs.Control.{control_take, control_act};
 ghost use Rattle.std.specs.Prelude.{option_map};
 ghost use Rattle.sl_proto.specs.Machines.{FollowHistories};
 ghost use Rattle.sl_proto.specs.Meaning.{IsRunnable};
+ghost use Rattle.sl_proto.specs.Nodes.{ControlNode};
 ghost use Rattle.sl_proto.specs.Standing.{Case, case_of, StandsFor};
 ghost use Rattle.sl_value.specs.Valued.{ValueState, value_take, value_act, forget};
-ghost use Rattle.sl_value.specs.Nodes.{ValueNodeState, Valued, value_node_rules, plain_scene};
+ghost use Rattle.sl_value.specs.Nodes.{ValueNodeState, value_node_rules, plain_scene};
 ghost use Rattle.sl_value.specs.Run.{IsValueRun};
 ghost use Rattle.sl_value.specs.Standing.{ValueStands, AnswersAsTold};
 
@@ -90,7 +91,7 @@ pub fn values_stand_for_histories()
 /// unit that it does not serve.
 pub fn values_are_those_collected()
     ensures { (s : Setup) (table : Snapshot) (w : World) (a : ℕ) (state : ValueState)
-        → IsNet s.net → ValueStands s table w a (Valued state)
+        → IsNet s.net → ValueStands s table w a (ControlNode state)
         → AnswersAsTold s.net (history w) a state.kept }
 {
     nets_are_wired()

@@ -7,20 +7,19 @@ ghost use Rattle.sl_model.specs.Books.{schedule_of};
 ghost use Rattle.sl_model.specs.Findings.{findings};
 ghost use Rattle.sl_proto.specs.Standing.{case_of, StandsFor, HasObserver};
 ghost use Rattle.sl_proto.specs.RunBook.{CanRun, IsRunBook};
-ghost use Rattle.sl_value.specs.Nodes.{plain_scene, value_node_state};
+ghost use Rattle.sl_value.specs.Nodes.{controls_in, plain_scene, value_node_state};
 ghost use Rattle.sl_value.specs.Verdicts.{value_list};
-ghost use Rattle.sl_value.specs.Controls.{controls_in, AreControls, IsAnswered};
+ghost use Rattle.sl_value.specs.Controls.{AreControls, IsAnswered};
 
-use crate::control::ValueControl;
+use crate::control::{ValueControl, ValueNode};
 use crate::meaning::values_stand_for_histories;
-use crate::node::ValueNode;
 use crate::tell::list;
 use crate::verdict::ValueList;
 use crate::world::ValueWorld;
 use sl_machine::{Book, Memory};
 use sl_model::{Counts, finished_verdicts_are_known, worlds_are_in_window};
 use sl_net::{Input, nets_are_wired};
-use sl_proto::{Taker, count_traffic, nodes_tell_findings, run_script};
+use sl_proto::{Node, Taker, count_traffic, nodes_tell_findings, run_script};
 use std::alloc::Global;
 
 /// What a run leaves: its book, how many of its entries come before finishing, a finding for each
@@ -59,10 +58,10 @@ fn add_control(controls: &mut Vec<ValueControl>, node: ValueNode) -> Result<(), 
         (map (λ c. c.state) controls.new.items ≡ map (λ c. c.state) controls.old.items
         ++ controls_in (value_node_state node ∷ [])) }
 {
-    match node {
-        ValueNode::Control(control) => Ok(controls.push(control)?),
-        ValueNode::Node(_) => Ok(()),
+    if let Node::Control(control) = node {
+        controls.push(control)?;
     }
+    Ok(())
 }
 
 /// The control planes among the nodes, in order.

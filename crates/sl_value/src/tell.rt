@@ -8,7 +8,6 @@ ghost use Rattle.sl_value.specs.Reading.{counted};
 ghost use Rattle.sl_value.specs.Verdicts.{values_for, value_finding};
 ghost use Rattle.sl_value.specs.Outcome.{control_for, world_after, HasValues, CanList};
 
-use crate::node::ValueNode;
 use crate::verdict::{ValueFinding, ValueList, ValueVerdict, Values};
 use crate::whole::Whole;
 use crate::world::ValueWorld;

@@ -1,20 +1,15 @@
 // The world of nodes that keep values, as one that takes turns of nodes.
 ghost use Rattle.std.specs.Prelude.{◌≡◌, ◌<◌, IfOk, length, map};
-ghost use Rattle.sl_machine.specs.Fit.{HasCounts};
-ghost use Rattle.sl_layout.specs.Wiring.{plan_of};
-ghost use Rattle.sl_proto.specs.Nodes.{node_state, node_counts};
 ghost use Rattle.sl_proto.specs.Built.{IsBuildable};
-ghost use Rattle.sl_value.specs.Nodes.{with_values, first_values, value_node_state};
-ghost use Rattle.sl_value.specs.Nodes.{value_node_counts};
+ghost use Rattle.sl_value.specs.Nodes.{value_node_state};
 
-use crate::control::ValueControl;
-use crate::node::ValueNode;
+use crate::control::ValueNode;
 use crate::tell::control_for;
 use crate::whole::Whole;
 use sl_machine::{Book, Memory};
 use sl_net::{Input, Net};
 use sl_observe::Observer;
-use sl_proto::{Node, Taker, Traffic, build_nodes, make_losses, nodes_start};
+use sl_proto::{Node, Taker, Traffic, build_nodes, make_losses};
 use sl_world::{Looked, Turn, World, every_schedule};
 use std::alloc::Global;
 use std::marker::Model;
@@ -38,47 +33,6 @@ impl<'a> Model for ValueWorld<'a> {
     ghost invariant = { λ a. IsValueRun a.input.now (scene a.world) };
 }
 
-/// The node of an actor, with no values yet.
-fn value_node(alloc: Global, net: &Net, actor: u32, node: Node) -> Result<ValueNode, Memory>
-    requires { actor < length net.now.actors }
-    ensures state { IfOk result
-        (λ made. value_node_state made ≡ with_values net.now actor (node_state node)) }
-    ensures counts { IfOk result (λ made. value_node_counts made ≡ node_counts node) }
-{
-    match node {
-        Node::Control(control) => {
-            let made = ValueControl::around(alloc, net, actor, control)?;
-            Ok(ValueNode::Control(made))
-        }
-        Node::Observer(observer) => Ok(ValueNode::Node(Node::Observer(observer))),
-        Node::Unit(unit) => Ok(ValueNode::Node(Node::Unit(unit))),
-        Node::Host(host) => Ok(ValueNode::Node(Node::Host(host))),
-    }
-}
-
-/// The nodes of an input before their first turn, one per actor in order.
-fn value_nodes(alloc: Global, input: &Input) -> Result<Vec<ValueNode>, Memory>
-    requires { IsBuildable input.now }
-    ensures states { IfOk result
-        (λ nodes. map value_node_state nodes.items ≡ first_values input.now) }
-    ensures fit { IfOk result
-        (λ nodes. HasCounts value_node_counts (plan_of input.now.net) nodes.items) }
-{
-    nodes_start();
-    // A net has few actors, so their numbers fit 32 bits.
-    let actors = input.net.actors().len();
-    let mut nodes = build_nodes(alloc, input)?;
-    nodes.reverse();
-    let mut made = Vec::new(alloc);
-    for actor in 0..actors {
-        if let Some(node) = nodes.pop() {
-            let value = value_node(alloc, &input.net, actor as u32, node)?;
-            made.push(value)?;
-        }
-    }
-    Ok(made)
-}
-
 impl<'a> ValueWorld<'a> {
     ghost use Rattle.sl_proto.specs.RunBook.{IsFirstScene};
     ghost use Rattle.sl_value.specs.Nodes.{plain_scene};
@@ -93,7 +47,7 @@ impl<'a> ValueWorld<'a> {
         ensures first { IfOk result (λ w. IsFirstScene input.now (plain_scene w.scene)) }
     {
         let losses = make_losses(alloc, input)?;
-        let nodes = value_nodes(alloc, input)?;
+        let nodes = build_nodes(alloc, input)?;
         let world = World::new(alloc, nodes, input.net.wiring(), losses)?;
         Ok(ValueWorld { world, input })
     }
@@ -121,11 +75,11 @@ impl<'a> ValueWorld<'a> {
     {
         let input: &Input = self.input;
         match self.world.machine(control_for(&input.net, unit)) {
-            ValueNode::Control(control) => {
+            Node::Control(control) => {
                 let place = input.net.unit_place(input.net.unit_actor(unit));
                 control.value(place, k)
             }
-            ValueNode::Node(_) => None,
+            _ => None,
         }
     }
 
@@ -164,16 +118,13 @@ impl<'a> Taker for ValueWorld<'a> {
 
     fn observer(&self) -> &Observer {
         match self.world.machine(0) {
-            ValueNode::Node(Node::Observer(observer)) => observer,
+            Node::Observer(observer) => observer,
             _ => unreachable!(),
         }
     }
 
     fn traffic(&self, actor: u32) -> Option<Traffic> {
-        match self.world.machine(actor) {
-            ValueNode::Node(node) => node.traffic(),
-            ValueNode::Control(_) => None,
-        }
+        self.world.machine(actor).traffic()
     }
 
     fn entries(&self) -> u64 {

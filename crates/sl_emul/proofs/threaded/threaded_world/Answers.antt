@@ -2,6 +2,7 @@ use Rattle.std.proofs.Common.{◌≡◌, ℕ, ◌^◌, ◌<◌, List, Vec, Globa
 use Rattle.std.proofs.lemmas.List.{length-map}
 use Rattle.std.proofs.lemmas.Result.{IfOk-weaker}
 use Rattle.std.proofs.lemmas.List.FromFn.{length-map-range_with_len}
+use Rattle.sl_machine.specs.Machine.{Counts}
 use Rattle.sl_machine.specs.Plan.{Plan, IsSound}
 use Rattle.sl_machine.specs.Fit.{Fits, HasCounts}
 use Rattle.sl_layout.specs.Net.{Net, links_into, link_numbers}
@@ -12,8 +13,7 @@ use Rattle.sl_model.specs.Setup.{setup_of}
 use Rattle.sl_model.specs.Books.{schedule_of}
 use Rattle.sl_world.specs.World.{scene}
 use Rattle.sl_threads.specs.Threads.{ArePlans}
-use Rattle.sl_proto.specs.declared.node.Node.{Node}
-use Rattle.sl_proto.specs.Nodes.{node_state, node_counts}
+use Rattle.sl_proto.specs.Nodes.{NodeView, node_state, node_counts_by}
 use Rattle.sl_proto.specs.Standing.{case_of, scene_of, AreNewLosses}
 use Rattle.sl_emul.specs.Threaded.{plans_of}
 use Rattle.sl_emul.proofs.Plans.{plans-fit, no-sweeps, no-resends}
@@ -22,6 +22,9 @@ use Rattle.sl_emul.proofs.Come.{has-come}
 use Rattle.sl_emul.proofs.Standing.{below40, first-nodes, stands-by-run, has-observer}
 use Rattle.sl_emul.proofs.Rested.{rested}
 use Rattle.sl_emul.proofs.threaded.threaded_world.Goals as goal
+
+abbrev node_counts : NodeView → Counts
+node_counts = node_counts_by (λ c. c.counts)
 
 pub run_machines-requires-clause-fit : goal.run_machines-requires-clause-fit
 run_machines-requires-clause-fit g c =
@@ -43,7 +46,7 @@ run_machines-requires-clause-plans g c =
     search (rules, fit)
 
 -- there is a node for each actor
-node-each : (net : Net) (nodes : List Node) → HasCounts node_counts (plan_of net) nodes → length nodes ≡ length net.actors
+node-each : (net : Net) (nodes : List NodeView) → HasCounts node_counts (plan_of net) nodes → length nodes ≡ length net.actors
 node-each net nodes fit = sym (length-map nodes (λ a. (node_counts a).ins)) ∙ ap length fit.ins_are ∙ length-map-range_with_len (λ a. length (links_into net a)) 0 (length net.actors)
 
 pub run_machines-requires-clause-few : goal.run_machines-requires-clause-few

@@ -25,7 +25,7 @@ use Rattle.sl_simulation.specs.ObserverImage.{IsObserverOf, known_at}
 use Rattle.sl_proto.specs.Image.{told_by}
 use Rattle.sl_proto.specs.Machines.{MachineSimulates, MachineActSimulates}
 use Rattle.sl_proto.specs.Meaning.{StandsAs, NodeStands}
-use Rattle.sl_proto.specs.Nodes.{NodeState, ObserverNode, ControlNode, UnitNode, HostNode, as_node, node_take, node_act}
+use Rattle.sl_proto.specs.Nodes.{NodeState, ObserverNode, ControlNode, UnitNode, HostNode, as_node, node_rules}
 use Rattle.sl_proto.proofs.Queues.{retold, untold}
 use Rattle.sl_proto.proofs.Sent.{put-by-told, put-by-any}
 use Rattle.sl_proto.proofs.NodeSteps.{stands-here, leaves, does}
@@ -70,7 +70,7 @@ returns c s table lost r = record {
 
     takes : (es : List Entry) (a k l : ℕ) (step : Step) (m : Message) (x : Msg) → length es < 2 ^ 40 → next_step s lost (world s lost es) (a, k) ≡ Some step → slice_get (links_into s.net a) k ≡ Some l → step.taken ≡ Some m
         → IsMessage s.net (sizes_of table) (history (world s lost es)) (link_of s.net l).from (told_by k (history (world s lost es) a)) m x → (y : ActorId) → actor_of s.net a ≡ y → (state : NodeState) → StandsAs s table (world s lost es) a y state
-        → MachineSimulates s (sizes_of table) (NodeStands s table) (world s lost es) (turn s lost (world s lost es) (a, k)) a step (node_take state k x)
+        → MachineSimulates s (sizes_of table) (NodeStands s table) (world s lost es) (turn s lost (world s lost es) (a, k)) a step (node_rules.take state k x)
     takes es a k l step m x few next into taken msg Observer q (ObserverNode o) st = observer-takes es a k l step m x next into taken msg q o st
     takes es a k l step m x few next into taken msg (Control d) q (ControlNode o) st = let w = world s lost es in let v = turn s lost w (a, k) in
         let at : link_at s.net a k ≡ l = get_or_from_slice_get (links_into s.net a) k l 0 into in let size = r.is_table.window in let apart = r.is_table.apart in let room = r.is_table.room in
@@ -89,27 +89,27 @@ returns c s table lost r = record {
     -- Actions.
 
     observer-acts : (es : List Entry) (a k : ℕ) (step : Step) → next_step s lost (world s lost es) (a, k) ≡ Some step → slice_get (links_into s.net a) k ≡ None → actor_of s.net a ≡ Observer
-        → (o : ObserverState) → IsObserverOf s.net table (world s lost es) o → MachineActSimulates s (sizes_of table) (NodeStands s table) (world s lost es) (turn s lost (world s lost es) (a, k)) a step (node_act (ObserverNode o) k)
+        → (o : ObserverState) → IsObserverOf s.net table (world s lost es) o → MachineActSimulates s (sizes_of table) (NodeStands s table) (world s lost es) (turn s lost (world s lost es) (a, k)) a step (node_rules.act (ObserverNode o) k)
     observer-acts es (suc a) k step next none q o st = absurd (let e : suc a ≡ 0 = wired.one_observer (suc a) q in omega (arith, e))
     observer-acts es zero k step next none q o st = let w = world s lost es in let v = turn s lost w (0, k) in
         let g = λ (told : ℕ → ℕ). c.observers_act.ensures.did s lost table es k (sizes_of table) told step o r.net r.is_table st next (takes-none turns s lost w 0 k step next none) in
         let ins : o.ins ≡ length (links_into s.net 0) = ap (λ (y : ObserverState). y.ins) st in let low = observer-within turns s lost w 0 k step q next none in
-        does s table w v 0 step Observer (as_node ObserverNode (g untold).after) (node_act (ObserverNode o) k)
+        does s table w v 0 step Observer (as_node ObserverNode (g untold).after) (node_rules.act (ObserverNode o) k)
         (ap (λ b. if b then option_map (as_node ObserverNode) (observer_act o k) else None) (lt-ltb k (o.ins + 2) (omega (arith, ins, low))) ∙ ap (option_map (as_node ObserverNode)) (g untold).is) q (g untold).simulates.stands
         (does-put (IsObserverOf s.net table v) s.net (sizes_of table) (history v) 0 (history w 0) step.puts (observer_act o k) g)
 
     acts : (es : List Entry) (a k : ℕ) (step : Step) → next_step s lost (world s lost es) (a, k) ≡ Some step → slice_get (links_into s.net a) k ≡ None → (y : ActorId) → actor_of s.net a ≡ y
-        → (state : NodeState) → StandsAs s table (world s lost es) a y state → MachineActSimulates s (sizes_of table) (NodeStands s table) (world s lost es) (turn s lost (world s lost es) (a, k)) a step (node_act state k)
+        → (state : NodeState) → StandsAs s table (world s lost es) a y state → MachineActSimulates s (sizes_of table) (NodeStands s table) (world s lost es) (turn s lost (world s lost es) (a, k)) a step (node_rules.act state k)
     acts es a k step next none Observer q (ObserverNode o) st = observer-acts es a k step next none q o st
     acts es a k step next none (Control d) q (ControlNode o) st = let w = world s lost es in let v = turn s lost w (a, k) in
         let g = c.controls_act.ensures.acts s lost es (a, k) d (sizes_of table) step o r.net q next (takes-none turns s lost w a k step next none) st in
-        does s table w v a step (Control d) (as_node ControlNode g.after) (node_act (ControlNode o) k) (ap (option_map (as_node ControlNode)) g.is) q g.simulates.stands
+        does s table w v a step (Control d) (as_node ControlNode g.after) (node_rules.act (ControlNode o) k) (ap (option_map (as_node ControlNode)) g.is) q g.simulates.stands
         (put-by-told s.net (sizes_of table) (history v) a (told_at s.net (history w) a) (history w a) step.puts g.after.puts (step-dones turns c.links_pass_messages.ensures s lost w a d k step reported wired (turns.ran s lost es) q next) g.simulates.sent)
     acts es a k step next none (OfUnit i) q (UnitNode o) st = absurd (let e = subst (λ o. IsSome o) none (c.units_take_messages.ensures.link s lost es a k i step q next) in cc)
     acts es a k step next none (OfHost i) q (HostNode o) st = let w = world s lost es in let v = turn s lost w (a, k) in let at = is-host a i (turns.within s lost w (a, k) step next) q in
         let g = λ (told : ℕ → ℕ). c.hosts_act.ensures.did s lost es a k i (sizes_of table) told step o r.net at st next (takes-none turns s lost w a k step next none) in
         let ins = c.hosts_have_two_links.ensures.ins s.net a i r.net at in let low = host-within turns s lost w a k i step q next none in
-        does s table w v a step (OfHost i) (as_node HostNode (g untold).after) (node_act (HostNode o) k)
+        does s table w v a step (OfHost i) (as_node HostNode (g untold).after) (node_rules.act (HostNode o) k)
         (ap (λ b. if b then option_map (as_node HostNode) (host_act o k) else None) (lt-ltb k 2 (omega (arith, ins, low))) ∙ ap (option_map (as_node HostNode)) (g untold).is) q (g untold).simulates.stands
         (does-put (IsHostOf s a i v) s.net (sizes_of table) (history v) a (history w a) step.puts (host_act o k) g)
     acts es a k step next none _ q _ st = absurd st
@@ -117,26 +117,26 @@ returns c s table lost r = record {
     -- Idle turns.
 
     observer-idles : (es : List Entry) (a k : ℕ) → next_step s lost (world s lost es) (a, k) ≡ None → slice_get (links_into s.net a) k ≡ None → actor_of s.net a ≡ Observer
-        → (o : ObserverState) → IsObserverOf s.net table (world s lost es) o → node_act (ObserverNode o) k ≡ None
+        → (o : ObserverState) → IsObserverOf s.net table (world s lost es) o → node_rules.act (ObserverNode o) k ≡ None
     observer-idles es (suc a) k next none q o st = absurd (let e : suc a ≡ 0 = wired.one_observer (suc a) q in omega (arith, e))
     observer-idles es zero k next none q o st = by_order (cases_lt k (o.ins + 2))
       where
         ins : o.ins ≡ length (links_into s.net 0)
         ins = ap (λ (y : ObserverState). y.ins) st
 
-        by_order : (k < o.ins + 2) ⊎ (o.ins + 2 ≤ k) → node_act (ObserverNode o) k ≡ None
+        by_order : (k < o.ins + 2) ⊎ (o.ins + 2 ≤ k) → node_rules.act (ObserverNode o) k ≡ None
         by_order (inl p) = ap (λ b. if b then option_map (as_node ObserverNode) (observer_act o k) else None) (lt-ltb k (o.ins + 2) p)
             ∙ ap (option_map (as_node ObserverNode)) (c.observers_act.ensures.idle s lost table es k o r.net r.is_table st next (none-past (links_into s.net 0) k none) (omega (arith, ins, p)))
         by_order (inr p) = ap (λ b. if b then option_map (as_node ObserverNode) (observer_act o k) else None) (le-ltb k (o.ins + 2) p)
 
     idles : (es : List Entry) (a k : ℕ) → a < length s.net.actors → next_step s lost (world s lost es) (a, k) ≡ None → slice_get (links_into s.net a) k ≡ None → (y : ActorId) → actor_of s.net a ≡ y
-        → (state : NodeState) → StandsAs s table (world s lost es) a y state → node_act state k ≡ None
+        → (state : NodeState) → StandsAs s table (world s lost es) a y state → node_rules.act state k ≡ None
     idles es a k low next none Observer q (ObserverNode o) st = observer-idles es a k next none q o st
     idles es a k low next none (Control d) q (ControlNode o) st = ap (option_map (as_node ControlNode)) (c.controls_act.ensures.idle s lost es (a, k) d (sizes_of table) o q next st)
     idles es a k low next none (OfUnit i) q (UnitNode o) st = ap (option_map (as_node UnitNode)) (c.units_take_messages.ensures.acts o k)
     idles es a k low next none (OfHost i) q (HostNode o) st = by_order (cases_lt k 2)
       where
-        by_order : (k < 2) ⊎ (2 ≤ k) → node_act (HostNode o) k ≡ None
+        by_order : (k < 2) ⊎ (2 ≤ k) → node_rules.act (HostNode o) k ≡ None
         by_order (inl p) = let at = is-host a i low q in let ins = c.hosts_have_two_links.ensures.ins s.net a i r.net at in let past = none-past (links_into s.net a) k none in
             let e : k ≡ action_choice s.net a = omega (arith, ins, past, p) in
             ap (λ b. if b then option_map (as_node HostNode) (host_act o k) else None) (lt-ltb k 2 p)

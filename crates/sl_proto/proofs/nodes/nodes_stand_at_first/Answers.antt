@@ -2,6 +2,7 @@ use Rattle.std.proofs.Common.{◌<◌, length, refl, ap, ◌∙◌, Some, arith,
 use Rattle.std.proofs.lemmas.Option.{slice_get-get_or}
 use Rattle.std.proofs.lemmas.List.FromFn.{get_or-map-range_with_len, length-map-range_with_len}
 use Rattle.sl_observe.specs.Observer.{first_state}
+use Rattle.sl_control.specs.Wires.{first_control}
 use Rattle.sl_wire.specs.Sizes.{sizes_of}
 use Rattle.sl_model.specs.Setup.{setup_of}
 use Rattle.sl_proto.specs.Built.{first_node, first_at, first_states}
@@ -29,8 +30,8 @@ returns-clause-observer c i losses n =
     let wired = c.nets_are_wired.ensures i.net n in
     let low : 0 < length i.net.actors = has-actors i.net n.made in
     let z : NodeState = ObserverNode (first_state i.net i.snapshot) in
-    let m = length-map-range_with_len (first_at i) 0 (length i.net.actors) in
+    let m = length-map-range_with_len (first_at first_control i) 0 (length i.net.actors) in
     record {
       observer = first_state i.net i.snapshot;
-      first = slice_get-get_or (first_states i) 0 z (omega (arith, m, low)) ∙ ap Some (get_or-map-range_with_len (first_at i) 0 (length i.net.actors) 0 _ z low (zero-add 0) ∙ ap (first_node i 0) wired.observer);
+      first = slice_get-get_or (first_states i) 0 z (omega (arith, m, low)) ∙ ap Some (get_or-map-range_with_len (first_at first_control i) 0 (length i.net.actors) 0 _ z low (zero-add 0) ∙ ap (first_node first_control i 0) wired.observer);
     }

@@ -18,6 +18,6 @@ returns c i v r stands ranged few a state here =
     let x = case_of i (losses i) in
     let es = schedule_of v.book in
     let n : length es ≡ length v.book = length-map v.book (λ (e : Entry). (e.actor, e.choice)) in
-    let b = begun c.worlds_take_turns.ensures i v r ranged (c.nodes_start.ensures.each i) c.nodes_start.ensures.stand (c.values_follow.ensures x stands.runnable) in
+    let b = begun c.worlds_take_turns.ensures i v r ranged c.nodes_start.ensures.stand (c.values_follow.ensures x stands.runnable) in
     let image = c.machines_stand_for_histories.ensures.image x b es (omega (arith, n, few)) in
     (subst (IsImage s (losses i) (sizes_of i.snapshot) (ValueStands s i.snapshot) (world s (losses i) es)) r.reached image).states a state here

@@ -1,7 +1,6 @@
 use Rattle.std.proofs.Common.{◌≡◌, ◌++◌, length, map}
 use Rattle.std.specs.Prelude.{reverse}
-use Rattle.sl_value.specs.Nodes.{value_node_state}
-use Rattle.sl_value.specs.Controls.{controls_in}
+use Rattle.sl_value.specs.Nodes.{value_node_state, controls_in}
 use Rattle.sl_value.proofs.run.controls.Given as goal
 
 abbrev pub invariant-loop-node : goal.invariant-loop-node

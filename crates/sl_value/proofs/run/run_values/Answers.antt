@@ -10,10 +10,10 @@ use Rattle.sl_model.specs.Losses.{losses}
 use Rattle.sl_model.specs.Setup.{setup_of}
 use Rattle.sl_model.specs.World.{world}
 use Rattle.sl_value.specs.Valued.{ValueState}
-use Rattle.sl_value.specs.Nodes.{plain, plain_scene}
+use Rattle.sl_value.specs.Nodes.{plain, plain_scene, controls_in}
 use Rattle.sl_value.specs.Run.{IsValueRun}
 use Rattle.sl_value.specs.Verdicts.{value_finding}
-use Rattle.sl_value.specs.Controls.{controls_in, AreControls, IsAnswered}
+use Rattle.sl_value.specs.Controls.{AreControls, IsAnswered}
 use Rattle.sl_value.specs.Outcome.{CanList}
 use Rattle.sl_value.proofs.ControlList.{are-controls}
 use Rattle.sl_value.proofs.Outcomes.{can-list, answered}

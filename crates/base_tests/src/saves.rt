@@ -1,10 +1,13 @@
 // Saved entries, kept as a list and in a ring, and what their views say of a number.
-ghost use Rattle.std.specs.Prelude.{◌≡◌, ◌+◌, ◌<◌, ◌≤◌, length};
+ghost use Rattle.std.specs.Prelude.{◌≡◌, ◌<◌, ◌≤◌, length};
+ghost use Rattle.sl_saves.specs.Lists.{list_window, list_size};
+ghost use Rattle.sl_saves.specs.Rings.{ring_window, ring_size, ring_view};
 
+use rand_core::utils::NextWord;
+use rand_pcg::Lcg64Xsh32;
 use sl_machine::Memory;
 use sl_saves::{ListSaves, RingSaves, Saved, Saves, Total, View, read_saved, try_read_saved};
 use std::alloc::Global;
-use std::process::Abort;
 use std::test::Fail;
 
 const NONE: Total = Total {
@@ -12,141 +15,305 @@ const NONE: Total = Total {
     bytes: 0,
 };
 
-/// So many packets of 100 bytes, with some in flight on the first channel.
-fn value(packets: u64, in_flight: u64) -> Saved {
-    let mut inflight = [NONE; 8];
-    inflight[0] = Total {
-        packets: in_flight,
-        bytes: in_flight.saturating_mul(100),
-    };
-    Saved::Value {
-        packets,
-        bytes: packets.saturating_mul(100),
-        inflight,
+/// What was saved of a number: so many packets of 100 bytes, with some in flight on the first
+/// channel; or nothing, as it was skipped to 3 or miscredited by 3.
+#[derive(Clone, Copy)]
+enum Told {
+    Value(u64, u64),
+    Skipped,
+    Miscredited,
+}
+
+/// What is told of numbers after a credit that goes to 3.
+const CREDITED: &[(u64, Told)] = &[
+    (3, Told::Value(7, 1)),
+    (2, Told::Skipped),
+    (1, Told::Value(5, 0)),
+];
+
+/// The same of 1 where another one to 3 should have gone to it.
+const LATE: &[(u64, Told)] = &[(1, Told::Miscredited)];
+
+/// What is told after a credit to 3 and 1.
+const TWICE: &[(u64, Told)] = &[
+    (3, Told::Value(7, 1)),
+    (2, Told::Skipped),
+    (1, Told::Value(5, 1)),
+];
+
+fn saved_of(told: Told) -> Saved {
+    match told {
+        Told::Value(packets, in_flight) => {
+            let first = Total {
+                packets: in_flight,
+                bytes: in_flight.saturating_mul(100),
+            };
+            Saved::Value {
+                packets,
+                bytes: packets.saturating_mul(100),
+                inflight: [first, NONE, NONE, NONE, NONE, NONE, NONE, NONE],
+            }
+        }
+        Told::Skipped => Saved::Skipped { to: 3 },
+        Told::Miscredited => Saved::Miscredited { by: 3, reach: 3 },
     }
 }
 
-/// What a view of three slots at the number `id` says of `k`.
-fn answer(view: &View, id: u64, k: u64) -> Option<Saved>
-    requires least { 1 ≤ k }
-    requires most { k ≤ id }
-    requires near { id < k + 3 }
+/// What a view of three slots at the number 3 says of another.
+fn answer(view: &View, k: u64) -> Option<Saved>
     requires at { view.now.at < 3 }
     requires size { length view.now.slots ≡ 3 }
 {
-    let tried = try_read_saved(view, id, k);
+    if k < 1 || k > 3 {
+        return None;
+    }
+    let tried = try_read_saved(view, 3, k);
     if tried.is_some() {
-        return Some(read_saved(view, id, k));
+        return Some(read_saved(view, 3, k));
     }
     None
 }
 
-fn check_entries<S: Saves>(rt: &impl Abort, saves: &mut S) -> Result<(), Memory>
-    requires window { S.window saves.old ≡ 3 }
-    requires size { S.size saves.old ≡ 3 }
+/// Whether a view says these of numbers.
+fn says(view: &View, answers: &[(u64, Told)]) -> bool
+    requires at { view.now.at < 3 }
+    requires size { length view.now.slots ≡ 3 }
+{
+    for (k, told) in answers {
+        if answer(view, *k) != Some(saved_of(*told)) {
+            return false;
+        }
+    }
+    true
+}
+
+/// Saves 1 with five packets, and then 3 with seven.
+fn adopt_two<S: Saves>(saves: &mut S) -> Result<(), Memory>
+    requires { S.window saves.old ≡ 3 }
+    ensures window { S.window saves.new ≡ S.window saves.old }
+    ensures size { S.size saves.new ≡ S.size saves.old }
 {
     saves.ready()?;
     saves.adopt(1, 5, 500);
     saves.ready()?;
     saves.adopt(2, 7, 700);
-    saves.credit(0, 2, 100);
-    let mut view = saves.view()?;
-    assert_eq!(rt; answer(&view, 3, 3), Some(value(7, 1)));
-    assert_eq!(rt; answer(&view, 3, 2), Some(Saved::Skipped { to: 3 }));
-    assert_eq!(rt; answer(&view, 3, 1), Some(value(5, 0)));
-    saves.credit(0, 3, 100);
-    saves.fill(&mut view);
-    let late = Saved::Miscredited { by: 3, reach: 3 };
-    assert_eq!(rt; answer(&view, 3, 1), Some(late));
     Ok(())
 }
 
-/// A packet goes to two numbers, and its foot is the lower one.
-fn check_two_credits<S: Saves>(rt: &impl Abort, saves: &mut S) -> Result<(), Memory>
+fn check_entries<S: Saves>(saves: &mut S) -> Result<bool, Memory>
     requires window { S.window saves.old ≡ 3 }
     requires size { S.size saves.old ≡ 3 }
 {
-    saves.ready()?;
-    saves.adopt(1, 5, 500);
-    saves.ready()?;
-    saves.adopt(2, 7, 700);
+    adopt_two(saves)?;
+    saves.credit(0, 2, 100);
+    let mut view = saves.view()?;
+    let credited = says(&view, CREDITED);
+    saves.credit(0, 3, 100);
+    saves.fill(&mut view);
+    Ok(credited && says(&view, LATE))
+}
+
+/// A packet goes to two numbers, and its foot is the lower one.
+fn check_two_credits<S: Saves>(saves: &mut S) -> Result<bool, Memory>
+    requires window { S.window saves.old ≡ 3 }
+    requires size { S.size saves.old ≡ 3 }
+{
+    adopt_two(saves)?;
     saves.credit(0, 3, 100);
     let view = saves.view()?;
-    assert_eq!(rt; answer(&view, 3, 3), Some(value(7, 1)));
-    assert_eq!(rt; answer(&view, 3, 2), Some(Saved::Skipped { to: 3 }));
-    assert_eq!(rt; answer(&view, 3, 1), Some(value(5, 1)));
-    Ok(())
+    Ok(says(&view, TWICE))
+}
+
+/// Whether both are right of a list.
+fn list_entries(alloc: Global) -> Result<(bool, bool), Memory> {
+    let once = check_entries(&mut ListSaves::new(alloc, 3, 3, 1)?)?;
+    let twice = check_two_credits(&mut ListSaves::new(alloc, 3, 3, 2)?)?;
+    Ok((once, twice))
+}
+
+/// The same of a ring.
+fn ring_entries(alloc: Global) -> Result<(bool, bool), Memory> {
+    let once = check_entries(&mut RingSaves::new(alloc, 3, 3, 1)?)?;
+    let twice = check_two_credits(&mut RingSaves::new(alloc, 3, 3, 2)?)?;
+    Ok((once, twice))
 }
 
 #[test]
 fn saved_entries(rt: HostRuntime) -> Result<(), Fail> {
-    check_entries(&rt, &mut ListSaves::new(rt.alloc(), 3, 3, 1)?)?;
-    check_entries(&rt, &mut RingSaves::new(rt.alloc(), 3, 3, 1)?)?;
-    check_two_credits(&rt, &mut ListSaves::new(rt.alloc(), 3, 3, 2)?)?;
-    check_two_credits(&rt, &mut RingSaves::new(rt.alloc(), 3, 3, 2)?)?;
+    assert_eq!(rt; list_entries(rt.alloc())?, (true, true));
+    assert_eq!(rt; ring_entries(rt.alloc())?, (true, true));
     Ok(())
 }
 
-/// The next number of a linear congruence.
-fn next_random(x: u64) -> u64 {
-    x.wrapping_mul(6_364_136_223_846_793_005)
-        .wrapping_add(1_442_695_040_888_963_407)
-}
-
 /// Adopts or credits, as a random number says. The answer is by how much the number rose.
-fn take_turn<S: Saves>(saves: &mut S, window: u16, random: u64) -> Result<u16, Memory>
+fn take_turn<S: Saves>(saves: &mut S, window: u16, random: u32) -> Result<u16, Memory>
     requires some { 1 ≤ window }
     requires window { S.window saves.old ≡ window }
     ensures window { S.window saves.new ≡ S.window saves.old }
     ensures size { S.size saves.new ≡ S.size saves.old }
 {
-    let kind = random >> 61;
-    let step = ((random >> 33) % u64::from(window) + 1) as u16;
+    let kind = random >> 29;
+    let step = ((random >> 8) % u32::from(window) + 1) as u16;
     if kind < 3 {
         let by = if kind == 0 { step } else { 1 };
         saves.ready()?;
-        saves.adopt(by, random % 1000, random % 100_000);
+        saves.adopt(by, u64::from(random % 1000), u64::from(random));
         return Ok(by);
     }
-    saves.credit(((random >> 40) % 8) as u32, step, (random >> 20) % 1000);
+    saves.credit((random >> 16) % 8, step, u64::from(random % 1000));
     Ok(0)
 }
 
-/// What two views of the number `id` say alike of the numbers below it. The answer is how many of
-/// them have a value.
-fn check_alike(rt: &impl Abort, ring: u16, one: &View, other: &View, id: u64) -> u64
+/// The number that a list and a ring have come to, and of the numbers below it that two views were
+/// asked for, of how many they said a value, and of how many nothing or not the same.
+#[derive(Clone, Copy)]
+struct Tally {
+    id: u64,
+    values: u64,
+    wrong: u64,
+}
+
+/// What two views say of the numbers below theirs.
+fn compare(ring: u16, one: &View, other: &View, tally: &mut Tally)
     requires at { one.now.at < ring }
     requires size { length one.now.slots ≡ ring }
     requires other_at { other.now.at < ring }
     requires other_size { length other.now.slots ≡ ring }
 {
-    let mut values = 0u64;
+    let id = tally.id;
     for back in 0..u64::from(ring) {
         if back < id {
             let said = try_read_saved(one, id, id - back);
-            assert!(rt; said.is_some());
-            assert_eq!(rt;
-                said,
-                try_read_saved(other, id, id - back),
-                "{id} less {back}"
-            );
-            if let Some(Saved::Value { .. }) = said {
-                values = values.saturating_add(1);
+            let is_alike = said == try_read_saved(other, id, id - back);
+            if said.is_none() || !is_alike {
+                tally.wrong = tally.wrong.saturating_add(1);
+            }
+            if matches!(said, Some(Saved::Value { .. })) {
+                tally.values = tally.values.saturating_add(1);
             }
         }
     }
-    values
 }
 
-/// A thousand turns on a list and on a ring, whose views say the same, new ones and older ones
-/// that the other fills.
-fn check_turns(
-    rt: &impl Abort,
-    alloc: Global,
+/// A turn of both, after which they have risen alike.
+fn take_turns(
+    list: &mut ListSaves,
+    slots: &mut RingSaves,
+    window: u16,
+    random: u32,
+    tally: &mut Tally,
+) -> Result<(), Memory>
+    requires some { 1 ≤ window }
+    requires list_window { list_window list.old ≡ window }
+    requires ring_window { ring_window slots.old ≡ window }
+    ensures list_window { list_window list.new ≡ list_window list.old }
+    ensures ring_window { ring_window slots.new ≡ ring_window slots.old }
+    ensures list_size { list_size list.new ≡ list_size list.old }
+    ensures ring_size { ring_size slots.new ≡ ring_size slots.old }
+{
+    let by = take_turn(list, window, random)?;
+    if take_turn(slots, window, random)? != by {
+        tally.wrong = tally.wrong.saturating_add(1);
+    }
+    tally.id = tally.id.saturating_add(u64::from(by));
+    Ok(())
+}
+
+/// Has each of two views filled by the other than the one that filled it last.
+fn compare_filled(
+    list: &ListSaves,
+    slots: &RingSaves,
+    ring: u16,
+    one: &mut View,
+    other: &mut View,
+    tally: &mut Tally,
+)
+    requires list { list_size list.now ≡ ring }
+    requires slots { ring_size slots.now ≡ ring }
+    requires one { length one.old.slots ≡ ring }
+    requires other { length other.old.slots ≡ ring }
+    ensures one { length one.new.slots ≡ ring }
+    ensures one_at { one.new.at < ring }
+    ensures other { length other.new.slots ≡ ring }
+    ensures shown { length (ring_view slots.now).slots ≡ ring }
+    ensures shown_at { (ring_view slots.now).at < ring }
+{
+    slots.fill(one);
+    list.fill(other);
+    compare(ring, one, other, tally);
+    list.fill(one);
+    slots.fill(other);
+    compare(ring, one, other, tally);
+}
+
+/// Compares new views.
+fn compare_new(
+    list: &ListSaves,
+    slots: &RingSaves,
+    ring: u16,
+    tally: &mut Tally,
+) -> Result<(), Memory>
+    requires list { list_size list.now ≡ ring }
+    requires slots { ring_size slots.now ≡ ring }
+{
+    let one = list.view()?;
+    let other = slots.view()?;
+    compare(ring, &one, &other, tally);
+    Ok(())
+}
+
+/// Compares a view with one by which the ring shows itself.
+fn compare_shown(
+    slots: &RingSaves,
+    ring: u16,
+    one: &View,
+    shown: &mut View,
+    tally: &mut Tally,
+) -> Result<(), Memory>
+    requires one { length one.now.slots ≡ ring }
+    requires one_at { one.now.at < ring }
+    requires shown { length (ring_view slots.now).slots ≡ ring }
+    requires shown_at { (ring_view slots.now).at < ring }
+{
+    slots.show(shown)?;
+    compare(ring, one, shown, tally);
+    Ok(())
+}
+
+/// A thousand turns on a list and on a ring, whose views say the same.
+fn compare_turns(
+    list: &mut ListSaves,
+    slots: &mut RingSaves,
     window: u16,
     ring: u16,
-    credits: u8,
-) -> Result<(), Memory>
+) -> Result<Tally, Memory>
+    requires some { 1 ≤ window }
+    requires list_window { list_window list.old ≡ window }
+    requires ring_window { ring_window slots.old ≡ window }
+    requires list_size { list_size list.old ≡ ring }
+    requires ring_size { ring_size slots.old ≡ ring }
+{
+    let mut one = list.view()?;
+    let mut other = slots.view()?;
+    let mut shown = slots.view()?;
+    let mut generator = Lcg64Xsh32::new(1, 1);
+    let mut tally = Tally {
+        id: 0,
+        values: 0,
+        wrong: 0,
+    };
+    for _ in 0..1000 {
+        let random = generator.next_word();
+        take_turns(list, slots, window, random, &mut tally)?;
+        compare_filled(list, slots, ring, &mut one, &mut other, &mut tally);
+        compare_new(list, slots, ring, &mut tally)?;
+        compare_shown(slots, ring, &one, &mut shown, &mut tally)?;
+    }
+    Ok(tally)
+}
+
+/// Whether they are read alike, with such a window, ring and credits.
+fn are_alike(alloc: Global, window: u16, ring: u16, credits: u8) -> Result<bool, Memory>
     requires least { 1 ≤ window }
     requires most { window ≤ ring }
     requires some { 1 ≤ credits }
@@ -154,53 +321,64 @@ fn check_turns(
 {
     let mut list = ListSaves::new(alloc, window, ring, credits)?;
     let mut slots = RingSaves::new(alloc, window, ring, credits)?;
-    let mut list_view = list.view()?;
-    let mut ring_view = slots.view()?;
-    let mut shown = slots.view()?;
-    let mut random = 1u64;
-    let mut id = 0u64;
-    let mut values = 0u64;
-    for _ in 0..1000 {
-        random = next_random(random);
-        let by = take_turn(&mut list, window, random)?;
-        assert_eq!(rt; take_turn(&mut slots, window, random)?, by);
-        id = id.saturating_add(u64::from(by));
-        list.fill(&mut ring_view);
-        slots.fill(&mut list_view);
-        values = values.saturating_add(check_alike(rt, ring, &ring_view, &list_view, id));
-        list_view = list.view()?;
-        ring_view = slots.view()?;
-        values = values.saturating_add(check_alike(rt, ring, &list_view, &ring_view, id));
-        slots.show(&mut shown)?;
-        values = values.saturating_add(check_alike(rt, ring, &list_view, &shown, id));
-    }
-    assert!(rt; values > 1000 && id > 400);
-    Ok(())
+    let tally = compare_turns(&mut list, &mut slots, window, ring)?;
+    Ok(tally.wrong == 0 && tally.values > 1000 && tally.id > 400)
+}
+
+/// Whether they are, in views of 3, 16, 17 and 40 slots.
+fn all_alike(alloc: Global, credits: u8) -> Result<bool, Memory>
+    requires some { 1 ≤ credits }
+    requires few { credits ≤ 4 }
+{
+    let least = are_alike(alloc, 3, 3, credits)?;
+    let even = are_alike(alloc, 7, 16, credits)?;
+    let odd = are_alike(alloc, 7, 17, credits)?;
+    let large = are_alike(alloc, 40, 40, credits)?;
+    Ok(least && even && odd && large)
 }
 
 #[test]
 fn list_and_ring_are_read_alike(rt: HostRuntime) -> Result<(), Fail> {
     for credits in 1..5u8 {
-        check_turns(&rt, rt.alloc(), 3, 3, credits)?;
-        check_turns(&rt, rt.alloc(), 7, 16, credits)?;
-        check_turns(&rt, rt.alloc(), 7, 17, credits)?;
-        check_turns(&rt, rt.alloc(), 40, 40, credits)?;
+        assert!(rt; all_alike(rt.alloc(), credits)?, "{credits}");
     }
     Ok(())
 }
 
-/// Adoptions for which a ring was not made ready.
-#[test]
-fn ring_needs_no_room(rt: HostRuntime) -> Result<(), Fail> {
-    let mut list = ListSaves::new(rt.alloc(), 7, 40, 4)?;
-    let mut ring = RingSaves::new(rt.alloc(), 7, 40, 4)?;
+/// Thirty adoptions for which the ring is not made ready.
+fn adopt_unready(list: &mut ListSaves, slots: &mut RingSaves) -> Result<(), Memory>
+    requires list_window { list_window list.old ≡ 7 }
+    requires ring_window { ring_window slots.old ≡ 7 }
+    ensures list_size { list_size list.new ≡ list_size list.old }
+    ensures ring_size { ring_size slots.new ≡ ring_size slots.old }
+{
     for turn in 0..30u64 {
         list.ready()?;
         list.adopt(1, turn, turn);
-        ring.adopt(1, turn, turn);
+        slots.adopt(1, turn, turn);
     }
-    assert_eq!(rt; check_alike(&rt, 40, &list.view()?, &ring.view()?, 30), 30);
-    ring.ready()?;
-    assert_eq!(rt; check_alike(&rt, 40, &list.view()?, &ring.view()?, 30), 30);
+    Ok(())
+}
+
+/// What views say after them, and once the ring was made ready.
+fn unready(alloc: Global) -> Result<Tally, Memory> {
+    let mut list = ListSaves::new(alloc, 7, 40, 4)?;
+    let mut slots = RingSaves::new(alloc, 7, 40, 4)?;
+    adopt_unready(&mut list, &mut slots)?;
+    let mut tally = Tally {
+        id: 30,
+        values: 0,
+        wrong: 0,
+    };
+    compare_new(&list, &slots, 40, &mut tally)?;
+    slots.ready()?;
+    compare_new(&list, &slots, 40, &mut tally)?;
+    Ok(tally)
+}
+
+#[test]
+fn ring_needs_no_room(rt: HostRuntime) -> Result<(), Fail> {
+    let tally = unready(rt.alloc())?;
+    assert_eq!(rt; (tally.values, tally.wrong), (60, 0));
     Ok(())
 }

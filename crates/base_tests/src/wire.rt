@@ -10,6 +10,7 @@ use sl_wire::{
     Boxed, Done, Dump, Header, Kind, Msg, Rows, WireFault, are_wids, decode, encode, has_room,
     have_room, is_wid, plain_frame, reached,
 };
+use std::alloc::{AllocError, Global};
 use std::test::Fail;
 
 const CARRIED: [u8; 24] = [
@@ -46,66 +47,64 @@ const EMPTY: Packet = Packet {
     hops: 0,
 };
 
+const FIRST: Packet = Packet {
+    src: 0,
+    dst: 1,
+    seq: 2,
+    len: 100,
+    hops: 7,
+};
+
+const SECOND: Packet = Packet {
+    src: 0,
+    dst: 1,
+    seq: 0,
+    len: 100,
+    hops: 8,
+};
+
+/// The bits of ids, the version and bytes of a frame, and what it is a frame of: the header's kind,
+/// id and channel, and the packet.
+type Row = (u8, u8, [u8; 24], Kind, u16, u8, Packet);
+
+static ROWS: [Row; 5] = [
+    (2, 1, CARRIED, Kind::Carried, 3, 1, FIRST),
+    (2, 1, PLAIN, Kind::Plain, 0, 0, SECOND),
+    (2, 1, PROBE, Kind::Probe, 1, 0, EMPTY),
+    (2, 1, INITIATION, Kind::Init, 1, 255, EMPTY),
+    (16, 2, CHECKED, Kind::Carried, 3, 1, FIRST),
+];
+
+fn rows() -> &'static [Row] {
+    &ROWS
+}
+
+/// Whether the frame of a row is read as what the row says, and that is written as the frame.
+fn comes_back((bits, version, bytes, kind, id, channel, packet): &Row) -> bool {
+    let Some(width) = Width::new(*bits) else {
+        return false;
+    };
+    let header = Header {
+        kind: *kind,
+        id: Wid { raw: *id },
+        channel: *channel,
+    };
+    match decode(width, bytes) {
+        Ok((found, read, carried)) => {
+            found == *version
+                && read == header
+                && carried == *packet
+                && encode(width, found, &read, &carried).bytes == *bytes
+        }
+        Err(_) => false,
+    }
+}
+
 /// The frames of the table with what they are frames of.
 #[test]
-fn frames_and_back(rt: HostRuntime) -> Result<(), Fail> {
-    let width = Width::new(2).ok_or("two bits")?;
-    let wide = Width::new(16).ok_or("sixteen bits")?;
-    let first = Packet {
-        src: 0,
-        dst: 1,
-        seq: 2,
-        len: 100,
-        hops: 7,
-    };
-    let second = Packet {
-        src: 0,
-        dst: 1,
-        seq: 0,
-        len: 100,
-        hops: 8,
-    };
-    for (bits, version, bytes, kind, id, channel, packet) in [
-        (width, 1, CARRIED, Kind::Carried, 3, 1, first),
-        (width, 1, PLAIN, Kind::Plain, 0, 0, second),
-        (width, 1, PROBE, Kind::Probe, 1, 0, EMPTY),
-        (width, 1, INITIATION, Kind::Init, 1, 255, EMPTY),
-        (wide, 2, CHECKED, Kind::Carried, 3, 1, first),
-    ] {
-        let header = Header {
-            kind,
-            id: Wid { raw: id },
-            channel,
-        };
-        assert_eq!(rt; decode(bits, &bytes), Ok((version, header, packet)));
-    }
-    let header = Header {
-        kind: Kind::Carried,
-        id: Wid { raw: 3 },
-        channel: 1,
-    };
-    assert_eq!(rt; encode(width, 1, &header, &first).bytes, CARRIED);
-    assert_eq!(rt; encode(wide, 2, &header, &first).bytes, CHECKED);
-    let header = Header {
-        kind: Kind::Plain,
-        id: Wid { raw: 0 },
-        channel: 0,
-    };
-    assert_eq!(rt; encode(width, 1, &header, &second).bytes, PLAIN);
-    assert_eq!(rt; plain_frame(&second).bytes, PLAIN);
-    let header = Header {
-        kind: Kind::Probe,
-        id: Wid { raw: 1 },
-        channel: 0,
-    };
-    assert_eq!(rt; encode(width, 1, &header, &EMPTY).bytes, PROBE);
-    let header = Header {
-        kind: Kind::Init,
-        id: Wid { raw: 1 },
-        channel: 255,
-    };
-    assert_eq!(rt; encode(width, 1, &header, &EMPTY).bytes, INITIATION);
-    Ok(())
+fn frames_and_back(rt: HostRuntime) {
+    assert_eq!(rt; rows().iter().position(|row| !comes_back(row)), None);
+    assert!(rt; plain_frame(&SECOND).bytes == PLAIN);
 }
 
 #[test]
@@ -117,44 +116,59 @@ fn the_least_is_reached(rt: HostRuntime) -> Result<(), Fail> {
     Ok(())
 }
 
-/// A frame with one byte changed.
-fn changed(mut bytes: [u8; 24], place: usize, byte: u8) -> [u8; 24]
-    requires { place < 24 }
-{
-    bytes[place] = byte;
+/// Bytes that are changed at some places, and why they are no frame for ids of so many bits.
+type Change = (u8, [u8; 24], &'static [(usize, u8)], WireFault);
+
+static CHANGES: [Change; 10] = [
+    (2, CARRIED, &[(0, 0x04)], WireFault::E2),
+    (2, CARRIED, &[(3, 0x04)], WireFault::E3),
+    (2, PLAIN, &[(3, 0x01)], WireFault::E3),
+    (2, PLAIN, &[(16, 0x01)], WireFault::E4),
+    (2, PROBE, &[(14, 0x01)], WireFault::E4),
+    (2, CARRIED, &[(1, 0x08)], WireFault::E4),
+    (16, CHECKED, &[(17, 0xfb)], WireFault::E5),
+    (2, PLAIN, &[(15, 0x02)], WireFault::E2),
+    // an id of nine bits in version 1, and a check and a reserved byte that are both wrong
+    (16, CARRIED, &[(2, 0x01)], WireFault::E3),
+    (16, CHECKED, &[(17, 0xfb), (23, 0x01)], WireFault::E4),
+];
+
+fn changes() -> &'static [Change] {
+    &CHANGES
+}
+
+/// The same bytes but at some places.
+fn changed(bytes: &[u8; 24], places: &[(usize, u8)]) -> [u8; 24] {
+    let mut bytes = *bytes;
+    for (place, byte) in places {
+        if let Some(old) = bytes.get_mut(*place) {
+            *old = *byte;
+        }
+    }
     bytes
 }
 
-#[test]
-fn refused_bytes(rt: HostRuntime) -> Result<(), Fail> {
-    let width = Width::new(2).ok_or("two bits")?;
-    let wide = Width::new(16).ok_or("sixteen bits")?;
-    assert_eq!(rt; decode(width, &CARRIED[..23]), Err(WireFault::E1));
-    for (bits, bytes, fault) in [
-        (width, changed(CARRIED, 0, 0x04), WireFault::E2),
-        (width, changed(CARRIED, 3, 0x04), WireFault::E3),
-        (width, changed(PLAIN, 3, 0x01), WireFault::E3),
-        (width, changed(PLAIN, 16, 0x01), WireFault::E4),
-        (width, changed(PROBE, 14, 0x01), WireFault::E4),
-        (width, changed(CARRIED, 1, 0x08), WireFault::E4),
-        (wide, changed(CHECKED, 17, 0xfb), WireFault::E5),
-        (width, changed(PLAIN, 15, 0x02), WireFault::E2),
-        // an id of nine bits in version 1, and a check and a reserved byte that are both wrong
-        (wide, changed(CARRIED, 2, 0x01), WireFault::E3),
-        (
-            wide,
-            changed(changed(CHECKED, 17, 0xfb), 23, 0x01),
-            WireFault::E4,
-        ),
-    ] {
-        assert_eq!(rt; decode(bits, &bytes), Err(fault));
-    }
-    Ok(())
+/// Why bytes are no frame.
+fn fault(bits: u8, bytes: &[u8]) -> Option<WireFault> {
+    decode(Width::new(bits)?, bytes).err()
 }
 
-/// Whether a carried frame with this id is read as what it was made of, which is written as the same
-/// bytes.
-fn comes_back(width: Width, version: u8, id: u16) -> bool
+fn is_refused((bits, bytes, places, expected): &Change) -> bool {
+    fault(*bits, &changed(bytes, places)) == Some(*expected)
+}
+
+#[test]
+fn refused_bytes(rt: HostRuntime) {
+    assert_eq!(rt; fault(2, &CARRIED[..23]), Some(WireFault::E1));
+    assert_eq!(rt;
+        changes().iter().position(|change| !is_refused(change)),
+        None
+    );
+}
+
+/// Whether a carried frame with this id is read as what it was made of, which is written as the
+/// same bytes.
+fn id_comes_back(width: Width, version: u8, id: u16) -> bool
     requires version { IsTrue (version_fits Carried version) }
     requires id { IsTrue (stamp_fits width.bits version id) }
 {
@@ -163,29 +177,35 @@ fn comes_back(width: Width, version: u8, id: u16) -> bool
         id: Wid { raw: id },
         channel: 1,
     };
-    let frame = encode(width, version, &header, &EMPTY);
-    match decode(width, &frame.bytes) {
-        Ok((found, read, packet)) => {
-            found == version
-                && read == header
-                && encode(width, found, &read, &packet).bytes == frame.bytes
-        }
-        Err(_) => false,
-    }
+    let bytes = encode(width, version, &header, &EMPTY).bytes;
+    comes_back(&(width.bits, version, bytes, Kind::Carried, id, 1, EMPTY))
 }
 
-/// Each id of 8 bits in version 1 and each of 16 bits in version 2.
-#[test]
-fn all_ids_come_back(rt: HostRuntime) -> Result<(), Fail> {
-    let narrow = Width::new(8).ok_or("eight bits")?;
-    let wide = Width::new(16).ok_or("sixteen bits")?;
+/// The first id of 8 bits that doesn't come back in version 1.
+fn first_narrow() -> Option<u16> {
+    let width = Width::new(8)?;
     for id in 0..=255 {
-        assert!(rt; comes_back(narrow, 1, id), "{id} in version 1");
+        if !id_comes_back(width, 1, id) {
+            return Some(id);
+        }
     }
+    None
+}
+
+/// The first id of 16 bits that doesn't come back in version 2.
+fn first_wide() -> Option<u16> {
+    let width = Width::new(16)?;
     for id in 0..=u16::MAX {
-        assert!(rt; comes_back(wide, 2, id), "{id} in version 2");
+        if !id_comes_back(width, 2, id) {
+            return Some(id);
+        }
     }
-    Ok(())
+    None
+}
+
+#[test]
+fn all_ids_come_back(rt: HostRuntime) {
+    assert_eq!(rt; (first_narrow(), first_wide()), (None, None));
 }
 
 /// Gives a value back that may go to another thread.
@@ -193,33 +213,49 @@ fn sent<T: Send>(value: T) -> T {
     value
 }
 
-#[test]
-fn messages_go_to_other_threads(rt: HostRuntime) -> Result<(), Fail> {
-    let slots = Slots::new(Vec::new(rt.alloc()));
+/// A dump of no slots.
+fn dump(alloc: Global) -> Result<Msg, AllocError> {
     let none = Wid { raw: 0 };
     let dump = Dump {
         id: none,
         cpu: none,
         last: [none; 8],
-        view: View { at: 0, slots },
+        view: View {
+            at: 0,
+            slots: Slots::new(Vec::new(alloc)),
+        },
     };
-    let dump = Msg::Dump(Boxed::new(rt.alloc(), dump)?);
-    assert!(rt; matches!(sent(dump), Msg::Dump(_)));
+    Ok(Msg::Dump(Boxed::new(alloc, dump)?))
+}
+
+/// A report of a unit with no rows.
+fn done(alloc: Global, unit: u32) -> Result<Msg, AllocError> {
     let rows = Rows {
-        items: Vec::new(rt.alloc()),
+        items: Vec::new(alloc),
     };
     let done = Done {
-        unit: 3,
+        unit,
         id: 0,
         last: [0; 8],
         floor: 0,
         rows,
     };
-    let done = Msg::Done(Boxed::new(rt.alloc(), done)?);
-    let Msg::Done(done) = sent(done) else {
-        return Err("no report".into());
-    };
-    assert_eq!(rt; done.get().unit, 3);
+    Ok(Msg::Done(Boxed::new(alloc, done)?))
+}
+
+/// Which unit a report is of.
+fn unit_of(message: Msg) -> Option<u32> {
+    match message {
+        Msg::Done(done) => Some(done.get().unit),
+        _ => None,
+    }
+}
+
+#[test]
+fn messages_go_to_other_threads(rt: HostRuntime) -> Result<(), Fail> {
+    let dump = sent(dump(rt.alloc())?);
+    assert!(rt; matches!(dump, Msg::Dump(_)));
+    assert_eq!(rt; unit_of(sent(done(rt.alloc(), 3)?)), Some(3));
     Ok(())
 }
 

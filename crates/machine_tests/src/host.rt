@@ -126,12 +126,17 @@ fn first_wrong(alloc: Global, host: &mut Rig<Host>, frames: &[&[u8]]) -> Result<
     Ok(frames.len())
 }
 
+/// How many frames are sent as they should be, whether nothing comes then, and how many were sent.
+fn sends(alloc: Global, host: &mut Rig<Host>) -> Result<(usize, bool, u64), Fail> {
+    let right = first_wrong(alloc, host, frames())?;
+    let is_done = next_message(alloc, host)?.is_none();
+    Ok((right, is_done, host.machine.sent()))
+}
+
 #[test]
 fn packets_then_raw_frames(rt: HostRuntime) -> Result<(), Fail> {
     let mut host = host(rt.alloc())?;
-    assert_eq!(rt; first_wrong(rt.alloc(), &mut host, frames())?, 4);
-    assert!(rt; next_message(rt.alloc(), &mut host)?.is_none());
-    assert_eq!(rt; host.machine.sent(), 4);
+    assert_eq!(rt; sends(rt.alloc(), &mut host)?, (4, true, 4));
     Ok(())
 }
 
@@ -141,9 +146,8 @@ fn taken(alloc: Global, host: &mut Rig<Host>, m: Msg) -> Result<u64, Fail> {
     Ok(host.machine.delivered())
 }
 
-#[test]
-fn frames_are_counted(rt: HostRuntime) -> Result<(), Fail> {
-    let mut host = host(rt.alloc())?;
+/// How many it has taken after each of three, of which the last is no frame.
+fn all_taken(alloc: Global, host: &mut Rig<Host>) -> Result<(u64, u64, u64), Fail> {
     let packet = Packet {
         src: 0,
         dst: 0,
@@ -151,10 +155,16 @@ fn frames_are_counted(rt: HostRuntime) -> Result<(), Fail> {
         len: 100,
         hops: 1,
     };
-    let bytes = raw(rt.alloc(), 0, 5)?.bytes;
-    let first = taken(rt.alloc(), &mut host, Msg::Frame(Framed::plain(&packet)))?;
-    let second = taken(rt.alloc(), &mut host, Msg::carrying(bytes))?;
-    let third = taken(rt.alloc(), &mut host, Msg::Poll(Spare::new(None)))?;
-    assert_eq!(rt; (first, second, third), (1, 2, 2));
+    let bytes = raw(alloc, 0, 5)?.bytes;
+    let first = taken(alloc, host, Msg::Frame(Framed::plain(&packet)))?;
+    let second = taken(alloc, host, Msg::carrying(bytes))?;
+    let third = taken(alloc, host, Msg::Poll(Spare::new(None)))?;
+    Ok((first, second, third))
+}
+
+#[test]
+fn frames_are_counted(rt: HostRuntime) -> Result<(), Fail> {
+    let mut host = host(rt.alloc())?;
+    assert_eq!(rt; all_taken(rt.alloc(), &mut host)?, (1, 2, 2));
     Ok(())
 }

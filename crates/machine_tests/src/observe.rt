@@ -128,16 +128,18 @@ fn first_wrong_id(
     Ok(None)
 }
 
+/// Whether the reports leave just the row of 3.
+fn has_third_row(collector: &Collector) -> bool {
+    collector.saved(1, 0).is_none()
+        && collector.saved(1, 3) == Some(Saved::Skipped { to: 3 })
+        && collector.saved(1, 4).is_none()
+}
+
 #[test]
 fn rows_without_a_gap(rt: HostRuntime) -> Result<(), Fail> {
     let mut collector = make_collector(rt.alloc())?;
     let reports = [(1, 2, 2), (4, 4, 2), (3, 3, 3)];
-    assert_eq!(rt; first_wrong_id(rt.alloc(), &mut collector, &reports)?, None);
-    let saved = (
-        collector.saved(1, 0),
-        collector.saved(1, 3),
-        collector.saved(1, 4),
-    );
-    assert_eq!(rt; saved, (None, Some(Saved::Skipped { to: 3 }), None));
+    let wrong = first_wrong_id(rt.alloc(), &mut collector, &reports)?;
+    assert!(rt; wrong.is_none() && has_third_row(&collector));
     Ok(())
 }

@@ -9,6 +9,7 @@ ghost use Rattle.sl_proto.specs.RunBook.{CanRun};
 
 use crate::calls::runnable;
 use sl_actor::{Actor, Moved, make_actors};
+use sl_machine::Memory;
 use sl_net::{Input, Net};
 use sl_proto::{Node, build_nodes, make_losses, pass_of};
 use std::alloc::{AllocError, Global};
@@ -72,16 +73,17 @@ fn turn<R: Wait>(
     actors: &mut Vec<Actor<Node>>,
     actor: u32,
     choice: u32,
-) -> Result<bool, Fail>
+) -> Result<bool, Memory>
     requires { HasCounts (λ a. (held a).counts) (plan_of net.now) actors.old.items }
     ensures { HasCounts (λ a. (held a).counts) (plan_of net.now) actors.new.items }
 {
     let place = actor as usize;
-    if place >= actors.len() || !has_choice(net, actor, choice) {
-        return Err("no such choice".into());
+    if place < actors.len() && has_choice(net, actor, choice) {
+        let actor = &mut actors[place];
+        Ok(actor.turn(rt, choice)? != Moved::Idle)
+    } else {
+        Ok(false)
     }
-    let actor = &mut actors[place];
-    Ok(actor.turn(rt, choice)? != Moved::Idle)
 }
 
 /// The turns of a pass. Whether any did something or offered.
@@ -90,7 +92,7 @@ fn pass<R: Wait>(
     net: &Net,
     actors: &mut Vec<Actor<Node>>,
     entries: &[(u32, u32)],
-) -> Result<bool, Fail>
+) -> Result<bool, Memory>
     requires { HasCounts (λ a. (held a).counts) (plan_of net.now) actors.old.items }
     ensures { HasCounts (λ a. (held a).counts) (plan_of net.now) actors.new.items }
 {
@@ -103,22 +105,22 @@ fn pass<R: Wait>(
     Ok(moved)
 }
 
-/// Passes until a whole pass does nothing.
+/// Passes until a whole pass does nothing. Whether one did.
 fn settle<R: Wait>(
     rt: &R,
     net: &Net,
     actors: &mut Vec<Actor<Node>>,
     entries: &[(u32, u32)],
-) -> Result<(), Fail>
+) -> Result<bool, Memory>
     requires { HasCounts (λ a. (held a).counts) (plan_of net.now) actors.old.items }
     ensures { HasCounts (λ a. (held a).counts) (plan_of net.now) actors.new.items }
 {
     for _ in 0..1000 {
         if !pass(rt, net, actors, entries)? {
-            return Ok(());
+            return Ok(true);
         }
     }
-    Err("no rest".into())
+    Ok(false)
 }
 
 /// What the observer has issued and collected, and what hosts sent and took.
@@ -132,27 +134,47 @@ fn told_by(alloc: Global, actors: &[Actor<Node>]) -> Result<Vec<(u64, u64)>, All
     Ok(all)
 }
 
-/// Whether the actors of an input come to what is expected.
+/// Whether actors of a net come to what is expected.
+fn rest_right<R: Wait>(
+    rt: &R,
+    alloc: Global,
+    net: &Net,
+    actors: &mut Vec<Actor<Node>>,
+) -> Result<bool, Fail>
+    requires { HasCounts (λ a. (held a).counts) (plan_of net.now) actors.old.items }
+{
+    let entries = pass_of(alloc, net, true)?;
+    let rests = settle(rt, net, actors, entries.as_slice())?;
+    let all = told_by(alloc, actors.as_slice())?;
+    Ok(rests && all.as_slice() == at_last())
+}
+
+/// Whether those of an input do.
 fn come_to<R: Wait>(rt: &R, alloc: Global, input: &Input, capacity: u32) -> Result<bool, Fail>
     requires { CanRun input.now }
 {
     let mut actors = actors_of(alloc, input, capacity)?;
-    let entries = pass_of(alloc, &input.net, true)?;
-    settle(rt, &input.net, &mut actors, entries.as_slice())?;
-    let all = told_by(alloc, actors.as_slice())?;
-    Ok(all.as_slice() == at_last())
+    rest_right(rt, alloc, &input.net, &mut actors)
 }
 
-fn deliver<R: Wait>(rt: &R, alloc: Global, capacity: u32) -> Result<bool, Fail> {
+/// Whether they do with links that hold one message, two and sixteen.
+fn all_come_to<R: Wait>(rt: &R, alloc: Global, input: &Input) -> Result<bool, Fail>
+    requires { CanRun input.now }
+{
+    let one = come_to(rt, alloc, input, 1)?;
+    let two = come_to(rt, alloc, input, 2)?;
+    let many = come_to(rt, alloc, input, 16)?;
+    Ok(one && two && many)
+}
+
+fn deliver<R: Wait>(rt: &R, alloc: Global) -> Result<bool, Fail> {
     let input = runnable(alloc, THREE_PACKETS)?;
-    come_to(rt, alloc, &input, capacity)
+    all_come_to(rt, alloc, &input)
 }
 
 /// However much a link holds, all packets are delivered and the snapshot is collected.
 #[test]
 fn nodes_are_actors(rt: HostRuntime) -> Result<(), Fail> {
-    for capacity in [1, 2, 16] {
-        assert!(rt; deliver(&rt, rt.alloc(), capacity)?);
-    }
+    assert!(rt; deliver(&rt, rt.alloc())?);
     Ok(())
 }

@@ -1,13 +1,17 @@
 // Calls below the top call, each by itself: the schedule of a script, settling, and a trace.
-ghost use Rattle.std.specs.Prelude.{IfOk};
+ghost use Rattle.std.specs.Prelude.{◌≡◌, IfOk};
+ghost use Rattle.sl_layout.specs.Wiring.{plan_of};
+ghost use Rattle.sl_world.specs.World.{scene};
 ghost use Rattle.sl_proto.specs.RunBook.{CanRun};
+ghost use Rattle.sl_proto.specs.Standing.{HasObserver};
 
 use sl_check::accepted_inputs_can_run;
-use sl_machine::{Book, Entry};
+use sl_machine::{Book, Entry, Memory};
 use sl_net::{Input, Net, Script1, find_choice};
-use sl_proto::{Taker, expand, first_world, settle};
+use sl_proto::{Node, Taker, expand, first_world, settle};
 use sl_read::read_input;
 use sl_report::trace_bytes;
+use sl_world::World;
 use std::alloc::{AllocError, Global};
 use std::test::Fail;
 
@@ -50,22 +54,15 @@ fn written_out(alloc: Global) -> Result<Vec<(u32, u32)>, AllocError> {
     Ok(entries)
 }
 
-fn expanded(alloc: Global, text: &str) -> Result<Vec<(u32, u32)>, Fail> {
-    let input = runnable(alloc, text)?;
+/// Whether a script of an issue and two passes is these choices, in order.
+fn is_expanded(alloc: Global, net: &Net) -> Result<bool, Memory> {
     let issue = Script1::Choice {
         actor: 0,
         choice: 1,
     };
-    Ok(expand(alloc, &input.net, &[issue, Script1::Pass(2)])?)
-}
-
-/// A script of an issue and two passes is these choices, in order.
-#[test]
-fn scripts_are_expanded(rt: HostRuntime) -> Result<(), Fail> {
-    let entries = expanded(rt.alloc(), ONE_PACKET)?;
-    let expected = written_out(rt.alloc())?;
-    assert_eq!(rt; entries.as_slice(), expected.as_slice());
-    Ok(())
+    let entries = expand(alloc, net, &[issue, Script1::Pass(2)])?;
+    let expected = written_out(alloc)?;
+    Ok(entries.as_slice() == expected.as_slice())
 }
 
 /// An input that was read can run.
@@ -79,34 +76,28 @@ pub fn runnable(alloc: Global, text: &str) -> Result<Input, Fail>
     }
 }
 
-/// How many turns settling takes from the start, and then the greatest number issued and that up
-/// to which all units are collected.
-fn settled_from_start(alloc: Global, input: &Input) -> Result<(u64, u64, u64), Fail>
-    requires { CanRun input.now }
+/// How many turns settling takes, and then the observer's numbers.
+fn settled_in(alloc: Global, net: &Net, world: &mut World<Node>) -> Result<(u64, u64, u64), Memory>
+    requires plan { (scene world.old).plan ≡ plan_of net.now }
+    requires observer { HasObserver (scene world.old) }
 {
-    let mut world = first_world(alloc, input)?;
-    settle(alloc, &input.net, &mut world)?;
+    settle(alloc, net, world)?;
     let observer = world.observer();
     Ok((world.entries(), observer.issued(), observer.floor()))
 }
 
-fn settled(alloc: Global, text: &str) -> Result<(u64, u64, u64), Fail> {
-    settled_from_start(alloc, &runnable(alloc, text)?)
+/// How many turns settling takes from the start, and then the greatest number issued and that up
+/// to which all units are collected.
+fn settled(alloc: Global, input: &Input) -> Result<(u64, u64, u64), Memory>
+    requires { CanRun input.now }
+{
+    let mut world = first_world(alloc, input)?;
+    settled_in(alloc, &input.net, &mut world)
 }
 
-/// Settling takes 36 turns: an issue, a Begin, an injecting and three that take the packet, two
-/// initiations, four probes, six notices, and six polls, dumps and reports each. A unit has one
-/// notice for each channel on which the new number comes, and the second one of an egress unit comes
-/// while a poll is outstanding, so there is another.
-#[test]
-fn a_world_settles(rt: HostRuntime) -> Result<(), Fail> {
-    assert_eq!(rt; settled(rt.alloc(), ONE_PACKET)?, (36, 1, 1));
-    Ok(())
-}
-
-/// The trace of a book with the choice of a line alone.
-fn traced_in(alloc: Global, net: &Net, line: &str) -> Result<Vec<u8>, Fail> {
-    match find_choice(net, line) {
+/// Whether the trace of a book with one choice is the number of its entries and their spellings.
+fn is_spelled(alloc: Global, net: &Net) -> Result<bool, Memory> {
+    match find_choice(net, "out a.1 x0") {
         Some((actor, choice)) => {
             let entry = Entry {
                 number: 1,
@@ -116,21 +107,34 @@ fn traced_in(alloc: Global, net: &Net, line: &str) -> Result<Vec<u8>, Fail> {
             let book = Book {
                 entries: vec![in alloc; entry]?,
             };
-            Ok(trace_bytes(alloc, net, &book)?)
+            let trace = trace_bytes(alloc, net, &book)?;
+            Ok(trace.as_slice() == "trace 1\nout a.1 x0\n".as_bytes())
         }
-        None => Err("no choice".into()),
+        None => Ok(false),
     }
 }
 
-fn traced(alloc: Global, text: &str, line: &str) -> Result<Vec<u8>, Fail> {
-    let input = runnable(alloc, text)?;
-    traced_in(alloc, &input.net, line)
+/// The three on one input.
+fn called_on(alloc: Global, input: &Input) -> Result<(bool, (u64, u64, u64), bool), Fail>
+    requires { CanRun input.now }
+{
+    let expanded = is_expanded(alloc, &input.net)?;
+    let settled = settled(alloc, input)?;
+    let spelled = is_spelled(alloc, &input.net)?;
+    Ok((expanded, settled, spelled))
 }
 
-/// A trace is the number of its entries and their spellings.
+fn called(alloc: Global) -> Result<(bool, (u64, u64, u64), bool), Fail> {
+    let input = runnable(alloc, ONE_PACKET)?;
+    called_on(alloc, &input)
+}
+
+/// Settling takes 36 turns: an issue, a Begin, an injecting and three that take the packet, two
+/// initiations, four probes, six notices, and six polls, dumps and reports each. A unit has one
+/// notice for each channel on which the new number comes, and the second one of an egress unit comes
+/// while a poll is outstanding, so there is another.
 #[test]
-fn books_are_spelled(rt: HostRuntime) -> Result<(), Fail> {
-    let trace = traced(rt.alloc(), ONE_PACKET, "out a.1 x0")?;
-    assert_eq!(rt; trace.as_slice(), "trace 1\nout a.1 x0\n".as_bytes());
+fn calls_answer(rt: HostRuntime) -> Result<(), Fail> {
+    assert_eq!(rt; called(rt.alloc())?, (true, (36, 1, 1), true));
     Ok(())
 }

@@ -8,6 +8,7 @@ ghost use Rattle.sl_proto.specs.RunBook.{CanRun};
 
 use crate::actors::THREE_PACKETS;
 use crate::calls::runnable;
+use sl_machine::Memory;
 use sl_net::{Input, Net, find_choice};
 use sl_proto::{Node, first_world, passes_are_choices};
 use sl_world::World;
@@ -58,7 +59,7 @@ fn schedule(alloc: Global, net: &Net) -> Result<Vec<(u32, u32)>, Fail>
     Ok(entries)
 }
 
-fn told(node: &Node) -> Result<Option<(u64, u64)>, Fail> {
+fn told(node: &Node) -> Result<Option<(u64, u64)>, Memory> {
     match node {
         Node::Observer(observer) => Ok(Some((observer.issued(), observer.floor()))),
         Node::Host(host) => Ok(Some((host.sent(), host.delivered()))),
@@ -66,7 +67,7 @@ fn told(node: &Node) -> Result<Option<(u64, u64)>, Fail> {
             let dump = unit.dump()?;
             let at = dump.view.at as usize;
             if at >= dump.view.slots.len() {
-                return Err("no entry".into());
+                return Ok(None);
             }
             let total = dump.view.slots.get(at).inflight[0];
             Ok(Some((total.packets, total.bytes)))
@@ -75,7 +76,7 @@ fn told(node: &Node) -> Result<Option<(u64, u64)>, Fail> {
     }
 }
 
-fn told_of(alloc: Global, nodes: &[Node]) -> Result<Vec<(u64, u64)>, Fail> {
+fn told_of(alloc: Global, nodes: &[Node]) -> Result<Vec<(u64, u64)>, Memory> {
     let mut all = Vec::new(alloc);
     for node in nodes {
         if let Some(one) = told(node)? {
@@ -103,11 +104,16 @@ fn run_all(alloc: Global, net: &Net, world: &mut World<Node>, looks_up: bool) ->
     Ok(())
 }
 
-/// Whether a world has come to what is expected, with ten entries in its book.
+/// Whether nodes have come to what is expected, by ten turns.
+fn are_told(alloc: Global, nodes: &[Node], turns: usize) -> Result<bool, Fail> {
+    let all = told_of(alloc, nodes)?;
+    Ok(turns == 10 && all.as_slice() == expected())
+}
+
+/// Whether those of a world have.
 fn ends_right(alloc: Global, world: World<Node>) -> Result<bool, Fail> {
     let (nodes, book) = world.into_book();
-    let all = told_of(alloc, nodes.as_slice())?;
-    Ok(book.entries.len() == 10 && all.as_slice() == expected())
+    are_told(alloc, nodes.as_slice(), book.entries.len())
 }
 
 fn comes_to(alloc: Global, input: &Input, looks_up: bool) -> Result<bool, Fail>
@@ -118,16 +124,23 @@ fn comes_to(alloc: Global, input: &Input, looks_up: bool) -> Result<bool, Fail>
     ends_right(alloc, world)
 }
 
-fn two_in_flight(alloc: Global, looks_up: bool) -> Result<bool, Fail> {
+/// Whether it does where links are looked up before, and where they are not.
+fn both_come_to(alloc: Global, input: &Input) -> Result<(bool, bool), Fail>
+    requires { CanRun input.now }
+{
+    let by_links = comes_to(alloc, input, true)?;
+    let by_choices = comes_to(alloc, input, false)?;
+    Ok((by_links, by_choices))
+}
+
+fn two_in_flight(alloc: Global) -> Result<(bool, bool), Fail> {
     let input = runnable(alloc, THREE_PACKETS)?;
-    comes_to(alloc, &input, looks_up)
+    both_come_to(alloc, &input)
 }
 
 /// Two packets are credited to the snapshot that the egress unit adopted before it took them.
 #[test]
 fn two_packets_are_in_flight(rt: HostRuntime) -> Result<(), Fail> {
-    for looks_up in [true, false] {
-        assert!(rt; two_in_flight(rt.alloc(), looks_up)?);
-    }
+    assert_eq!(rt; two_in_flight(rt.alloc())?, (true, true));
     Ok(())
 }

@@ -2,6 +2,7 @@
 ghost use Rattle.sl_proto.specs.RunBook.{CanRun};
 
 use crate::calls::runnable;
+use sl_machine::Memory;
 use sl_net::Input;
 use sl_value::{ValueControl, ValueFinding, ValueRun, ValueVerdict, Whole, run_values};
 use std::alloc::Global;
@@ -74,45 +75,36 @@ fn found_in(run: &ValueRun) -> ((usize, usize, usize), bool) {
     (told_of(run), has_none(controls, 0) && has_none(controls, 3))
 }
 
-/// The same of a run of the two devices.
-fn found(alloc: Global) -> Result<((usize, usize, usize), bool), Fail> {
+/// Whether a control plane that was just made answers nothing for its first unit.
+fn answers_nothing(alloc: Global, input: &Input) -> Result<bool, Memory>
+    requires { CanRun input.now }
+{
+    if input.net.parts().devices.len() != 2 {
+        return Ok(false);
+    }
+    let control = ValueControl::new(alloc, &input.net, 1, &input.snapshot)?;
+    Ok(control.value(4, 1).is_none())
+}
+
+/// The same of a run of an input, and whether a new control plane has no value.
+fn found_of(alloc: Global, input: &Input) -> Result<((usize, usize, usize), bool, bool), Fail>
+    requires { CanRun input.now }
+{
+    let is_new = answers_nothing(alloc, input)?;
+    let run = run_values(alloc, input)?;
+    let (told, has_none) = found_in(&run);
+    Ok((told, has_none, is_new))
+}
+
+fn found(alloc: Global) -> Result<((usize, usize, usize), bool, bool), Fail> {
     let input = runnable(alloc, TWO_SWITCHES)?;
-    let run = run_values(alloc, &input)?;
-    Ok(found_in(&run))
+    found_of(alloc, &input)
 }
 
 /// Each value is what the control plane of its unit's device answers, and no other does; none has
-/// a value for 0, or for a number above those collected.
+/// a value for 0, or for a number above those collected, nor a new one for any.
 #[test]
 fn controls_answer_values(rt: HostRuntime) -> Result<(), Fail> {
-    assert_eq!(rt; found(rt.alloc())?, ((2, 2, 2), true));
-    Ok(())
-}
-
-/// What the control plane of a device, just made, answers for a unit.
-fn answer_at_first(
-    alloc: Global,
-    input: &Input,
-    device: u32,
-    unit: u32,
-) -> Result<Option<Whole>, Fail>
-    requires { CanRun input.now }
-{
-    if device as usize >= input.net.parts().devices.len() {
-        return Err("no such device".into());
-    }
-    let control = ValueControl::new(alloc, &input.net, device, &input.snapshot)?;
-    Ok(control.value(unit, 1))
-}
-
-fn first_answer(alloc: Global) -> Result<Option<Whole>, Fail> {
-    let input = runnable(alloc, TWO_SWITCHES)?;
-    answer_at_first(alloc, &input, 1, 4)
-}
-
-/// A new control plane has no value of its first unit.
-#[test]
-fn a_new_control_has_no_value(rt: HostRuntime) -> Result<(), Fail> {
-    assert_eq!(rt; first_answer(rt.alloc())?, None);
+    assert_eq!(rt; found(rt.alloc())?, ((2, 2, 2), true, true));
     Ok(())
 }

@@ -1,19 +1,15 @@
 -- Loops over lists, and over numbers.
-use Rattle.std.proofs.Common.{◌≡◌, ℕ, ◌+◌, ◌<◌, List, ◌++◌, length, get_or, drop, refl, sym, ap, ◌∙◌, append_assoc, length-append, arith, []}
+use Rattle.std.proofs.Common.{◌≡◌, ℕ, ◌+◌, ◌<◌, List, ◌++◌, length, get_or, drop, refl, sym, ap, ◌∙◌, length-append, arith, []}
 use Rattle.std.proofs.lemmas.List.{drop_more}
 use Rattle.std.specs.Prelude.{Bool, true, false, cond, filter, ◌∷◌}
 use Rattle.std.specs.List.{flat_map}
 use Rattle.sl_parts.specs.Parts.{Parts, below}
-use Rattle.sl_parts.proofs.Lists.{filter_below_more, flat_map_below_more}
+use Rattle.sl_parts.proofs.Lists.{filter_below_more}
 use Rattle.sl_balance.specs.declared.line.Line1.{Line1}
 use Rattle.sl_balance.specs.BalanceText.{line_text}
 
 pub lines_more : (parts : Parts) (ls : List Line1) (i : ℕ) (d : Line1) → i < length ls → flat_map (line_text parts) (drop i ls) ≡ line_text parts (get_or ls i d) ++ flat_map (line_text parts) (drop (i + 1) ls)
 lines_more parts ls i d h = rw (drop_more ls i d h) refl
-
--- one step more of a walk over numbers
-pub walk_more : {A : Type 0} (f : ℕ → List A) (n : ℕ) (old out new : List A) → new ≡ out ++ f n → out ≡ old ++ flat_map f (below n) → new ≡ old ++ flat_map f (below (n + 1))
-walk_more f n old out new e so_far = e ∙ ap (λ xs. xs ++ f n) so_far ∙ append_assoc old (flat_map f (below n)) (f n) ∙ ap (λ xs. old ++ xs) (sym (flat_map_below_more f n))
 
 -- of those numbers that pass
 pub passing_more : (test : ℕ → Bool) (n : ℕ) (b : Bool) (out new : List ℕ) → new ≡ out ++ cond b (n ∷ []) [] → b ≡ test n → out ≡ filter test (below n) → new ≡ filter test (below (n + 1))

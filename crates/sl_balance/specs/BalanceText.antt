@@ -1,9 +1,10 @@
 -- Trusted text.
 -- The text of the table of balance. Each line ends with a newline; numbers are decimal.
-use Rattle.std.specs.Prelude.{ℕ, List, ◌++◌, flat_map, length, codes, decimal}
-use Rattle.sl_parts.specs.Parts.{Parts, below}
+use Rattle.std.specs.Prelude.{ℕ, List, ◌++◌, flat_map, codes, decimal}
+use Rattle.sl_parts.specs.Parts.{Parts}
 use Rattle.sl_layout.specs.Net.{Net}
 use Rattle.sl_net.specs.Spelling.{device_name, host_name}
+use Rattle.sl_route.specs.Pairs.{pairs_text}
 use Rattle.sl_balance.specs.declared.line.Line1.{Line1}
 use Rattle.sl_balance.specs.Equal.{equal_ports}
 
@@ -20,11 +21,7 @@ paths_line device host n = codes "paths " ++ (device ++ (codes " " ++ (host ++ (
 abbrev pub paths_text : Parts → ℕ → ℕ → List ℕ
 paths_text parts d h = paths_line (device_name parts d) (host_name parts h) (equal_ports parts d h)
 
--- for a device a line for each host in order
-abbrev pub device_paths : Parts → ℕ → List ℕ
-device_paths parts d = flat_map (paths_text parts d) (below (length parts.hosts))
-
 -- the lines of the table, and then for each device in order its lines
 abbrev pub balance_text : Net → List Line1 → List ℕ
 balance_text net lines = codes "balance 1\n" ++ (flat_map (line_text net.parts) lines
-    ++ (flat_map (device_paths net.parts) (below (length net.parts.devices)) ++ codes "end\n"))
+    ++ (pairs_text paths_text net.parts ++ codes "end\n"))

@@ -1,16 +1,14 @@
 // The text of the table.
-ghost use Rattle.std.specs.Prelude.{◌≡◌, ◌++◌, ◌<◌, IfOk, OnOk, length, flat_map, string_bytes};
-ghost use Rattle.sl_parts.specs.Parts.{below};
+ghost use Rattle.std.specs.Prelude.{◌≡◌, ◌++◌, IfOk, OnOk, flat_map, string_bytes};
 ghost use Rattle.sl_net.specs.Spelling.{device_name};
 ghost use Rattle.sl_route.specs.Routes.{IsRoutesOf};
-ghost use Rattle.sl_balance.specs.BalanceText.{table_line, line_text, paths_line, paths_text};
-ghost use Rattle.sl_balance.specs.BalanceText.{device_paths, balance_text};
+ghost use Rattle.sl_balance.specs.BalanceText.{table_line, line_text, paths_line, balance_text};
 
 use crate::equal::equal_ports;
 use crate::line::Line1;
 use sl_machine::Memory;
 use sl_net::{Input, Name, Net, Parts};
-use sl_route::Routes;
+use sl_route::{Pair, PairText, Routes, push_pairs};
 use std::alloc::{AllocError, Global};
 
 /// Writes the name of a device, or nothing where there is none.
@@ -33,13 +31,16 @@ fn push_line(out: &mut String, parts: &Parts, line: &Line1) -> Result<(), AllocE
     ensures { OnOk result
         (string_bytes out.new ≡ string_bytes out.old ++ line_text parts.now line.now) }
 {
-    let k = line.k;
-    let cables = line.cables;
-    let least = line.least;
-    let greatest = line.greatest;
-    let spread = line.spread;
+    let Line1 {
+        k,
+        device,
+        cables,
+        least,
+        greatest,
+        spread,
+    } = *line;
     write!(out, "table {k} ")?;
-    push_device(out, parts, line.device)?;
+    push_device(out, parts, device)?;
     write!(out, " {cables} {least} {greatest} {spread}\n")
 }
 
@@ -63,58 +64,25 @@ fn push_ways(out: &mut String, device: &Name, host: &Name, count: u32) -> Result
     write!(out, "paths {device} {host} {count}\n")
 }
 
-/// Writes by how many ports the shortest ways from a device to a host begin.
-fn push_path(
-    out: &mut String,
-    net: &Net,
-    routes: &Routes,
-    device: u32,
-    host: u32,
-) -> Result<(), AllocError>
-    requires routes { IsRoutesOf net.now routes.now }
-    requires device { device < length net.now.parts.devices }
-    requires host { host < length net.now.parts.hosts }
-    ensures { OnOk result
-        (string_bytes out.new ≡ string_bytes out.old ++ paths_text net.now.parts device host) }
-{
-    let count = equal_ports(net, routes, device, host);
-    let parts = net.parts();
-    push_ways(
-        out,
-        &parts.devices[device as usize].name,
-        &parts.hosts[host as usize].name,
-        count,
-    )
-}
+/// By how many ports the shortest ways from a device to a host begin.
+struct Paths;
 
-/// Writes a line for each host.
-fn push_device_paths(
-    out: &mut String,
-    net: &Net,
-    routes: &Routes,
-    device: u32,
-) -> Result<(), AllocError>
-    requires routes { IsRoutesOf net.now routes.now }
-    requires device { device < length net.now.parts.devices }
-    ensures { OnOk result
-        (string_bytes out.new ≡ string_bytes out.old ++ device_paths net.now.parts device) }
-{
-    for host in 0..net.host_count() {
-        push_path(out, net, routes, device, host)?;
-    }
-    Ok(())
-}
+impl PairText for Paths {
+    ghost use Rattle.sl_balance.specs.BalanceText.{paths_text};
 
-fn push_paths(out: &mut String, net: &Net, routes: &Routes) -> Result<(), AllocError>
-    requires { IsRoutesOf net.now routes.now }
-    ensures { OnOk result
-        (string_bytes out.new ≡ string_bytes out.old ++ flat_map (device_paths net.now.parts)
-        (below (length net.now.parts.devices))) }
-{
-    for device in 0..net.device_count() {
-        push_device_paths(out, net, routes, device)?;
+    ghost text = { paths_text };
+
+    fn push(out: &mut String, net: &Net, routes: &Routes, pair: Pair) -> Result<(), AllocError> {
+        let Pair { device, host } = pair;
+        let count = equal_ports(net, routes, device, host);
+        let parts = net.parts();
+        push_ways(
+            out,
+            &parts.devices[device as usize].name,
+            &parts.hosts[host as usize].name,
+            count,
+        )
     }
-    Ok(())
 }
 
 /// The text of the table of balance: its lines, and for each device and each host by how many ports
@@ -132,7 +100,7 @@ pub fn balance_bytes(
     let mut out = String::new(alloc);
     write!(out, "balance 1\n")?;
     push_lines(&mut out, net.parts(), lines)?;
-    push_paths(&mut out, net, routes)?;
+    push_pairs::<Paths>(&mut out, net, routes)?;
     write!(out, "end\n")?;
     Ok(out.into_bytes())
 }

@@ -1,6 +1,6 @@
 -- Lemmas on lists, which the crates above use as they use those of std: what holds of each element, members, lists with no element twice; numbers
 -- counted up; filters, fronts, maps and joins.
-use Rattle.std.proofs.Common.{◌≡◌, ℕ, zero, suc, ◌+◌, ◌<◌, ◌≤◌, List, [], ◌∷◌, ◌++◌, length, refl, sym, ap, subst, ◌∙◌, arith, inl, inr, get_or, map, length-append, ◌*◌, add-one, zero-add}
+use Rattle.std.proofs.Common.{◌≡◌, ℕ, zero, suc, ◌+◌, ◌<◌, ◌≤◌, List, [], ◌∷◌, ◌++◌, length, refl, sym, ap, subst, ◌∙◌, arith, inl, inr, get_or, map, length-append, ◌*◌, add-one, zero-add, append_assoc}
 use Rattle.std.specs.Prelude.{◌⊎◌, cond, true, false, Bool, filter, flat_map, ◌&&◌}
 use Rattle.std.specs.List.{All, range_with_len}
 use Rattle.std.proofs.lemmas.Bool.{cases_lt}
@@ -178,6 +178,10 @@ filter_below_more p n = ap (filter p) (below_more n) ∙ filter-append p (below 
 
 pub flat_map_below_more : {A : Type 0} (f : ℕ → List A) (n : ℕ) → flat_map f (below (n + 1)) ≡ flat_map f (below n) ++ f n
 flat_map_below_more f n = ap (flat_map f) (below_more n) ∙ sym (flat_map_more f [] (below n) n)
+
+-- one step more of a walk over numbers
+pub walk_more : {A : Type 0} (f : ℕ → List A) (n : ℕ) (old out new : List A) → new ≡ out ++ f n → out ≡ old ++ flat_map f (below n) → new ≡ old ++ flat_map f (below (n + 1))
+walk_more f n old out new e so_far = e ∙ ap (λ xs. xs ++ f n) so_far ∙ append_assoc old (flat_map f (below n)) (f n) ∙ ap (λ xs. old ++ xs) (sym (flat_map_below_more f n))
 
 pub numbers-suc : (s n : ℕ) → range_with_len (suc s) n ≡ map suc (range_with_len s n)
 numbers-suc s zero = refl

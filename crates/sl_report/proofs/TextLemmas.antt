@@ -5,8 +5,6 @@ use Rattle.std.proofs.lemmas.Bool.{cases_order}
 use Rattle.std.specs.Prelude.{codes, decimal}
 use Rattle.std.specs.List.{flat_map, range_with_len}
 use Rattle.sl_parts.specs.declared.parts.HostPart.{HostPart}
-use Rattle.sl_parts.specs.Parts.{below}
-use Rattle.sl_parts.proofs.Lists.{flat_map_below_more}
 use Rattle.sl_layout.specs.declared.actor.Sort.{Sort}
 use Rattle.sl_layout.specs.declared.actor.Sort.TheVariants.{Cable, Crossbar}
 use Rattle.sl_model.specs.Findings.{channel_links}
@@ -17,10 +15,6 @@ use Rattle.sl_model.specs.declared.findings.Finding.{Finding}
 use Rattle.sl_machine.specs.declared.wiring.Entry.{Entry}
 use Rattle.sl_report.specs.TraceText.{entry_line}
 use Rattle.sl_report.specs.Report.{network_line, channel_text, totals_text, row_line, rows_text, finding_text, hosts_text, host_line}
-
--- one step more of a walk over numbers
-pub walk_more : {A : Type 0} (f : ℕ → List A) (n : ℕ) (old out new : List A) → new ≡ out ++ f n → out ≡ old ++ flat_map f (below n) → new ≡ old ++ flat_map f (below (n + 1))
-walk_more f n old out new e so_far = e ∙ ap (λ xs. xs ++ f n) so_far ∙ append_assoc old (flat_map f (below n)) (f n) ∙ ap (λ xs. old ++ xs) (sym (flat_map_below_more f n))
 
 pub totals_more : (net : Net) (ls : List ℕ) (ts : List Total) (i : ℕ) (d : Total) → i < length ls → i < length ts
     → totals_text net (drop i ls) (drop i ts) ≡ (codes " " ++ (channel_text net (get_or ls i 0) ++ (codes " " ++ (decimal (get_or ts i d).packets ++ (codes " " ++ decimal (get_or ts i d).bytes))))) ++ totals_text net (drop (i + 1) ls) (drop (i + 1) ts)

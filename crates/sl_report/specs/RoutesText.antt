@@ -1,9 +1,10 @@
 -- Trusted text.
 -- The text of the routes of a net. Each line ends with a newline; numbers are decimal.
-use Rattle.std.specs.Prelude.{ℕ, List, ◌++◌, flat_map, length, Option, Some, codes, decimal}
-use Rattle.sl_parts.specs.Parts.{Parts, below}
+use Rattle.std.specs.Prelude.{ℕ, List, ◌++◌, Option, Some, codes, decimal}
+use Rattle.sl_parts.specs.Parts.{Parts}
 use Rattle.sl_layout.specs.Net.{Net}
 use Rattle.sl_route.specs.Route.{next_port, hops}
+use Rattle.sl_route.specs.Pairs.{pairs_text}
 use Rattle.sl_net.specs.Spelling.{device_name, host_name}
 
 -- the next port and the number of cables, or that there is no way
@@ -17,10 +18,5 @@ route_line device host port hops = codes "route " ++ (device ++ (codes " " ++ (h
 abbrev pub route_text : Parts → ℕ → ℕ → List ℕ
 route_text parts d h = route_line (device_name parts d) (host_name parts h) (next_port parts d h) (hops parts d h)
 
--- for a device a line for each host in order
-abbrev pub device_routes : Parts → ℕ → List ℕ
-device_routes parts d = flat_map (route_text parts d) (below (length parts.hosts))
-
--- for each device in order
 abbrev pub routes_text : Net → List ℕ
-routes_text net = flat_map (device_routes net.parts) (below (length net.parts.devices)) ++ codes "end\n"
+routes_text net = pairs_text route_text net.parts ++ codes "end\n"

@@ -7,7 +7,7 @@ use Rattle.sl_parts.specs.Parts.{below}
 use Rattle.sl_layout.specs.Net.{actor_of, units}
 use Rattle.sl_balance.specs.Cabled.{is_cabled, unit_at, cabled}
 use Rattle.sl_balance.specs.Balance.{packets_at, line_of, device_line}
-use Rattle.sl_balance.proofs.Loops.{walk_more}
+use Rattle.sl_parts.proofs.Lists.{walk_more}
 use Rattle.sl_balance.proofs.lines.push_lines.Goals as goal
 
 pub row-requires : goal.row-requires

@@ -1,8 +1,0 @@
-use Rattle.std.proofs.Common.{◌≡◌, ◌++◌, string_bytes}
-use Rattle.std.specs.List.{flat_map}
-use Rattle.sl_parts.specs.Parts.{below}
-use Rattle.sl_report.specs.RoutesText.{route_text}
-use Rattle.sl_report.proofs.routes.push_device.Given as goal
-
-abbrev pub invariant-loop-host : goal.invariant-loop-host
-invariant-loop-host l = string_bytes l.out ≡ string_bytes l.fn.out ++ flat_map (route_text l.net.parts l.device) (below l.host)

@@ -1,7 +1,7 @@
 // The units of each device that have a cable.
 ghost use Rattle.std.specs.Prelude.{◌≡◌, IfOk, length, map};
 ghost use Rattle.sl_parts.specs.Parts.{below, same_port, has_cable};
-ghost use Rattle.sl_layout.specs.Net.{units, same_side};
+ghost use Rattle.sl_layout.specs.Net.{same_side};
 ghost use Rattle.sl_layout.specs.declared.actor.Side.TheVariants.{Egress};
 ghost use Rattle.sl_balance.specs.Cabled.{is_cabled, cabled};
 

@@ -6,8 +6,9 @@ ghost use Rattle.sl_flow.specs.Flow.{HasAddresses};
 use crate::inputs::input_of;
 use crate::rows::ONE_PACKET;
 use sl_cut::{Ending, ending_of};
+use sl_machine::Listed;
 use sl_net::{Input, Net};
-use sl_poll::{Counted, Listed, Pair, Polled, Read1, Trail, reading_of, trail_of};
+use sl_poll::{Counted, Pair, Polled, Read1, Trail, reading_of, trail_of};
 use std::alloc::{AllocError, Global};
 use std::test::Fail;
 

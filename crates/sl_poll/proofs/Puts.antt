@@ -1,11 +1,10 @@
 -- Puts of the same on links.
 use Rattle.std.proofs.Common.{◌≡◌, ℕ, ◌+◌, ◌<◌, List, [], ◌∷◌, ◌++◌, length, refl, ap, ◌∙◌, take, get_or}
-use Rattle.std.specs.Prelude.{Bool, filter, cond}
+use Rattle.std.specs.Prelude.{Bool, filter, cond, slice_set}
 use Rattle.std.proofs.lemmas.List.{take_more}
 use Rattle.std.proofs.lemmas.List.Elements.{filter-append}
 use Rattle.sl_poll.specs.declared.lane.Mark.{Mark}
 use Rattle.sl_poll.specs.Lanes.{Lane, with_mark, lane_at, put_each}
-use Rattle.std.specs.Prelude.{slice_set}
 
 put-append : (m : Mark) (xs ys : List ℕ) (lanes : List Lane) → put_each m (xs ++ ys) lanes ≡ put_each m ys (put_each m xs lanes)
 put-append m [] ys lanes = refl

@@ -1,5 +1,5 @@
 // A run followed link by link, as far as data packets go by.
-ghost use Rattle.std.specs.Prelude.{◌≡◌, ◌<◌, ◌∷◌, ◌++◌, [], IfOk, OnOk, Some, cond, map, length};
+ghost use Rattle.std.specs.Prelude.{◌≡◌, ◌<◌, ◌∷◌, [], IfOk, OnOk, Some, cond, map, length};
 ghost use Rattle.std.specs.Prelude.{slice_get};
 ghost use Rattle.std.specs.List.{All};
 ghost use Rattle.sl_parts.specs.Parts.{below};
@@ -12,9 +12,8 @@ ghost use Rattle.sl_poll.specs.Hearing.{Hears};
 ghost use Rattle.sl_poll.specs.Lanes.{put_each, AreFew};
 ghost use Rattle.sl_poll.specs.Trail.{count_of};
 ghost use Rattle.sl_poll.specs.Ways.{leads, links_by, send_by, first_mark, rest_of, packet_on};
-ghost use Rattle.sl_poll.specs.Ways.{paired, counts, injected};
-ghost use Rattle.sl_poll.specs.Ways.{next_of, first_lane, first_feed, feed_at};
-ghost use Rattle.sl_poll.specs.Ways.{lanes_after, feeds_after, pairs_told, counts_told};
+ghost use Rattle.sl_poll.specs.Ways.{paired, counts, injected, next_of, first_lane, first_feed};
+ghost use Rattle.sl_poll.specs.Ways.{feed_at, lanes_after, feeds_after, pairs_told, counts_told};
 
 use crate::feed::{Feed, list_feeds};
 use crate::lane::{Lane, Mark};

@@ -6,7 +6,6 @@ mod course;
 mod feed;
 mod lane;
 mod laws;
-mod listed;
 mod listener;
 mod poll;
 mod reading;
@@ -18,9 +17,9 @@ mod walk;
 mod way;
 
 pub use laws::{broken_readings_are_no_cut, whole_readings_are_cuts};
-pub use listed::Listed;
 pub use poll::reading_of;
 pub use reading::{Polled, Read1, Reads};
 pub use run::{poll_of, trail_of};
 pub use text::polled_bytes;
 pub use trail::{Counted, CountedList, Pair, PairList, Trail};
+pub use way::{is_own_port, is_this_unit};

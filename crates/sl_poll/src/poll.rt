@@ -16,12 +16,11 @@ ghost use Rattle.sl_poll.specs.Sums.{read_by};
 ghost use Rattle.sl_poll.specs.Trail.{pairs, all_counted};
 ghost use Rattle.sl_poll.specs.Reading.{breaks, read_after, reads, broken_by};
 
-use crate::listed::Listed;
 use crate::listener::Listener;
 use crate::reading::Polled;
 use crate::sums::{Pace, Sum, add_one, list_reads, no_sums, read_after};
 use crate::trail::{Counted, Pair, Trail};
-use sl_machine::Memory;
+use sl_machine::{Listed, Memory};
 use sl_model::worlds_take_turns;
 use sl_net::{Net, nets_have_ways};
 use std::alloc::Global;

@@ -1,7 +1,7 @@
 // Trusted types: Read1.
 // Readings of units.
-use crate::listed::Listed;
 use crate::trail::Pair;
+use sl_machine::Listed;
 
 /// What was read of a unit, by its place among the units: after how many entries, and the data
 /// packets and bytes that it had counted.

@@ -8,13 +8,12 @@ ghost use Rattle.sl_model.specs.World.{IsLegal};
 ghost use Rattle.sl_poll.specs.Trail.{pairs, all_counted};
 ghost use Rattle.sl_poll.specs.Reading.{reads, broken_by};
 
-use crate::listed::Listed;
 use crate::poll::Polling;
 use crate::reading::Polled;
 use crate::sums::{Pace, last_read};
 use crate::trail::Trail;
 use crate::walk::walk;
-use sl_machine::Memory;
+use sl_machine::{Listed, Memory};
 use sl_model::worlds_take_turns;
 use sl_net::{Input, nets_have_ways};
 use std::alloc::Global;

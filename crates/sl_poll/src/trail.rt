@@ -1,6 +1,6 @@
 // Trusted types: Pair.
 // What a run did with data packets.
-use crate::listed::Listed;
+use sl_machine::Listed;
 
 /// A data packet that was taken on a data channel: its link, and the entries that put and took it,
 /// from 1.

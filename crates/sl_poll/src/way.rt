@@ -48,7 +48,8 @@ pub fn is_data(sort: Sort) -> bool
     }
 }
 
-fn is_unit(actor: ActorId, unit: UnitId) -> bool
+/// Whether an actor is this unit.
+pub fn is_this_unit(actor: ActorId, unit: UnitId) -> bool
     ensures { result ≡ same_actor actor (ActorId.Unit unit) }
 {
     actor == ActorId::Unit(unit)
@@ -62,7 +63,7 @@ pub fn leads(net: &Net, way: Way, link: u32) -> bool
     let part = net.link(link);
     match way {
         Way::Along(sort) => part.sort.is(sort),
-        Way::Across(unit) => part.sort.is(Sort::Crossbar) && is_unit(net.actor(part.to), unit),
+        Way::Across(unit) => part.sort.is(Sort::Crossbar) && is_this_unit(net.actor(part.to), unit),
     }
 }
 
@@ -124,7 +125,7 @@ fn from_ingress(
 }
 
 /// Whether a link comes from the ingress unit of a unit's port.
-fn is_own_port(net: &Net, unit: UnitId, link: u32) -> bool
+pub fn is_own_port(net: &Net, unit: UnitId, link: u32) -> bool
     requires { link < length net.now.links }
     ensures { result ≡ is_own_port net.now unit.device unit.port link }
 {
@@ -133,7 +134,7 @@ fn is_own_port(net: &Net, unit: UnitId, link: u32) -> bool
         port: unit.port,
         side: Side::Ingress,
     };
-    is_unit(net.actor(net.link(link).from), own)
+    is_this_unit(net.actor(net.link(link).from), own)
 }
 
 fn on_cable(packet: Option<Packet>) -> Sends

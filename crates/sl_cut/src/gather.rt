@@ -3,7 +3,7 @@ ghost use Rattle.std.specs.Prelude.{◌≡◌, ◌+◌, ◌<◌, ◌≤◌, ◌^
 ghost use Rattle.std.specs.Prelude.{is_some};
 ghost use Rattle.sl_layout.specs.Net.{actor_of, units, hosts};
 ghost use Rattle.sl_layout.specs.Devices.{device_of};
-ghost use Rattle.sl_model.specs.History.{history};
+ghost use Rattle.sl_model.specs.History.{history, steps_in};
 ghost use Rattle.sl_model.specs.Counting.{bad, expired, noroute};
 ghost use Rattle.sl_model.specs.Setup.{setup_of};
 ghost use Rattle.sl_model.specs.Findings.{row, rows_for, finding, is_ingress, drops_of, sent_by};
@@ -11,7 +11,6 @@ ghost use Rattle.sl_model.specs.Findings.{delivered_to, findings_in, findings};
 ghost use Rattle.std.specs.List.{All, range_with_len};
 ghost use Rattle.sl_route.specs.Routes.{IsRoutesOf};
 ghost use Rattle.sl_model.specs.Losses.{losses};
-ghost use Rattle.sl_model.specs.History.{steps_in};
 ghost use Rattle.sl_flow.specs.Flow.{HasAddresses};
 
 use crate::counting::{bad, expired, noroute};

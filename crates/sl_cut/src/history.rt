@@ -1,8 +1,7 @@
 // Histories of actors, and worlds of histories.
 ghost use Rattle.std.specs.Prelude.{◌≡◌, ◌<◌, ◌≤◌, List, [], ◌∷◌, length, replicate, reverse};
 ghost use Rattle.std.specs.Prelude.{slice_set, IfOk, OnOk};
-ghost use Rattle.sl_model.specs.History.{history, first};
-ghost use Rattle.sl_model.specs.History.{steps_in};
+ghost use Rattle.sl_model.specs.History.{history, first, steps_in};
 
 use sl_machine::Memory;
 use sl_model::Step;

@@ -2,12 +2,11 @@
 // the laws, and the proofs are in proofs/. i and j are inputs that differ in bad raw frames alone.
 // What is bad depends on the bytes alone: a plain frame has version 1 in every run, whatever version
 // the input names for frames between devices.
-ghost use Rattle.std.specs.Prelude.{◌≡◌, ℕ, List, take, is_some};
+ghost use Rattle.std.specs.Prelude.{◌≡◌, ℕ, List, is_some};
 ghost use Rattle.sl_machine.specs.declared.wiring.Entry.{Entry as BookEntry};
 ghost use Rattle.sl_net.specs.Input.{Input};
 ghost use Rattle.sl_net.specs.Wired.{IsNet};
 ghost use Rattle.sl_model.specs.declared.ending.Ending.{Ending};
-ghost use Rattle.sl_model.specs.Books.{schedule_of};
 ghost use Rattle.sl_model.specs.History.{Losses, history};
 ghost use Rattle.sl_model.specs.Losses.{losses};
 ghost use Rattle.sl_model.specs.Setup.{Setup, setup_of};

@@ -9,8 +9,7 @@ ghost use Rattle.sl_route.specs.Least.{least};
 ghost use Rattle.sl_model.specs.History.{history};
 ghost use Rattle.sl_model.specs.Knowledge.{floor, unit_floor};
 ghost use Rattle.sl_model.specs.Verdict.{skipped_to, is_old_data, miscredits, cause, channel_lag};
-ghost use Rattle.sl_model.specs.Verdict.{lag, issued_verdict, holds_floor, place_or_zero};
-ghost use Rattle.sl_model.specs.Verdict.{verdict};
+ghost use Rattle.sl_model.specs.Verdict.{lag, issued_verdict, holds_floor, place_or_zero, verdict};
 
 use crate::history::World;
 use crate::knowledge::{floor, issued, unit_floor};

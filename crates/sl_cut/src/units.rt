@@ -1,12 +1,10 @@
 // What a unit puts.
 ghost use Rattle.std.specs.Prelude.{◌≡◌, ◌++◌, ◌<◌, length, reverse, OnOk, IfOk};
-ghost use Rattle.sl_layout.specs.declared.actor.ActorId.{ActorId};
-ghost use Rattle.sl_layout.specs.Net.{same_actor, links_out};
+ghost use Rattle.sl_layout.specs.Net.{links_out};
 ghost use Rattle.sl_route.specs.Routes.{IsRoutesOf};
 ghost use Rattle.sl_model.specs.Frame.{plain_frame};
 ghost use Rattle.sl_model.specs.Puts.{send_all, crossbar_to, onward, route, ingress_puts};
 ghost use Rattle.sl_model.specs.Puts.{egress_puts, notice_puts, dump_puts, unit_puts};
-ghost use Rattle.sl_model.specs.Puts.{is_own_port};
 
 use crate::frames::plain_frame;
 use crate::sends::{add_out, add_sends};
@@ -15,16 +13,10 @@ use crate::wires::links_out;
 use sl_input::packet_of;
 use sl_machine::Memory;
 use sl_model::{Message, Put, Step};
-use sl_net::{ActorId, Net, Packet, Side, Sort, UnitId, push_if};
+use sl_net::{Net, Packet, Side, Sort, UnitId, push_if};
+use sl_poll::{is_own_port, is_this_unit};
 use sl_route::Routes;
 use std::alloc::Global;
-
-/// Whether an actor is this unit.
-fn is_unit(actor: ActorId, unit: UnitId) -> bool
-    ensures { result ≡ same_actor actor (ActorId.Unit unit) }
-{
-    actor == ActorId::Unit(unit)
-}
 
 /// The crossbar links from a unit to the egress unit of a port of its device.
 fn crossbar_to(
@@ -47,24 +39,11 @@ fn crossbar_to(
     for link in &all {
         push_if(
             &mut links,
-            is_unit(net.actor(net.link(*link).to), target),
+            is_this_unit(net.actor(net.link(*link).to), target),
             *link,
         )?;
     }
     Ok(links)
-}
-
-fn add_across(
-    alloc: Global,
-    puts: &mut Vec<Put>,
-    links: &[u32],
-    id: u64,
-    packet: Packet,
-) -> Result<(), Memory>
-    ensures { OnOk result
-        (puts.new.items ≡ puts.old.items ++ send_all (Message.Data id packet) links.now) }
-{
-    add_sends(alloc, puts, &Message::Data(id, packet), links)
 }
 
 fn add_onward(
@@ -85,7 +64,7 @@ fn add_onward(
         None => Ok(()),
         Some(port) => {
             let links = crossbar_to(alloc, net, unit, device, port as u32)?;
-            add_across(alloc, puts, &links, id, packet)
+            add_sends(alloc, puts, &Message::Data(id, packet), &links)
         }
     }
 }
@@ -117,22 +96,6 @@ fn add_route(
     add_onward(alloc, net, puts, unit, device, id, onward, port)
 }
 
-fn add_probes(
-    alloc: Global,
-    net: &Net,
-    puts: &mut Vec<Put>,
-    unit: u32,
-    sort: Sort,
-    id: u64,
-) -> Result<(), Memory>
-    requires { unit < length net.now.actors }
-    ensures { OnOk result
-        (puts.new.items ≡ puts.old.items ++ send_all (Message.Probe id)
-        (links_out net.now unit sort)) }
-{
-    add_out(alloc, net, puts, unit, sort, &Message::Probe(id))
-}
-
 fn add_ingress(
     alloc: Global,
     net: &Net,
@@ -155,22 +118,9 @@ fn add_ingress(
             None => Ok(()),
         },
         Message::Data(_, packet) => add_route(alloc, net, routes, puts, unit, device, id, *packet),
-        Message::Init(_) => add_probes(alloc, net, puts, unit, Sort::Crossbar, id),
+        Message::Init(_) => add_out(alloc, net, puts, unit, Sort::Crossbar, &Message::Probe(id)),
         _ => Ok(()),
     }
-}
-
-/// Whether a link comes from the ingress unit of a port.
-fn is_own_port(net: &Net, device: u32, port: u32, link: u32) -> bool
-    requires { link < length net.now.links }
-    ensures { result ≡ is_own_port net.now device port link }
-{
-    let own = UnitId {
-        device,
-        port,
-        side: Side::Ingress,
-    };
-    is_unit(net.actor(net.link(link).from), own)
 }
 
 fn add_egress_data(
@@ -212,8 +162,8 @@ fn add_egress(
     match message {
         Message::Data(_, packet) => add_egress_data(alloc, net, puts, unit, id, *packet),
         Message::Probe(_) => {
-            if is_own_port(net, of.device, of.port, link) {
-                add_probes(alloc, net, puts, unit, Sort::Cable, id)?;
+            if is_own_port(net, of, link) {
+                add_out(alloc, net, puts, unit, Sort::Cable, &Message::Probe(id))?;
             }
             Ok(())
         }

@@ -10,7 +10,7 @@ use Rattle.sl_model.specs.declared.message.Message.TheVariants.{Host as HostMsg}
 use Rattle.sl_model.specs.declared.message.Put.{Put}
 use Rattle.sl_model.specs.Frame.{plain_frame, packet_of}
 use Rattle.sl_model.specs.Words.{weigh}
-use Rattle.sl_model.specs.History.{stamp_of, dump_of, done_of, on_link, without_lost}
+use Rattle.sl_model.specs.History.{stamp_of, done_of, on_link, without_lost}
 use Rattle.sl_model.specs.Counting.{counted_in, is_bad}
 use Rattle.sl_model.specs.Knowledge.{puts_on, asks}
 use Rattle.sl_model.specs.Setup.{Setup, frames_of}
@@ -50,10 +50,6 @@ plain-blank p = ap (λ b. if b then [] else plain_frame p) (plain-packet p)
 pub stamp-blank : (m : Message) → stamp_of (blank_message m) ≡ stamp_of m
 stamp-blank (HostMsg b) = refl
 stamp-blank _ = refl
-
-pub dump-blank : (m : Message) → dump_of (blank_message m) ≡ dump_of m
-dump-blank (HostMsg b) = refl
-dump-blank _ = refl
 
 pub done-blank : (place : ℕ) (m : Message) → done_of place (blank_message m) ≡ done_of place m
 done-blank place (HostMsg b) = refl

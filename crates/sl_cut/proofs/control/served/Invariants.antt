@@ -1,7 +1,6 @@
 use Rattle.std.specs.List.{All}
-use Rattle.std.proofs.Common.{◌<◌, length}
+use Rattle.std.proofs.Common.{◌<◌, length, take, ◌≡◌}
 use Rattle.sl_layout.specs.Serving.{serving}
-use Rattle.std.proofs.Common.{take, ◌≡◌}
 use Rattle.std.specs.Prelude.{map}
 use Rattle.sl_cut.proofs.control.served.Given as goal
 

@@ -1,8 +1,8 @@
 // Trusted types: ValueVerdict, Values, ValueFinding.
 // The values of a run, and the verdicts on its snapshots.
 use crate::whole::Whole;
+use sl_machine::Listed;
 use sl_model::{Lag, Verdict};
-use std::marker::Model;
 
 /// The verdict on a snapshot, where none is called inconsistent. Units are named by their places
 /// among the units.
@@ -34,19 +34,7 @@ impl ValueVerdict {
 }
 
 /// One value per unit in order, or none.
-#[derive(Debug, Drop)]
-pub struct Values {
-    pub items: Vec<Whole>,
-}
-
-impl Model for Values {
-    ghost use Rattle.std.specs.Prelude.{List};
-    ghost use Rattle.sl_value.specs.declared.whole.Whole.{Whole};
-
-    ghost Value = { List Whole };
-
-    ghost view = { λ v. v.items.items };
-}
+pub type Values = Listed<Whole>;
 
 /// The verdict on snapshot `k`, with a value for each unit where it is whole.
 #[derive(Debug, Drop)]
@@ -57,16 +45,4 @@ pub struct ValueFinding {
 }
 
 /// Findings in order.
-#[derive(Debug, Drop)]
-pub struct ValueList {
-    pub items: Vec<ValueFinding>,
-}
-
-impl Model for ValueList {
-    ghost use Rattle.std.specs.Prelude.{List};
-    ghost use Rattle.sl_value.specs.declared.verdict.ValueFinding.{ValueFinding};
-
-    ghost Value = { List ValueFinding };
-
-    ghost view = { λ l. l.items.items };
-}
+pub type ValueList = Listed<ValueFinding>;

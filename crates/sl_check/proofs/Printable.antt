@@ -17,6 +17,7 @@ use Rattle.sl_layout.specs.Net.{Net, actor_of, link_of, link_at, action_choice}
 use Rattle.sl_net.specs.Spelling.{device_name, host_name, side_text, actor_text, sender_text, port_of, link_word, link_rest, link_text, action_text, choice_word, choice_text}
 use Rattle.sl_net.specs.Names.{HasNames}
 use Rattle.sl_check.specs.Lines.{IsLine}
+use Rattle.sl_layout.proofs.Sorts.{by_sort}
 
 pub line-append : (xs ys : List ℕ) → IsLine xs → IsLine ys → IsLine (xs ++ ys)
 line-append [] ys h k = k
@@ -88,16 +89,7 @@ sender-line parts (OfUnit u) names = line-append (side_text u.side) (codes "." +
 sender-line parts (OfHost h) names = tt
 
 word-line : (s : Sort) → has_no_newline (link_word s) ≡ true
-word-line FromHost = refl
-word-line ToHost = refl
-word-line Cable = refl
-word-line Crossbar = refl
-word-line Init = refl
-word-line Poll = refl
-word-line Notice = refl
-word-line Dump = refl
-word-line Begin = refl
-word-line Done = refl
+word-line = by_sort (λ s. has_no_newline (link_word s) ≡ true) refl refl refl refl refl refl refl refl refl refl
 
 rest-line : (parts : Parts) (a : ActorId) (s : Sort) → HasNames parts → IsLine (link_rest parts a s)
 rest-line parts a Crossbar names = decimal-line (port_of a)

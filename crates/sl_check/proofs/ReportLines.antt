@@ -10,8 +10,6 @@ use Rattle.sl_layout.specs.declared.actor.Side.{Side}
 use Rattle.sl_layout.specs.declared.actor.Side.TheVariants.{Ingress, Egress}
 use Rattle.sl_layout.specs.declared.actor.ActorId.{ActorId}
 use Rattle.sl_layout.specs.declared.actor.ActorId.TheVariants.{Observer, Control, Unit as OfUnit, Host as OfHost}
-use Rattle.sl_layout.specs.declared.actor.Sort.{Sort}
-use Rattle.sl_layout.specs.declared.actor.Sort.TheVariants.{FromHost, ToHost, Cable, Crossbar, Init, Poll, Notice, Dump, Begin, Done}
 use Rattle.sl_layout.specs.Net.{Net, actor_of, link_of, units}
 use Rattle.sl_net.specs.Spelling.{side_text, device_name, port_of}
 use Rattle.sl_saves.specs.declared.entry.Total.{Total}
@@ -32,6 +30,7 @@ use Rattle.sl_report.specs.Report.{port_text, unit_or_none, unit_text, unit_at, 
 use Rattle.sl_check.specs.Lines.{IsLine, lines_text, PartsAt}
 use Rattle.sl_check.proofs.Printable.{line-append, decimal-line, line_of_test, has_no_newline, actor-line, name-line}
 use Rattle.sl_parts.proofs.Lists.{each-append}
+use Rattle.sl_layout.proofs.Sorts.{by_sort}
 
 -- it doesn't begin as `end` does
 abbrev BeginsElse : List ℕ → Type 0
@@ -102,22 +101,13 @@ module _ (net : Net) (names : HasNames net.parts) where
       go (OfHost h) = tt
 
   channel-line : (l : ℕ) → IsLine (channel_text net l)
-  channel-line l = go (link_of net l).sort (port_of (actor_of net (link_of net l).from))
+  channel-line l = by_sort (λ s. IsLine (sort_text s q)) crossbar crossbar (line_of_test (codes "cable") refl) crossbar crossbar crossbar crossbar crossbar crossbar crossbar (link_of net l).sort
     where
-      crossbar : (q : ℕ) → IsLine (codes "x" ++ decimal q)
-      crossbar q = word (codes "x") (decimal q) refl (decimal-line q)
+      q : ℕ
+      q = port_of (actor_of net (link_of net l).from)
 
-      go : (s : Sort) (q : ℕ) → IsLine (sort_text s q)
-      go Cable q = line_of_test (codes "cable") refl
-      go FromHost q = crossbar q
-      go ToHost q = crossbar q
-      go Crossbar q = crossbar q
-      go Init q = crossbar q
-      go Poll q = crossbar q
-      go Notice q = crossbar q
-      go Dump q = crossbar q
-      go Begin q = crossbar q
-      go Done q = crossbar q
+      crossbar : IsLine (codes "x" ++ decimal q)
+      crossbar = word (codes "x") (decimal q) refl (decimal-line q)
 
   cause-line : (c : Cause) → IsLine (cause_text c)
   cause-line (Skipped j) = word (codes "skipped to ") (decimal j) refl (decimal-line j)

@@ -1,5 +1,5 @@
 // Lines of a text, each of which ends with a newline.
-ghost use Rattle.std.specs.Prelude.{◌≡◌, ◌++◌, ◌+◌, List, ℕ, IfSome, IfNone, codes, length};
+ghost use Rattle.std.specs.Prelude.{◌≡◌, ◌++◌, ◌+◌, List, ℕ, IfSome, IfNone, codes};
 ghost use Rattle.sl_check.specs.Lines.{IsLine, PartsAt};
 
 /// The first line of a text and what follows it, or none where there is no newline.

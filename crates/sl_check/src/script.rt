@@ -1,5 +1,5 @@
 // Texts that have a spelling in each line.
-ghost use Rattle.std.specs.Prelude.{◌≡◌, ℕ, List, IfOk, IfSome, IfNone};
+ghost use Rattle.std.specs.Prelude.{ℕ, List, IfOk, IfSome, IfNone};
 ghost use Rattle.std.specs.List.{All};
 ghost use Rattle.sl_check.specs.Spellings.{SpellsLines, IsSpelled, IsScript};
 

@@ -4,22 +4,14 @@ use Rattle.std.proofs.lemmas.Bool.{eqb-true}
 use Rattle.std.specs.Prelude.{Bool, true, false, cond, filter, ◌==◌}
 use Rattle.std.specs.List.{range_with_len}
 use Rattle.sl_layout.specs.declared.actor.Sort.{Sort}
-use Rattle.sl_layout.specs.declared.actor.Sort.TheVariants.{FromHost, ToHost, Cable, Crossbar, Init, Poll, Notice, Dump, Begin, Done}
+use Rattle.sl_layout.specs.declared.actor.Sort.TheVariants.{Begin}
 use Rattle.sl_layout.specs.declared.actor.ActorId.TheVariants.{Observer}
 use Rattle.sl_layout.specs.Net.{Net, same_sort, actor_of, link_of, links_from, links_out}
 use Rattle.sl_net.specs.Wired.{sends, IsWired}
+use Rattle.sl_layout.proofs.Sorts.{by_sort}
 
 observer_sends : (s : Sort) → sends Observer s ≡ true → same_sort s Begin ≡ true
-observer_sends FromHost e = cc
-observer_sends ToHost e = cc
-observer_sends Cable e = cc
-observer_sends Crossbar e = cc
-observer_sends Init e = cc
-observer_sends Poll e = cc
-observer_sends Notice e = cc
-observer_sends Dump e = cc
-observer_sends Begin e = refl
-observer_sends Done e = cc
+observer_sends = by_sort (λ s. sends Observer s ≡ true → same_sort s Begin ≡ true) (λ e. cc) (λ e. cc) (λ e. cc) (λ e. cc) (λ e. cc) (λ e. cc) (λ e. cc) (λ e. cc) (λ e. refl) (λ e. cc)
 
 -- a filter of what passes already
 filter_again : (p q : ℕ → Bool) (s n : ℕ) → ((k : ℕ) → k < s + n → q k ≡ true → p k ≡ true) → filter p (filter q (range_with_len s n)) ≡ filter q (range_with_len s n)

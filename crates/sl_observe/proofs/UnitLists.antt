@@ -1,6 +1,5 @@
 -- The list of the units, with one of them changed.
-use Rattle.std.proofs.Common.{◌≡◌, ℕ, ◌+◌, ◌<◌, ◌≤◌, List, [], ◌∷◌, ◌++◌, length, take, refl, sym, ap, ◌∙◌, map, set, get_or, replicate, arith}
-use Rattle.std.proofs.Common.{subst, get_or-set_same, inl, inr, zero, suc}
+use Rattle.std.proofs.Common.{◌≡◌, ℕ, ◌+◌, ◌<◌, ◌≤◌, List, [], ◌∷◌, ◌++◌, length, take, refl, sym, ap, ◌∙◌, map, set, get_or, replicate, arith, subst, get_or-set_same, inl, inr, zero, suc}
 use Rattle.std.proofs.lemmas.Bool.{cases_eq}
 use Rattle.std.specs.Prelude.{filter, cond, Bool, true, false, Option, Some, None}
 use Rattle.std.proofs.lemmas.List.{map-set, set-get_or, get_or-set_other, length-replicate, get_or-map, length-map, map_push, map_more}

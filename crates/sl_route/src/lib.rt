@@ -1,4 +1,5 @@
-// Routes: for each host and each device the next port and the number of cables, and texts of these.
+// Routes: for each host and each device the next port and the number of cables, and texts of
+// these.
 #![tactic(auto)]
 
 mod laws;

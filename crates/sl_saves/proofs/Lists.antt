@@ -11,7 +11,7 @@ use Rattle.sl_saves.specs.declared.entry.Slot.{Slot}
 use Rattle.sl_saves.specs.declared.entries.Entry.{Entry}
 use Rattle.sl_saves.specs.Calls.{Save, Call, Adopt, Credited, Credit, saves, number, with_credit, saved_credit, written_to, lower, is_empty, IsRising}
 use Rattle.sl_saves.specs.Views.{slot_of, free_slot, no_slot, IsShown}
-use Rattle.sl_saves.specs.Keeping.{entry_of, entry_credited, entries_credited, written, Listed, IsListed, list_adopted, list_credited, list_view, new_slot}
+use Rattle.sl_saves.specs.Keeping.{entry_of, entry_credited, entries_credited, written, EntryList, IsListed, list_adopted, list_credited, list_view, new_slot}
 use Rattle.sl_saves.proofs.Chains.{top, IsChain, all-weaken, chain-below, chain-older, chain-saves, saves-below, top-number}
 use Rattle.sl_saves.proofs.Rings.{IsKept, kept-set, slot-credited}
 
@@ -142,11 +142,11 @@ shown n size calls last entries one rising l e =
           ∙ start-free size;
     }
 
-pub list-shown : (n : ℕ) (l : Listed) (calls : List Call) → IsListed n l calls → IsShown n (list_view l) calls
+pub list-shown : (n : ℕ) (l : EntryList) (calls : List Call) → IsListed n l calls → IsShown n (list_view l) calls
 list-shown n l calls s = shown n l.size calls l.last l.entries s.some s.rising s.last s.entries
 
 -- An adoption adds an entry.
-pub list-adopt : (n by packets bytes : ℕ) (l : Listed) (calls : List Call) → 1 ≤ by → IsListed n l calls → IsListed n (list_adopted by packets bytes l) (Adopt by packets bytes ∷ calls)
+pub list-adopt : (n by packets bytes : ℕ) (l : EntryList) (calls : List Call) → 1 ≤ by → IsListed n l calls → IsListed n (list_adopted by packets bytes l) (Adopt by packets bytes ∷ calls)
 list-adopt n by packets bytes l calls one s =
     let e : Entry = record { number = number calls + by; slot = new_slot by packets bytes } in
     record {
@@ -178,7 +178,7 @@ entries-credit (suc n) c (s ∷ ss) b =
     (λ e. cond e (map entry_of (saved_credit true c s ∷ ss)) (map entry_of (saved_credit false c s ∷ with_credit n (lower s.by c) ss))
     ≡ map entry_of (cond e (saved_credit true c s ∷ ss) (saved_credit false c s ∷ with_credit n (lower s.by c) ss))) [ true ↦ refl | false ↦ refl ]
 
-pub list-credit : (n : ℕ) (c : Credit) (l : Listed) (calls : List Call) → c.channel < 8 → IsListed n l calls → IsListed n (list_credited n c l) (Credited c ∷ calls)
+pub list-credit : (n : ℕ) (c : Credit) (l : EntryList) (calls : List Call) → c.channel < 8 → IsListed n l calls → IsListed n (list_credited n c l) (Credited c ∷ calls)
 list-credit n c l calls b s = record {
   rising = s.rising;
   some = s.some;

@@ -51,12 +51,12 @@ view_credited n c view = record view { slots = slots_credited n c view.at view.s
 
 -- A list of all entries, oldest first, with the number that it has come to, for views of so many slots.
 
-pub record Listed : Type 0 where
+pub record EntryList : Type 0 where
   pub size : ℕ
   pub last : ℕ
   pub entries : List Entry
 
-abbrev pub list_adopted : ℕ → ℕ → ℕ → Listed → Listed
+abbrev pub list_adopted : ℕ → ℕ → ℕ → EntryList → EntryList
 list_adopted by packets bytes l =
     record l { last = l.last + by; entries = l.entries ++ record { number = l.last + by; slot = new_slot by packets bytes } ∷ [] }
 
@@ -67,7 +67,7 @@ entry_credited is_foot c e = record e { slot = slot_credited is_foot c e.slot }
 abbrev pub entries_credited : ℕ → Credit → List Entry → List Entry
 entries_credited n c es = reverse (written_to (λ e. e.slot.back) entry_credited n c (reverse es))
 
-abbrev pub list_credited : ℕ → Credit → Listed → Listed
+abbrev pub list_credited : ℕ → Credit → EntryList → EntryList
 list_credited n c l = record l { entries = entries_credited n c l.entries }
 
 -- numbered slots written into a ring, later ones over earlier ones
@@ -76,14 +76,14 @@ written slots [] = slots
 written slots (e ∷ es) = written (slice_set slots (e.number % length slots) e.slot) es
 
 -- its view: its last entries, as many as the ring has slots
-abbrev pub list_view : Listed → View
+abbrev pub list_view : EntryList → View
 list_view l = record { at = l.last % l.size; slots = written (replicate l.size free_slot) (drop (length l.entries - l.size) l.entries) }
 
 abbrev pub entry_of : Save → Entry
 entry_of s = record { number = s.number; slot = slot_of s }
 
 -- it holds what calls saved, with credits to n entries at most
-pub record IsListed (n : ℕ) (l : Listed) (calls : List Call) : Type 0 where
+pub record IsListed (n : ℕ) (l : EntryList) (calls : List Call) : Type 0 where
   pub rising : IsRising calls
   pub some : 1 ≤ l.size
   pub last : l.last ≡ number calls

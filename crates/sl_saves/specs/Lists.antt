@@ -1,9 +1,9 @@
 -- What saved entries in a list are.
 use Rattle.std.specs.Prelude.{ℕ, ◌<◌, length, vec_len, vec_capacity}
 use Rattle.sl_saves.specs.declared.list.ListSaves.{ListSaves}
-use Rattle.sl_saves.specs.Keeping.{Listed}
+use Rattle.sl_saves.specs.Keeping.{EntryList}
 
-abbrev pub list_kept : ListSaves → Listed
+abbrev pub list_kept : ListSaves → EntryList
 list_kept l = record { size = l.ring; last = l.number; entries = l.entries.items }
 
 abbrev pub list_window : ListSaves → ℕ

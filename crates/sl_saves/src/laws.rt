@@ -3,7 +3,7 @@ ghost use Rattle.std.specs.Prelude.{◌≡◌, ℕ, List, [], ◌∷◌, ◌+◌
 ghost use Rattle.sl_saves.specs.declared.entry.View.{View};
 ghost use Rattle.sl_saves.specs.Calls.{Call, Adopt, Credited, Credit, number, saves, saved};
 ghost use Rattle.sl_saves.specs.Views.{IsShown, IsFitting, IsLive, free_slot, held_saved, read};
-ghost use Rattle.sl_saves.specs.Keeping.{Listed, IsListed, view_adopted, view_credited};
+ghost use Rattle.sl_saves.specs.Keeping.{EntryList, IsListed, view_adopted, view_credited};
 ghost use Rattle.sl_saves.specs.Keeping.{list_adopted, list_credited, list_view};
 
 /// Each slot that a walk over a view reads is live, where the view shows some calls.
@@ -43,11 +43,11 @@ pub fn calls_are_shown()
 pub fn calls_are_listed()
     ensures first { (n size : ℕ) → 1 ≤ size
         → IsListed n (record { size = size; last = 0; entries = [] }) [] }
-    ensures adopted { (n by packets bytes : ℕ) (list : Listed) (calls : List Call) → 1 ≤ by
+    ensures adopted { (n by packets bytes : ℕ) (list : EntryList) (calls : List Call) → 1 ≤ by
         → IsListed n list calls → IsListed n (list_adopted by packets bytes list)
         (Adopt by packets bytes ∷ calls) }
-    ensures credited { (n : ℕ) (c : Credit) (list : Listed) (calls : List Call) → c.channel < 8
+    ensures credited { (n : ℕ) (c : Credit) (list : EntryList) (calls : List Call) → c.channel < 8
         → IsListed n list calls → IsListed n (list_credited n c list) (Credited c ∷ calls) }
-    ensures shown { (n : ℕ) (list : Listed) (calls : List Call) → IsListed n list calls
+    ensures shown { (n : ℕ) (list : EntryList) (calls : List Call) → IsListed n list calls
         → IsShown n (list_view list) calls }
 {}

@@ -103,12 +103,12 @@ fn write_entries(slots: &mut Slots, entries: &[Entry], from: usize)
 }
 
 impl Saves for ListSaves {
-    ghost use Rattle.sl_saves.specs.Keeping.{Listed, IsListed, list_adopted, list_credited};
+    ghost use Rattle.sl_saves.specs.Keeping.{EntryList, IsListed, list_adopted, list_credited};
     ghost use Rattle.sl_saves.specs.Keeping.{list_view};
     ghost use Rattle.sl_saves.specs.Lists.{list_kept, list_window, list_size, list_credits};
     ghost use Rattle.sl_saves.specs.Lists.{ListHasRoom};
 
-    ghost Kept = { Listed };
+    ghost Kept = { EntryList };
 
     ghost kept = { list_kept };
 

@@ -31,6 +31,12 @@ fn sent(alloc: Global, host: u32) -> Result<Vec<Packet>, Fail> {
     Ok(packets_of(alloc, host, &flows)?)
 }
 
+/// Whether it sends these.
+fn sends(alloc: Global, host: u32, packets: &[Packet]) -> Result<bool, Fail> {
+    let sent = sent(alloc, host)?;
+    Ok(sent.as_slice() == packets)
+}
+
 /// Two hosts send, and a third sends nothing.
 #[test]
 fn two_flows(rt: HostRuntime) -> Result<(), Fail> {
@@ -41,9 +47,9 @@ fn two_flows(rt: HostRuntime) -> Result<(), Fail> {
         packet(0, 0, 0, 40),
     ];
     let second = [packet(1, 0, 0, 60), packet(1, 0, 1, 60)];
-    assert_eq!(rt; sent(rt.alloc(), 0)?.as_slice(), first.as_slice());
-    assert_eq!(rt; sent(rt.alloc(), 1)?.as_slice(), second.as_slice());
-    assert_eq!(rt; sent(rt.alloc(), 2)?.len(), 0);
+    assert!(rt; sends(rt.alloc(), 0, first.as_slice())?);
+    assert!(rt; sends(rt.alloc(), 1, second.as_slice())?);
+    assert!(rt; sends(rt.alloc(), 2, &[])?);
     Ok(())
 }
 
@@ -69,7 +75,7 @@ fn sample_text() -> &'static str {
 #[test]
 fn sample_as_text(rt: HostRuntime) -> Result<(), Fail> {
     let text = sample_input(rt.alloc(), 7)?;
-    assert_eq!(rt; text.as_slice(), sample_text().as_bytes());
+    assert!(rt; text.as_slice() == sample_text().as_bytes());
     Ok(())
 }
 
@@ -105,10 +111,8 @@ fn sample_as_data(rt: HostRuntime) -> Result<(), Fail> {
         bytes: 100,
         hops: 4,
     };
-    assert_eq!(rt;
-        sample_data(rt.alloc(), 8)?,
-        ([5, 6, 6, 36, 6], Some(last), (1, 8, 0))
-    );
+    let data = sample_data(rt.alloc(), 8)?;
+    assert!(rt; data == ([5, 6, 6, 36, 6], Some(last), (1, 8, 0)));
     Ok(())
 }
 
@@ -120,7 +124,6 @@ fn faults(alloc: Global, n: u64) -> (Option<SampleFault>, Option<SampleFault>) {
 #[test]
 fn no_sample(rt: HostRuntime) {
     let out = Some(SampleFault::OutOfRange);
-    for n in [0, 65] {
-        assert_eq!(rt; faults(rt.alloc(), n), (out, out));
-    }
+    assert!(rt; faults(rt.alloc(), 0) == (out, out));
+    assert!(rt; faults(rt.alloc(), 65) == (out, out));
 }

@@ -154,18 +154,6 @@ fn has_actors(net: &Net, actors: &[ActorId]) -> bool {
     net.actors() == actors
 }
 
-fn pair_has_its_actors(alloc: Global) -> Result<bool, Fail> {
-    let net = built(alloc, &PAIR)?;
-    Ok(has_actors(&net, &pair_actors()))
-}
-
-/// The actors of the pair, in order.
-#[test]
-fn actors(rt: HostRuntime) -> Result<(), Fail> {
-    assert!(rt; pair_has_its_actors(rt.alloc())?);
-    Ok(())
-}
-
 fn spelled(alloc: Global, net: &Net, actor: u32, choice: u32) -> Result<Line, Fail> {
     if (actor as usize) < net.actors().len() && choice < net.choice_count(actor) {
         Ok(choice_text(alloc, net, actor, choice).map_err(|_| "no memory")?)
@@ -203,21 +191,8 @@ fn first_wrong_link(alloc: Global, net: &Net, rows: &[Row]) -> Result<Option<usi
 }
 
 /// How many links a net has, and the place of the first row that is wrong there.
-fn compared_in(alloc: Global, net: &Net, rows: &[Row]) -> Result<(usize, Option<usize>), Fail> {
+fn compared(alloc: Global, net: &Net, rows: &[Row]) -> Result<(usize, Option<usize>), Fail> {
     Ok((net.links().len(), first_wrong_link(alloc, net, rows)?))
-}
-
-fn compared(alloc: Global, plan: &Plan, rows: &[Row]) -> Result<(usize, Option<usize>), Fail> {
-    let net = built(alloc, plan)?;
-    compared_in(alloc, &net, rows)
-}
-
-/// The links of both nets, in order, each with its spelling.
-#[test]
-fn links(rt: HostRuntime) -> Result<(), Fail> {
-    assert_eq!(rt; compared(rt.alloc(), &PAIR, pair_links())?, (24, None));
-    assert_eq!(rt; compared(rt.alloc(), &LOOP, loop_links())?, (22, None));
-    Ok(())
 }
 
 fn first_wrong_action(
@@ -240,20 +215,27 @@ fn first_spelling(net: &Net, texts: &[&str]) -> Option<usize> {
 }
 
 /// The places of the first action that is wrong, and of the first other text that is a spelling.
-fn wrong_texts_of(alloc: Global, net: &Net) -> Result<(Option<usize>, Option<usize>), Fail> {
+fn wrong_texts(alloc: Global, net: &Net) -> Result<(Option<usize>, Option<usize>), Fail> {
     let action = first_wrong_action(alloc, net, actions())?;
     Ok((action, first_spelling(net, no_choices())))
 }
 
-fn wrong_texts(alloc: Global) -> Result<(Option<usize>, Option<usize>), Fail> {
-    let net = built(alloc, &PAIR)?;
-    wrong_texts_of(alloc, &net)
+/// Whether a net has the actors of the pair, its links with their spellings, and its texts.
+fn is_pair(alloc: Global, net: &Net) -> Result<bool, Fail> {
+    let links = compared(alloc, net, pair_links())?;
+    let texts = wrong_texts(alloc, net)?;
+    Ok(has_actors(net, &pair_actors()) && links == (24, None) && texts == (None, None))
 }
 
-/// The own actions of the pair, and texts that are no spelling.
+fn pair_is_right(alloc: Global) -> Result<bool, Fail> {
+    let net = built(alloc, &PAIR)?;
+    is_pair(alloc, &net)
+}
+
+/// The actors of the pair in order, its links, its own actions, and texts that are no spelling.
 #[test]
-fn other_texts(rt: HostRuntime) -> Result<(), Fail> {
-    assert_eq!(rt; wrong_texts(rt.alloc())?, (None, None));
+fn two_ports(rt: HostRuntime) -> Result<(), Fail> {
+    assert!(rt; pair_is_right(rt.alloc())?);
     Ok(())
 }
 
@@ -299,30 +281,32 @@ fn sort_and_kind(net: &Net, link: u32) -> Option<(Sort, LinkKind)> {
     }
 }
 
-/// The sizes of a net with the links of its wiring, and the place of the first row that is wrong.
-fn measured(
-    alloc: Global,
-    plan: &Plan,
-    rows: &[(u32, &[u32])],
-) -> Result<([usize; 3], usize, Option<u32>), Fail> {
-    let net = built(alloc, plan)?;
-    Ok((sizes(&net), wired(&net), first_wrong_unit(&net, rows)))
-}
-
-/// The sorts and kinds of two links of the loop.
-fn two_links(alloc: Global) -> Result<[Option<(Sort, LinkKind)>; 2], Fail> {
-    let net = built(alloc, &LOOP)?;
-    Ok([sort_and_kind(&net, 0), sort_and_kind(&net, 10)])
-}
-
-/// A cable with both ends on one device, and the units upstream of each unit.
-#[test]
-fn loop_cable(rt: HostRuntime) -> Result<(), Fail> {
-    let found = measured(rt.alloc(), &LOOP, loop_units())?;
-    assert_eq!(rt; found, ([4, 6, 22], 22, None));
+/// Whether a net has the sizes, the wiring and the units of the loop, and two of its links.
+fn has_loop(net: &Net) -> bool {
     let done = Some((Sort::Done, LinkKind::Reliable));
     let cable = Some((Sort::Cable, LinkKind::Cable));
-    assert_eq!(rt; two_links(rt.alloc())?, [done, cable]);
+    let units = first_wrong_unit(net, loop_units());
+    sizes(net) == [4, 6, 22]
+        && wired(net) == 22
+        && units.is_none()
+        && sort_and_kind(net, 0) == done
+        && sort_and_kind(net, 10) == cable
+}
+
+fn is_loop(alloc: Global, net: &Net) -> Result<bool, Fail> {
+    let links = compared(alloc, net, loop_links())?;
+    Ok(has_loop(net) && links == (22, None))
+}
+
+fn loop_is_right(alloc: Global) -> Result<bool, Fail> {
+    let net = built(alloc, &LOOP)?;
+    is_loop(alloc, &net)
+}
+
+/// A cable with both ends on one device: its links, and the units upstream of each unit.
+#[test]
+fn loop_cable(rt: HostRuntime) -> Result<(), Fail> {
+    assert!(rt; loop_is_right(rt.alloc())?);
     Ok(())
 }
 

@@ -84,12 +84,7 @@ fn find(units: &[Known], sent: Sent, choice: u32) -> Option<usize>
 }
 
 /// What a notice by this choice does to the units.
-pub fn ask_one(
-    units: &mut Vec<Known>,
-    choice: u32,
-    spares: &mut Vec<Spare>,
-    out: &mut Outputs<Msg>,
-)
+pub fn ask_one(units: &mut Vec<Known>, choice: u32, spares: &mut Vec<Spare>, out: &mut Outputs<Msg>)
     requires apart { AreApart (choices_of Sent.Notice units.old.items) }
     requires room { length out.old.items + length units.old.items ≤ out.old.room }
     ensures units { units.new.items ≡ map (ask_by (Some choice)) units.old.items }

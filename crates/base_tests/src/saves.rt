@@ -264,7 +264,7 @@ fn compare_new(
 
 /// Compares a view with one by which the ring shows itself.
 fn compare_shown(
-    slots: &RingSaves,
+    slots: &mut RingSaves,
     ring: u16,
     one: &View,
     shown: &mut View,
@@ -272,8 +272,9 @@ fn compare_shown(
 ) -> Result<(), Memory>
     requires one { length one.now.slots ≡ ring }
     requires one_at { one.now.at < ring }
-    requires shown { length (ring_view slots.now).slots ≡ ring }
-    requires shown_at { (ring_view slots.now).at < ring }
+    requires shown { length (ring_view slots.old).slots ≡ ring }
+    requires shown_at { (ring_view slots.old).at < ring }
+    ensures same { slots.new ≡ slots.old }
 {
     slots.show(shown)?;
     compare(ring, one, shown, tally);
@@ -296,6 +297,7 @@ fn compare_turns(
     let mut one = list.view()?;
     let mut other = slots.view()?;
     let mut shown = slots.view()?;
+    let mut held = slots.view()?;
     let mut generator = Lcg64Xsh32::new(1, 1);
     let mut tally = Tally {
         id: 0,
@@ -308,6 +310,10 @@ fn compare_turns(
         compare_filled(list, slots, ring, &mut one, &mut other, &mut tally);
         compare_new(list, slots, ring, &mut tally)?;
         compare_shown(slots, ring, &one, &mut shown, &mut tally)?;
+        // What another view holds is not written.
+        if random % 4 == 0 {
+            compare_shown(slots, ring, &one, &mut held, &mut tally)?;
+        }
     }
     Ok(tally)
 }

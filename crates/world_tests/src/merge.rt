@@ -44,22 +44,25 @@ fn two_logs(alloc: Global) -> Result<Book, AllocError>
 
 /// Whether the entries of a book are just these.
 fn has_entries(book: &Book, entries: &[Entry]) -> bool {
-    let each = book.entries.iter().zip(entries).all(|(e, f)| e == f);
-    each && book.entries.len() == entries.len()
+    book.entries.as_slice() == entries
+}
+
+/// Both logs in order of number and actor.
+fn both_in_order() -> [Entry; 5] {
+    [
+        entry(1, 0, 5),
+        entry(1, 1, 6),
+        entry(2, 1, 0),
+        entry(4, 0, 5),
+        entry(4, 1, 6),
+    ]
 }
 
 #[test]
 fn two_logs_are_merged(rt: HostRuntime) -> Result<(), Fail> {
     let mut book = two_logs(rt.alloc())?;
     sort_book(&mut book)?;
-    let merged = [
-        entry(1, 0, 5),
-        entry(1, 1, 6),
-        entry(2, 1, 0),
-        entry(4, 0, 5),
-        entry(4, 1, 6),
-    ];
-    assert!(rt; has_entries(&book, &merged));
+    assert!(rt; has_entries(&book, both_in_order().as_slice()));
     Ok(())
 }
 
@@ -174,11 +177,8 @@ fn turn_on(world: &mut World<Relay>, actor: u32) -> Result<Turn, Fail>
     requires { (scene world.old).plan ≡ in_line }
     ensures { (scene world.new).plan ≡ in_line }
 {
-    if actor >= 4 {
-        return Err("no actor".into());
-    }
-    if world.book().entries.len() > 100 {
-        return Err("too many turns".into());
+    if actor >= 4 || world.book().entries.len() > 100 {
+        return Err("no such turn".into());
     }
     Ok(world.turn(actor, 0)?)
 }
@@ -213,14 +213,26 @@ fn have_seen(machines: &[Relay], seen: &[(u32, u32)]) -> bool {
     each && machines.len() == seen.len()
 }
 
+/// Whether a world has just these entries in its book, and just so many tokens came to each of its
+/// machines, with so many hops the last of them.
+fn ends_as(world: World<Relay>, entries: &[Entry], seen: &[(u32, u32)]) -> bool {
+    let (machines, book) = world.into_book();
+    has_entries(&book, entries) && have_seen(machines.as_slice(), seen)
+}
+
+/// The same, where only the number of entries is told.
+fn ends_with(world: World<Relay>, entries: usize, seen: &[(u32, u32)]) -> bool {
+    let (machines, book) = world.into_book();
+    book.entries.len() == entries && have_seen(machines.as_slice(), seen)
+}
+
 /// The book has the entries of all logs, in order of number and actor; the machines are the actors',
 /// and what was put and not taken is on the links.
 #[test]
 fn actors_are_merged(rt: HostRuntime) -> Result<(), Fail> {
     let world = merged_line(&rt, rt.alloc())?;
-    let (machines, book) = world.into_book();
-    assert!(rt; has_entries(&book, merged_entries().as_slice()));
-    assert!(rt; have_seen(machines.as_slice(), &[(0, 0), (1, 3), (1, 2), (0, 0)]));
+    let entries = merged_entries();
+    assert!(rt; ends_as(world, entries.as_slice(), &[(0, 0), (1, 3), (1, 2), (0, 0)]));
     Ok(())
 }
 
@@ -228,9 +240,7 @@ fn actors_are_merged(rt: HostRuntime) -> Result<(), Fail> {
 fn a_merged_world_goes_on(rt: HostRuntime) -> Result<(), Fail> {
     let mut world = merged_line(&rt, rt.alloc())?;
     let wrong = first_wrong_on(&mut world, turns_on())?;
-    let lost = lost_between(&world);
-    let (machines, book) = world.into_book();
-    assert_eq!(rt; (wrong, lost, book.entries.len()), (None, 1, 10));
-    assert!(rt; have_seen(machines.as_slice(), &[(0, 0), (3, 1), (2, 0), (2, 0)]));
+    assert_eq!(rt; (wrong, lost_between(&world)), (None, 1));
+    assert!(rt; ends_with(world, 10, &[(0, 0), (3, 1), (2, 0), (2, 0)]));
     Ok(())
 }

@@ -60,14 +60,12 @@ fn trail_along(alloc: Global, input: &Input, schedule: &[(u32, u32)]) -> Result<
     }
 }
 
-/// A packet crosses once, and two units count it.
-#[test]
-fn trails_are_told(rt: HostRuntime) -> Result<(), Fail> {
-    let input = input_of(rt.alloc(), ONE_PACKET)?;
-    let trail = trail_along(rt.alloc(), &input, way())?;
-    assert_eq!(rt; trail.pairs.as_slice(), pairs());
-    assert_eq!(rt; trail.counted.as_slice(), counted());
-    Ok(())
+/// Whether a packet crosses once, and two units count it.
+fn is_told(alloc: Global, input: &Input) -> Result<bool, Fail>
+    requires { All HasAddresses input.now.flows }
+{
+    let trail = trail_along(alloc, input, way())?;
+    Ok(trail.pairs.as_slice() == pairs() && trail.counted.as_slice() == counted())
 }
 
 /// That trail, written out.
@@ -111,21 +109,46 @@ fn is_read(polled: &Polled, reads: &[Read1], broken: Option<Pair>) -> bool {
     polled.reads.as_slice() == reads && polled.broken == broken
 }
 
+/// Whether that is what is read along the trail.
+fn reads(
+    alloc: Global,
+    net: &Net,
+    (start, gap): (u64, u64),
+    expected: &[Read1],
+    broken: Option<Pair>,
+) -> Result<bool, Fail> {
+    let polled = reading_along(alloc, net, start, gap)?;
+    Ok(is_read(&polled, expected, broken))
+}
+
 /// Where each unit is read one entry after the one before, the last one after the packet came and
 /// the first one before it was put, the packet breaks the reading. Where all are read after three
 /// entries, none does.
-fn are_told(alloc: Global, net: &Net) -> Result<bool, Fail> {
-    let broken = reading_along(alloc, net, 1, 1)?;
-    let whole = reading_along(alloc, net, 3, 0)?;
+fn are_read(alloc: Global, net: &Net) -> Result<bool, Fail> {
     let one_by_one = [read(0, 1, 0), read(1, 2, 0), read(2, 3, 0), read(3, 4, 1)];
     let at_once = [read(0, 3, 1), read(1, 3, 0), read(2, 3, 0), read(3, 3, 1)];
     let first = pairs().first().copied();
-    Ok(is_read(&broken, one_by_one.as_slice(), first) && is_read(&whole, at_once.as_slice(), None))
+    let is_broken = reads(alloc, net, (1, 1), one_by_one.as_slice(), first)?;
+    let is_whole = reads(alloc, net, (3, 0), at_once.as_slice(), None)?;
+    Ok(is_broken && is_whole)
 }
 
+fn polled_of(alloc: Global, input: &Input) -> Result<(bool, bool), Fail>
+    requires { All HasAddresses input.now.flows }
+{
+    let told = is_told(alloc, input)?;
+    let read = are_read(alloc, &input.net)?;
+    Ok((told, read))
+}
+
+fn polled(alloc: Global) -> Result<(bool, bool), Fail> {
+    let input = input_of(alloc, ONE_PACKET)?;
+    polled_of(alloc, &input)
+}
+
+/// A trail is told, and it is read.
 #[test]
-fn trails_are_read(rt: HostRuntime) -> Result<(), Fail> {
-    let input = input_of(rt.alloc(), ONE_PACKET)?;
-    assert!(rt; are_told(rt.alloc(), &input.net)?);
+fn trails(rt: HostRuntime) -> Result<(), Fail> {
+    assert_eq!(rt; polled(rt.alloc())?, (true, true));
     Ok(())
 }

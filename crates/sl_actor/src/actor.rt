@@ -149,6 +149,7 @@ impl<A: Machine> Actor<A> {
         ensures err { OnErr result (held self.new ≡ held self.old) }
         ensures ends { KeepsEnds (held self.old) (held self.new) }
         ensures counts { (held self.new).counts ≡ (held self.old).counts }
+        ensures place { (held self.new).place ≡ (held self.old).place }
     {
         self.make_ready(choice)?;
         let offered = self.outs.offer(rt, &mut self.sleeper);
@@ -185,6 +186,7 @@ impl<A: Machine> Actor<A> {
         ensures fronts { AreOffered (held self.new).outs }
         ensures ends { KeepsEnds (held self.old) (held self.new) }
         ensures counts { (held self.new).counts ≡ (held self.old).counts }
+        ensures place { (held self.new).place ≡ (held self.old).place }
     {
         if (choice as usize) < self.takes.len() {
             self.take_step(rt, choice)
@@ -205,6 +207,7 @@ impl<A: Machine> Actor<A> {
         ensures fronts { AreOffered (held self.new).outs }
         ensures ends { KeepsEnds (held self.old) (held self.new) }
         ensures counts { (held self.new).counts ≡ (held self.old).counts }
+        ensures place { (held self.new).place ≡ (held self.old).place }
     {
         let end = &mut self.takes[choice as usize];
         let s = match end.take(rt) {
@@ -242,6 +245,7 @@ impl<A: Machine> Actor<A> {
         ensures fronts { AreOffered (held self.new).outs }
         ensures ends { KeepsEnds (held self.old) (held self.new) }
         ensures counts { (held self.new).counts ≡ (held self.old).counts }
+        ensures place { (held self.new).place ≡ (held self.old).place }
     {
         if !self.machine.act(choice, &mut self.out) {
             return false;

@@ -54,15 +54,17 @@ impl<A: Machine> Actor<A> {
     ghost use Rattle.sl_actor.specs.Held.{held};
     ghost use Rattle.sl_actor.specs.Follows.{Follows};
     ghost use Rattle.sl_actor.specs.Turns.{KeepsEnds, NothingDone};
-    ghost use Rattle.sl_actor.specs.Runs.{HasPassed, Advances, LogGoesOn, IsQuiet, Settled};
+    ghost use Rattle.sl_actor.specs.Runs.{HasPassed, HasRounds, Advances, LogGoesOn};
+    ghost use Rattle.sl_actor.specs.Runs.{IsQuiet, Settled};
     ghost use Rattle.sl_actor.specs.Runs.{MatchMoved, MatchRound};
 
     /// Rounds of turns by the choices of the plan, until the log has grown by `steps` entries (`Spent`),
     /// or for `quiet` rounds in a row no turn did or moved anything (`Rested`). The last of these has one
     /// turn by each choice. The others leave out each link on which nothing was put since the round
     /// before and nothing was found in it. A run that is refused for memory stands after the turns that
-    /// it took. The actor passes the gate before each round. Between rounds in which nothing moved it sleeps
-    /// while others run or are to begin, until a neighbour puts something on one of its links or makes room.
+    /// it took. The actor passes the gate before each round, by its place and the round's number from 0.
+    /// Between rounds in which nothing moved it sleeps while others run or are to begin, until a neighbour
+    /// puts something on one of its links or makes room.
     pub fn run<R: Wait, G: Gate>(
         &mut self,
         rt: &R,
@@ -84,10 +86,13 @@ impl<A: Machine> Actor<A> {
             → All (λ choice. Settled A.rules choice (held self.new)) plan.now }
         ensures fronts { result ≡ Ok Rest.Rested → 0 < length plan.now
             → AreOffered (held self.new).outs }
+        ensures rounds { 0 < steps
+            → HasRounds G.passed gate.now plan.now (held self.old) (held self.new) }
         ensures passed { result ≡ Ok Rest.Rested
             → HasPassed G.passed gate.now (held self.old).place quiet }
         ensures ends { KeepsEnds (held self.old) (held self.new) }
         ensures counts { (held self.new).counts ≡ (held self.old).counts }
+        ensures place { (held self.new).place ≡ (held self.old).place }
     {
         if steps == 0 {
             return Ok(Rest::Spent);
@@ -121,10 +126,12 @@ impl<A: Machine> Actor<A> {
             → All (λ choice. Settled A.rules choice (held self.new)) plan.now }
         ensures fronts { result ≡ Ok Rest.Rested → 0 < length plan.now
             → AreOffered (held self.new).outs }
+        ensures rounds { HasRounds G.passed gate.now plan.now (held self.old) (held self.new) }
         ensures passed { result ≡ Ok Rest.Rested
             → HasPassed G.passed gate.now (held self.old).place quiet }
         ensures ends { KeepsEnds (held self.old) (held self.new) }
         ensures counts { (held self.new).counts ≡ (held self.old).counts }
+        ensures place { (held self.new).place ≡ (held self.old).place }
     {
         let backoff = Backoff::new();
         let mut done = 0;
@@ -165,6 +172,8 @@ impl<A: Machine> Actor<A> {
         requires plan { All (λ choice. IsChoice (held self.old).counts choice) plan.now }
         requires steps { done.old < steps }
         ensures advances { Advances A.rules plan.now (held self.old) (held self.new) }
+        ensures entries { length (held self.new).log
+            ≤ length (held self.old).log + length plan.now }
         ensures done { length (held self.new).log + done.old
             ≡ length (held self.old).log + done.new }
         ensures answer { IfOk result
@@ -197,6 +206,9 @@ impl<A: Machine> Actor<A> {
         requires plan { All (λ choice. IsChoice (held self.old).counts choice) plan.now }
         requires steps { done.old < steps }
         ensures advances { Advances A.rules plan.now (held self.old) (held self.new) }
+        ensures entries { length (held self.new).log
+            ≤ length (held self.old).log + length plan.now }
+        ensures calm { result ≡ Ok Round.Calm → (held self.new).log ≡ (held self.old).log }
         ensures done { length (held self.new).log + done.old
             ≡ length (held self.old).log + done.new }
         ensures answer { IfOk result

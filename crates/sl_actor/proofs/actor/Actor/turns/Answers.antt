@@ -28,4 +28,14 @@ loop-choice-preserved g c =
         | in-Offered w ↦ λ calm. absurd (true≢false (sym calm ∙ w.calm-is))
         | in-Idle w ↦ λ calm. quiet_on _ _ _ _ _ _ _ refl (undone _ _ _ (inl w.in-Idle.is) c.in_ok-advance.ensures.answer) c.in_ok-advance.ensures.fronts (h.3 (sym w.calm-is ∙ calm))
       ],
+      elim c.match-branch-2.branch [
+        | in-Did+else-done-steps w ↦ let more = grown _ _ _ w.in-Did.is c.in_ok-advance.ensures.answer in omega (arith, h.4, more)
+        | in-Offered w ↦ let same = undone _ _ _ (inr w.in-Offered.is) c.in_ok-advance.ensures.answer in omega (arith, h.4, ap (λ (l : List (ℕ × ℕ)). length l) same.log)
+        | in-Idle w ↦ let same = undone _ _ _ (inl w.in-Idle.is) c.in_ok-advance.ensures.answer in omega (arith, h.4, ap (λ (l : List (ℕ × ℕ)). length l) same.log)
+      ],
+      elim c.match-branch-2.branch [
+        | in-Did+else-done-steps w ↦ λ calm. absurd (true≢false (sym calm ∙ w.calm-is))
+        | in-Offered w ↦ λ calm. absurd (true≢false (sym calm ∙ w.calm-is))
+        | in-Idle w ↦ λ calm. (undone _ _ _ (inl w.in-Idle.is) c.in_ok-advance.ensures.answer).log ∙ h.5 (sym w.calm-is ∙ calm)
+      ],
     )

@@ -19,7 +19,7 @@ fn count_outs(wires: &Wires, way: Way) -> usize
     let span = wires.span(way);
     let mut count = 0;
     for i in span.from..span.end {
-        count += usize::from(wires.is_out(way, i));
+        count += usize::from(wires.goes(way, span, i));
     }
     count
 }

@@ -93,35 +93,27 @@ step_of ws = option_map Step (flag_words (flag_word Trace) ws)
 abbrev pub run_of : List (List ℕ) → Option Command
 run_of ws = option_map Run (flag_words (flag_word Trace) ws)
 
-abbrev pub routes_of : List (List ℕ) → Option Command
-routes_of ws = option_map (λ asked. Routes) (ends false ws)
+-- a command that has no option
+abbrev pub bare : Command → List (List ℕ) → Option Command
+bare command ws = option_map (λ asked. command) (ends false ws)
 
 abbrev pub sample_of : List (List ℕ) → Option Command
 sample_of ws = option_map (λ p. Sample p.0 p.1) (sample_words ws)
 
-abbrev pub check_of : List (List ℕ) → Option Command
-check_of ws = option_map (λ asked. Check) (ends false ws)
-
-abbrev pub balance_of : List (List ℕ) → Option Command
-balance_of ws = option_map (λ asked. Balance) (ends false ws)
-
 abbrev pub poll_of : List (List ℕ) → Option Command
 poll_of ws = option_map (λ p. Poll p.0 p.1) (poll_words ws)
-
-abbrev pub values_of : List (List ℕ) → Option Command
-values_of ws = option_map (λ asked. Values) (ends false ws)
 
 -- the first word is the command's name
 abbrev pub command_of : List ℕ → List (List ℕ) → Option Command
 command_of w ws =
     if bytes_eq w (codes "step") then step_of ws
     else if bytes_eq w (codes "run") then run_of ws
-    else if bytes_eq w (codes "routes") then routes_of ws
+    else if bytes_eq w (codes "routes") then bare Routes ws
     else if bytes_eq w (codes "sample") then sample_of ws
-    else if bytes_eq w (codes "check") then check_of ws
-    else if bytes_eq w (codes "balance") then balance_of ws
+    else if bytes_eq w (codes "check") then bare Check ws
+    else if bytes_eq w (codes "balance") then bare Balance ws
     else if bytes_eq w (codes "poll") then poll_of ws
-    else if bytes_eq w (codes "values") then values_of ws
+    else if bytes_eq w (codes "values") then bare Values ws
     else None
 
 abbrev pub words_of : List (List ℕ) → Option Command

@@ -1,8 +1,8 @@
 // Trusted types: Command.
 // The command that words ask for.
 ghost use Rattle.std.specs.Prelude.{◌≡◌, IfOk, IfSome, map, string_bytes, is_some, false};
-ghost use Rattle.sl_words.specs.Words.{ends, step_of, run_of, routes_of, sample_of, check_of};
-ghost use Rattle.sl_words.specs.Words.{balance_of, poll_of, values_of, command_of, words_of};
+ghost use Rattle.sl_words.specs.Words.{ends, step_of, run_of, bare, sample_of, poll_of};
+ghost use Rattle.sl_words.specs.Words.{command_of, words_of};
 ghost use Rattle.sl_words.specs.Words.{HasNumber};
 
 use crate::flags::{Flag, flag_words};
@@ -37,20 +37,16 @@ fn step_words(alloc: Global, words: &[String]) -> Result<Option<Command>, Memory
     ensures command { IfOk result (λ c. c ≡ step_of (map string_bytes words.now)) }
     ensures number { IfOk result (λ c. IfSome c HasNumber) }
 {
-    match flag_words(alloc, Flag::Trace, words)? {
-        Some(trace) => Ok(Some(Command::Step(trace))),
-        None => Ok(None),
-    }
+    let trace = flag_words(alloc, Flag::Trace, words)?;
+    Ok(trace.map(|trace| Command::Step(trace)))
 }
 
 fn run_words(alloc: Global, words: &[String]) -> Result<Option<Command>, Memory>
     ensures command { IfOk result (λ c. c ≡ run_of (map string_bytes words.now)) }
     ensures number { IfOk result (λ c. IfSome c HasNumber) }
 {
-    match flag_words(alloc, Flag::Trace, words)? {
-        Some(trace) => Ok(Some(Command::Run(trace))),
-        None => Ok(None),
-    }
+    let trace = flag_words(alloc, Flag::Trace, words)?;
+    Ok(trace.map(|trace| Command::Run(trace)))
 }
 
 /// `routes`, `check`, `balance` and `values` have no option: what is one elsewhere is refused.
@@ -64,12 +60,16 @@ fn is_bare(alloc: Global, words: &[String]) -> Result<bool, Memory>
     }
 }
 
-fn routes_words(alloc: Global, words: &[String]) -> Result<Option<Command>, Memory>
-    ensures command { IfOk result (λ c. c ≡ routes_of (map string_bytes words.now)) }
-    ensures number { IfOk result (λ c. IfSome c HasNumber) }
+fn bare_command(
+    alloc: Global,
+    words: &[String],
+    command: Command,
+) -> Result<Option<Command>, Memory>
+    ensures command { IfOk result (λ c. c ≡ bare command (map string_bytes words.now)) }
+    ensures number { HasNumber command → IfOk result (λ c. IfSome c HasNumber) }
 {
     if is_bare(alloc, words)? {
-        Ok(Some(Command::Routes))
+        Ok(Some(command))
     } else {
         Ok(None)
     }
@@ -85,28 +85,6 @@ fn sample_command(alloc: Global, words: &[String]) -> Result<Option<Command>, Me
     }
 }
 
-fn check_words(alloc: Global, words: &[String]) -> Result<Option<Command>, Memory>
-    ensures command { IfOk result (λ c. c ≡ check_of (map string_bytes words.now)) }
-    ensures number { IfOk result (λ c. IfSome c HasNumber) }
-{
-    if is_bare(alloc, words)? {
-        Ok(Some(Command::Check))
-    } else {
-        Ok(None)
-    }
-}
-
-fn balance_words(alloc: Global, words: &[String]) -> Result<Option<Command>, Memory>
-    ensures command { IfOk result (λ c. c ≡ balance_of (map string_bytes words.now)) }
-    ensures number { IfOk result (λ c. IfSome c HasNumber) }
-{
-    if is_bare(alloc, words)? {
-        Ok(Some(Command::Balance))
-    } else {
-        Ok(None)
-    }
-}
-
 fn poll_command(words: &[String]) -> Option<Command>
     ensures command { result ≡ poll_of (map string_bytes words.now) }
     ensures number { IfSome result HasNumber }
@@ -114,17 +92,6 @@ fn poll_command(words: &[String]) -> Option<Command>
     match poll_words(words) {
         Some((start, gap)) => Some(Command::Poll(start, gap)),
         None => None,
-    }
-}
-
-fn values_words(alloc: Global, words: &[String]) -> Result<Option<Command>, Memory>
-    ensures command { IfOk result (λ c. c ≡ values_of (map string_bytes words.now)) }
-    ensures number { IfOk result (λ c. IfSome c HasNumber) }
-{
-    if is_bare(alloc, words)? {
-        Ok(Some(Command::Values))
-    } else {
-        Ok(None)
     }
 }
 
@@ -137,17 +104,17 @@ fn command_of(alloc: Global, name: &str, words: &[String]) -> Result<Option<Comm
     } else if name == "run" {
         run_words(alloc, words)
     } else if name == "routes" {
-        routes_words(alloc, words)
+        bare_command(alloc, words, Command::Routes)
     } else if name == "sample" {
         sample_command(alloc, words)
     } else if name == "check" {
-        check_words(alloc, words)
+        bare_command(alloc, words, Command::Check)
     } else if name == "balance" {
-        balance_words(alloc, words)
+        bare_command(alloc, words, Command::Balance)
     } else if name == "poll" {
         Ok(poll_command(words))
     } else if name == "values" {
-        values_words(alloc, words)
+        bare_command(alloc, words, Command::Values)
     } else {
         Ok(None)
     }

@@ -1,5 +1,5 @@
 // The routes of a net.
-ghost use Rattle.std.specs.Prelude.{◌≡◌, ◌<◌, IfOk, length, map};
+ghost use Rattle.std.specs.Prelude.{◌≡◌, ◌<◌, None, IfOk, length, map, slice_index_or};
 ghost use Rattle.sl_layout.specs.Net.{Net};
 ghost use Rattle.sl_parts.specs.Parts.{below};
 ghost use Rattle.sl_parts.specs.Valid.{IsValid};
@@ -42,6 +42,16 @@ fn all_ways(alloc: Global, parts: &Parts) -> Result<Vec<Ways>, AllocError>
     Ok(ways)
 }
 
+/// What is kept for a device, or none past the last one.
+fn kept<T: Copy>(row: &[Option<T>], device: u32) -> Option<T>
+    ensures { result ≡ slice_index_or row.now device None }
+{
+    match row.get(device as usize) {
+        Some(value) => *value,
+        None => None,
+    }
+}
+
 impl Routes {
     /// The routes of a net, by one search for each host that looks at each cable twice.
     pub fn make(alloc: Global, net: &Net) -> Result<Routes, Memory>
@@ -58,7 +68,7 @@ impl Routes {
             → result ≡ next_port net.parts device host }
     {
         let ways = self.ways.get(host as usize)?;
-        *ways.ports.get(device as usize)?
+        kept(&ways.ports, device)
     }
 
     /// The fewest cables of a way from a device to a host's device. None where no way leads there
@@ -68,6 +78,6 @@ impl Routes {
             → result ≡ hops net.parts device host }
     {
         let ways = self.ways.get(host as usize)?;
-        *ways.hops.get(device as usize)?
+        kept(&ways.hops, device)
     }
 }

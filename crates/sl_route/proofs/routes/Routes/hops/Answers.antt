@@ -1,32 +1,12 @@
-use Rattle.std.proofs.Common.{◌≡◌, ◌≤◌, length, get_or, map, sym, ap, ◌∙◌, arith, zero-add}
-use Rattle.std.specs.Prelude.{None}
-use Rattle.std.proofs.lemmas.List.FromFn.{get_or-map-range_with_len, length-map-range_with_len}
-use Rattle.sl_parts.specs.Parts.{below}
+use Rattle.std.proofs.Common.{ap, sym, ◌∙◌}
 use Rattle.sl_route.specs.Route.{hops}
 use Rattle.sl_route.specs.Ways.{Ways}
-use Rattle.sl_route.specs.Routes.{ways_of, routes_of}
-use Rattle.sl_route.proofs.Reading.{no-hops, length-routes, way-is, hops-kept}
+use Rattle.sl_route.proofs.Reading.{past-hosts, kept-at, no-hops, hops-kept}
 use Rattle.sl_route.proofs.routes.Routes.hops.Goals as goal
 
 pub returns-in_err-ways : goal.returns-in_err-ways
-returns-in_err-ways c = λ net r l.
-    let all : c.deref.result.now ≡ routes_of net = c.deref.ensures.value ∙ c.self.view_is ∙ r in
-    let past : length c.deref.result.now ≤ c.args.host = c.in_err-ways.ensures.lookup.3 in
-    c.from_residual.ensures ∙ sym (no-hops net.parts c.args.device c.args.host (omega (arith, past, ap length all, length-routes net)))
-
-pub returns-in_err-get : goal.returns-in_err-get
-returns-in_err-get c = λ net r l.
-    let h = c.args.host in
-    let all : c.deref.result.now ≡ routes_of net = c.deref.ensures.value ∙ c.self.view_is ∙ r in
-    let way : c.in_ok-ways.ways.now ≡ ways_of net.parts h = way-is net c.deref.result.now h c.in_ok-ways.ways.now all c.in_ok-ways.ensures.lookup.3.0 c.in_ok-ways.ensures.lookup.3.1 in
-    let kept : c.deref-2.result.now ≡ map (λ d. hops net.parts d h) (below (length net.parts.devices)) = c.deref-2.ensures.value ∙ ap (λ (w : Ways). w.hops) (c.ways.view_is ∙ way) ∙ hops-kept net.parts h in
-    let past : length c.deref-2.result.now ≤ c.args.device = c.in_err-get.ensures.lookup.3 in
-    absurd (omega (arith, past, l, ap length kept, length-map-range_with_len (λ d. hops net.parts d h) 0 (length net.parts.devices)))
+returns-in_err-ways c = λ net r l. c.from_residual.ensures ∙ sym (no-hops net.parts c.args.device c.args.host (past-hosts net c.args.host _ (c.deref.ensures.value ∙ c.self.view_is ∙ r) c.in_err-ways.ensures.lookup.3))
 
 pub returns : goal.returns
-returns c = λ net r l.
-    let h = c.args.host in
-    let all : c.deref.result.now ≡ routes_of net = c.deref.ensures.value ∙ c.self.view_is ∙ r in
-    let way : c.in_ok-ways.ways.now ≡ ways_of net.parts h = way-is net c.deref.result.now h c.in_ok-ways.ways.now all c.in_ok-ways.ensures.lookup.3.0 c.in_ok-ways.ensures.lookup.3.1 in
-    let kept : c.deref-2.result.now ≡ map (λ d. hops net.parts d h) (below (length net.parts.devices)) = c.deref-2.ensures.value ∙ ap (λ (w : Ways). w.hops) (c.ways.view_is ∙ way) ∙ hops-kept net.parts h in
-    c.in_ok-get.ensures.lookup.3.1 None ∙ ap (λ os. get_or os c.args.device None) kept ∙ get_or-map-range_with_len (λ d. hops net.parts d h) 0 (length net.parts.devices) c.args.device _ None l (zero-add c.args.device)
+returns c = λ net r l. c.kept.ensures ∙ kept-at net c.args.host _ (c.deref.ensures.value ∙ c.self.view_is ∙ r) (λ w. w.hops) (λ d. hops net.parts d c.args.host) (hops-kept net.parts c.args.host)
+    c.in_ok-ways.ways.now c.deref-2.result.now c.args.device c.in_ok-ways.ensures.lookup.3.0 c.in_ok-ways.ensures.lookup.3.1 (c.deref-2.ensures.value ∙ ap (λ (w : Ways). w.hops) c.ways.view_is) l

@@ -51,24 +51,6 @@ fn add_unit(line: &mut Vec<u8>, parts: &Parts, unit: UnitId) -> Result<(), Alloc
     add_digit(line, unit.port)
 }
 
-fn add_control(line: &mut Vec<u8>, parts: &Parts, device: u32) -> Result<(), AllocError>
-    requires { device < length parts.now.devices }
-    ensures { OnOk result
-        (line.new.items ≡ line.old.items ++ actor_text parts.now (ActorId.Control device)) }
-{
-    line.extend_from_slice(b"control ")?;
-    add_device(line, parts, device)
-}
-
-fn add_named_host(line: &mut Vec<u8>, parts: &Parts, host: u32) -> Result<(), AllocError>
-    requires { host < length parts.now.hosts }
-    ensures { OnOk result
-        (line.new.items ≡ line.old.items ++ actor_text parts.now (ActorId.Host host)) }
-{
-    line.extend_from_slice(b"host ")?;
-    add_host(line, parts, host)
-}
-
 fn add_actor(line: &mut Vec<u8>, parts: &Parts, actor: ActorId) -> Result<(), AllocError>
     requires valid { IsValid parts.now }
     requires actor { IsActor parts.now actor }
@@ -76,9 +58,15 @@ fn add_actor(line: &mut Vec<u8>, parts: &Parts, actor: ActorId) -> Result<(), Al
 {
     match actor {
         ActorId::Observer => line.extend_from_slice(b"observer"),
-        ActorId::Control(device) => add_control(line, parts, device),
+        ActorId::Control(device) => {
+            line.extend_from_slice(b"control ")?;
+            add_device(line, parts, device)
+        }
         ActorId::Unit(unit) => add_unit(line, parts, unit),
-        ActorId::Host(host) => add_named_host(line, parts, host),
+        ActorId::Host(host) => {
+            line.extend_from_slice(b"host ")?;
+            add_host(line, parts, host)
+        }
     }
 }
 

@@ -1,32 +1,23 @@
 // The text of a refused input.
 ghost use Rattle.std.specs.Prelude.{◌≡◌, ◌++◌, IfOk, codes, string_bytes};
 ghost use Rattle.std.specs.Fmt.{signed_decimal};
-ghost use Rattle.sl_report.specs.FaultText.{net_words, fault_words, fault_text};
+ghost use Rattle.sl_form.specs.Paths.{table_text};
+ghost use Rattle.sl_report.specs.FaultText.{place_text, net_words, fault_words, fault_text};
 
+use sl_form::TableName;
 use sl_machine::Memory;
 use sl_net::{Line, NetFault, Place};
 use sl_read::InputFault;
 use std::alloc::{AllocError, Global};
-use std::fmt;
 
-/// A part of a net as the input names it.
-#[derive(Clone, Copy)]
-struct Part {
-    place: Place,
-}
-
-impl fmt::Display for Part {
-    ghost use Rattle.std.specs.Prelude.{Some};
-    ghost use Rattle.sl_report.specs.FaultText.{place_text};
-
-    ghost output = { λ p. Some (place_text p.place) };
-
-    fn fmt<W: fmt::Write>(&self, f: &mut fmt::Formatter<W>) -> fmt::Result {
-        match self.place {
-            Place::Device(i) => write!(f, "device.{i}"),
-            Place::Cable(i) => write!(f, "cable.{i}"),
-            Place::Host(i) => write!(f, "host.{i}"),
-        }
+/// The table of a part of a net in the input.
+fn table_of(place: Place) -> TableName
+    ensures { table_text result ≡ place_text place }
+{
+    match place {
+        Place::Device(i) => TableName::Device(i),
+        Place::Cable(i) => TableName::Cable(i),
+        Place::Host(i) => TableName::Host(i),
     }
 }
 
@@ -38,15 +29,15 @@ fn net_words(alloc: Global, fault: NetFault) -> Result<String, AllocError>
         NetFault::N2(n) => format!(in alloc; "N2 {n}"),
         NetFault::N3(i) => format!(in alloc; "N3 device.{i}"),
         NetFault::N4(place) => {
-            let part = Part { place };
-            format!(in alloc; "N4 {part}")
+            let table = table_of(place);
+            format!(in alloc; "N4 {table}")
         }
         NetFault::N5(i) => format!(in alloc; "N5 cable.{i}"),
         NetFault::N6(n) => format!(in alloc; "N6 {n}"),
         NetFault::N7(i) => format!(in alloc; "N7 host.{i}"),
         NetFault::N8(place) => {
-            let part = Part { place };
-            format!(in alloc; "N8 {part}")
+            let table = table_of(place);
+            format!(in alloc; "N8 {table}")
         }
         NetFault::Memory => Ok(String::new(alloc)),
     }

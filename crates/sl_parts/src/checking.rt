@@ -47,99 +47,75 @@ fn is_stray_host(parts: &Parts, host: &HostPart) -> bool
 fn first_wrong_device(parts: &Parts) -> Option<usize>
     ensures { result ≡ position has_wrong_ports parts.now.devices }
 {
-    parts
-        .devices
-        .iter()
-        .position(|device| has_wrong_ports(device))
+    let mut devices = parts.devices.iter();
+    devices.position(|device| has_wrong_ports(device))
 }
 
 fn first_stray_cable(parts: &Parts) -> Option<usize>
     ensures { result ≡ position (is_stray_cable parts.now) parts.now.cables }
 {
-    parts
-        .cables
-        .iter()
-        .position(|cable| is_stray_cable(parts, cable))
+    let mut cables = parts.cables.iter();
+    cables.position(|cable| is_stray_cable(parts, cable))
 }
 
 fn first_stray_host(parts: &Parts) -> Option<usize>
     ensures { result ≡ position (is_stray_host parts.now) parts.now.hosts }
 {
-    parts
-        .hosts
-        .iter()
-        .position(|host| is_stray_host(parts, host))
+    let mut hosts = parts.hosts.iter();
+    hosts.position(|host| is_stray_host(parts, host))
 }
 
-/// Whether there are devices.
-pub fn check_some_device(parts: &Parts) -> Result<(), NetFault>
-    ensures ok { OnOk result (no_device parts.now ≡ None) }
-    ensures err { IfErr result (λ e. no_device parts.now ≡ Some e) }
+fn no_device(parts: &Parts) -> Option<NetFault>
+    ensures { result ≡ no_device parts.now }
 {
     if parts.devices.is_empty() {
-        Err(NetFault::N1)
+        Some(NetFault::N1)
     } else {
-        Ok(())
+        None
     }
 }
 
-/// Whether there are at most 64 devices.
-pub fn check_devices(parts: &Parts) -> Result<(), NetFault>
-    ensures ok { OnOk result (too_many_devices parts.now ≡ None) }
-    ensures err { IfErr result (λ e. too_many_devices parts.now ≡ Some e) }
+fn too_many_devices(parts: &Parts) -> Option<NetFault>
+    ensures { result ≡ too_many_devices parts.now }
 {
     let count = parts.devices.len();
     if count > 64 {
-        Err(NetFault::N2(count as u64))
+        Some(NetFault::N2(count as u64))
     } else {
-        Ok(())
+        None
     }
 }
 
-/// Whether each device has one port to eight.
-pub fn check_ports(parts: &Parts) -> Result<(), NetFault>
-    ensures ok { OnOk result (wrong_ports parts.now ≡ None) }
-    ensures err { IfErr result (λ e. wrong_ports parts.now ≡ Some e) }
-{
-    match first_wrong_device(parts) {
-        Some(i) => Err(NetFault::N3(i as u64)),
-        None => Ok(()),
-    }
-}
-
-/// Whether each cable's ends are ports.
-pub fn check_cables(parts: &Parts) -> Result<(), NetFault>
-    ensures ok { OnOk result (stray_cable parts.now ≡ None) }
-    ensures err { IfErr result (λ e. stray_cable parts.now ≡ Some e) }
-{
-    match first_stray_cable(parts) {
-        Some(i) => Err(NetFault::N4(Place::Cable(i as u64))),
-        None => Ok(()),
-    }
-}
-
-/// Whether each host is at a port.
-pub fn check_seats(parts: &Parts) -> Result<(), NetFault>
-    ensures ok { OnOk result (stray_host parts.now ≡ None) }
-    ensures err { IfErr result (λ e. stray_host parts.now ≡ Some e) }
-{
-    match first_stray_host(parts) {
-        Some(i) => Err(NetFault::N4(Place::Host(i as u64))),
-        None => Ok(()),
-    }
-}
-
-/// Whether there are at most 128 hosts.
-pub fn check_hosts(parts: &Parts) -> Result<(), NetFault>
-    ensures ok { OnOk result (too_many_hosts parts.now ≡ None) }
-    ensures err { IfErr result (λ e. too_many_hosts parts.now ≡ Some e) }
+fn too_many_hosts(parts: &Parts) -> Option<NetFault>
+    ensures { result ≡ too_many_hosts parts.now }
 {
     let count = parts.hosts.len();
     if count > 128 {
-        Err(NetFault::N6(count as u64))
+        Some(NetFault::N6(count as u64))
     } else {
-        Ok(())
+        None
     }
+}
+
+fn wrong_ports(parts: &Parts) -> Option<NetFault>
+    ensures { result ≡ wrong_ports parts.now }
+{
+    let found = first_wrong_device(parts);
+    found.map(|i| NetFault::N3(i as u64))
+}
+
+fn stray_cable(parts: &Parts) -> Option<NetFault>
+    ensures { result ≡ stray_cable parts.now }
+{
+    let found = first_stray_cable(parts);
+    found.map(|i| NetFault::N4(Place::Cable(i as u64)))
+}
+
+fn stray_host(parts: &Parts) -> Option<NetFault>
+    ensures { result ≡ stray_host parts.now }
+{
+    let found = first_stray_host(parts);
+    found.map(|i| NetFault::N4(Place::Host(i as u64)))
 }
 
 /// Whether two names are one.
@@ -187,25 +163,28 @@ fn first_host_namesake(hosts: &[HostPart]) -> Option<usize>
     None
 }
 
-/// Whether the devices' names differ.
-pub fn check_device_names(parts: &Parts) -> Result<(), NetFault>
-    ensures ok { OnOk result (device_namesake parts.now ≡ None) }
-    ensures err { IfErr result (λ e. device_namesake parts.now ≡ Some e) }
+fn device_namesake(parts: &Parts) -> Option<NetFault>
+    ensures { result ≡ device_namesake parts.now }
 {
-    match first_device_namesake(&parts.devices) {
-        Some(i) => Err(NetFault::N8(Place::Device(i as u64))),
-        None => Ok(()),
-    }
+    let found = first_device_namesake(&parts.devices);
+    found.map(|i| NetFault::N8(Place::Device(i as u64)))
 }
 
-/// Whether the hosts' names differ.
-pub fn check_host_names(parts: &Parts) -> Result<(), NetFault>
-    ensures ok { OnOk result (host_namesake parts.now ≡ None) }
-    ensures err { IfErr result (λ e. host_namesake parts.now ≡ Some e) }
+fn host_namesake(parts: &Parts) -> Option<NetFault>
+    ensures { result ≡ host_namesake parts.now }
 {
-    match first_host_namesake(&parts.hosts) {
-        Some(i) => Err(NetFault::N8(Place::Host(i as u64))),
+    let found = first_host_namesake(&parts.hosts);
+    found.map(|i| NetFault::N8(Place::Host(i as u64)))
+}
+
+/// Refused where there is a fault.
+fn refuse(fault: Option<NetFault>) -> Result<(), NetFault>
+    ensures ok { OnOk result (fault ≡ None) }
+    ensures err { IfErr result (λ e. fault ≡ Some e) }
+{
+    match fault {
         None => Ok(()),
+        Some(fault) => Err(fault),
     }
 }
 
@@ -219,11 +198,11 @@ fn check_ranges(parts: &Parts) -> Result<(), NetFault>
     ensures hosts { OnOk result (stray_host parts.now ≡ None) }
     ensures err { IfErr result (λ e. fault_of parts.now ≡ Some e) }
 {
-    check_some_device(parts)?;
-    check_devices(parts)?;
-    check_ports(parts)?;
-    check_cables(parts)?;
-    check_seats(parts)
+    refuse(no_device(parts))?;
+    refuse(too_many_devices(parts))?;
+    refuse(wrong_ports(parts))?;
+    refuse(stray_cable(parts))?;
+    refuse(stray_host(parts))
 }
 
 /// What each port leads to, or the first reason why the parts are no net.
@@ -236,9 +215,9 @@ pub fn check(alloc: Global, parts: &Parts) -> Result<PortTable, NetFault>
 {
     check_ranges(parts)?;
     let ends = join_cables(alloc, parts.devices.len(), parts.cables.as_slice())?;
-    check_hosts(parts)?;
+    refuse(too_many_hosts(parts))?;
     let guests = seat_hosts(alloc, parts, ends.as_slice())?;
-    check_device_names(parts)?;
-    check_host_names(parts)?;
+    refuse(device_namesake(parts))?;
+    refuse(host_namesake(parts))?;
     Ok(PortTable { ends, guests })
 }

@@ -243,21 +243,23 @@ one-by-receiver parts t from v l k o p f g e = let x = v.ends l o.is_link in let
     let r : x.receiver ≡ y.receiver = sym (x.to_is) ∙ ap (actor_of (net_of parts)) e ∙ y.to_is in
     v.one_link l k o.is_link p.is_link (same-from parts l k v x y (f x ∙ ap from r ∙ sym (g y))) e (o.sort ∙ sym p.sort)
 
+-- of the links of a sort that lead from its control plane, an actor has one
+one-control : (parts : Parts) (t : Sort) → is_inner t ≡ true → IsWired (net_of parts)
+    → ((l : ℕ) → l < length (net_of parts).links → (link_of (net_of parts) l).sort ≡ t → (d : ℕ) × (actor_of (net_of parts) (link_of (net_of parts) l).from ≡ Control d))
+    → (l k : ℕ) → Member l (sorted (net_of parts) t) → Member k (sorted (net_of parts) t) → (link_of (net_of parts) l).to ≡ (link_of (net_of parts) k).to → l ≡ k
+one-control parts t inner v from_control l k p q e = let o = in-sorted (net_of parts) v.ways t l p in let r = in-sorted (net_of parts) v.ways t k q in
+    one-by-receiver parts t (λ y. Control (home y)) v l k o r (λ x. from l o x) (λ y. from k r y) e
+  where
+    from : (l : ℕ) → IsSorted (net_of parts) t l → (x : HasEnds (net_of parts) l) → x.sender ≡ Control (home x.receiver)
+    from l o x = let d = from_control l o.is_link o.sort in own-control x.sender d.0 (home x.receiver) (sym x.from_is ∙ d.1) (x.inner (ap is_inner o.sort ∙ inner))
+
 -- an ingress unit has one link of initiations
 pub one-init : (parts : Parts) → IsWired (net_of parts) → (l k : ℕ) → Member l (sorted (net_of parts) Init) → Member k (sorted (net_of parts) Init) → (link_of (net_of parts) l).to ≡ (link_of (net_of parts) k).to → l ≡ k
-one-init parts v l k p q e = let o = in-sorted (net_of parts) v.ways Init l p in let r = in-sorted (net_of parts) v.ways Init k q in
-    one-by-receiver parts Init (λ y. Control (home y)) v l k o r (λ x. from l o x) (λ y. from k r y) e
-  where
-    from : (l : ℕ) → IsSorted (net_of parts) Init l → (x : HasEnds (net_of parts) l) → x.sender ≡ Control (home x.receiver)
-    from l o x = let d = v.init_from l o.is_link o.sort in own-control x.sender d.0 (home x.receiver) (sym x.from_is ∙ d.1) (x.inner (ap is_inner o.sort))
+one-init parts v = one-control parts Init refl v v.init_from
 
 -- a unit has one link of polls
 pub one-poll : (parts : Parts) → IsWired (net_of parts) → (l k : ℕ) → Member l (sorted (net_of parts) Poll) → Member k (sorted (net_of parts) Poll) → (link_of (net_of parts) l).to ≡ (link_of (net_of parts) k).to → l ≡ k
-one-poll parts v l k p q e = let o = in-sorted (net_of parts) v.ways Poll l p in let r = in-sorted (net_of parts) v.ways Poll k q in
-    one-by-receiver parts Poll (λ y. Control (home y)) v l k o r (λ x. from l o x) (λ y. from k r y) e
-  where
-    from : (l : ℕ) → IsSorted (net_of parts) Poll l → (x : HasEnds (net_of parts) l) → x.sender ≡ Control (home x.receiver)
-    from l o x = let d = v.poll_from l o.is_link o.sort in own-control x.sender d.0 (home x.receiver) (sym x.from_is ∙ d.1) (x.inner (ap is_inner o.sort))
+one-poll parts v = one-control parts Poll refl v v.poll_from
 
 -- an egress unit has one crossbar link from the ingress unit of its port
 

@@ -64,6 +64,21 @@ from-outside-only parts d p x t i k m = by_parts (member-parts (x, t) (from_outs
     by_parts (inr (inr (inl q))) = absurd (k (ap (λ i. i.1) q))
     by_parts (inr (inr (inr n))) = absurd n
 
+-- A link into a device: to the ingress unit of a port.
+record Inlet (parts : Parts) (l : ℕ) (t : Sort) : Type 0 where
+  link : HasEnds (net_of parts) l
+  at : PortRef
+  receiver : link.receiver ≡ ingress at.device at.port
+  outside : Member {A = Incoming} (link.sender, t) (from_outside parts at)
+
+inlet : (parts : Parts) (l : ℕ) → IsWired (net_of parts) → l < length (net_of parts).links → (t : Sort) → (link_of (net_of parts) l).sort ≡ t
+    → ((x : ActorId) → receives x t ≡ true → (i : UnitId) × ((x ≡ OfUnit i) × (i.side ≡ Ingress))) → (t ≡ Init → ⊥) → (t ≡ Poll → ⊥) → Inlet parts l t
+inlet parts l v p t q takes init poll = let k = v.ends l p in let x = takes k.receiver (subst (λ s. receives k.receiver s ≡ true) q k.received) in
+    let i = x.0 in
+    let r : k.receiver ≡ ingress i.device i.port = x.1.0 ∙ ap (λ s. OfUnit (record { device = i.device; port = i.port; side = s })) x.1.1 in
+    let m : Member {A = Incoming} (k.sender, t) (unit_incoming parts i.device i.port Ingress) = subst (λ y. Member {A = Incoming} (k.sender, t) (incoming parts y)) r (subst (λ s. Member {A = Incoming} (k.sender, s) (incoming parts k.receiver)) q k.listed) in
+    record { link = k; at = record { device = i.device; port = i.port }; receiver = r; outside = from-outside-only parts i.device i.port k.sender t init poll m }
+
 -- A cable link: from the egress unit at one end of a cable to the ingress unit at the other.
 pub record CableLink (parts : Parts) (l : ℕ) : Type 0 where
   pub link : HasEnds (net_of parts) l
@@ -74,13 +89,8 @@ pub record CableLink (parts : Parts) (l : ℕ) : Type 0 where
   pub joins : Joins parts.cables near far
 
 pub cable-link : (parts : Parts) (l : ℕ) → IsWired (net_of parts) → l < length (net_of parts).links → (link_of (net_of parts) l).sort ≡ Cable → CableLink parts l
-cable-link parts l v p q = let k = v.ends l p in let x = cable-receiver k.receiver (subst (λ t. receives k.receiver t ≡ true) q k.received) in
-    let i = x.0 in
-    let r : k.receiver ≡ ingress i.device i.port = x.1.0 ∙ ap (λ s. OfUnit (record { device = i.device; port = i.port; side = s })) x.1.1 in
-    let m : Member {A = Incoming} (k.sender, Cable) (unit_incoming parts i.device i.port Ingress) = subst (λ y. Member {A = Incoming} (k.sender, Cable) (incoming parts y)) r (subst (λ t. Member {A = Incoming} (k.sender, t) (incoming parts k.receiver)) q k.listed) in
-    let e = outside-cable (host_at parts (record { device = i.device; port = i.port })) (other_end parts.cables (record { device = i.device; port = i.port })) k.sender
-    (from-outside-only parts i.device i.port k.sender Cable (λ z. cc) (λ z. cc) m) in
-    record { link = k; near = e.0; far = record { device = i.device; port = i.port }; sender = e.1.1; receiver = r; joins = joins-back parts.cables (record { device = i.device; port = i.port }) e.0 (other-joins parts.cables (record { device = i.device; port = i.port }) e.0 e.1.0) }
+cable-link parts l v p q = let n = inlet parts l v p Cable q cable-receiver (λ z. cc) (λ z. cc) in let e = outside-cable (host_at parts n.at) (other_end parts.cables n.at) n.link.sender n.outside in
+    record { link = n.link; near = e.0; far = n.at; sender = e.1.1; receiver = n.receiver; joins = joins-back parts.cables n.at e.0 (other-joins parts.cables n.at e.0 e.1.0) }
 
 -- A link to a host: from the egress unit at its port.
 pub record HostLink (parts : Parts) (l : ℕ) : Type 0 where
@@ -116,13 +126,8 @@ stands-at : (parts : Parts) (p : PortRef) (h : ℕ) → host_at parts p ≡ Some
 stands-at parts p h q = let s = host-at-is 0 parts.hosts p h q in let e : s.0 ≡ h = omega (arith, s.1.0) in subst (λ n. port_at parts.hosts n ≡ Some p) e s.1.1
 
 pub from-link : (parts : Parts) (l : ℕ) → IsWired (net_of parts) → l < length (net_of parts).links → (link_of (net_of parts) l).sort ≡ FromHost → FromLink parts l
-from-link parts l v p q = let k = v.ends l p in let x = from-receiver k.receiver (subst (λ t. receives k.receiver t ≡ true) q k.received) in
-    let i = x.0 in
-    let r : k.receiver ≡ ingress i.device i.port = x.1.0 ∙ ap (λ s. OfUnit (record { device = i.device; port = i.port; side = s })) x.1.1 in
-    let m : Member {A = Incoming} (k.sender, FromHost) (unit_incoming parts i.device i.port Ingress) = subst (λ y. Member {A = Incoming} (k.sender, FromHost) (incoming parts y)) r (subst (λ t. Member {A = Incoming} (k.sender, t) (incoming parts k.receiver)) q k.listed) in
-    let e = outside-host (host_at parts (record { device = i.device; port = i.port })) (other_end parts.cables (record { device = i.device; port = i.port })) k.sender
-    (from-outside-only parts i.device i.port k.sender FromHost (λ z. cc) (λ z. cc) m) in
-    record { link = k; host = e.0; at = record { device = i.device; port = i.port }; sender = e.1.1; receiver = r; stands = stands-at parts (record { device = i.device; port = i.port }) e.0 e.1.0 }
+from-link parts l v p q = let n = inlet parts l v p FromHost q from-receiver (λ z. cc) (λ z. cc) in let e = outside-host (host_at parts n.at) (other_end parts.cables n.at) n.link.sender n.outside in
+    record { link = n.link; host = e.0; at = n.at; sender = e.1.1; receiver = n.receiver; stands = stands-at parts n.at e.0 e.1.0 }
 
 -- Ports of units.
 

@@ -14,26 +14,24 @@ use sl_parts::filled;
 use std::alloc::{AllocError, Global};
 use std::marker::Model;
 
+fn unit_at(device: u32, port: u32, side: Side) -> ActorId
+    ensures { result ≡ ActorId.Unit (record { device = device; port = port; side = side }) }
+{
+    ActorId::Unit(UnitId { device, port, side })
+}
+
 /// The ingress unit of a port.
 pub fn ingress(device: u32, port: u32) -> ActorId
     ensures { result ≡ ingress device port }
 {
-    ActorId::Unit(UnitId {
-        device,
-        port,
-        side: Side::Ingress,
-    })
+    unit_at(device, port, Side::Ingress)
 }
 
 /// The egress unit of a port.
 pub fn egress(device: u32, port: u32) -> ActorId
     ensures { result ≡ egress device port }
 {
-    ActorId::Unit(UnitId {
-        device,
-        port,
-        side: Side::Egress,
-    })
+    unit_at(device, port, Side::Egress)
 }
 
 fn side_number(side: Side) -> usize

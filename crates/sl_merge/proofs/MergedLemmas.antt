@@ -1,5 +1,5 @@
 -- Actors that are wired by a plan, taken apart and with the ends of their links met, are such as the law of the merge asks for.
-use Rattle.std.proofs.Common.{◌≡◌, ℕ, ◌<◌, ◌≤◌, ◌^◌, List, [], ◌∷◌, ◌++◌, length, map, drop, get_or, Option, Some, None, sym, refl, ap, ap₂, ◌∙◌, subst, arith}
+use Rattle.std.proofs.Common.{◌≡◌, ℕ, ◌<◌, ◌^◌, List, [], ◌∷◌, ◌++◌, length, map, drop, get_or, Option, Some, None, sym, refl, ap, ap₂, ◌∙◌, subst, arith}
 use Rattle.std.specs.Prelude.{slice_index}
 use Rattle.std.specs.List.{All}
 use Rattle.std.specs.List.Sorted.{IsPermutation}
@@ -21,10 +21,10 @@ use Rattle.sl_actor.specs.Rows.{place_at}
 use Rattle.sl_actor.specs.Outs.{OutView, out_view}
 use Rattle.sl_actor.specs.Follows.{ActorView}
 use Rattle.sl_actor.specs.Made.{EachFollows}
-use Rattle.sl_world.specs.Scene.{Scene, lines_with, schedule_of}
+use Rattle.sl_world.specs.Scene.{Scene, lines_with}
 use Rattle.sl_world.proofs.ResumeLemmas.{length-lines_with}
 use Rattle.sl_world.proofs.TurnLemmas.{some_at}
-use Rattle.sl_merge.specs.Lamport.{lamport_numbers}
+use Rattle.sl_merge.specs.Lamport.{IsNumbered, AreLow}
 use Rattle.sl_merge.specs.Merging.{IsMerge, IsAscending, IsLog, all_entries, joined}
 use Rattle.sl_merge.specs.Ended.{Ended, HaveMet, IsMergeOf, IsRunOf, Rests, AreRests, StandsAsRun, resumed, log_entries, take_at, out_at}
 use Rattle.sl_merge.specs.Merged.{AreWired, AreLeft, left_on, loss_before, losses_before}
@@ -73,6 +73,10 @@ module _ {S M : Type 0} where
       → get_or (get_or (map (λ a. map f a.takes) actors) link.to []) link.choice d ≡ f (take_at actors link a t)
   take_by f actors link d a t low here =
       ap (λ xs. get_or xs link.choice d) (get_or-map (λ a. map f a.takes) actors link.to a [] low) ∙ get_or-map f (get_or actors link.to a).takes link.choice t d here
+
+-- the actors have ended, from these states of their machines on
+abbrev pub ended_by : {S M : Type 0} → Plan → List (ActorView S M) → List S → Ended S M
+ended_by plan actors firsts = record { plan = plan; losses = losses_before plan.links actors; firsts = firsts; actors = actors; held = λ l. left_on actors (link_at plan.links l) }
 
 module _ {S M : Type 0} (plan : Plan) (actors : List (ActorView S M)) (wired : AreWired plan actors) where
   pub actors_each : length actors ≡ length plan.ins
@@ -176,7 +180,7 @@ module _ {S M : Type 0} (plan : Plan) (actors : List (ActorView S M)) (wired : A
 
       module _ (rules : Rules S M) (firsts : List S) (firsts_each : length firsts ≡ length plan.ins) (follows : EachFollows rules firsts actors) where
         abbrev pub ended : Ended S M
-        ended = record { plan = plan; losses = losses_before plan.links actors; firsts = firsts; actors = actors; held = λ l. left_on actors (link_at plan.links l) }
+        ended = ended_by plan actors firsts
 
         pub have_met : HaveMet rules ended
         have_met = record {
@@ -211,8 +215,8 @@ module _ {S M : Type 0} (plan : Plan) (actors : List (ActorView S M)) (wired : A
           -- what is known of the world that goes on from all this
           pub record IsMerged (w : Scene S M) : Type 0 where
             pub run : StandsAsRun rules plan firsts (losses_before plan.links actors) w
-            pub numbers : lamport_numbers rules plan firsts (losses_before plan.links actors) (schedule_of w.book) ≡ map (λ (e : Entry). e.number) w.book
-            pub small : All (λ (e : Entry). e.number ≤ length w.book) w.book
+            pub numbers : IsNumbered rules plan firsts (losses_before plan.links actors) w.book
+            pub small : AreLow w.book
             pub book_is : IsMerge (log_entries actors) w.book
             pub order : IsAscending book → IsAscending w.book
             pub plan_is : w.plan ≡ plan
@@ -251,3 +255,11 @@ module _ {S M : Type 0} (plan : Plan) (actors : List (ActorView S M)) (wired : A
               → states ≡ map (λ a. a.state) actors → losses ≡ rests.losses → lost ≡ rests.lost → messages ≡ rests.messages → w ≡ resumed ended rests book
           resumed_by w states losses lost messages is same_states same_losses same_lost same_messages =
               is ∙ (λ i. record { plan = plan; states = same_states i; lines = lines_with (same_losses i) (same_lost i) (same_messages i); book = book })
+
+    -- the same of the links as they were read
+    pub rests_by : (links : List Link) → links ≡ plan.links → (rests : Rests M) → AreRestsOf links (length links) takes outs rests → AreRestsOf plan.links (length plan.links) takes outs rests
+    rests_by links is rests are = subst (λ (l : List Link). AreRestsOf l (length l) takes outs rests) is are
+
+    pub met_by : (links : List Link) → links ≡ plan.links → (rests : Rests M) → AreRestsOf links (length links) takes outs rests
+        → (rules : Rules S M) (firsts : List S) → length firsts ≡ length plan.ins → EachFollows rules firsts actors → HaveMet rules (ended_by plan actors firsts)
+    met_by links is rests are rules firsts each follows = have_met rests (rests_by links is rests are) rules firsts each follows

@@ -95,35 +95,25 @@ module _ {S M : Type 0} where
       let own : AreChosen (slice_index plan.ins e.0) (e.1 ∷ part_of e.0 es) = subst (AreChosen (slice_index plan.ins e.0)) (own_first e.0 e.1 es) (h e.0 below.0) in
       (linked plan e.0 e.1.choice e.1.message sound below.0 own.0, all_linked plan es sound below.1 (λ a low. chosen_on (slice_index plan.ins a) e.0 a e.1 es (e.0 == a) refl (h a low)))
 
+-- a test of a number, by one of two numbers
+test_of_both : (k l x u y v : ℕ) → (k ≡ l → (x ≡ u) × (y ≡ v)) → (x ≡ u → y ≡ v → k ≡ l) → (k == l) ≡ ((x == u) && (y == v))
+test_of_both k l x u y v to from = by_test (k == l) refl
+  where
+    by_test : (t : Bool) → (k == l) ≡ t → t ≡ ((x == u) && (y == v))
+    by_test true e = let both = to (eqb-true k l e) in sym (and_from (x == u) (y == v) (eq-eqb x u both.0) (eq-eqb y v both.1))
+    by_test false e = sym (false_from_ne_true ((x == u) && (y == v)) (λ t. let both = and_parts (x == u) (y == v) t in eqb-false k l e (from (eqb-true x u both.0) (eqb-true y v both.1))))
+
 -- whether an actor's choice is the link at this place
 in_test : (plan : Plan) (l a c : ℕ) → IsSound plan → l < length plan.links → (link_in plan.links a c == l) ≡ ((a == (link_at plan.links l).to) && (c == (link_at plan.links l).choice))
-in_test plan l a c sound low = in_by (link_in plan.links a c == l) refl
-  where
-    in_by : (t : Bool) → (link_in plan.links a c == l) ≡ t → t ≡ ((a == (link_at plan.links l).to) && (c == (link_at plan.links l).choice))
-    in_by true e =
-        let is : link_in plan.links a c ≡ l = eqb-true (link_in plan.links a c) l e in
-        let found = link_in_is plan.links a c (subst (λ (k : ℕ). k < length plan.links) (sym is) low) in
-        let to : a ≡ (link_at plan.links l).to = sym found.0 ∙ ap (λ (k : ℕ). (link_at plan.links k).to) is in
-        let choice : c ≡ (link_at plan.links l).choice = sym found.1 ∙ ap (λ (k : ℕ). (link_at plan.links k).choice) is in
-        sym (and_from (a == (link_at plan.links l).to) (c == (link_at plan.links l).choice) (eq-eqb a (link_at plan.links l).to to) (eq-eqb c (link_at plan.links l).choice choice))
-    in_by false e = sym (false_from_ne_true ((a == (link_at plan.links l).to) && (c == (link_at plan.links l).choice)) (λ t.
-        let both = and_parts (a == (link_at plan.links l).to) (c == (link_at plan.links l).choice) t in
-        eqb-false (link_in plan.links a c) l e (ap₂ (link_in plan.links) (eqb-true a (link_at plan.links l).to both.0) (eqb-true c (link_at plan.links l).choice both.1) ∙ sound.once_in l low)))
+in_test plan l a c sound low = test_of_both (link_in plan.links a c) l a (link_at plan.links l).to c (link_at plan.links l).choice
+    (λ is. let found = link_in_is plan.links a c (subst (λ (k : ℕ). k < length plan.links) (sym is) low) in (sym found.0 ∙ ap (λ (k : ℕ). (link_at plan.links k).to) is, sym found.1 ∙ ap (λ (k : ℕ). (link_at plan.links k).choice) is))
+    (λ to choice. ap₂ (link_in plan.links) to choice ∙ sound.once_in l low)
 
 -- whether an actor's outgoing number is the link at this place
 out_test : (plan : Plan) (l a o : ℕ) → IsSound plan → l < length plan.links → (link_out plan.links a o == l) ≡ ((a == (link_at plan.links l).from) && (o == (link_at plan.links l).out))
-out_test plan l a o sound low = out_by (link_out plan.links a o == l) refl
-  where
-    out_by : (t : Bool) → (link_out plan.links a o == l) ≡ t → t ≡ ((a == (link_at plan.links l).from) && (o == (link_at plan.links l).out))
-    out_by true e =
-        let is : link_out plan.links a o ≡ l = eqb-true (link_out plan.links a o) l e in
-        let found = link_out_is plan.links a o (subst (λ (k : ℕ). k < length plan.links) (sym is) low) in
-        let from : a ≡ (link_at plan.links l).from = sym found.0 ∙ ap (λ (k : ℕ). (link_at plan.links k).from) is in
-        let out : o ≡ (link_at plan.links l).out = sym found.1 ∙ ap (λ (k : ℕ). (link_at plan.links k).out) is in
-        sym (and_from (a == (link_at plan.links l).from) (o == (link_at plan.links l).out) (eq-eqb a (link_at plan.links l).from from) (eq-eqb o (link_at plan.links l).out out))
-    out_by false e = sym (false_from_ne_true ((a == (link_at plan.links l).from) && (o == (link_at plan.links l).out)) (λ t.
-        let both = and_parts (a == (link_at plan.links l).from) (o == (link_at plan.links l).out) t in
-        eqb-false (link_out plan.links a o) l e (ap₂ (link_out plan.links) (eqb-true a (link_at plan.links l).from both.0) (eqb-true o (link_at plan.links l).out both.1) ∙ sound.once_out l low)))
+out_test plan l a o sound low = test_of_both (link_out plan.links a o) l a (link_at plan.links l).from o (link_at plan.links l).out
+    (λ is. let found = link_out_is plan.links a o (subst (λ (k : ℕ). k < length plan.links) (sym is) low) in (sym found.0 ∙ ap (λ (k : ℕ). (link_at plan.links k).from) is, sym found.1 ∙ ap (λ (k : ℕ). (link_at plan.links k).out) is))
+    (λ from out. ap₂ (link_out plan.links) from out ∙ sound.once_out l low)
 
 took_none : {M : Type 0} (o : Option M) → took false o ≡ []
 took_none None = refl

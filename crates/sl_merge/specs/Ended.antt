@@ -1,6 +1,5 @@
 -- Actors that have ended, in the words of what they hold, and the run that the merge of their logs is.
-use Rattle.std.specs.Prelude.{◌≡◌, ◌<◌, ◌≤◌, ℕ, map, List, [], ◌++◌, length, Option, Some, None, slice_index, slice_index_or}
-use Rattle.std.specs.List.{All}
+use Rattle.std.specs.Prelude.{◌≡◌, ◌<◌, ℕ, map, List, [], ◌++◌, length, Option, Some, None, slice_index, slice_index_or}
 use Rattle.sl_machine.specs.Machine.{Rules}
 use Rattle.sl_machine.specs.Plan.{Plan, IsSound, link_at}
 use Rattle.sl_machine.specs.declared.wiring.Link.{Link}
@@ -13,7 +12,7 @@ use Rattle.sl_actor.specs.Outs.{OutView}
 use Rattle.sl_actor.specs.Follows.{ActorView}
 use Rattle.sl_actor.specs.Made.{EachFollows}
 use Rattle.sl_world.specs.Scene.{Scene, first_scene, line_at, lines_with, run_of, schedule_of}
-use Rattle.sl_merge.specs.Lamport.{lamport_numbers}
+use Rattle.sl_merge.specs.Lamport.{IsNumbered, AreLow}
 use Rattle.sl_merge.specs.Merging.{joined, IsMerge}
 
 module _ {S M : Type 0} where
@@ -66,8 +65,8 @@ pub record IsRunOf {S M : Type 0} (rules : Rules S M) (e : Ended S M) (book : Li
       → (line_at world.lines l).loss ≡ (out_at e.actors (link_at e.plan.links l) b o).loss
   pub counted : (l : ℕ) (b : ActorView S M) (o : OutView M) → l < length e.plan.links
       → (line_at world.lines l).lost ≡ (out_at e.actors (link_at e.plan.links l) b o).lost
-  pub numbers : lamport_numbers rules e.plan e.firsts e.losses (schedule_of book) ≡ map (λ x. x.number) book
-  pub small : All (λ x. x.number ≤ length book) book
+  pub numbers : IsNumbered rules e.plan e.firsts e.losses book
+  pub small : AreLow book
 
 -- the book is a merge of their logs
 abbrev pub IsMergeOf : {S M : Type 0} → Ended S M → List Entry → Type 0

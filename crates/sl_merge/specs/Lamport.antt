@@ -2,12 +2,14 @@
 -- Distributed System", 1978. A turn's number is one more than the larger of the number of its actor's turn before it and
 -- that of the turn that put the message which it took; one that isn't there counts as 0. So a world is run whose machines
 -- number their turns and mark each message with the number of the turn that put it.
-use Rattle.std.specs.Prelude.{ℕ, List, [], ◌∷◌, map, Option, Some, None, slice_get}
+use Rattle.std.specs.Prelude.{◌≡◌, ◌≤◌, ℕ, List, [], ◌∷◌, length, map, Option, Some, None, slice_get}
+use Rattle.std.specs.List.{All}
 use Rattle.sl_machine.specs.Machine.{Rules}
 use Rattle.sl_machine.specs.Plan.{Plan}
+use Rattle.sl_machine.specs.declared.wiring.Entry.{Entry}
 use Rattle.sl_loss.specs.Loss.{Loss}
 use Rattle.sl_actor.specs.Histories.{numbered}
-use Rattle.sl_world.specs.Scene.{Scene, first_scene, after_turn}
+use Rattle.sl_world.specs.Scene.{Scene, first_scene, after_turn, schedule_of}
 
 -- the time that a clock shows where there is one
 abbrev pub time_in : {S : Type 0} → (S → ℕ) → Option S → ℕ
@@ -27,3 +29,11 @@ unnumbered states = map (λ s. (s, 0)) states
 abbrev pub lamport_numbers : {S M : Type 0} → Rules S M → Plan → List S → List (Option Loss) → List (ℕ × ℕ) → List ℕ
 lamport_numbers rules plan states losses schedule =
     times_of (numbered rules) (λ s. s.1) (first_scene plan (unnumbered states) losses) schedule
+
+-- the numbers in a book are those of its schedule
+abbrev pub IsNumbered : {S M : Type 0} → Rules S M → Plan → List S → List (Option Loss) → List Entry → Type 0
+IsNumbered rules plan states losses book = lamport_numbers rules plan states losses (schedule_of book) ≡ map (λ e. e.number) book
+
+-- none is above the number of entries
+abbrev pub AreLow : List Entry → Type 0
+AreLow book = All (λ e. e.number ≤ length book) book

@@ -1,6 +1,5 @@
 -- What actors leave when all have ended, and the run that the merge of their logs is.
-use Rattle.std.specs.Prelude.{◌≡◌, ◌<◌, ◌≤◌, ℕ, map, List, ◌++◌, length, Option, Some, None, slice_get, slice_index, slice_index_or}
-use Rattle.std.specs.List.{All}
+use Rattle.std.specs.Prelude.{◌≡◌, ◌<◌, ℕ, map, List, ◌++◌, length, Option, Some, None, slice_get, slice_index, slice_index_or}
 use Rattle.sl_machine.specs.Machine.{Rules}
 use Rattle.sl_machine.specs.Plan.{Plan, IsSound, link_at}
 use Rattle.sl_machine.specs.declared.wiring.Entry.{Entry}
@@ -9,7 +8,7 @@ use Rattle.sl_link.specs.declared.ends.Stamped.{Stamped}
 use Rattle.sl_actor.specs.Histories.{Step, IsHistory, last_state, put_on, taken_by, AreChosen, numbered, entries_of}
 use Rattle.sl_actor.specs.Losses.{kept, loss_after, lost_after}
 use Rattle.sl_world.specs.Scene.{Scene, first_scene, line_at, run_of, schedule_of}
-use Rattle.sl_merge.specs.Lamport.{lamport_numbers}
+use Rattle.sl_merge.specs.Lamport.{IsNumbered, AreLow}
 use Rattle.sl_merge.specs.Merging.{joined}
 
 -- how the actors are joined and the loss of each link, the state of each machine at first and at last, each actor's
@@ -60,5 +59,5 @@ pub record IsRun {S M : Type 0} (rules : Rules S M) (o : Outcome S M) (book : Li
   pub queues : (l : ℕ) → l < length o.plan.links → (line_at world.lines l).queue ≡ map (λ s. s.m) (o.left l)
   pub answered : (l : ℕ) → l < length o.plan.links → (line_at world.lines l).loss ≡ loss_after (loss_at o l) (put_at o l)
   pub counted : (l : ℕ) → l < length o.plan.links → (line_at world.lines l).lost ≡ lost_after (loss_at o l) 0 (put_at o l)
-  pub numbers : lamport_numbers rules o.plan o.firsts o.losses (schedule_of book) ≡ map (λ e. e.number) book
-  pub small : All (λ e. e.number ≤ length book) book
+  pub numbers : IsNumbered rules o.plan o.firsts o.losses book
+  pub small : AreLow book

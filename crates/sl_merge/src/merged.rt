@@ -1,12 +1,10 @@
 // The world that actors are merged to.
-ghost use Rattle.std.specs.Prelude.{◌≡◌, ◌<◌, ◌≤◌, ◌^◌, length, map, IfOk};
-ghost use Rattle.std.specs.List.{All};
+ghost use Rattle.std.specs.Prelude.{◌≡◌, ◌<◌, ◌^◌, length, map, IfOk};
 ghost use Rattle.sl_actor.specs.Held.{held};
 ghost use Rattle.sl_actor.specs.Made.{EachFollows};
-ghost use Rattle.sl_world.specs.Scene.{schedule_of};
 ghost use Rattle.sl_world.specs.World.{scene};
 ghost use Rattle.sl_merge.specs.Merging.{IsMerge, IsAscending};
-ghost use Rattle.sl_merge.specs.Lamport.{lamport_numbers};
+ghost use Rattle.sl_merge.specs.Lamport.{IsNumbered, AreLow};
 ghost use Rattle.sl_merge.specs.Ended.{log_entries, StandsAsRun};
 ghost use Rattle.sl_merge.specs.Merged.{AreWired, AreLeft, losses_before};
 
@@ -40,9 +38,8 @@ pub fn merge<R: Wait, A: Machine>(
         StandsAsRun A.rules wiring.now (map A.state first.now) losses (scene w)) }
     ensures numbers { IfOk result
         (λ w. let losses = losses_before wiring.now.links (map held actors.items) in
-        lamport_numbers A.rules wiring.now (map A.state first.now) losses
-        (schedule_of (scene w).book) ≡ map (λ e. e.number) (scene w).book) }
-    ensures small { IfOk result (λ w. All (λ e. e.number ≤ length (scene w).book) (scene w).book) }
+        IsNumbered A.rules wiring.now (map A.state first.now) losses (scene w).book) }
+    ensures small { IfOk result (λ w. AreLow (scene w).book) }
     ensures book { IfOk result (λ w. IsMerge (log_entries (map held actors.items)) (scene w).book) }
     ensures order { IfOk result (λ w. IsAscending (scene w).book) }
     ensures plan { IfOk result (λ w. (scene w).plan ≡ wiring.now) }

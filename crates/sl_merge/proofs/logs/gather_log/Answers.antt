@@ -6,21 +6,17 @@ use Rattle.sl_merge.proofs.logs.gather_log.Goals as goal
 pub loop-i-init : goal.loop-i-init
 loop-i-init c = at_place c.args.low c.args.actor c.args.log.now c.args.place _ (length-map c.args.buckets.now.items (λ bucket. bucket.items) ∙ c.requires.each) c.requires.place
 
-pub returns-then-after-clause-buckets : goal.returns-then-after-clause-buckets
-returns-then-after-clause-buckets c =
+pub returns-then-after : goal.returns-then-after
+returns-then-after c =
     let i = c.loop-i.i in
     let log = c.args.log.now in
     let there : i < length log = omega arith in
     let far : c.args.low + 256 ≤ (get_or log i (0, 0)).0 = omega arith in
-    all_gathered c.args.low c.args.actor log i _ _ c.loop-i.invariant (omega arith) (all_past c.args.low log i (get_or log i (0, 0)) c.requires.log (get_or_default log i (get_or log i (0, 0)) (0, 0) there) far)
-
-pub returns-then-after-clause-place : goal.returns-then-after-clause-place
-returns-then-after-clause-place c =
-    let i = c.loop-i.i in
-    let log = c.args.log.now in
-    let there : i < length log = omega arith in
-    let far : c.args.low + 256 ≤ (get_or log i (0, 0)).0 = omega arith in
-    next_place c.args.low c.args.actor log i _ _ c.loop-i.invariant (omega arith) (all_past c.args.low log i (get_or log i (0, 0)) c.requires.log (get_or_default log i (get_or log i (0, 0)) (0, 0) there) far)
+    let past = all_past c.args.low log i (get_or log i (0, 0)) c.requires.log (get_or_default log i (get_or log i (0, 0)) (0, 0) there) far in
+    record {
+      buckets = all_gathered c.args.low c.args.actor log i _ _ c.loop-i.invariant (omega arith) past;
+      place = next_place c.args.low c.args.actor log i _ _ c.loop-i.invariant (omega arith) past;
+    }
 
 pub loop-i-preserved : goal.loop-i-preserved
 loop-i-preserved c =

@@ -7,22 +7,26 @@ use Rattle.std.proofs.lemmas.List.{length-map, length-append, get_or-map, same_l
 use Rattle.std.proofs.lemmas.List.Elements.{All-append, All-map, All-nil}
 use Rattle.std.proofs.lemmas.List.Sorted.{All-permutation, length_permutation}
 use Rattle.sl_machine.specs.declared.machine.Memory.{Memory}
+use Rattle.sl_machine.specs.declared.machine.Machine.{Ghosts}
 use Rattle.sl_machine.specs.declared.wiring.Entry.{Entry}
 use Rattle.sl_machine.specs.Machine.{Rules, Counts}
 use Rattle.sl_machine.specs.Plan.{Plan}
 use Rattle.sl_machine.specs.Fit.{HasCounts}
 use Rattle.sl_loss.specs.Loss.{Loss}
+use Rattle.sl_actor.specs.declared.actor.Actor.{Actor}
+use Rattle.sl_actor.specs.Held.{held}
 use Rattle.sl_actor.specs.Follows.{ActorView}
 use Rattle.sl_actor.specs.Runs.{Settled}
 use Rattle.sl_actor.specs.Made.{EachFollows, ArePlaced}
 use Rattle.sl_actor.specs.declared.run.Rest.{Rest}
 use Rattle.sl_actor.specs.declared.run.Rest.TheVariants.{Rested, Spent}
-use Rattle.sl_world.specs.Scene.{Scene, schedule_of}
+use Rattle.sl_world.specs.Scene.{Scene}
 use Rattle.sl_world.proofs.TurnLemmas.{some_at}
-use Rattle.sl_merge.specs.Lamport.{lamport_numbers}
+use Rattle.sl_merge.specs.Lamport.{IsNumbered}
 use Rattle.sl_merge.specs.Merging.{IsMerge, entries_by, joined}
 use Rattle.sl_merge.specs.Ended.{StandsAsRun, log_entries}
 use Rattle.sl_merge.specs.Merged.{AreKept, AreWired}
+use Rattle.sl_threads.specs.declared.jobs.Job.{Job}
 use Rattle.sl_threads.specs.Threads.{HasRun, ArePlanned, AreAtRest}
 
 module _ {S M : Type 0} (rules : Rules S M) (steps : ℕ) where
@@ -36,7 +40,7 @@ module _ {S M : Type 0} (rules : Rules S M) (steps : ℕ) where
     pub each : length news ≡ length olds
     pub runs : (i : ℕ) (a b : ActorView S M) → i < length olds → RanAt plans olds news i a b
 
-  pub have_run : {J R : Type 0} (plan : J → List ℕ) (old : J → ActorView S M) (new : R → ActorView S M) (answer : R → Result Rest Memory) (jobs : List J) (ran : List R) (plans : List (List ℕ)) (olds news : List (ActorView S M))
+  have_run : {J R : Type 0} (plan : J → List ℕ) (old : J → ActorView S M) (new : R → ActorView S M) (answer : R → Result Rest Memory) (jobs : List J) (ran : List R) (plans : List (List ℕ)) (olds news : List (ActorView S M))
       → map plan jobs ≡ plans → map old jobs ≡ olds → news ≡ map new ran → length ran ≡ length jobs → All (λ r. IsOk (answer r)) ran
       → ((i : ℕ) (d : J) (e : R) → i < length jobs → HasRun rules (plan (get_or jobs i d)) steps (old (get_or jobs i d)) (new (get_or ran i e)) (answer (get_or ran i e))) → HaveRun plans olds news
   have_run plan old new answer jobs ran plans olds news plans_are olds_are news_are each ok runs =
@@ -109,7 +113,7 @@ module _ {S M : Type 0} (rules : Rules S M) (steps : ℕ) where
         rests r.answer (length (get_or news i d).log ≡ length (get_or olds i d).log + steps) (All (λ choice. Settled rules choice (get_or news i d)) (get_or plans i [])) r.ok r.run.spent r.run.rested (λ all. omega arith)
 
 -- where no log is so long, each actor whose place is its number has passed the gate before each of its first rounds
-pub all_passed : {S M J R : Type 0} (rules : Rules S M) (steps quiet : ℕ) (passes : ℕ → ℕ → Type 0) (plan : J → List ℕ) (old : J → ActorView S M) (new : R → ActorView S M) (answer : R → Result Rest Memory) (jobs : List J) (ran : List R) (olds news : List (ActorView S M))
+all_passed : {S M J R : Type 0} (rules : Rules S M) (steps quiet : ℕ) (passes : ℕ → ℕ → Type 0) (plan : J → List ℕ) (old : J → ActorView S M) (new : R → ActorView S M) (answer : R → Result Rest Memory) (jobs : List J) (ran : List R) (olds news : List (ActorView S M))
     → map old jobs ≡ olds → news ≡ map new ran → length ran ≡ length jobs → All (λ r. IsOk (answer r)) ran
     → ((i : ℕ) (d : J) (e : R) → i < length jobs → HasRun rules (plan (get_or jobs i d)) steps (old (get_or jobs i d)) (new (get_or ran i e)) (answer (get_or ran i e)))
     → ((i : ℕ) (d : J) (e : R) → i < length jobs → answer (get_or ran i e) ≡ Ok Rested → (k : ℕ) → k < quiet → passes (old (get_or jobs i d)).place k)
@@ -133,6 +137,17 @@ all_passed {S} {M} rules steps quiet passes plan old new answer jobs ran olds ne
     only_rest (Ok Rested) P ok spent short = refl
     only_rest (Ok Spent) P ok spent short = absurd (short (spent refl))
     only_rest (Err e) P ok spent short = absurd (cc)
+
+-- the same of actors that ran as jobs
+module _ {A M : Type 0} (m : Ghosts A M) (steps : ℕ) (jobs : List (Job A M m)) (ran : List (Actor A M m × Result Rest Memory)) (olds news : List (ActorView m.State M))
+    (olds_are : map (λ (j : Job A M m). held j.actor) jobs ≡ olds) (news_are : news ≡ map (λ (r : Actor A M m × Result Rest Memory). held r.0) ran) (each : length ran ≡ length jobs) (ok : All (λ (r : Actor A M m × Result Rest Memory). IsOk r.1) ran)
+    (runs : (i : ℕ) (d : Job A M m) (e : Actor A M m × Result Rest Memory) → i < length jobs → HasRun m.rules (get_or jobs i d).plan.items steps (held (get_or jobs i d).actor) (held (get_or ran i e).0) (get_or ran i e).1) where
+  pub jobs_have_run : (plans : List (List ℕ)) → map (λ (j : Job A M m). j.plan.items) jobs ≡ plans → HaveRun m.rules steps plans olds news
+  jobs_have_run plans plans_are = have_run m.rules steps (λ (j : Job A M m). j.plan.items) (λ (j : Job A M m). held j.actor) (λ (r : Actor A M m × Result Rest Memory). held r.0) (λ (r : Actor A M m × Result Rest Memory). r.1) jobs ran plans olds news plans_are olds_are news_are each ok runs
+
+  pub jobs_have_passed : (quiet : ℕ) (passes : ℕ → ℕ → Type 0) → ((i : ℕ) (d : Job A M m) (e : Actor A M m × Result Rest Memory) → i < length jobs → (get_or ran i e).1 ≡ Ok Rested → (k : ℕ) → k < quiet → passes (held (get_or jobs i d).actor).place k)
+      → ArePlaced olds → ((i : ℕ) (a : ActorView m.State M) → i < length news → length (get_or news i a).log < steps) → (i : ℕ) → i < length olds → (k : ℕ) → k < quiet → passes i k
+  jobs_have_passed quiet passes = all_passed m.rules steps quiet passes (λ (j : Job A M m). j.plan.items) (λ (j : Job A M m). held j.actor) (λ (r : Actor A M m × Result Rest Memory). held r.0) (λ (r : Actor A M m × Result Rest Memory). r.1) jobs ran olds news olds_are news_are each ok runs
 
 -- what holds of each log holds of the entries of all
 pub joined_all : (P : Entry → Type 0) (n : ℕ) (logs : ℕ → List (ℕ × ℕ)) → ((a : ℕ) → a < n → All (λ (p : ℕ × ℕ). P (record { number = p.0; actor = a; choice = p.1 })) (logs a)) → All P (joined n logs)
@@ -166,8 +181,8 @@ module _ {S M : Type 0} (rules : Rules S M) (plan : Plan) where
   pub stands_by : (fs fs' : List S) (ls ls' : List (Option Loss)) (w : Scene S M) → fs ≡ fs' → ls ≡ ls' → StandsAsRun rules plan fs ls w → StandsAsRun rules plan fs' ls' w
   stands_by fs fs' ls ls' w e f h = subst (λ (r : List S × List (Option Loss)). StandsAsRun rules plan r.0 r.1 w) (λ i. (e i, f i)) h
 
-  pub numbers_by : (fs fs' : List S) (ls ls' : List (Option Loss)) (book : List Entry) → fs ≡ fs' → ls ≡ ls' → lamport_numbers rules plan fs ls (schedule_of book) ≡ map (λ (e : Entry). e.number) book → lamport_numbers rules plan fs' ls' (schedule_of book) ≡ map (λ (e : Entry). e.number) book
-  numbers_by fs fs' ls ls' book e f h = subst (λ (r : List S × List (Option Loss)). lamport_numbers rules plan r.0 r.1 (schedule_of book) ≡ map (λ (x : Entry). x.number) book) (λ i. (e i, f i)) h
+  pub numbers_by : (fs fs' : List S) (ls ls' : List (Option Loss)) (book : List Entry) → fs ≡ fs' → ls ≡ ls' → IsNumbered rules plan fs ls book → IsNumbered rules plan fs' ls' book
+  numbers_by fs fs' ls ls' book e f h = subst (λ (r : List S × List (Option Loss)). IsNumbered rules plan r.0 r.1 book) (λ i. (e i, f i)) h
 
   module _ (steps : ℕ) (plans : List (List ℕ)) (olds news : List (ActorView S M)) (h : HaveRun rules steps plans olds news) (new : All (λ (a : ActorView S M). a.log ≡ []) olds) (book : List Entry) (m : IsMerge (log_entries news) book) where
     pub all_chosen : ArePlanned plans book

@@ -3,9 +3,8 @@ ghost use Rattle.std.specs.Prelude.{◌≡◌, ◌<◌, ◌≤◌, ◌^◌, leng
 ghost use Rattle.std.specs.List.{All};
 ghost use Rattle.sl_machine.specs.Fit.{Fits};
 ghost use Rattle.sl_loss.specs.Loss.{IsFresh};
-ghost use Rattle.sl_world.specs.Scene.{schedule_of};
 ghost use Rattle.sl_world.specs.World.{scene};
-ghost use Rattle.sl_merge.specs.Lamport.{lamport_numbers};
+ghost use Rattle.sl_merge.specs.Lamport.{IsNumbered};
 ghost use Rattle.sl_merge.specs.Merging.{IsAscending};
 ghost use Rattle.sl_merge.specs.Ended.{StandsAsRun};
 ghost use Rattle.sl_threads.specs.Threads.{ArePlans, ArePlanned, HavePassed, AreAtRest};
@@ -47,9 +46,8 @@ where
     ensures run { IfOk result
         (λ w. StandsAsRun A.rules wiring.now (map A.state machines.items) losses.items (scene w)) }
     ensures numbers { IfOk result
-        (λ w. lamport_numbers A.rules wiring.now (map A.state machines.items) losses.items
-        (schedule_of (scene w).book)
-        ≡ map (λ e. e.number) (scene w).book) }
+        (λ w. IsNumbered A.rules wiring.now (map A.state machines.items)
+        losses.items (scene w).book) }
     ensures order { IfOk result (λ w. IsAscending (scene w).book) }
     ensures plan { IfOk result (λ w. (scene w).plan ≡ wiring.now) }
     ensures short { IfOk result (λ w. length (scene w).book < 2 ^ 39) }

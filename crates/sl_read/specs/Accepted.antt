@@ -9,11 +9,13 @@ use Rattle.sl_net.specs.declared.input.Script1.{Script1}
 use Rattle.sl_net.specs.declared.input.Script1.TheVariants.{Pass, Choice}
 use Rattle.sl_parts.specs.Parts.{Parts}
 use Rattle.sl_parts.specs.Fault.{fault_of}
+use Rattle.sl_parts.specs.Lists.{Each}
 use Rattle.sl_layout.specs.Net.{Net, net_of, link_of}
 use Rattle.sl_layout.specs.Wiring.{kind_of, is_lossy}
 use Rattle.sl_net.specs.Spelling.{HasChoice}
 use Rattle.sl_net.specs.Input.{Input, LossSpec}
 use Rattle.sl_read.specs.declared.cable.CableRow.{CableRow}
+use Rattle.sl_read.specs.declared.document.Document.{Document}
 use Rattle.sl_read.specs.Choices.{passes}
 use Rattle.sl_read.specs.Inputs.{packets}
 use Rattle.sl_read.specs.Limits.{values}
@@ -25,6 +27,11 @@ IsVersion version = (1 ≤ version) × (version ≤ 2)
 -- of the frames on a cable, where it gives one
 abbrev pub HasVersion : CableRow → Type 0
 HasVersion cable = IfSome cable.version IsVersion
+
+-- a document gives no other
+pub record HasVersions (d : Document) : Type 0 where
+  pub version : IsVersion d.snapshot.version
+  pub cables : Each HasVersion d.cables
 
 -- at least one snapshot fits the window, a wrapped id stands for one number in it, and the ring holds it
 pub record IsSnapshot (s : Snapshot) : Type 0 where

@@ -4,9 +4,8 @@ ghost use Rattle.std.specs.Prelude.{◌≡◌, ◌≢◌, ◌≤◌, Ok, Err, If
 ghost use Rattle.std.specs.List.{sum};
 ghost use Rattle.toml.specs.View.{table_view};
 ghost use Rattle.sl_form.specs.Refusals.{Answers};
-ghost use Rattle.sl_parts.specs.Lists.{Each};
 ghost use Rattle.sl_parts.specs.Valid.{AreVersioned};
-ghost use Rattle.sl_read.specs.Accepted.{HasVersion, IsVersion, IsAccepted};
+ghost use Rattle.sl_read.specs.Accepted.{HasVersions, IsAccepted};
 ghost use Rattle.sl_read.specs.Inputs.{built, packets, few_packets, losses, net_in, traffic_in};
 ghost use Rattle.sl_read.specs.Inputs.{contents_in, settled, tables_of, text_of, reading_of};
 ghost use Rattle.sl_read.specs.Inputs.{input_of};
@@ -79,8 +78,7 @@ fn few_packets(flows: &[Flow], raws: &[RawPart]) -> Result<(), ReadError>
 /// The net of a document.
 #[tactic(auto, unfolding(crate::specs::Inputs::net_in))]
 fn net_in(alloc: Global, document: &Document) -> Result<Net, ReadError>
-    requires version { IsVersion document.now.snapshot.version }
-    requires cables { Each HasVersion document.now.cables }
+    requires { HasVersions document.now }
     ensures { Answers result (net_in document.now) }
 {
     let parts = place_parts(
@@ -158,8 +156,7 @@ fn contents_in(alloc: Global, net: &Net, document: &Document) -> Result<Contents
 
 #[tactic(auto, unfolding(crate::specs::Inputs::settled))]
 fn settle(alloc: Global, document: &Document) -> Result<Input, ReadError>
-    requires version { IsVersion document.now.snapshot.version }
-    requires cables { Each HasVersion document.now.cables }
+    requires versions { HasVersions document.now }
     requires count { document.now.snapshot.count ≤ 100000 }
     ensures { Answers result (settled document.now) }
 {

@@ -1,7 +1,6 @@
 // The packets of a host.
 ghost use Rattle.std.specs.Prelude.{◌≡◌, ◌++◌, IfOk, OnOk, cond, ◌==◌, []};
-ghost use Rattle.std.specs.List.{All};
-ghost use Rattle.sl_flow.specs.Flow.{packet_in, flow_packets, packets_of, HasAddresses};
+ghost use Rattle.sl_flow.specs.Flow.{packet_in, flow_packets, packets_of, HasAddresses, HaveAddresses};
 
 use sl_machine::Memory;
 use sl_net::{Flow, Packet};
@@ -48,7 +47,7 @@ fn add_share(packets: &mut Vec<Packet>, flow: Flow, host: u32) -> Result<(), All
 /// from 0 in each. Hosts are named by their places, which have 16 bits in a packet.
 #[tactic(auto, using(crate::proofs::Shares::packets_more))]
 pub fn packets_of(alloc: Global, host: u32, flows: &[Flow]) -> Result<Vec<Packet>, Memory>
-    requires { All HasAddresses flows.now }
+    requires { HaveAddresses flows.now }
     ensures { IfOk result (λ packets. packets.items ≡ packets_of flows.now host) }
 {
     let mut packets = Vec::new(alloc);

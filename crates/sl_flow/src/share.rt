@@ -2,7 +2,7 @@
 ghost use Rattle.std.specs.Prelude.{◌≡◌, ◌+◌, ◌&&◌, ◌<◌, ◌==◌, IfOk, filter, length, min, nat_lt};
 ghost use Rattle.std.specs.Prelude.{slice_get};
 ghost use Rattle.std.specs.List.{All};
-ghost use Rattle.sl_flow.specs.Flow.{packets_of, HasAddresses};
+ghost use Rattle.sl_flow.specs.Flow.{packets_of, HaveAddresses};
 ghost use Rattle.sl_flow.specs.Share.{all_packets, sent_before, IsAt};
 
 use crate::packets::packet_in;
@@ -67,7 +67,7 @@ fn count_of(flows: &[Flow]) -> Result<u64, Memory>
 /// The packet at a place, where there is one.
 #[tactic(auto, using(crate::proofs::Sending::packet_stands, crate::proofs::Sending::no_packet_stands))]
 fn packet_at(flows: &[Flow], flow: usize, number: u32) -> Option<Packet>
-    requires addresses { All HasAddresses flows.now }
+    requires addresses { HaveAddresses flows.now }
     requires at { IsAt flows.now flow number }
     ensures { result ≡ slice_get (all_packets flows.now) (sent_before flows.now flow number) }
 {
@@ -102,7 +102,7 @@ impl Share {
     /// The packets of a host before any is sent. Hosts are named by their places, which have 16
     /// bits in a packet.
     pub fn of(alloc: Global, host: u32, flows: &[Flow]) -> Result<Share, Memory>
-        requires { All HasAddresses flows.now }
+        requires { HaveAddresses flows.now }
         ensures packets { IfOk result (λ share. share.packets ≡ packets_of flows.now host) }
         ensures sent { IfOk result (λ share. share.sent ≡ 0) }
     {

@@ -1,9 +1,8 @@
 // A run followed link by link, as far as data packets go by.
 ghost use Rattle.std.specs.Prelude.{◌≡◌, ◌<◌, ◌∷◌, [], IfOk, OnOk, Some, cond, map, length};
 ghost use Rattle.std.specs.Prelude.{slice_get};
-ghost use Rattle.std.specs.List.{All};
 ghost use Rattle.sl_parts.specs.Parts.{below};
-ghost use Rattle.sl_flow.specs.Flow.{HasAddresses};
+ghost use Rattle.sl_flow.specs.Flow.{HaveAddresses};
 ghost use Rattle.sl_layout.specs.Net.{Net as NetData, links_into, is_unit};
 ghost use Rattle.sl_route.specs.Routes.{IsRoutesOf};
 ghost use Rattle.sl_model.specs.Losses.{loss_on};
@@ -54,7 +53,7 @@ fn list_lanes(alloc: Global, input: &Input) -> Result<Vec<Lane>, Memory>
 
 /// The course of a run in which nothing has happened.
 pub fn first_course(alloc: Global, input: &Input) -> Result<Course, Memory>
-    requires { All HasAddresses input.now.flows }
+    requires { HaveAddresses input.now.flows }
     ensures lanes { IfOk result
         (λ course. course.lanes.items ≡ map (first_lane input.now)
         (below (length input.now.net.links))) }

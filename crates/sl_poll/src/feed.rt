@@ -1,8 +1,7 @@
 // The packets of the frames that hosts send.
 ghost use Rattle.std.specs.Prelude.{◌≡◌, ◌<◌, ◌∷◌, ◌++◌, [], ◌==◌, IfOk, OnOk, cond, map, length};
-ghost use Rattle.std.specs.List.{All};
 ghost use Rattle.sl_parts.specs.Parts.{below};
-ghost use Rattle.sl_flow.specs.Flow.{HasAddresses, packets_of};
+ghost use Rattle.sl_flow.specs.Flow.{packets_of, HaveAddresses};
 ghost use Rattle.sl_model.specs.Frame.{packet_of};
 ghost use Rattle.sl_model.specs.Setup.{setup_of, frames_of};
 ghost use Rattle.sl_poll.specs.Ways.{next_of, after_next, frames_for, packets_in, raws_in};
@@ -77,7 +76,7 @@ fn add_raws(frames: &mut Vec<Option<Packet>>, raws: &[RawPart], host: u32) -> Re
 
 /// The packets of the frames that a host sends, in order.
 fn frames_of(alloc: Global, input: &Input, host: u32) -> Result<Vec<Option<Packet>>, Memory>
-    requires { All HasAddresses input.now.flows }
+    requires { HaveAddresses input.now.flows }
     ensures { IfOk result
         (λ frames. frames.items ≡ packets_in (packets_of input.now.flows host)
         ++ raws_in input.now.raws host) }
@@ -91,7 +90,7 @@ fn frames_of(alloc: Global, input: &Input, host: u32) -> Result<Vec<Option<Packe
 
 #[tactic(auto, using(crate::proofs::Feeds::frames_are))]
 fn frames_for(alloc: Global, input: &Input, actor: ActorId) -> Result<Vec<Option<Packet>>, Memory>
-    requires { All HasAddresses input.now.flows }
+    requires { HaveAddresses input.now.flows }
     ensures { IfOk result
         (λ frames. frames.items ≡ map packet_of (frames_for (setup_of input.now) actor)) }
 {
@@ -102,7 +101,7 @@ fn frames_for(alloc: Global, input: &Input, actor: ActorId) -> Result<Vec<Option
 }
 
 fn first_feed(alloc: Global, input: &Input, actor: u32) -> Result<Feed, Memory>
-    requires addresses { All HasAddresses input.now.flows }
+    requires addresses { HaveAddresses input.now.flows }
     requires actor { actor < length input.now.net.actors }
     ensures { IfOk result (λ feed. feed ≡ first_feed (setup_of input.now) actor) }
 {
@@ -112,7 +111,7 @@ fn first_feed(alloc: Global, input: &Input, actor: u32) -> Result<Feed, Memory>
 
 /// For each actor what it sends that is a host.
 pub fn list_feeds(alloc: Global, input: &Input) -> Result<Vec<Feed>, Memory>
-    requires { All HasAddresses input.now.flows }
+    requires { HaveAddresses input.now.flows }
     ensures { IfOk result
         (λ feeds. feeds.items ≡ map (first_feed (setup_of input.now))
         (below (length input.now.net.actors))) }

@@ -1,7 +1,6 @@
 // The trail of a run and the reading of it, from the schedule alone.
 ghost use Rattle.std.specs.Prelude.{◌≡◌, ◌<◌, ◌≤◌, [], IfOk, IfSome, length, take};
-ghost use Rattle.std.specs.List.{All};
-ghost use Rattle.sl_flow.specs.Flow.{HasAddresses};
+ghost use Rattle.sl_flow.specs.Flow.{HaveAddresses};
 ghost use Rattle.sl_model.specs.Losses.{losses};
 ghost use Rattle.sl_model.specs.Setup.{setup_of};
 ghost use Rattle.sl_model.specs.World.{IsLegal};
@@ -34,7 +33,7 @@ fn no_trail(alloc: Global) -> Trail
 /// What the run of a legal schedule does with data packets. Each entry is looked at once, in a time
 /// that does not grow with the links of the net.
 pub fn trail_of(alloc: Global, input: &Input, schedule: &[(u32, u32)]) -> Result<Trail, Memory>
-    requires addresses { All HasAddresses input.now.flows }
+    requires addresses { HaveAddresses input.now.flows }
     requires legal { IsLegal (setup_of input.now) (losses input.now) schedule.now }
     ensures pairs { IfOk result
         (λ t. t.pairs ≡ pairs (setup_of input.now) (losses input.now) schedule.now) }
@@ -63,7 +62,7 @@ pub fn poll_of(
     start: u64,
     gap: u64,
 ) -> Result<Polled, Memory>
-    requires addresses { All HasAddresses input.now.flows }
+    requires addresses { HaveAddresses input.now.flows }
     requires legal { IsLegal (setup_of input.now) (losses input.now) schedule.now }
     ensures reads { IfOk result
         (λ polled. polled.reads ≡ reads (setup_of input.now)

@@ -1,7 +1,6 @@
 // A walk along a schedule, entry by entry.
 ghost use Rattle.std.specs.Prelude.{[], OnOk};
-ghost use Rattle.std.specs.List.{All};
-ghost use Rattle.sl_flow.specs.Flow.{HasAddresses};
+ghost use Rattle.sl_flow.specs.Flow.{HaveAddresses};
 ghost use Rattle.sl_model.specs.Losses.{losses};
 ghost use Rattle.sl_model.specs.Setup.{setup_of};
 ghost use Rattle.sl_model.specs.World.{IsLegal};
@@ -25,7 +24,7 @@ pub fn walk<L: Listener>(
     schedule: &[(u32, u32)],
     listener: &mut L,
 ) -> Result<(), Memory>
-    requires addresses { All HasAddresses input.now.flows }
+    requires addresses { HaveAddresses input.now.flows }
     requires legal { IsLegal (setup_of input.now) (losses input.now) schedule.now }
     requires first { L.heard input.now.net listener.old listener.old [] [] }
     ensures { let s = setup_of input.now in let lost = losses input.now in

@@ -5,9 +5,9 @@ ghost use Rattle.std.specs.List.{All};
 ghost use Rattle.sl_layout.specs.Net.{links_out, action_choice, unit_place};
 ghost use Rattle.sl_layout.specs.Serving.{Served, serving, served};
 ghost use Rattle.sl_model.specs.Knowledge.{is_outstanding, is_again, is_swept, asks};
-ghost use Rattle.sl_model.specs.Puts.{send, send_all, poll_puts, dump_answer, control_puts};
+ghost use Rattle.sl_model.specs.Puts.{send, poll_puts, dump_answer, control_puts};
 
-use crate::sends::add_out;
+use crate::sends::{Putter, add_out};
 use crate::tell::{put, puts_on, taken};
 use crate::wires::{action_choice, links_out};
 use sl_machine::Memory;
@@ -163,175 +163,84 @@ fn add_notice_polls(
     Ok(())
 }
 
-fn add_done(
-    alloc: Global,
-    net: &Net,
+/// Tells the observer of a dump of a unit, and polls it again where it is asked for, but only where
+/// this passes.
+fn add_dump_answer_if(
+    by: &Putter<'_>,
     puts: &mut Vec<Put>,
-    actor: u32,
-    unit: u32,
-    count: u64,
-) -> Result<(), Memory>
-    requires actor { actor < length net.now.actors }
-    requires unit { unit < length net.now.actors }
-    ensures { OnOk result
-        (puts.new.items ≡ puts.old.items ++ send_all (Message.Done (unit_place net.now unit) count)
-        (links_out net.now actor Sort.Done)) }
-{
-    let place = net.unit_place(unit);
-    add_out(
-        alloc,
-        net,
-        puts,
-        actor,
-        Sort::Done,
-        &Message::Done(place, count),
-    )
-}
-
-fn add_dump_answer(
-    alloc: Global,
-    net: &Net,
-    puts: &mut Vec<Put>,
-    actor: u32,
-    steps: &[Step],
-    count: u64,
-    one: &Serving,
-) -> Result<(), Memory>
-    requires actor { actor < length net.now.actors }
-    requires unit { one.now.unit < length net.now.actors }
-    ensures { OnOk result
-        (puts.new.items ≡ puts.old.items ++ dump_answer net.now actor
-        (reverse steps.now) count one.now) }
-{
-    add_done(alloc, net, puts, actor, one.unit, count)?;
-    let sweep = action_choice(net, actor);
-    add_poll(puts, is_again(sweep, one, steps), one.poll)
-}
-
-fn add_answer_if(
-    alloc: Global,
-    net: &Net,
-    puts: &mut Vec<Put>,
-    actor: u32,
-    steps: &[Step],
-    count: u64,
     passes: bool,
     one: &Serving,
+    steps: &[Step],
+    count: u64,
 ) -> Result<(), Memory>
-    requires actor { actor < length net.now.actors }
-    requires unit { one.now.unit < length net.now.actors }
+    requires actor { by.now.actor < length by.now.net.now.actors }
+    requires unit { one.now.unit < length by.now.net.now.actors }
     ensures { OnOk result
         (puts.new.items ≡ puts.old.items
-        ++ (if passes then dump_answer net.now actor (reverse steps.now)
+        ++ (if passes then dump_answer by.now.net.now by.now.actor (reverse steps.now)
         count one.now else [])) }
 {
     if passes {
-        add_dump_answer(alloc, net, puts, actor, steps, count, one)?;
+        let place = by.net.unit_place(one.unit);
+        add_out(by, puts, Sort::Done, &Message::Done(place, count))?;
+        let sweep = action_choice(by.net, by.actor);
+        add_poll(puts, is_again(sweep, one, steps), one.poll)?;
     }
     Ok(())
 }
 
 fn add_dump_answers(
-    alloc: Global,
-    net: &Net,
+    by: &Putter<'_>,
     puts: &mut Vec<Put>,
-    actor: u32,
     list: &[Serving],
     steps: &[Step],
     count: u64,
     choice: u32,
 ) -> Result<(), Memory>
-    requires actor { actor < length net.now.actors }
-    requires units { All (λ v. v.unit < length net.now.actors) list.now }
+    requires actor { by.now.actor < length by.now.net.now.actors }
+    requires units { All (λ v. v.unit < length by.now.net.now.actors) list.now }
     ensures { OnOk result
         (puts.new.items ≡ puts.old.items ++ flat_map
-        (λ v. if choice == v.dump then dump_answer net.now actor
+        (λ v. if choice == v.dump then dump_answer by.now.net.now by.now.actor
         (reverse steps.now) count v else []) list.now) }
 {
     for one in list {
-        add_answer_if(
-            alloc,
-            net,
-            puts,
-            actor,
-            steps,
-            count,
-            choice == one.dump,
-            one,
-        )?;
+        add_dump_answer_if(by, puts, choice == one.dump, one, steps, count)?;
     }
     Ok(())
 }
 
-fn add_inits(
-    alloc: Global,
-    net: &Net,
-    puts: &mut Vec<Put>,
-    actor: u32,
-    number: u64,
-) -> Result<(), Memory>
-    requires { actor < length net.now.actors }
-    ensures { OnOk result
-        (puts.new.items ≡ puts.old.items ++ send_all (Message.Init number)
-        (links_out net.now actor Sort.Init)) }
-{
-    add_out(alloc, net, puts, actor, Sort::Init, &Message::Init(number))
-}
-
 /// The puts of a control plane that takes a message.
 pub fn add_control(
-    alloc: Global,
-    net: &Net,
+    by: &Putter<'_>,
     puts: &mut Vec<Put>,
-    actor: u32,
     steps: &[Step],
     choice: u32,
     message: &Message,
 ) -> Result<(), Memory>
-    requires { actor < length net.now.actors }
+    requires { by.now.actor < length by.now.net.now.actors }
     ensures { OnOk result
-        (puts.new.items ≡ puts.old.items ++ control_puts net.now actor
+        (puts.new.items ≡ puts.old.items ++ control_puts by.now.net.now by.now.actor
         (reverse steps.now) choice message.now) }
 {
-    let list = served(alloc, net, actor)?;
+    let list = served(by.alloc, by.net, by.actor)?;
     match message {
-        Message::Begin(number) => add_inits(alloc, net, puts, actor, *number),
-        Message::Notice => add_notice_polls(alloc, puts, &list, steps, choice),
-        Message::Dump(count) => add_dump_answers(
-            alloc, net, puts, actor, &list, steps, *count, choice,
-        ),
+        Message::Begin(number) => add_out(by, puts, Sort::Init, &Message::Init(*number)),
+        Message::Notice => add_notice_polls(by.alloc, puts, &list, steps, choice),
+        Message::Dump(count) => add_dump_answers(by, puts, &list, steps, *count, choice),
         _ => Ok(()),
     }
 }
 
 /// The polls of a sweep.
-pub fn add_sweep(
-    alloc: Global,
-    net: &Net,
-    puts: &mut Vec<Put>,
-    actor: u32,
-    steps: &[Step],
-) -> Result<(), Memory>
-    requires { actor < length net.now.actors }
+pub fn add_sweep(by: &Putter<'_>, puts: &mut Vec<Put>, steps: &[Step]) -> Result<(), Memory>
+    requires { by.now.actor < length by.now.net.now.actors }
     ensures { OnOk result
         (puts.new.items ≡ puts.old.items ++ flat_map (λ v. poll_puts v (reverse steps.now))
-        (served net.now actor)) }
+        (served by.now.net.now by.now.actor)) }
 {
-    add_sweep_polls(alloc, puts, &served(alloc, net, actor)?, steps)
-}
-
-fn add_sweep_polls(
-    alloc: Global,
-    puts: &mut Vec<Put>,
-    list: &[Serving],
-    steps: &[Step],
-) -> Result<(), Memory>
-    ensures { OnOk result
-        (puts.new.items ≡ puts.old.items ++ flat_map (λ v. poll_puts v (reverse steps.now))
-        list.now) }
-{
-    for one in list {
-        add_poll_if(alloc, puts, true, one, steps)?;
+    for one in &served(by.alloc, by.net, by.actor)? {
+        add_poll_if(by.alloc, puts, true, one, steps)?;
     }
     Ok(())
 }

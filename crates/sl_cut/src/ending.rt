@@ -1,8 +1,7 @@
 // How a schedule ends, by whole histories.
 ghost use Rattle.std.specs.Prelude.{◌≡◌, ◌<◌, ◌≤◌, IfOk, length, count_by, ◌==◌};
 ghost use Rattle.std.specs.Bool.{Decides};
-ghost use Rattle.std.specs.List.{All};
-ghost use Rattle.sl_flow.specs.Flow.{HasAddresses};
+ghost use Rattle.sl_flow.specs.Flow.{HaveAddresses};
 ghost use Rattle.sl_model.specs.Losses.{losses};
 ghost use Rattle.sl_model.specs.Setup.{setup_of, frames_of};
 ghost use Rattle.sl_model.specs.World.{receiver, carried, taken_by};
@@ -57,7 +56,7 @@ fn raw_count(raws: &[RawPart], host: u32) -> usize
 
 /// How many frames a host sends.
 fn frame_count(alloc: Global, input: &Input, host: u32) -> Result<usize, Memory>
-    requires { All HasAddresses input.now.flows }
+    requires { HaveAddresses input.now.flows }
     ensures { IfOk result (λ count. count ≡ length (frames_of (setup_of input.now) host)) }
 {
     let packets = packets_of(alloc, host, &input.flows)?;
@@ -68,7 +67,7 @@ fn frame_count(alloc: Global, input: &Input, host: u32) -> Result<usize, Memory>
 /// Whether an actor that is a host has put all its frames; another one has none.
 fn has_sent(alloc: Global, input: &Input, world: &World, actor: u32) -> Result<bool, Memory>
     requires actor { actor < length input.now.net.actors }
-    requires addresses { All HasAddresses input.now.flows }
+    requires addresses { HaveAddresses input.now.flows }
     ensures { IfOk result (λ done. Decides done (HasSent (setup_of input.now) world.now actor)) }
 {
     let ActorId::Host(host) = input.net.actor(actor) else {
@@ -79,7 +78,7 @@ fn has_sent(alloc: Global, input: &Input, world: &World, actor: u32) -> Result<b
 }
 
 fn all_sent(alloc: Global, input: &Input, world: &World) -> Result<bool, Memory>
-    requires { All HasAddresses input.now.flows }
+    requires { HaveAddresses input.now.flows }
     ensures { IfOk result (λ done. Decides done (AllSent (setup_of input.now) world.now)) }
 {
     for actor in 0..input.net.actors().len() as u32 {
@@ -112,7 +111,7 @@ fn is_collected(alloc: Global, input: &Input, world: &World) -> Result<bool, Mem
 }
 
 fn is_finished(alloc: Global, input: &Input, world: &World) -> Result<bool, Memory>
-    requires { All HasAddresses input.now.flows }
+    requires { HaveAddresses input.now.flows }
     ensures { IfOk result
         (λ done. Decides done (IsFinished (setup_of input.now) (losses input.now) world.now)) }
 {
@@ -130,7 +129,7 @@ fn is_finished(alloc: Global, input: &Input, world: &World) -> Result<bool, Memo
 
 /// How a schedule ends, from whole histories.
 pub fn ending_of(alloc: Global, input: &Input, schedule: &[(u32, u32)]) -> Result<Ending, Memory>
-    requires { All HasAddresses input.now.flows }
+    requires { HaveAddresses input.now.flows }
     ensures { IfOk result (HasEnding (setup_of input.now) (losses input.now) schedule.now) }
 {
     let (world, front) = follow_legal(alloc, input, schedule)?;

@@ -1,8 +1,7 @@
 // What a host sends: the packets of its flows, then its raw frames.
 ghost use Rattle.std.specs.Prelude.{◌≡◌, map, filter, slice_get, IfOk, ◌==◌};
-ghost use Rattle.std.specs.List.{All};
 ghost use Rattle.sl_model.specs.Setup.{setup_of, frames_of};
-ghost use Rattle.sl_flow.specs.Flow.{HasAddresses};
+ghost use Rattle.sl_flow.specs.Flow.{HaveAddresses};
 
 use crate::frames::plain_frame;
 use crate::message::copy_bytes;
@@ -41,7 +40,7 @@ pub fn frame_at(
     host: u32,
     place: usize,
 ) -> Result<Option<Bytes>, Memory>
-    requires { All HasAddresses input.now.flows }
+    requires { HaveAddresses input.now.flows }
     ensures { IfOk result (λ frame. frame ≡ slice_get (frames_of (setup_of input.now) host) place) }
 {
     let packets = packets_of(alloc, host, &input.flows)?;

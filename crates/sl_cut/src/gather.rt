@@ -11,7 +11,7 @@ ghost use Rattle.sl_model.specs.Findings.{delivered_to, findings_in, findings};
 ghost use Rattle.std.specs.List.{All, range_with_len};
 ghost use Rattle.sl_route.specs.Routes.{IsRoutesOf};
 ghost use Rattle.sl_model.specs.Losses.{losses};
-ghost use Rattle.sl_flow.specs.Flow.{HasAddresses};
+ghost use Rattle.sl_flow.specs.Flow.{HaveAddresses};
 
 use crate::counting::{bad, expired, noroute};
 use crate::history::World;
@@ -217,7 +217,7 @@ pub fn findings_of(
     input: &Input,
     schedule: &[(u32, u32)],
 ) -> Result<Findings, Memory>
-    requires addresses { All HasAddresses input.now.flows }
+    requires addresses { HaveAddresses input.now.flows }
     ensures findings { IfOk result
         (λ all. all ≡ findings (setup_of input.now) (losses input.now) schedule.now) }
 {

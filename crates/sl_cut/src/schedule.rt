@@ -1,13 +1,12 @@
 // Follows schedules on worlds of whole histories.
 ghost use Rattle.std.specs.Prelude.{◌≡◌, ◌≤◌, length, take, OnOk, IfOk, Some, None, is_some};
 ghost use Rattle.std.specs.Prelude.{slice_get};
-ghost use Rattle.std.specs.List.{All};
 ghost use Rattle.sl_route.specs.Routes.{IsRoutesOf};
 ghost use Rattle.sl_model.specs.Setup.{setup_of};
 ghost use Rattle.sl_model.specs.World.{Entry, start, next_step, turn, world, IsLegal};
 ghost use Rattle.sl_model.specs.History.{steps_in};
 ghost use Rattle.sl_model.specs.Losses.{losses};
-ghost use Rattle.sl_flow.specs.Flow.{HasAddresses};
+ghost use Rattle.sl_flow.specs.Flow.{HaveAddresses};
 
 use crate::history::World;
 use crate::step::next_step;
@@ -35,7 +34,7 @@ fn take_turn(
     actor: u32,
     choice: u32,
 ) -> Result<bool, Memory>
-    requires addresses { All HasAddresses input.now.flows }
+    requires addresses { HaveAddresses input.now.flows }
     requires routes { IsRoutesOf input.now.net routes.now }
     requires actors { length world.old ≡ length input.now.net.actors }
     ensures did { IfOk result
@@ -56,7 +55,7 @@ fn take_turn(
 
 /// The world that a schedule reaches.
 pub fn follow(alloc: Global, input: &Input, schedule: &[(u32, u32)]) -> Result<World, Memory>
-    requires { All HasAddresses input.now.flows }
+    requires { HaveAddresses input.now.flows }
     ensures world { IfOk result
         (λ w. w ≡ world (setup_of input.now) (losses input.now) schedule.now) }
     ensures actors { IfOk result (λ w. length w ≡ length input.now.net.actors) }
@@ -77,7 +76,7 @@ pub fn follow_legal(
     input: &Input,
     schedule: &[(u32, u32)],
 ) -> Result<(World, usize), Memory>
-    requires { All HasAddresses input.now.flows }
+    requires { HaveAddresses input.now.flows }
     ensures legal { IfOk result
         (λ r. IsLegal (setup_of input.now) (losses input.now) (take r.1 schedule.now)) }
     ensures world { IfOk result

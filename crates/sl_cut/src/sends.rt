@@ -30,19 +30,26 @@ pub fn add_sends(
     Ok(())
 }
 
+/// An actor of a net that puts messages, with the memory for them.
+#[derive(Clone, Copy)]
+pub struct Putter<'a> {
+    pub alloc: Global,
+    pub net: &'a Net,
+    pub actor: u32,
+}
+
 /// Adds a message on each link of a sort on which an actor puts.
 pub fn add_out(
-    alloc: Global,
-    net: &Net,
+    by: &Putter<'_>,
     puts: &mut Vec<Put>,
-    actor: u32,
     sort: Sort,
     message: &Message,
 ) -> Result<(), Memory>
-    requires { actor < length net.now.actors }
+    requires { by.now.actor < length by.now.net.now.actors }
     ensures { OnOk result
-        (puts.new.items ≡ puts.old.items ++ send_all message.now (links_out net.now actor sort)) }
+        (puts.new.items ≡ puts.old.items
+        ++ send_all message.now (links_out by.now.net.now by.now.actor sort)) }
 {
-    let links = links_out(alloc, net, actor, sort)?;
-    add_sends(alloc, puts, message, &links)
+    let links = links_out(by.alloc, by.net, by.actor, sort)?;
+    add_sends(by.alloc, puts, message, &links)
 }

@@ -1,7 +1,6 @@
 // The step that an entry makes.
 ghost use Rattle.std.specs.Prelude.{◌≡◌, ◌++◌, ◌<◌, length, suc, zero, reverse, not, OnOk, IfOk};
 ghost use Rattle.std.specs.Prelude.{slice_get, Some, None, flat_map};
-ghost use Rattle.std.specs.List.{All};
 ghost use Rattle.sl_layout.specs.Serving.{served};
 ghost use Rattle.sl_layout.specs.Roster.{IsActor};
 ghost use Rattle.sl_route.specs.Routes.{IsRoutesOf};
@@ -12,7 +11,7 @@ ghost use Rattle.sl_model.specs.Knowledge.{can_issue, can_resend, issued, is_swe
 ghost use Rattle.sl_layout.specs.Net.{links_out};
 ghost use Rattle.sl_model.specs.Puts.{puts_of, action, guarded, begin_all, poll_puts, send_all};
 ghost use Rattle.sl_model.specs.World.{front, step_by, next_step, floor_for};
-ghost use Rattle.sl_flow.specs.Flow.{HasAddresses};
+ghost use Rattle.sl_flow.specs.Flow.{HaveAddresses};
 ghost use Rattle.sl_model.specs.Losses.{losses};
 
 use crate::control::{add_control, add_sweep, is_swept};
@@ -21,7 +20,7 @@ use crate::history::World;
 use crate::knowledge::{can_issue, can_resend, floor, issued};
 use crate::losses::carried;
 use crate::message::copy_message;
-use crate::sends::add_out;
+use crate::sends::{Putter, add_out};
 use crate::tell::taken;
 use crate::units::add_unit;
 use crate::wires::{action_choice, observer};
@@ -78,12 +77,15 @@ fn add_puts(
         (puts.new.items ≡ puts.old.items ++ puts_of (setup_of input.now) actor of
         (reverse steps.now) choice link message.now) }
 {
+    let by = Putter {
+        alloc,
+        net: &input.net,
+        actor,
+    };
     match of {
         ActorId::Observer => Ok(()),
-        ActorId::Control(_) => add_control(alloc, &input.net, puts, actor, steps, choice, message),
-        ActorId::Unit(unit) => add_unit(
-            alloc, &input.net, routes, puts, actor, unit, steps, choice, link, message,
-        ),
+        ActorId::Control(_) => add_control(&by, puts, steps, choice, message),
+        ActorId::Unit(unit) => add_unit(&by, routes, puts, unit, steps, choice, link, message),
         ActorId::Host(_) => Ok(()),
     }
 }
@@ -118,14 +120,12 @@ fn begin_all(alloc: Global, net: &Net, number: u64) -> Result<Puts, Memory>
     ensures { IfOk result (λ puts. puts ≡ begin_all net.now number) }
 {
     let mut items = Vec::new(alloc);
-    add_out(
+    let by = Putter {
         alloc,
         net,
-        &mut items,
-        observer(net),
-        Sort::Begin,
-        &Message::Begin(number),
-    )?;
+        actor: observer(net),
+    };
+    add_out(&by, &mut items, Sort::Begin, &Message::Begin(number))?;
     Ok(Puts { items })
 }
 
@@ -163,7 +163,7 @@ fn sweep(alloc: Global, net: &Net, actor: u32, steps: &[Step]) -> Result<Option<
         return Ok(None);
     }
     let mut items = Vec::new(alloc);
-    add_sweep(alloc, net, &mut items, actor, steps)?;
+    add_sweep(&Putter { alloc, net, actor }, &mut items, steps)?;
     Ok(Some(Puts { items }))
 }
 
@@ -173,7 +173,8 @@ fn send_frame(alloc: Global, net: &Net, actor: u32, frame: &Message) -> Result<P
         (λ puts. puts ≡ send_all frame.now (links_out net.now actor Sort.FromHost)) }
 {
     let mut items = Vec::new(alloc);
-    add_out(alloc, net, &mut items, actor, Sort::FromHost, frame)?;
+    let by = Putter { alloc, net, actor };
+    add_out(&by, &mut items, Sort::FromHost, frame)?;
     Ok(Puts { items })
 }
 
@@ -185,7 +186,7 @@ fn inject(
     steps: &[Step],
 ) -> Result<Option<Puts>, Memory>
     requires actor { actor < length input.now.net.actors }
-    requires addresses { All HasAddresses input.now.flows }
+    requires addresses { HaveAddresses input.now.flows }
     ensures { IfOk result
         (λ puts. puts ≡ action (setup_of input.now) 0 actor (ActorId.Host host)
         (reverse steps.now) zero) }
@@ -228,7 +229,7 @@ fn action(
     number: usize,
 ) -> Result<Option<Puts>, Memory>
     requires actor { actor < length input.now.net.actors }
-    requires addresses { All HasAddresses input.now.flows }
+    requires addresses { HaveAddresses input.now.flows }
     ensures { IfOk result
         (λ puts. puts ≡ action (setup_of input.now) (floor_for input.now.net world.now of) actor of
         (history world.now actor) number) }
@@ -289,7 +290,7 @@ fn step_of_action(
     choice: u32,
 ) -> Result<Option<Step>, Memory>
     requires actor { actor < length input.now.net.actors }
-    requires addresses { All HasAddresses input.now.flows }
+    requires addresses { HaveAddresses input.now.flows }
     ensures { IfOk result
         (λ step. step ≡ step_by (setup_of input.now) (losses input.now)
         world.now actor choice None of) }
@@ -321,7 +322,7 @@ pub fn next_step(
     actor: u32,
     choice: u32,
 ) -> Result<Option<Step>, Memory>
-    requires addresses { All HasAddresses input.now.flows }
+    requires addresses { HaveAddresses input.now.flows }
     requires routes { IsRoutesOf input.now.net routes.now }
     ensures { IfOk result
         (λ step. step ≡ next_step (setup_of input.now) (losses input.now) world.now

@@ -7,7 +7,7 @@ ghost use Rattle.sl_model.specs.Puts.{send_all, crossbar_to, onward, route, ingr
 ghost use Rattle.sl_model.specs.Puts.{egress_puts, notice_puts, dump_puts, unit_puts};
 
 use crate::frames::plain_frame;
-use crate::sends::{add_out, add_sends};
+use crate::sends::{Putter, add_out, add_sends};
 use crate::tell::{id, last, stamp_of};
 use crate::wires::links_out;
 use sl_input::packet_of;
@@ -47,43 +47,41 @@ fn crossbar_to(
 }
 
 fn add_onward(
-    alloc: Global,
-    net: &Net,
+    by: &Putter<'_>,
     puts: &mut Vec<Put>,
-    unit: u32,
     device: u32,
     id: u64,
     packet: Packet,
     port: Option<u8>,
 ) -> Result<(), Memory>
-    requires { unit < length net.now.actors }
+    requires { by.now.actor < length by.now.net.now.actors }
     ensures { OnOk result
-        (puts.new.items ≡ puts.old.items ++ onward net.now unit device id packet port) }
+        (puts.new.items ≡ puts.old.items
+        ++ onward by.now.net.now by.now.actor device id packet port) }
 {
     match port {
         None => Ok(()),
         Some(port) => {
-            let links = crossbar_to(alloc, net, unit, device, port as u32)?;
-            add_sends(alloc, puts, &Message::Data(id, packet), &links)
+            let links = crossbar_to(by.alloc, by.net, by.actor, device, port as u32)?;
+            add_sends(by.alloc, puts, &Message::Data(id, packet), &links)
         }
     }
 }
 
 /// Sends a packet to the egress unit of its next port.
 fn add_route(
-    alloc: Global,
-    net: &Net,
+    by: &Putter<'_>,
     routes: &Routes,
     puts: &mut Vec<Put>,
-    unit: u32,
     device: u32,
     id: u64,
     packet: Packet,
 ) -> Result<(), Memory>
-    requires unit { unit < length net.now.actors }
-    requires routes { IsRoutesOf net.now routes.now }
-    requires device { device < length net.now.parts.devices }
-    ensures { OnOk result (puts.new.items ≡ puts.old.items ++ route net.now unit device id packet) }
+    requires unit { by.now.actor < length by.now.net.now.actors }
+    requires routes { IsRoutesOf by.now.net.now routes.now }
+    requires device { device < length by.now.net.now.parts.devices }
+    ensures { OnOk result
+        (puts.new.items ≡ puts.old.items ++ route by.now.net.now by.now.actor device id packet) }
 {
     if packet.hops == 0 {
         return Ok(());
@@ -93,77 +91,73 @@ fn add_route(
         hops: packet.hops - 1,
         ..packet
     };
-    add_onward(alloc, net, puts, unit, device, id, onward, port)
+    add_onward(by, puts, device, id, onward, port)
 }
 
 fn add_ingress(
-    alloc: Global,
-    net: &Net,
+    by: &Putter<'_>,
     routes: &Routes,
     puts: &mut Vec<Put>,
-    unit: u32,
     device: u32,
     id: u64,
     message: &Message,
 ) -> Result<(), Memory>
-    requires unit { unit < length net.now.actors }
-    requires routes { IsRoutesOf net.now routes.now }
-    requires device { device < length net.now.parts.devices }
+    requires unit { by.now.actor < length by.now.net.now.actors }
+    requires routes { IsRoutesOf by.now.net.now routes.now }
+    requires device { device < length by.now.net.now.parts.devices }
     ensures { OnOk result
-        (puts.new.items ≡ puts.old.items ++ ingress_puts net.now unit device id message.now) }
+        (puts.new.items ≡ puts.old.items
+        ++ ingress_puts by.now.net.now by.now.actor device id message.now) }
 {
     match message {
         Message::Host(bytes) => match packet_of(bytes) {
-            Some(packet) => add_route(alloc, net, routes, puts, unit, device, id, packet),
+            Some(packet) => add_route(by, routes, puts, device, id, packet),
             None => Ok(()),
         },
-        Message::Data(_, packet) => add_route(alloc, net, routes, puts, unit, device, id, *packet),
-        Message::Init(_) => add_out(alloc, net, puts, unit, Sort::Crossbar, &Message::Probe(id)),
+        Message::Data(_, packet) => add_route(by, routes, puts, device, id, *packet),
+        Message::Init(_) => add_out(by, puts, Sort::Crossbar, &Message::Probe(id)),
         _ => Ok(()),
     }
 }
 
 fn add_egress_data(
-    alloc: Global,
-    net: &Net,
+    by: &Putter<'_>,
     puts: &mut Vec<Put>,
-    unit: u32,
     id: u64,
     packet: Packet,
 ) -> Result<(), Memory>
-    requires { unit < length net.now.actors }
-    ensures { OnOk result
+    requires { by.now.actor < length by.now.net.now.actors }
+    ensures { let net = by.now.net.now in
+        OnOk result
         (puts.new.items ≡ puts.old.items
-        ++ (send_all (Message.Data id packet) (links_out net.now unit Sort.Cable)
-        ++ send_all (Message.Host (plain_frame packet)) (links_out net.now unit Sort.ToHost))) }
+        ++ (send_all (Message.Data id packet) (links_out net by.now.actor Sort.Cable)
+        ++ send_all (Message.Host (plain_frame packet)) (links_out net by.now.actor Sort.ToHost))) }
 {
     let data = Message::Data(id, packet);
-    add_out(alloc, net, puts, unit, Sort::Cable, &data)?;
-    let frame = Message::Host(plain_frame(alloc, packet)?);
-    add_out(alloc, net, puts, unit, Sort::ToHost, &frame)
+    add_out(by, puts, Sort::Cable, &data)?;
+    let frame = Message::Host(plain_frame(by.alloc, packet)?);
+    add_out(by, puts, Sort::ToHost, &frame)
 }
 
 fn add_egress(
-    alloc: Global,
-    net: &Net,
+    by: &Putter<'_>,
     puts: &mut Vec<Put>,
-    unit: u32,
     of: UnitId,
     id: u64,
     link: u32,
     message: &Message,
 ) -> Result<(), Memory>
-    requires unit { unit < length net.now.actors }
-    requires link { link < length net.now.links }
+    requires unit { by.now.actor < length by.now.net.now.actors }
+    requires link { link < length by.now.net.now.links }
     ensures { OnOk result
-        (puts.new.items ≡ puts.old.items ++ egress_puts net.now unit
+        (puts.new.items ≡ puts.old.items ++ egress_puts by.now.net.now by.now.actor
         of.device of.port id link message.now) }
 {
     match message {
-        Message::Data(_, packet) => add_egress_data(alloc, net, puts, unit, id, *packet),
+        Message::Data(_, packet) => add_egress_data(by, puts, id, *packet),
         Message::Probe(_) => {
-            if is_own_port(net, of, link) {
-                add_out(alloc, net, puts, unit, Sort::Cable, &Message::Probe(id))?;
+            if is_own_port(by.net, of, link) {
+                add_out(by, puts, Sort::Cable, &Message::Probe(id))?;
             }
             Ok(())
         }
@@ -172,16 +166,15 @@ fn add_egress(
 }
 
 fn add_notice(
-    alloc: Global,
-    net: &Net,
+    by: &Putter<'_>,
     puts: &mut Vec<Put>,
-    unit: u32,
     before: u64,
     stamp: Option<u64>,
 ) -> Result<(), Memory>
-    requires { unit < length net.now.actors }
+    requires { by.now.actor < length by.now.net.now.actors }
     ensures { OnOk result
-        (puts.new.items ≡ puts.old.items ++ notice_puts net.now unit before stamp) }
+        (puts.new.items ≡ puts.old.items
+        ++ notice_puts by.now.net.now by.now.actor before stamp) }
 {
     match stamp {
         None => Ok(()),
@@ -189,56 +182,53 @@ fn add_notice(
             if before == stamp {
                 return Ok(());
             }
-            add_out(alloc, net, puts, unit, Sort::Notice, &Message::Notice)
+            add_out(by, puts, Sort::Notice, &Message::Notice)
         }
     }
 }
 
 fn add_dump(
-    alloc: Global,
-    net: &Net,
+    by: &Putter<'_>,
     puts: &mut Vec<Put>,
-    unit: u32,
     count: u64,
     message: &Message,
 ) -> Result<(), Memory>
-    requires { unit < length net.now.actors }
+    requires { by.now.actor < length by.now.net.now.actors }
     ensures { OnOk result
-        (puts.new.items ≡ puts.old.items ++ dump_puts net.now unit count message.now) }
+        (puts.new.items ≡ puts.old.items
+        ++ dump_puts by.now.net.now by.now.actor count message.now) }
 {
     match message {
-        Message::Poll => add_out(alloc, net, puts, unit, Sort::Dump, &Message::Dump(count)),
+        Message::Poll => add_out(by, puts, Sort::Dump, &Message::Dump(count)),
         _ => Ok(()),
     }
 }
 
 /// The puts of a unit that takes a message.
 pub fn add_unit(
-    alloc: Global,
-    net: &Net,
+    by: &Putter<'_>,
     routes: &Routes,
     puts: &mut Vec<Put>,
-    unit: u32,
     of: UnitId,
     steps: &[Step],
     choice: u32,
     link: u32,
     message: &Message,
 ) -> Result<(), Memory>
-    requires unit { unit < length net.now.actors }
-    requires routes { IsRoutesOf net.now routes.now }
-    requires device { of.device < length net.now.parts.devices }
-    requires link { link < length net.now.links }
+    requires unit { by.now.actor < length by.now.net.now.actors }
+    requires routes { IsRoutesOf by.now.net.now routes.now }
+    requires device { of.device < length by.now.net.now.parts.devices }
+    requires link { link < length by.now.net.now.links }
     ensures { OnOk result
-        (puts.new.items ≡ puts.old.items ++ unit_puts net.now unit of
+        (puts.new.items ≡ puts.old.items ++ unit_puts by.now.net.now by.now.actor of
         (reverse steps.now) choice link message.now) }
 {
     let stamp = stamp_of(message);
     let after = stamp.unwrap_or(0).max(id(steps));
     match of.side {
-        Side::Ingress => add_ingress(alloc, net, routes, puts, unit, of.device, after, message)?,
-        Side::Egress => add_egress(alloc, net, puts, unit, of, after, link, message)?,
+        Side::Ingress => add_ingress(by, routes, puts, of.device, after, message)?,
+        Side::Egress => add_egress(by, puts, of, after, link, message)?,
     }
-    add_notice(alloc, net, puts, unit, last(choice, steps), stamp)?;
-    add_dump(alloc, net, puts, unit, steps.len() as u64 + 1, message)
+    add_notice(by, puts, last(choice, steps), stamp)?;
+    add_dump(by, puts, steps.len() as u64 + 1, message)
 }

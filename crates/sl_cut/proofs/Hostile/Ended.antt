@@ -159,28 +159,25 @@ next-world : (s : Setup) (lost : Losses) (es : List Entry) (e : Entry)
     → next_step (blank_setup s) lost (world (blank_setup s) lost es) e ≡ option_map blank_step (next_step s lost (world s lost es) e)
 next-world s lost es e = ap (λ v. next_step (blank_setup s) lost v e) (world-blank s lost es) ∙ next-blank s lost (world s lost es) e
 
-pub ending-blank : (s : Setup) (lost : Losses) (es : List Entry) (x : Ending) → HasEnding s lost es x → HasEnding (blank_setup s) lost es x
-ending-blank s lost es (Idle n) f = record {
+-- an ending stands in another setup, where what it says does
+ending-over : (s t : Setup) (lost : Losses) → ((es : List Entry) → IsLegal s lost es → IsLegal t lost es)
+    → ((es : List Entry) (e : Entry) → next_step s lost (world s lost es) e ≡ None → next_step t lost (world t lost es) e ≡ None)
+    → ((es : List Entry) → IsFinished s lost (world s lost es) → IsFinished t lost (world t lost es)) → ((es : List Entry) → IsFinished t lost (world t lost es) → IsFinished s lost (world s lost es))
+    → (es : List Entry) (x : Ending) → HasEnding s lost es x → HasEnding t lost es x
+ending-over s t lost legal idle done undone es (Idle n) f = record {
   before = f.before;
   entry = f.entry;
   rest = f.rest;
   whole = f.whole;
   number = f.number;
-  legal = cast (sym (legal-blank s lost f.before)) f.legal;
-  idle = next-world s lost f.before f.entry ∙ ap (option_map blank_step) f.idle;
+  legal = legal f.before f.legal;
+  idle = idle f.before f.entry f.idle;
 }
-ending-blank s lost es Unfinished f = (cast (sym (legal-blank s lost es)) f.0, λ g. f.1 (blank-finished s lost es g))
-ending-blank s lost es Finished f = (cast (sym (legal-blank s lost es)) f.0, finished-blank s lost es f.1)
+ending-over s t lost legal idle done undone es Unfinished f = (legal es f.0, λ g. f.1 (undone es g))
+ending-over s t lost legal idle done undone es Finished f = (legal es f.0, done es f.1)
+
+pub ending-blank : (s : Setup) (lost : Losses) (es : List Entry) (x : Ending) → HasEnding s lost es x → HasEnding (blank_setup s) lost es x
+ending-blank s lost = ending-over s (blank_setup s) lost (λ es. cast (sym (legal-blank s lost es))) (λ es e h. next-world s lost es e ∙ ap (option_map blank_step) h) (finished-blank s lost) (blank-finished s lost)
 
 pub blank-ending : (s : Setup) (lost : Losses) (es : List Entry) (x : Ending) → HasEnding (blank_setup s) lost es x → HasEnding s lost es x
-blank-ending s lost es (Idle n) f = record {
-  before = f.before;
-  entry = f.entry;
-  rest = f.rest;
-  whole = f.whole;
-  number = f.number;
-  legal = cast (legal-blank s lost f.before) f.legal;
-  idle = none-map blank_step _ (sym (next-world s lost f.before f.entry) ∙ f.idle);
-}
-blank-ending s lost es Unfinished f = (cast (legal-blank s lost es) f.0, λ g. f.1 (finished-blank s lost es g))
-blank-ending s lost es Finished f = (cast (legal-blank s lost es) f.0, blank-finished s lost es f.1)
+blank-ending s lost = ending-over (blank_setup s) s lost (λ es. cast (legal-blank s lost es)) (λ es e h. none-map blank_step _ (sym (next-world s lost es e) ∙ h)) (blank-finished s lost) (finished-blank s lost)

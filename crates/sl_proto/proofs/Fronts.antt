@@ -1,28 +1,24 @@
 -- How far a run has come along a schedule, in settling and in finishing.
-use Rattle.std.proofs.Common.{◌≡◌, ℕ, zero, suc, ◌+◌, ◌-◌, ◌<◌, List, [], ◌∷◌, ◌++◌, length, refl, sym, ap, subst, ◌∙◌, Option, Some, None, arith, append_assoc, append-nil, get_or, take, drop, take-append-drop}
-use Rattle.std.specs.Prelude.{◌≢◌, Bool, true, false}
-use Rattle.std.proofs.lemmas.Grind.{flat_map-append}
-use Rattle.std.proofs.lemmas.List.{take_more, flat_map_more}
-use Rattle.sl_net.specs.declared.input.Script1.{Script1}
+use Rattle.std.proofs.Common.{◌≡◌, ℕ, zero, suc, ◌<◌, List, [], ◌∷◌, ◌++◌, length, refl, sym, ap, subst, ◌∙◌, Option, Some, inl, inr, append_assoc, append-nil, take, drop, take-append-drop}
+use Rattle.std.specs.Prelude.{◌≢◌, ◌⊎◌, Bool, true, false, not, nat_eq, Result, Ok, Err, OnOk}
+use Rattle.std.proofs.lemmas.Bool.Decides.{eqb_tells}
 use Rattle.sl_layout.specs.Net.{Net}
 use Rattle.sl_net.specs.Wired.{IsNet}
 use Rattle.sl_wire.specs.declared.message.Msg.{Msg}
 use Rattle.sl_model.specs.History.{World, Losses}
 use Rattle.sl_model.specs.Setup.{Setup}
-use Rattle.sl_model.specs.World.{Entry, run, world, kept_from}
+use Rattle.sl_model.specs.World.{Entry, IsLossTable, run, world, kept_from}
 use Rattle.sl_model.specs.Books.{schedule_of}
-use Rattle.sl_model.specs.Schedule.{settling_pass, sweeps, resend_entry, passes_of, expand_one, expand}
-use Rattle.sl_model.specs.End.{settle, finish, then_from, again_from, sweep_round, after_sweeps, is_collected, rose, Settled, IsFin}
+use Rattle.sl_model.specs.Schedule.{settling_pass, sweeps, resend_entry}
+use Rattle.sl_model.specs.End.{settle, finish, then_from, again_from, sweep_round, after_sweeps, is_collected, rose, Settled, IsFin, IsFinished}
 use Rattle.sl_model.proofs.Finishing.Finished.{append-splits, then-splits}
 use Rattle.sl_world.specs.Scene.{Scene}
 use Rattle.sl_proto.specs.Nodes.{NodeState}
-use Rattle.sl_proto.specs.Standing.{Case, world_of, run_at, StandsFor}
+use Rattle.sl_proto.specs.Standing.{Case, world_of, run_at, StandsFor, SettlesTo, FinishesTo}
 use Rattle.sl_proto.specs.Runs.{Run, Follows, Goes}
-use Rattle.sl_proto.specs.Rounds.{EndsBy, EndsAt}
-use Rattle.sl_proto.specs.Calls.{KeepsStanding, SettlesIn, IsSettledIf}
-use Rattle.sl_proto.specs.Fronts.{FollowsFront, SettlesBy, SettlesTowards, FinishesTowards, Leads, Whatever, SweepsBy, ResendsBy}
-use Rattle.sl_proto.proofs.Choices.{passes-next}
-use Rattle.sl_proto.proofs.Trails.{follows-append, kept-whole, follows-goes, goes-append, goes-something}
+use Rattle.sl_proto.specs.Calls.{Settles, Finishes, LeadsFrom, AllDone, MoreRounds, RoundsLeft, SettlingLeads, IsSettledAfter, FinishingLeads}
+use Rattle.sl_proto.specs.Fronts.{FollowsFront, SettlesBy, SettlesTowards, FinishesTowards, Leads, Whatever, Nothing, SweepsBy, ResendsBy}
+use Rattle.sl_proto.proofs.Trails.{follows-append, kept-whole, follows-goes, goes-append, goes-nothing, goes-something, idle-again}
 
 -- Schedules.
 
@@ -36,7 +32,7 @@ front-taken s lost old new es n f = record { first = take n es; rest = drop n es
 pub over : (R : List Entry → Type 0) (f : Net → List Entry) (net same : Net) (es : List Entry) → same ≡ net → es ≡ f net → R es → R (f same)
 over R f net same es n p h = subst R (p ∙ ap f (sym n)) h
 
-front-after : (s : Setup) (lost : Losses) (old mid new : Run) (es fs : List Entry) → Follows s lost old es mid → FollowsFront s lost mid fs new → FollowsFront s lost old (es ++ fs) new
+pub front-after : (s : Setup) (lost : Losses) (old mid new : Run) (es fs : List Entry) → Follows s lost old es mid → FollowsFront s lost mid fs new → FollowsFront s lost old (es ++ fs) new
 front-after s lost old mid new es fs f g = record {
   first = es ++ g.first;
   rest = g.rest;
@@ -44,41 +40,12 @@ front-after s lost old mid new es fs f g = record {
   follows = follows-append s lost old mid new es g.first f g.follows;
 }
 
-front-longer : (s : Setup) (lost : Losses) (old new : Run) (es fs more : List Entry) → fs ≡ es ++ more → FollowsFront s lost old es new → FollowsFront s lost old fs new
+pub front-longer : (s : Setup) (lost : Losses) (old new : Run) (es fs more : List Entry) → fs ≡ es ++ more → FollowsFront s lost old es new → FollowsFront s lost old fs new
 front-longer s lost old new es fs more q g = record {
   first = g.first;
   rest = g.rest ++ more;
   whole = q ∙ ap (λ r. r ++ more) g.whole ∙ append_assoc g.first g.rest more;
   follows = g.follows;
-}
-
-passes-more : (es : List Entry) (n d : ℕ) → (more : List Entry) × (passes_of es (n + d) ≡ passes_of es n ++ more)
-passes-more es n zero = let e : n + 0 ≡ n = omega arith in ([], ap (passes_of es) e ∙ sym (append-nil (passes_of es n)))
-passes-more es n (suc d) = let e : n + suc d ≡ (n + d) + 1 = omega arith in let x = passes-more es n d in
-    (x.0 ++ es, ap (passes_of es) e ∙ passes-next es (n + d) ∙ ap (λ r. r ++ es) x.1 ∙ append_assoc (passes_of es n) x.0 es)
-
-pub front-passes : (s : Setup) (lost : Losses) (old mid new : Run) (es : List Entry) (n count : ℕ) → n < count → Follows s lost old (passes_of es n) mid
-    → FollowsFront s lost mid es new → FollowsFront s lost old (passes_of es count) new
-front-passes s lost old mid new es n count h f g = let x = passes-more es (n + 1) (count - (n + 1)) in let e : (n + 1) + (count - (n + 1)) ≡ count = omega (arith, h) in
-    front-longer s lost old new (passes_of es (n + 1)) (passes_of es count) x.0 (ap (passes_of es) (sym e) ∙ x.1)
-    (subst (λ xs. FollowsFront s lost old xs new) (sym (passes-next es n)) (front-after s lost old mid new (passes_of es n) es f g))
-
-pub front-script : (s : Setup) (lost : Losses) (old mid new : Run) (net : Net) (script : List Script1) (i : ℕ) (d : Script1) → i < length script → Follows s lost old (expand net (take i script)) mid
-    → FollowsFront s lost mid (expand_one net (get_or script i d)) new → FollowsFront s lost old (expand net script) new
-front-script s lost old mid new net script i d h f g =
-    front-longer s lost old new (expand net (take (i + 1) script)) (expand net script) (expand net (drop (i + 1) script))
-    (ap (expand net) (sym (take-append-drop (i + 1) script)) ∙ flat_map-append (expand_one net) (take (i + 1) script) (drop (i + 1) script))
-    (subst (λ xs. FollowsFront s lost old xs new) (flat_map_more (expand_one net) [] (take i script) (get_or script i d) ∙ sym (ap (expand net) (take_more script i d h)))
-    (front-after s lost old mid new (expand net (take i script)) (expand_one net (get_or script i d)) f g))
-
--- so many entries of a script
-pub front-entries : (s : Setup) (lost : Losses) (old new : Run) (net : Net) (script : List Script1) (n : ℕ) → Follows s lost old (expand net (take n script)) new
-    → FollowsFront s lost old (expand net script) new
-front-entries s lost old new net script n f = record {
-  first = expand net (take n script);
-  rest = expand net (drop n script);
-  whole = ap (expand net) (sym (take-append-drop n script)) ∙ flat_map-append (expand_one net) (take n script) (drop n script);
-  follows = f;
 }
 
 -- One after the other.
@@ -102,13 +69,20 @@ leads-to s lost P Q R old new h a = record { turns = a.turns; goes = a.goes; on 
 pub leads-somewhere : (s : Setup) (lost : Losses) (P Q : List Entry → Type 0) (old new : Run) → Leads s lost P old Q new → Leads s lost P old Whatever new
 leads-somewhere s lost P Q old new a = leads-to s lost P Q Whatever old new (λ es q. tt) a
 
+-- where a call ends for want of memory, nothing is said of what is left
+pub done-short : {A E : Type 0} (s : Setup) (lost : Losses) (P Q : List Entry → Type 0) (old new : Run) (answer : Result A E) → OnOk answer ⊥ → Leads s lost P old Q new → Leads s lost P old (AllDone answer) new
+done-short s lost P Q old new (Ok _) none a = absurd none
+done-short s lost P Q old new (Err _) none a = leads-somewhere s lost P Q old new a
+
+pub rounds-short : {E : Type 0} (x : Case) (P Q : List Entry → Type 0) (old new : Run) (u : Scene NodeState Msg) (answer : Result Bool E) → OnOk answer ⊥
+    → Leads x.setup x.lost P old Q new → Leads x.setup x.lost P old (RoundsLeft x u answer) new
+rounds-short x P Q old new u (Ok _) none a = absurd none
+rounds-short x P Q old new u (Err _) none a = leads-somewhere x.setup x.lost P Q old new a
+
 -- A schedule without its idle entries.
 
 abbrev IsKept : Setup → Losses → World → List Entry → List Entry → Type 0
 IsKept s lost w es xs = xs ≡ kept_from s lost w es
-
-abbrev pub IsNone : List Entry → Type 0
-IsNone es = es ≡ []
 
 kept-front : (s : Setup) (lost : Losses) (old new : Run) (es : List Entry) → FollowsFront s lost old es new → Leads s lost (IsKept s lost old.world es) old Whatever new
 kept-front s lost old new es f = let later = kept_from s lost (run s lost old.world f.first) f.rest in record {
@@ -117,7 +91,7 @@ kept-front s lost old new es f = let later = kept_from s lost (run s lost old.wo
   on = λ xs p. (later, (p ∙ kept-whole s lost old new es f, tt));
 }
 
-kept-leads : (s : Setup) (lost : Losses) (old new : Run) (es : List Entry) → Follows s lost old es new → Leads s lost (IsKept s lost old.world es) old IsNone new
+kept-leads : (s : Setup) (lost : Losses) (old new : Run) (es : List Entry) → Follows s lost old es new → Leads s lost (IsKept s lost old.world es) old Nothing new
 kept-leads s lost old new es f = let done = kept_from s lost old.world es in record {
   turns = done;
   goes = follows-goes s lost old new es f;
@@ -137,7 +111,7 @@ first-front s lost P A B old new h a = record {
 }
 
 first-leads : (s : Setup) (lost : Losses) (P A : List Entry → Type 0) (B : World → List Entry → Type 0) (old new : Run) → Splits s lost old.world P A B
-    → Leads s lost A old IsNone new → Leads s lost P old (B new.world) new
+    → Leads s lost A old Nothing new → Leads s lost P old (B new.world) new
 first-leads s lost P A B old new h a = record {
   turns = a.turns;
   goes = a.goes;
@@ -145,55 +119,47 @@ first-leads s lost P A B old new h a = record {
       (x.1.1.0, (x.1.1.1.0 ∙ ap (λ r. r ++ x.1.1.0) all, subst (λ w. B w x.1.1.0) (ap (run s lost old.world) all ∙ sym a.goes.reached) x.1.1.1.1));
 }
 
-again-splits : (s : Setup) (lost : Losses) (w : World) (go : World → Option (List Entry)) (ks es : List Entry) → again_from s lost w go ks ≡ Some es
-    → (ys : List Entry) × ((es ≡ ks ++ ys) × (ks ≢ [] → go (run s lost w ks) ≡ Some ys))
-again-splits s lost w go [] es h = let e : [] ≡ es = cc in ([], (sym e, λ n. absurd (n refl)))
-again-splits s lost w go (k ∷ ks) es h = let x = append-splits (k ∷ ks) (go (run s lost w (k ∷ ks))) es h in (x.0, (x.1.1, λ n. x.1.0))
+-- what is left of P's schedules after entries that were kept, where these are something, and where they are nothing
+record Again (ks : List Entry) (P : List Entry → Type 0) (es : List Entry) : Type 0 where
+  more : ks ≢ [] → P es
+  none : ks ≡ [] → es ≡ []
+
+again-splits : (s : Setup) (lost : Losses) (w : World) (go : World → Option (List Entry)) (P : World → List Entry → Type 0) (ks es : List Entry)
+    → ((v : World) (ys : List Entry) → go v ≡ Some ys → P v ys) → again_from s lost w go ks ≡ Some es
+    → (ys : List Entry) × ((es ≡ ks ++ ys) × Again ks (P (run s lost w ks)) ys)
+again-splits s lost w go P [] es q h = let e : [] ≡ es = cc in ([], (sym e, record { more = λ n. absurd (n refl); none = λ n. refl }))
+again-splits s lost w go P (k ∷ ks) es q h = let v = run s lost w (k ∷ ks) in let x = append-splits (k ∷ ks) (go v) es h in
+    (x.0, (x.1.1, record { more = λ n. q v x.0 x.1.0; none = λ n. absurd cc }))
+
+-- schedules that begin with what is kept of these entries, and go on with one of R where this is something
+abbrev Repeats : Setup → Losses → World → (List Entry → Type 0) → (World → List Entry → Type 0) → List Entry → Type 0
+Repeats s lost w P R es = Splits s lost w P (IsKept s lost w es) (λ v. Again (kept_from s lost w es) (R v))
+
+module _ (s : Setup) (lost : Losses) (P : List Entry → Type 0) (R : World → List Entry → Type 0) (old new : Run) (es : List Entry) (h : Repeats s lost old.world P R es) where
+  abbrev left : World → List Entry → Type 0
+  left v = Again (kept_from s lost old.world es) (R v)
+
+  repeat-front : FollowsFront s lost old es new → Leads s lost P old Whatever new
+  repeat-front f = first-front s lost P (IsKept s lost old.world es) left old new h (kept-front s lost old new es f)
+
+  repeated : (Q : List Entry → Type 0) → ((fs : List Entry) → left new.world fs → Q fs) → Follows s lost old es new → Leads s lost P old Q new
+  repeated Q q f = leads-to s lost P (left new.world) Q old new q (first-leads s lost P (IsKept s lost old.world es) left old new h (kept-leads s lost old new es f))
+
+  repeat-more : Follows s lost old es new → length new.book ≢ length old.book → Leads s lost P old (R new.world) new
+  repeat-more f n = repeated (R new.world) (λ fs q. q.more (goes-something s lost old new (kept_from s lost old.world es) (follows-goes s lost old new es f) n)) f
+
+  repeat-ends : Follows s lost old es new → length new.book ≡ length old.book → Leads s lost P old Nothing new
+  repeat-ends f n = repeated Nothing (λ fs q. q.none (goes-nothing s lost old new (kept_from s lost old.world es) (follows-goes s lost old new es f) n)) f
 
 -- Settling.
 
--- what settling takes after a pass
-abbrev AfterPass : Setup → Losses → World → World → List Entry → Type 0
-AfterPass s lost w v es = kept_from s lost w (settling_pass s.net) ≢ [] → SettlesBy s lost v es
-
-settles-splits : (s : Setup) (lost : Losses) (w : World) → Splits s lost w (SettlesBy s lost w) (IsKept s lost w (settling_pass s.net)) (AfterPass s lost w)
-settles-splits s lost w es p = by_fuel p.fuel p.settled
+settles-repeats : (s : Setup) (lost : Losses) (w : World) → Repeats s lost w (SettlesBy s lost w) (SettlesBy s lost) (settling_pass s.net)
+settles-repeats s lost w es p = by_fuel p.fuel p.settled
   where
-    by_fuel : (n : ℕ) → settle n s lost w ≡ Some es → (xs : List Entry) × (IsKept s lost w (settling_pass s.net) xs × ((ys : List Entry) × ((es ≡ xs ++ ys) × AfterPass s lost w (run s lost w xs) ys)))
+    by_fuel : (n : ℕ) → settle n s lost w ≡ Some es → (xs : List Entry) × (IsKept s lost w (settling_pass s.net) xs × ((ys : List Entry) × ((es ≡ xs ++ ys) × Again (kept_from s lost w (settling_pass s.net)) (SettlesBy s lost (run s lost w xs)) ys)))
     by_fuel zero q = absurd cc
-    by_fuel (suc n) q = let ks = kept_from s lost w (settling_pass s.net) in let x = again-splits s lost w (λ v. settle n s lost v) ks es q in
-        (ks, (refl, (x.0, (x.1.0, λ m. record { fuel = n; settled = x.1.1 m }))))
-
-pub pass-front : (s : Setup) (lost : Losses) (now new : Run) → FollowsFront s lost now (settling_pass s.net) new → Leads s lost (SettlesBy s lost now.world) now Whatever new
-pass-front s lost now new f = let pass = settling_pass s.net in
-    first-front s lost (SettlesBy s lost now.world) (IsKept s lost now.world pass) (AfterPass s lost now.world) now new (settles-splits s lost now.world) (kept-front s lost now new pass f)
-
-pub pass-leads : (s : Setup) (lost : Losses) (now new : Run) → Follows s lost now (settling_pass s.net) new → length new.book ≢ length now.book
-    → Leads s lost (SettlesBy s lost now.world) now (SettlesBy s lost new.world) new
-pass-leads s lost now new f n = let pass = settling_pass s.net in
-    leads-to s lost (SettlesBy s lost now.world) (AfterPass s lost now.world new.world) (SettlesBy s lost new.world) now new
-    (λ es q. q (goes-something s lost now new (kept_from s lost now.world pass) (follows-goes s lost now new pass f) n))
-    (first-leads s lost (SettlesBy s lost now.world) (IsKept s lost now.world pass) (AfterPass s lost now.world) now new (settles-splits s lost now.world) (kept-leads s lost now new pass f))
-
-again-one : (s : Setup) (lost : Losses) (w : World) (f g : World → Option (List Entry)) (ks es fs : List Entry) → ((v : World) (xs ys : List Entry) → f v ≡ Some xs → g v ≡ Some ys → xs ≡ ys)
-    → again_from s lost w f ks ≡ Some es → again_from s lost w g ks ≡ Some fs → es ≡ fs
-again-one s lost w f g [] es fs h p q = let a : [] ≡ es = cc in let b : [] ≡ fs = cc in sym a ∙ b
-again-one s lost w f g (k ∷ ks) es fs h p q = let v = run s lost w (k ∷ ks) in let x = append-splits (k ∷ ks) (f v) es p in let y = append-splits (k ∷ ks) (g v) fs q in
-    x.1.1 ∙ ap (λ r. (k ∷ ks) ++ r) (h v x.0 y.0 x.1.0 y.1.0) ∙ sym y.1.1
-
--- settling takes one schedule
-settle-one : (s : Setup) (lost : Losses) (n m : ℕ) (w : World) (es fs : List Entry) → settle n s lost w ≡ Some es → settle m s lost w ≡ Some fs → es ≡ fs
-settle-one s lost zero m w es fs p q = absurd cc
-settle-one s lost (suc n) zero w es fs p q = absurd cc
-settle-one s lost (suc n) (suc m) w es fs p q = again-one s lost w (λ v. settle n s lost v) (λ v. settle m s lost v) (kept_from s lost w (settling_pass s.net)) es fs (settle-one s lost n m) p q
-
-pub settling-leads : (s : Setup) (lost : Losses) (fuel : ℕ) (old new : Run) → EndsBy s lost old (settle fuel s lost old.world) new true
-    → Leads s lost (SettlesBy s lost old.world) old IsNone new
-settling-leads s lost fuel old new m = by_answer (settle fuel s lost old.world) refl m
-  where
-    by_answer : (o : Option (List Entry)) → settle fuel s lost old.world ≡ o → EndsBy s lost old o new true → Leads s lost (SettlesBy s lost old.world) old IsNone new
-    by_answer None q m = absurd cc
-    by_answer (Some es) q m = record { turns = es; goes = m.1; on = λ fs p. ([], (settle-one s lost p.fuel fuel old.world fs es p.settled q ∙ sym (append-nil es), refl)) }
+    by_fuel (suc n) q = let ks = kept_from s lost w (settling_pass s.net) in
+        (ks, (refl, again-splits s lost w (λ v. settle n s lost v) (SettlesBy s lost) ks es (λ v ys e. record { fuel = n; settled = e }) q))
 
 pub settles-towards : (s : Setup) (lost : Losses) (old new : Run) (es : List Entry) → SettlesBy s lost old.world es → Leads s lost (SettlesBy s lost old.world) old Whatever new
     → SettlesTowards s lost old new
@@ -213,12 +179,11 @@ fin-splits s lost w es p = by_fuel p.fuel p.finished
 pub settles-by : (s : Setup) (lost : Losses) (w : World) (es : List Entry) → IsFin s lost w es → (xs : List Entry) × SettlesBy s lost w xs
 settles-by s lost w es p = let x = fin-splits s lost w es p in (x.0, x.1.0)
 
-pub finishing-front : (s : Setup) (lost : Losses) (now new : Run) → Leads s lost (SettlesBy s lost now.world) now Whatever new → Leads s lost (IsFin s lost now.world) now Whatever new
+finishing-front : (s : Setup) (lost : Losses) (now new : Run) → Leads s lost (SettlesBy s lost now.world) now Whatever new → Leads s lost (IsFin s lost now.world) now Whatever new
 finishing-front s lost now new a = first-front s lost (IsFin s lost now.world) (SettlesBy s lost now.world) (SweepsBy s lost) now new (fin-splits s lost now.world) a
 
-finishing-settles : (s : Setup) (lost : Losses) (fuel : ℕ) (now new : Run) → EndsBy s lost now (settle fuel s lost now.world) new true
-    → Leads s lost (IsFin s lost now.world) now (SweepsBy s lost new.world) new
-finishing-settles s lost fuel now new m = first-leads s lost (IsFin s lost now.world) (SettlesBy s lost now.world) (SweepsBy s lost) now new (fin-splits s lost now.world) (settling-leads s lost fuel now new m)
+finishing-settles : (s : Setup) (lost : Losses) (now new : Run) → Leads s lost (SettlesBy s lost now.world) now Nothing new → Leads s lost (IsFin s lost now.world) now (SweepsBy s lost new.world) new
+finishing-settles s lost now new a = first-leads s lost (IsFin s lost now.world) (SettlesBy s lost now.world) (SweepsBy s lost) now new (fin-splits s lost now.world) a
 
 pub finishes-towards : (s : Setup) (lost : Losses) (old new : Run) (es : List Entry) → IsFin s lost old.world es → Leads s lost (IsFin s lost old.world) old Whatever new
     → FinishesTowards s lost old new
@@ -246,7 +211,14 @@ swept-splits s lost v w es p = let n = p.fuel in
     let x = then-splits s lost w (λ u. after_sweeps (λ z. finish n s lost z) s lost u (rose s.net v u)) (settle (suc n) s lost w) es p.swept in
     (x.0, (record { fuel = suc n; settled = x.1.0 }, (x.1.1.0, (x.1.1.1.1, record { fuel = n; looked = x.1.1.1.0 }))))
 
-pub sweeps-front : (s : Setup) (lost : Losses) (old new : Run) → is_collected s old.world ≡ false → FollowsFront s lost old (sweeps s.net) new
+-- where all is collected, finishing takes nothing more
+pub collected-ends : (s : Setup) (lost : Losses) (old : Run) → is_collected s old.world ≡ true → Leads s lost (SweepsBy s lost old.world) old Nothing old
+collected-ends s lost old q = let P = SweepsBy s lost old.world in leads-to s lost P P Nothing old old nil (leads-none s lost P old)
+  where
+    nil : (es : List Entry) → SweepsBy s lost old.world es → es ≡ []
+    nil es p = let e : Some [] ≡ Some es = subst (λ b. sweep_round (suc p.fuel) (λ z. finish p.fuel s lost z) s lost old.world b ≡ Some es) q p.swept in cc
+
+sweeps-front : (s : Setup) (lost : Losses) (old new : Run) → is_collected s old.world ≡ false → FollowsFront s lost old (sweeps s.net) new
     → Leads s lost (SweepsBy s lost old.world) old Whatever new
 sweeps-front s lost old new q f = first-front s lost (SweepsBy s lost old.world) (IsKept s lost old.world (sweeps s.net)) (SweptBy s lost old.world) old new (sweeps-splits s lost old.world q)
     (kept-front s lost old new (sweeps s.net) f)
@@ -262,44 +234,28 @@ swept-front s lost old swept new q f a = let P = SweptBy s lost old.world swept.
     leads-on s lost (SweepsBy s lost old.world) P Whatever old swept new (sweeps-lead s lost old swept q f)
     (first-front s lost P (SettlesBy s lost swept.world) (LooksBy s lost old.world) swept new (swept-splits s lost old.world swept.world) a)
 
-swept-leads : (s : Setup) (lost : Losses) (fuel : ℕ) (old swept new : Run) → is_collected s old.world ≡ false → Follows s lost old (sweeps s.net) swept
-    → EndsBy s lost swept (settle fuel s lost swept.world) new true → Leads s lost (SweepsBy s lost old.world) old (LooksBy s lost old.world new.world) new
-swept-leads s lost fuel old swept new q f m = let P = SweptBy s lost old.world swept.world in
+swept-leads : (s : Setup) (lost : Losses) (old swept new : Run) → is_collected s old.world ≡ false → Follows s lost old (sweeps s.net) swept
+    → Leads s lost (SettlesBy s lost swept.world) swept Nothing new → Leads s lost (SweepsBy s lost old.world) old (LooksBy s lost old.world new.world) new
+swept-leads s lost old swept new q f a = let P = SweptBy s lost old.world swept.world in
     leads-on s lost (SweepsBy s lost old.world) P (LooksBy s lost old.world new.world) old swept new (sweeps-lead s lost old swept q f)
-    (first-leads s lost P (SettlesBy s lost swept.world) (LooksBy s lost old.world) swept new (swept-splits s lost old.world swept.world) (settling-leads s lost fuel swept new m))
-
-pub rose-leads : (s : Setup) (lost : Losses) (fuel : ℕ) (old swept new : Run) → is_collected s old.world ≡ false → Follows s lost old (sweeps s.net) swept
-    → EndsBy s lost swept (settle fuel s lost swept.world) new true → rose s.net old.world new.world ≡ true → Leads s lost (SweepsBy s lost old.world) old (IsFin s lost new.world) new
-rose-leads s lost fuel old swept new q f m r = leads-to s lost (SweepsBy s lost old.world) (LooksBy s lost old.world new.world) (IsFin s lost new.world) old new
-    (λ es p. record { fuel = p.fuel; finished = subst (λ b. after_sweeps (λ z. finish p.fuel s lost z) s lost new.world b ≡ Some es) r p.looked }) (swept-leads s lost fuel old swept new q f m)
-
-pub level-leads : (s : Setup) (lost : Losses) (fuel : ℕ) (old swept new : Run) → is_collected s old.world ≡ false → Follows s lost old (sweeps s.net) swept
-    → EndsBy s lost swept (settle fuel s lost swept.world) new true → rose s.net old.world new.world ≡ false → Leads s lost (SweepsBy s lost old.world) old (ResendsBy s lost new.world) new
-level-leads s lost fuel old swept new q f m r = leads-to s lost (SweepsBy s lost old.world) (LooksBy s lost old.world new.world) (ResendsBy s lost new.world) old new
-    (λ es p. record { fuel = p.fuel; resent = subst (λ b. after_sweeps (λ z. finish p.fuel s lost z) s lost new.world b ≡ Some es) r p.looked }) (swept-leads s lost fuel old swept new q f m)
+    (first-leads s lost P (SettlesBy s lost swept.world) (LooksBy s lost old.world) swept new (swept-splits s lost old.world swept.world) a)
 
 -- Resending.
 
--- what finishing takes after it
-abbrev AfterResend : Setup → Losses → World → World → List Entry → Type 0
-AfterResend s lost w v es = kept_from s lost w (resend_entry s.net ∷ []) ≢ [] → IsFin s lost v es
-
-resends-splits : (s : Setup) (lost : Losses) (w : World) → Splits s lost w (ResendsBy s lost w) (IsKept s lost w (resend_entry s.net ∷ [])) (AfterResend s lost w)
-resends-splits s lost w es p = let ks = kept_from s lost w (resend_entry s.net ∷ []) in let x = again-splits s lost w (λ v. finish p.fuel s lost v) ks es p.resent in
-    (ks, (refl, (x.0, (x.1.0, λ m. record { fuel = p.fuel; finished = x.1.1 m }))))
-
-resend-front : (s : Setup) (lost : Losses) (old new : Run) → FollowsFront s lost old (resend_entry s.net ∷ []) new → Leads s lost (ResendsBy s lost old.world) old Whatever new
-resend-front s lost old new f = let es = resend_entry s.net ∷ [] in
-    first-front s lost (ResendsBy s lost old.world) (IsKept s lost old.world es) (AfterResend s lost old.world) old new (resends-splits s lost old.world) (kept-front s lost old new es f)
-
-pub resend-leads : (s : Setup) (lost : Losses) (old new : Run) → Follows s lost old (resend_entry s.net ∷ []) new → length new.book ≢ length old.book
-    → Leads s lost (ResendsBy s lost old.world) old (IsFin s lost new.world) new
-resend-leads s lost old new f n = let es = resend_entry s.net ∷ [] in
-    leads-to s lost (ResendsBy s lost old.world) (AfterResend s lost old.world new.world) (IsFin s lost new.world) old new
-    (λ fs q. q (goes-something s lost old new (kept_from s lost old.world es) (follows-goes s lost old new es f) n))
-    (first-leads s lost (ResendsBy s lost old.world) (IsKept s lost old.world es) (AfterResend s lost old.world) old new (resends-splits s lost old.world) (kept-leads s lost old new es f))
+resends-repeats : (s : Setup) (lost : Losses) (w : World) → Repeats s lost w (ResendsBy s lost w) (IsFin s lost) (resend_entry s.net ∷ [])
+resends-repeats s lost w es p = let ks = kept_from s lost w (resend_entry s.net ∷ []) in
+    (ks, (refl, again-splits s lost w (λ v. finish p.fuel s lost v) (IsFin s lost) ks es (λ v ys e. record { fuel = p.fuel; finished = e }) p.resent))
 
 -- From scene to scene.
+
+-- the law that a pass in which nothing happens finds the world settled
+abbrev pub IdlePassesSettle : Type 0
+IdlePassesSettle = (s : Setup) (lost : Losses) (es : List Entry) → IsNet s.net → kept_from s lost (world s lost es) (settling_pass s.net) ≡ [] → Settled s lost (world s lost es)
+
+-- the law that what finishing takes leads to a finished world
+abbrev pub FinishingFinishes : Type 0
+FinishingFinishes = (s : Setup) (lost : Losses) (es fs : List Entry) → IsNet s.net → IsLossTable s.net lost → 0 < s.window
+    → IsFin s lost (world s lost es) fs → IsFinished s lost (run s lost (world s lost es) fs)
 
 -- the law that finishing ends
 abbrev pub FinishingEnds : Type 0
@@ -323,28 +279,121 @@ pub finished-nothing : FinishingEnds → (net : Net) (x : Case) (v : Scene NodeS
 finished-nothing law net x v h = let P = IsFin x.setup x.lost (world_of x v) in
     finished-towards law net x v v h (leads-somewhere x.setup x.lost P P (run_at x v) (run_at x v) (leads-none x.setup x.lost P (run_at x v)))
 
--- a round of finishing: settling sufficed, and then come the turns of the round
-pub finishing-round : (net : Net) (x : Case) (fuel : ℕ) (old now mid new : Scene NodeState Msg) (Q : List Entry → Type 0) (ended : Bool) → ended ≡ true → StandsFor net x now
-    → Leads x.setup x.lost (IsFin x.setup x.lost (world_of x old)) (run_at x old) (IsFin x.setup x.lost (world_of x now)) (run_at x now)
-    → SettlesIn net fuel now mid ended → KeepsStanding net now mid → IsSettledIf net now mid ended
-    → (StandsFor net x mid → Settled x.setup x.lost (world_of x mid) → Leads x.setup x.lost (SweepsBy x.setup x.lost (world_of x mid)) (run_at x mid) Q (run_at x new))
-    → Leads x.setup x.lost (IsFin x.setup x.lost (world_of x old)) (run_at x old) Q (run_at x new)
-finishing-round net x fuel old now mid new Q ended b h a settles stands settled round =
-    let P = IsFin x.setup x.lost (world_of x now) in
-    leads-on x.setup x.lost (IsFin x.setup x.lost (world_of x old)) P Q (run_at x old) (run_at x now) (run_at x new) a
-    (leads-on x.setup x.lost P (SweepsBy x.setup x.lost (world_of x mid)) Q (run_at x now) (run_at x mid) (run_at x new)
-    (finishing-settles x.setup x.lost fuel (run_at x now) (run_at x mid) (subst (EndsAt x now (settle fuel x.setup x.lost (world_of x now)) mid) b (settles x h)))
-    (round (stands x h) (settled x h b)))
+-- where nothing is left, all was taken
+all-taken : (es turns rest : List Entry) → es ≡ turns ++ rest → rest ≡ [] → es ≡ turns
+all-taken es turns rest p q = p ∙ ap (λ r. turns ++ r) q ∙ append-nil turns
 
--- the sweeps of a round, and then what settling takes
-pub round-front : (net : Net) (x : Case) (v swept u : Scene NodeState Msg) (sweep : List Entry) → StandsFor net x v → sweep ≡ sweeps net → is_collected x.setup (world_of x v) ≡ false
-    → Follows x.setup x.lost (run_at x v) sweep (run_at x swept) → Leads x.setup x.lost (SettlesBy x.setup x.lost (world_of x swept)) (run_at x swept) Whatever (run_at x u)
-    → Leads x.setup x.lost (SweepsBy x.setup x.lost (world_of x v)) (run_at x v) Whatever (run_at x u)
-round-front net x v swept u sweep h e q f a = swept-front x.setup x.lost (run_at x v) (run_at x swept) (run_at x u) q
-    (over (λ es. Follows x.setup x.lost (run_at x v) es (run_at x swept)) sweeps net x.setup.net sweep h.net_is e f) a
+pub settles-to : FinishingEnds → (net : Net) (x : Case) (v u : Scene NodeState Msg) → StandsFor net x v → LeadsFrom x SettlesBy v Nothing u → Settled x.setup x.lost (world_of x u) → SettlesTo x v u
+settles-to law net x v u h a settled =
+    let f = law x.setup x.lost (schedule_of v.book) h.runnable.net in
+    let y = settles-by x.setup x.lost (world_of x v) f.0 f.1 in
+    let left = a.on y.0 y.1 in
+    record { fuel = y.1.fuel; turns = a.turns; settles = y.1.settled ∙ ap Some (all-taken y.0 a.turns left.0 left.1.0 left.1.1); goes = a.goes; settled = settled }
 
--- resending alone
-pub resent-front : (net : Net) (x : Case) (v u : Scene NodeState Msg) (entry : Entry) → StandsFor net x v → entry ≡ resend_entry net → FollowsFront x.setup x.lost (run_at x v) (entry ∷ []) (run_at x u)
-    → Leads x.setup x.lost (ResendsBy x.setup x.lost (world_of x v)) (run_at x v) Whatever (run_at x u)
-resent-front net x v u entry h e f = resend-front x.setup x.lost (run_at x v) (run_at x u)
-    (over (λ es. FollowsFront x.setup x.lost (run_at x v) es (run_at x u)) (λ n. resend_entry n ∷ []) net x.setup.net (entry ∷ []) h.net_is (ap (λ y. y ∷ []) e) f)
+pub finishes-to : FinishingEnds → FinishingFinishes → (net : Net) (x : Case) (v u : Scene NodeState Msg) → 0 < x.setup.window → StandsFor net x v → LeadsFrom x IsFin v Nothing u → FinishesTo x v u
+finishes-to law finishes net x v u pos h a =
+    let f = law x.setup x.lost (schedule_of v.book) h.runnable.net in
+    let left = a.on f.0 f.1 in
+    let fin = subst (IsFin x.setup x.lost (world_of x v)) (all-taken f.0 a.turns left.0 left.1.0 left.1.1) f.1 in
+    record {
+      turns = a.turns;
+      finishes = fin;
+      goes = a.goes;
+      finished = subst (IsFinished x.setup x.lost) (sym a.goes.reached) (finishes x.setup x.lost (schedule_of v.book) a.turns h.runnable.net h.runnable.losses pos fin);
+    }
+
+-- so by what a call answers
+pub settled-out : {A E : Type 0} → FinishingEnds → (net : Net) (v u : Scene NodeState Msg) (answer : Result A E) → SettlingLeads net v answer u → OnOk answer (IsSettledAfter net v u) → OnOk answer (Settles net v u)
+settled-out law net v u (Ok _) a settled = λ x h. settles-to law net x v u h (a x h) (settled x h)
+settled-out law net v u (Err _) a settled = tt
+
+pub finished-out : {A E : Type 0} → FinishingEnds → FinishingFinishes → (net : Net) (v u : Scene NodeState Msg) (answer : Result A E) → FinishingLeads net v answer u → OnOk answer (Finishes net v u)
+finished-out law finishes net v u (Ok _) a = λ x pos h. finishes-to law finishes net x v u pos h (a x pos h)
+finished-out law finishes net v u (Err _) a = tt
+
+-- a settling pass: a front of it, one in which something happened, and one in which nothing did
+module _ (net : Net) (x : Case) (old now new : Scene NodeState Msg) (pass : List Entry) (q : pass ≡ settling_pass net) (h : StandsFor net x now)
+    (a : LeadsFrom x SettlesBy old (SettlesBy x.setup x.lost (world_of x now)) now) where
+  goes-on : (Q : List Entry → Type 0) → LeadsFrom x SettlesBy now Q new → LeadsFrom x SettlesBy old Q new
+  goes-on Q b = leads-on x.setup x.lost (SettlesBy x.setup x.lost (world_of x old)) (SettlesBy x.setup x.lost (world_of x now)) Q (run_at x old) (run_at x now) (run_at x new) a b
+
+  pub pass-front : FollowsFront x.setup x.lost (run_at x now) pass (run_at x new) → LeadsFrom x SettlesBy old Whatever new
+  pass-front f = goes-on Whatever (repeat-front x.setup x.lost (SettlesBy x.setup x.lost (world_of x now)) (SettlesBy x.setup x.lost) (run_at x now) (run_at x new) (settling_pass x.setup.net) (settles-repeats x.setup x.lost (world_of x now))
+      (over (λ es. FollowsFront x.setup x.lost (run_at x now) es (run_at x new)) settling_pass net x.setup.net pass h.net_is q f))
+
+  module _ (f : Follows x.setup x.lost (run_at x now) pass (run_at x new)) where
+    follows : Follows x.setup x.lost (run_at x now) (settling_pass x.setup.net) (run_at x new)
+    follows = over (λ es. Follows x.setup x.lost (run_at x now) es (run_at x new)) settling_pass net x.setup.net pass h.net_is q f
+
+    pub pass-more : length new.book ≢ length now.book → LeadsFrom x SettlesBy old (SettlesBy x.setup x.lost (world_of x new)) new
+    pass-more n = goes-on (SettlesBy x.setup x.lost (world_of x new))
+        (repeat-more x.setup x.lost (SettlesBy x.setup x.lost (world_of x now)) (SettlesBy x.setup x.lost) (run_at x now) (run_at x new) (settling_pass x.setup.net) (settles-repeats x.setup x.lost (world_of x now)) follows n)
+
+    pub pass-ends : length new.book ≡ length now.book → LeadsFrom x SettlesBy old Nothing new
+    pass-ends n = goes-on Nothing
+        (repeat-ends x.setup x.lost (SettlesBy x.setup x.lost (world_of x now)) (SettlesBy x.setup x.lost) (run_at x now) (run_at x new) (settling_pass x.setup.net) (settles-repeats x.setup x.lost (world_of x now)) follows n)
+
+    -- then the world is settled
+    pub pass-settles : IdlePassesSettle → length new.book ≡ length now.book → StandsFor net x new → Settled x.setup x.lost (world_of x new)
+    pass-settles law n stands = let es = settling_pass x.setup.net in law x.setup x.lost (schedule_of new.book) stands.runnable.net
+        (goes-nothing x.setup x.lost (run_at x new) (run_at x new) (kept_from x.setup x.lost (world_of x new) es)
+        (follows-goes x.setup x.lost (run_at x new) (run_at x new) es (idle-again x.setup x.lost (run_at x now) (run_at x new) es follows n)) refl)
+
+-- a round of finishing: settling, a front of it, and then the turns of the round
+module _ (x : Case) (old now mid : Scene NodeState Msg) (a : LeadsFrom x IsFin old (IsFin x.setup x.lost (world_of x now)) now) where
+  round-on : (Q : List Entry → Type 0) → LeadsFrom x IsFin now Q mid → LeadsFrom x IsFin old Q mid
+  round-on Q b = leads-on x.setup x.lost (IsFin x.setup x.lost (world_of x old)) (IsFin x.setup x.lost (world_of x now)) Q (run_at x old) (run_at x now) (run_at x mid) a b
+
+  pub finishing-settling : LeadsFrom x SettlesBy now Whatever mid → LeadsFrom x IsFin old Whatever mid
+  finishing-settling b = round-on Whatever (finishing-front x.setup x.lost (run_at x now) (run_at x mid) b)
+
+  pub finishing-round : (new : Scene NodeState Msg) (Q : List Entry → Type 0) → LeadsFrom x SettlesBy now Nothing mid → LeadsFrom x SweepsBy mid Q new → LeadsFrom x IsFin old Q new
+  finishing-round new Q b c = leads-on x.setup x.lost (IsFin x.setup x.lost (world_of x old)) (SweepsBy x.setup x.lost (world_of x mid)) Q (run_at x old) (run_at x mid) (run_at x new)
+      (round-on (SweepsBy x.setup x.lost (world_of x mid)) (finishing-settles x.setup x.lost (run_at x now) (run_at x mid) b)) c
+
+-- the sweeps of a round, where not all is collected: a front of them, and then what settling takes
+module _ (net : Net) (x : Case) (v swept : Scene NodeState Msg) (sweep : List Entry) (h : StandsFor net x v) (e : sweep ≡ sweeps net) (q : is_collected x.setup (world_of x v) ≡ false) where
+  pub round-swept : FollowsFront x.setup x.lost (run_at x v) sweep (run_at x swept) → LeadsFrom x SweepsBy v Whatever swept
+  round-swept f = sweeps-front x.setup x.lost (run_at x v) (run_at x swept) q
+      (over (λ es. FollowsFront x.setup x.lost (run_at x v) es (run_at x swept)) sweeps net x.setup.net sweep h.net_is e f)
+
+  module _ (f : Follows x.setup x.lost (run_at x v) sweep (run_at x swept)) (u : Scene NodeState Msg) where
+    all-swept : Follows x.setup x.lost (run_at x v) (sweeps x.setup.net) (run_at x swept)
+    all-swept = over (λ es. Follows x.setup x.lost (run_at x v) es (run_at x swept)) sweeps net x.setup.net sweep h.net_is e f
+
+    pub round-front : LeadsFrom x SettlesBy swept Whatever u → LeadsFrom x SweepsBy v Whatever u
+    round-front a = swept-front x.setup x.lost (run_at x v) (run_at x swept) (run_at x u) q all-swept a
+
+    -- what finishing takes after them, by whether something rose
+    looked : (Q : List Entry → Type 0) (b : Bool) → rose x.setup.net (world_of x v) (world_of x u) ≡ b → LeadsFrom x SettlesBy swept Nothing u
+        → ((n : ℕ) (es : List Entry) → after_sweeps (λ z. finish n x.setup x.lost z) x.setup x.lost (world_of x u) b ≡ Some es → Q es) → LeadsFrom x SweepsBy v Q u
+    looked Q b r a k = leads-to x.setup x.lost (SweepsBy x.setup x.lost (world_of x v)) (LooksBy x.setup x.lost (world_of x v) (world_of x u)) Q (run_at x v) (run_at x u)
+        (λ es p. k p.fuel es (subst (λ b. after_sweeps (λ z. finish p.fuel x.setup x.lost z) x.setup x.lost (world_of x u) b ≡ Some es) r p.looked))
+        (swept-leads x.setup x.lost (run_at x v) (run_at x swept) (run_at x u) q all-swept a)
+
+    pub round-rose : LeadsFrom x SettlesBy swept Nothing u → rose x.setup.net (world_of x v) (world_of x u) ≡ true → LeadsFrom x SweepsBy v (IsFin x.setup x.lost (world_of x u)) u
+    round-rose a r = looked (IsFin x.setup x.lost (world_of x u)) true r a (λ n es k. record { fuel = n; finished = k })
+
+    pub round-level : (z : Scene NodeState Msg) (Q : List Entry → Type 0) → LeadsFrom x SettlesBy swept Nothing u → rose x.setup.net (world_of x v) (world_of x u) ≡ false
+        → LeadsFrom x ResendsBy u Q z → LeadsFrom x SweepsBy v Q z
+    round-level z Q a r b = leads-on x.setup x.lost (SweepsBy x.setup x.lost (world_of x v)) (ResendsBy x.setup x.lost (world_of x u)) Q (run_at x v) (run_at x u) (run_at x z)
+        (looked (ResendsBy x.setup x.lost (world_of x u)) false r a (λ n es k. record { fuel = n; resent = k })) b
+
+-- resending: a front of it, and all of it, which did something where the book has more entries than before
+module _ (net : Net) (x : Case) (v u : Scene NodeState Msg) (entry : Entry) (h : StandsFor net x v) (e : entry ≡ resend_entry net) where
+  pub resend-front : FollowsFront x.setup x.lost (run_at x v) (entry ∷ []) (run_at x u) → LeadsFrom x ResendsBy v Whatever u
+  resend-front f = repeat-front x.setup x.lost (ResendsBy x.setup x.lost (world_of x v)) (IsFin x.setup x.lost) (run_at x v) (run_at x u) (resend_entry x.setup.net ∷ []) (resends-repeats x.setup x.lost (world_of x v))
+      (over (λ es. FollowsFront x.setup x.lost (run_at x v) es (run_at x u)) (λ n. resend_entry n ∷ []) net x.setup.net (entry ∷ []) h.net_is (ap (λ y. y ∷ []) e) f)
+
+  pub resend-leads : (after before : ℕ) → after ≡ length u.book → before ≡ length v.book → Follows x.setup x.lost (run_at x v) (entry ∷ []) (run_at x u)
+      → LeadsFrom x ResendsBy v (MoreRounds x u (not (nat_eq after before))) u
+  resend-leads after before a b f = by_cases (eqb_tells after before)
+    where
+      resent : Follows x.setup x.lost (run_at x v) (resend_entry x.setup.net ∷ []) (run_at x u)
+      resent = over (λ es. Follows x.setup x.lost (run_at x v) es (run_at x u)) (λ n. resend_entry n ∷ []) net x.setup.net (entry ∷ []) h.net_is (ap (λ y. y ∷ []) e) f
+
+      by_cases : ((nat_eq after before ≡ true) × (after ≡ before)) ⊎ ((nat_eq after before ≡ false) × (after ≢ before)) → LeadsFrom x ResendsBy v (MoreRounds x u (not (nat_eq after before))) u
+      by_cases (inl p) = subst (λ b. LeadsFrom x ResendsBy v (MoreRounds x u (not b)) u) (sym p.0)
+          (repeat-ends x.setup x.lost (ResendsBy x.setup x.lost (world_of x v)) (IsFin x.setup x.lost) (run_at x v) (run_at x u) (resend_entry x.setup.net ∷ []) (resends-repeats x.setup x.lost (world_of x v)) resent (sym a ∙ p.1 ∙ b))
+      by_cases (inr p) = subst (λ b. LeadsFrom x ResendsBy v (MoreRounds x u (not b)) u) (sym p.0)
+          (repeat-more x.setup x.lost (ResendsBy x.setup x.lost (world_of x v)) (IsFin x.setup x.lost) (run_at x v) (run_at x u) (resend_entry x.setup.net ∷ []) (resends-repeats x.setup x.lost (world_of x v)) resent (λ q. p.1 (a ∙ q ∙ sym b)))

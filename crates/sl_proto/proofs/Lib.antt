@@ -11,9 +11,10 @@ pub mod Fresh
 pub mod Counts
 pub mod NodeSteps
 pub mod Trails
-pub mod Endings
+pub mod Reached
 pub mod Standing
 pub mod Fronts
+pub mod Driven
 pub mod FirstNode
 pub mod Choices
 pub mod Judged

@@ -41,9 +41,12 @@ pub record Leads (s : Setup) (lost : Losses) (P : List Entry → Type 0) (old : 
   pub goes : Goes s lost old turns new
   pub on : (es : List Entry) → P es → (rest : List Entry) × ((es ≡ turns ++ rest) × Q rest)
 
--- nothing is said of what is left
+-- nothing is said of what is left, and nothing is left
 abbrev pub Whatever : List Entry → Type 0
 Whatever es = Unit {0}
+
+abbrev pub Nothing : List Entry → Type 0
+Nothing es = es ≡ []
 
 pub record SweepsBy (s : Setup) (lost : Losses) (w : World) (es : List Entry) : Type 0 where
   pub fuel : ℕ

@@ -8,7 +8,7 @@ ghost use Rattle.sl_world.specs.Scene.{Scene, turn_of, after_turn, after_all, li
 ghost use Rattle.sl_proto.specs.Nodes.{NodeState, ObserverNode, node_rules};
 ghost use Rattle.sl_proto.specs.Standing.{HasObserver};
 ghost use Rattle.sl_proto.specs.Told.{IsTraffic};
-ghost use Rattle.sl_proto.specs.Calls.{Keeps, Drives, DrivesFront};
+ghost use Rattle.sl_proto.specs.Calls.{HasDriven};
 
 use crate::node::{Node, Traffic};
 use crate::nodes::nodes_follow_their_books;
@@ -118,39 +118,12 @@ impl Taker for World<Node> {
     }
 }
 
-/// Takes the turns of a whole schedule; after want of memory, those of a front of it. Where the
-/// nodes stand for the world of their book, they go on to stand for that of their book, which has
-/// the turns of the schedule that aren't idle besides. Where the links of the schedule's entries
-/// are given, they are not looked up once more.
-pub fn drive<T: Taker>(
-    net: &Net,
-    taker: &mut T,
-    schedule: &[(u32, u32)],
-    links: Option<&Looked>,
-) -> Result<(), Memory>
-    requires plan { (T.scene taker.old).plan ≡ plan_of net.now }
-    requires links { IfSome links (λ l. l.now ≡ links_of (plan_of net.now) schedule.now) }
-    requires choices { All (λ e. HasChoice (plan_of net.now) e.0 e.1) schedule.now }
-    requires book { length (T.scene taker.old).book + length schedule.now < 2 ^ 40 }
-    ensures ok { OnOk result
-        (T.scene taker.new ≡ after_all node_rules (T.scene taker.old) schedule.now) }
-    ensures front { IsFront node_rules (T.scene taker.old) schedule.now (T.scene taker.new) }
-    ensures book { length (T.scene taker.new).book ≤ length
-        (T.scene taker.old).book + length schedule.now }
-    ensures keeps { Keeps T.scene T.fixed net.now taker.old taker.new }
-    ensures follows { OnOk result
-        (Drives net.now (T.scene taker.old) schedule.now (T.scene taker.new)) }
-    ensures follows_front { DrivesFront net.now (T.scene taker.old) schedule.now
-        (T.scene taker.new) }
-{
-    nodes_follow_their_books();
-    taker.run(schedule, links)
-}
-
 /// Takes the turns of a whole schedule where the book stays below 2^40 entries with them. A longer
 /// book would fill any memory, so it is answered as want of memory, with no turn taken. After want
 /// of memory the turns of a front of the schedule were taken. Where the nodes stand for the world
-/// of their book they do so afterwards, also after want of memory.
+/// of their book they do so afterwards, also after want of memory: the book then has the turns of
+/// the schedule that aren't idle besides. Where the links of the schedule's entries are given, they
+/// are not looked up once more.
 pub fn drive_within<T: Taker>(
     net: &Net,
     taker: &mut T,
@@ -163,17 +136,16 @@ pub fn drive_within<T: Taker>(
     ensures ok { OnOk result
         (T.scene taker.new ≡ after_all node_rules (T.scene taker.old) schedule.now) }
     ensures front { IsFront node_rules (T.scene taker.old) schedule.now (T.scene taker.new) }
-    ensures keeps { Keeps T.scene T.fixed net.now taker.old taker.new }
-    ensures follows { OnOk result
-        (Drives net.now (T.scene taker.old) schedule.now (T.scene taker.new)) }
-    ensures follows_front { DrivesFront net.now (T.scene taker.old) schedule.now
-        (T.scene taker.new) }
+    ensures book { length (T.scene taker.new).book ≤ length
+        (T.scene taker.old).book + length schedule.now }
+    ensures driven { HasDriven T.scene T.fixed net.now taker.old schedule.now result taker.new }
 {
+    nodes_follow_their_books();
     let limit: u64 = 1 << 40;
     let entries = taker.entries();
     let more = schedule.len() as u64;
     if entries >= limit || more >= limit - entries {
         return Err(Memory);
     }
-    drive(net, taker, schedule, links)
+    taker.run(schedule, links)
 }

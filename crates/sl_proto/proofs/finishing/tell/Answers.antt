@@ -1,6 +1,6 @@
 use Rattle.std.proofs.Common.{◌∙◌}
 use Rattle.sl_model.specs.Books.{schedule_of}
-use Rattle.sl_proto.proofs.Endings.{stands-first}
+use Rattle.sl_proto.proofs.Reached.{stands-first}
 use Rattle.sl_proto.proofs.finishing.tell.Goals as goal
 
 pub returns : goal.returns

@@ -1,4 +1,4 @@
-use Rattle.sl_proto.proofs.Endings.{collected-is}
+use Rattle.sl_proto.proofs.Reached.{collected-is}
 use Rattle.sl_proto.proofs.finishing.Reached.is_collected.Goals as goal
 
 pub returns : goal.returns

@@ -1,6 +1,6 @@
 -- The nodes of an input: one per actor of its net, in the order of the actors.
 --     first_states input      what they stand for before the first turn; first_states_by first input where control planes stand for this
-use Rattle.std.specs.Prelude.{ℕ, List, length, map}
+use Rattle.std.specs.Prelude.{◌≡◌, ℕ, List, length, map, Option, None}
 use Rattle.std.specs.List.{All}
 use Rattle.sl_machine.specs.Machine.{Counts}
 use Rattle.sl_layout.specs.declared.actor.Side.{Side}
@@ -18,7 +18,8 @@ use Rattle.sl_unit.specs.Step.{UnitState}
 use Rattle.sl_unit.specs.Made.{IsRanged, ingress_state, egress_state}
 use Rattle.sl_host.specs.Host.{messages_of}
 use Rattle.sl_wire.specs.Sizes.{Sizes, sizes_of}
-use Rattle.sl_proto.specs.Nodes.{NodeOf, NodeState, ObserverNode, ControlNode, UnitNode, HostNode}
+use Rattle.sl_proto.specs.declared.node.Node.{Node}
+use Rattle.sl_proto.specs.Nodes.{NodeOf, NodeState, ObserverNode, ControlNode, UnitNode, HostNode, node_state_by, node_counts_by, node_ready_by}
 
 -- a snapshot table within its ranges, and flows whose hosts have addresses, as each accepted input has
 pub record IsBuildable (input : Input) : Type 0 where
@@ -48,3 +49,9 @@ first_states = first_states_by first_control
 -- the links and actions of an actor in the net
 abbrev pub counts_at : Net → ℕ → Counts
 counts_at net a = record { ins = length (links_into net a); outs = length (links_from net a); actions = actions_of (actor_of net a) }
+
+-- a node that stands for this state, has these links and actions, and is ready for no turn
+pub record IsFirstNode {C S : Type 0} (state_of : C → S) (counts_of : C → Counts) (ready_for : C → Option ℕ) (first : NodeOf S) (has : Counts) (node : Node C) : Type 0 where
+  pub state : node_state_by state_of node ≡ first
+  pub counts : node_counts_by counts_of node ≡ has
+  pub ready : node_ready_by ready_for node ≡ None

@@ -16,7 +16,7 @@ ghost use Rattle.sl_world.specs.Scene.{first_scene};
 ghost use Rattle.sl_world.specs.World.{scene};
 ghost use Rattle.sl_proto.specs.Nodes.{node_state_by, node_counts_by, node_ready_by};
 ghost use Rattle.sl_proto.specs.Built.{IsBuildable, first_unit, first_node, first_at};
-ghost use Rattle.sl_proto.specs.Built.{first_states, first_states_by, counts_at};
+ghost use Rattle.sl_proto.specs.Built.{first_states, first_states_by, counts_at, IsFirstNode};
 
 use crate::node::Node;
 use sl_control::Control;
@@ -84,12 +84,8 @@ fn make_observer<C: ControlPlane>(
     actor: u32,
 ) -> Result<Node<C>, Memory>
     requires actor { actor_of input.now.net actor ≡ ActorId.Observer }
-    ensures state { IfOk result
-        (λ node. node_state_by C.state node
-        ≡ first_node C.first input.now actor ActorId.Observer) }
-    ensures counts { IfOk result
-        (λ node. node_counts_by C.counts node ≡ counts_at input.now.net actor) }
-    ensures ready { IfOk result (λ node. node_ready_by C.ready_for node ≡ None) }
+    ensures { IfOk result (IsFirstNode C.state C.counts C.ready_for
+        (first_node C.first input.now actor ActorId.Observer) (counts_at input.now.net actor)) }
 {
     // A net is that of its parts, so its first actor alone is the observer.
     let _parts = input.net.parts();
@@ -110,12 +106,9 @@ fn make_control<C: ControlPlane>(
     requires actor { actor_of input.now.net actor ≡ ActorId.Control device }
     requires device { device < length input.now.net.parts.devices }
     requires input { IsBuildable input.now }
-    ensures state { IfOk result
-        (λ node. node_state_by C.state node
-        ≡ first_node C.first input.now actor (ActorId.Control device)) }
-    ensures counts { IfOk result
-        (λ node. node_counts_by C.counts node ≡ counts_at input.now.net actor) }
-    ensures ready { IfOk result (λ node. node_ready_by C.ready_for node ≡ None) }
+    ensures { IfOk result (IsFirstNode C.state C.counts C.ready_for
+        (first_node C.first input.now actor (ActorId.Control device))
+        (counts_at input.now.net actor)) }
 {
     let _parts = input.net.parts();
     let control = C::make(alloc, &input.net, device, &input.snapshot)?;
@@ -158,12 +151,9 @@ fn make_unit<C: ControlPlane>(
     requires actor { actor_of input.now.net actor ≡ ActorId.Unit unit }
     requires routes { IsRoutesOf input.now.net routes.now }
     requires input { IsBuildable input.now }
-    ensures state { IfOk result
-        (λ node. node_state_by C.state node
-        ≡ first_node C.first input.now actor (ActorId.Unit unit)) }
-    ensures counts { IfOk result
-        (λ node. node_counts_by C.counts node ≡ counts_at input.now.net actor) }
-    ensures ready { IfOk result (λ node. node_ready_by C.ready_for node ≡ None) }
+    ensures { IfOk result (IsFirstNode C.state C.counts C.ready_for
+        (first_node C.first input.now actor (ActorId.Unit unit))
+        (counts_at input.now.net actor)) }
 {
     nets_have_ways();
     let place = input.net.unit_place(actor);
@@ -181,12 +171,9 @@ fn make_host<C: ControlPlane>(
     requires below { actor < length input.now.net.actors }
     requires actor { actor_of input.now.net actor ≡ ActorId.Host host }
     requires input { IsBuildable input.now }
-    ensures state { IfOk result
-        (λ node. node_state_by C.state node
-        ≡ first_node C.first input.now actor (ActorId.Host host)) }
-    ensures counts { IfOk result
-        (λ node. node_counts_by C.counts node ≡ counts_at input.now.net actor) }
-    ensures ready { IfOk result (λ node. node_ready_by C.ready_for node ≡ None) }
+    ensures { IfOk result (IsFirstNode C.state C.counts C.ready_for
+        (first_node C.first input.now actor (ActorId.Host host))
+        (counts_at input.now.net actor)) }
 {
     nets_are_wired();
     let _parts = input.net.parts();
@@ -204,11 +191,8 @@ fn make_node<C: ControlPlane>(
     requires below { actor < length input.now.net.actors }
     requires routes { IsRoutesOf input.now.net routes.now }
     requires input { IsBuildable input.now }
-    ensures state { IfOk result
-        (λ node. node_state_by C.state node ≡ first_at C.first input.now actor) }
-    ensures counts { IfOk result
-        (λ node. node_counts_by C.counts node ≡ counts_at input.now.net actor) }
-    ensures ready { IfOk result (λ node. node_ready_by C.ready_for node ≡ None) }
+    ensures { IfOk result (IsFirstNode C.state C.counts C.ready_for
+        (first_at C.first input.now actor) (counts_at input.now.net actor)) }
 {
     match input.net.actor(actor) {
         ActorId::Observer => make_observer(alloc, input, actor),

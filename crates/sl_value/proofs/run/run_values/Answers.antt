@@ -47,23 +47,20 @@ returns-clause-list c =
     ∙ ap (λ (j : Input). map (value_finding i.net (world (setup_of i) (losses i) (schedule_of w.scene.book))) (range_with_len 1 j.snapshot.count)) c.input.view_is
     ∙ ap (λ (b : List Entry). map (value_finding i.net (world (setup_of i) (losses i) (schedule_of b))) (range_with_len 1 i.snapshot.count)) (sym c.into_parts-nodes.ensures.book)
 
+-- what the nodes tell of hosts, for the book that is left
+left : {A : Type 0} (of : Findings → A) (i : Input) (tells : Findings) (before after : List Entry) (told : A) → told ≡ of tells → tells ≡ findings (setup_of i) (losses i) (schedule_of before) → after ≡ before
+    → told ≡ of (findings (setup_of i) (losses i) (schedule_of after))
+left of i tells before after told here is same = here ∙ ap of is ∙ ap (λ (b : List Entry). of (findings (setup_of i) (losses i) (schedule_of b))) (sym same)
+
 pub returns-clause-sent : goal.returns-clause-sent
-returns-clause-sent c =
-    let i = c.args.input.now in
-    let w = c.in_ok-world.world in
-    let e = c.in_ok-world.ensures in
-    c.in_ok-sent.ensures.sent
-    ∙ ap (λ (f : Findings). f.sent) (c.nodes_tell_findings.ensures.told i (losses i) (plain_scene w.scene) c.observer.result.now.state e.stands c.observer.ensures e.few e.book.ended.finished)
-    ∙ ap (λ (b : List Entry). (findings (setup_of i) (losses i) (schedule_of b)).sent) (sym c.into_parts-nodes.ensures.book)
+returns-clause-sent c = let i = c.args.input.now in let w = c.in_ok-world.world in let e = c.in_ok-world.ensures in
+    left (λ f. f.sent) i _ w.scene.book _ _ c.in_ok-sent.ensures.sent
+    (c.nodes_tell_findings.ensures.told i (losses i) (plain_scene w.scene) c.observer.result.now.state e.stands c.observer.ensures e.few e.book.ended.finished) c.into_parts-nodes.ensures.book
 
 pub returns-clause-delivered : goal.returns-clause-delivered
-returns-clause-delivered c =
-    let i = c.args.input.now in
-    let w = c.in_ok-world.world in
-    let e = c.in_ok-world.ensures in
-    c.in_ok-sent.ensures.delivered
-    ∙ ap (λ (f : Findings). f.delivered) (c.nodes_tell_findings.ensures.told i (losses i) (plain_scene w.scene) c.observer.result.now.state e.stands c.observer.ensures e.few e.book.ended.finished)
-    ∙ ap (λ (b : List Entry). (findings (setup_of i) (losses i) (schedule_of b)).delivered) (sym c.into_parts-nodes.ensures.book)
+returns-clause-delivered c = let i = c.args.input.now in let w = c.in_ok-world.world in let e = c.in_ok-world.ensures in
+    left (λ f. f.delivered) i _ w.scene.book _ _ c.in_ok-sent.ensures.delivered
+    (c.nodes_tell_findings.ensures.told i (losses i) (plain_scene w.scene) c.observer.result.now.state e.stands c.observer.ensures e.few e.book.ended.finished) c.into_parts-nodes.ensures.book
 
 pub returns-clause-answered : goal.returns-clause-answered
 returns-clause-answered c =

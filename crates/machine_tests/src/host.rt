@@ -6,6 +6,7 @@ ghost use Rattle.sl_flow.specs.Flow.{HasAddresses};
 use crate::nets::{net, sent};
 use crate::rig::Rig;
 use sl_host::Host;
+use sl_machine::Outputs;
 use sl_net::{Bytes, Flow, Input, LossSpec, Packet, RawPart, Snapshot};
 use sl_wire::{Framed, Msg, Spare};
 use std::alloc::{AllocError, Global};
@@ -84,14 +85,19 @@ fn host(alloc: Global) -> Result<Rig<Host>, Fail> {
     host_of(alloc, &input)
 }
 
-/// What the host sends next, where it sends something.
-fn next_message(alloc: Global, host: &mut Rig<Host>) -> Result<Option<Msg>, Fail> {
+/// Whether a turn put just a message that carries these bytes, on the first link.
+fn puts(mut out: Outputs<Msg>, bytes: &[u8]) -> bool {
+    match out.take_first() {
+        Some((0, message)) => carries(&message, bytes),
+        _ => false,
+    }
+}
+
+/// Whether the host sends these bytes next.
+fn sends_next(alloc: Global, host: &mut Rig<Host>, bytes: &[u8]) -> Result<bool, Fail> {
     match host.act(alloc, 1)? {
-        None => Ok(None),
-        Some(mut out) => match out.take_first() {
-            Some((0, message)) => Ok(Some(message)),
-            _ => Err("no message".into()),
-        },
+        Some(out) => Ok(puts(out, bytes)),
+        None => Ok(false),
     }
 }
 
@@ -118,9 +124,8 @@ fn frames() -> &'static [&'static [u8]] {
 /// The place of the first frame that is sent otherwise, or the number of frames.
 fn first_wrong(alloc: Global, host: &mut Rig<Host>, frames: &[&[u8]]) -> Result<usize, Fail> {
     for place in 0..frames.len() {
-        match next_message(alloc, host)? {
-            Some(message) if carries(&message, frames[place]) => {}
-            _ => return Ok(place),
+        if !sends_next(alloc, host, frames[place])? {
+            return Ok(place);
         }
     }
     Ok(frames.len())
@@ -129,7 +134,7 @@ fn first_wrong(alloc: Global, host: &mut Rig<Host>, frames: &[&[u8]]) -> Result<
 /// How many frames are sent as they should be, whether nothing comes then, and how many were sent.
 fn sends(alloc: Global, host: &mut Rig<Host>) -> Result<(usize, bool, u64), Fail> {
     let right = first_wrong(alloc, host, frames())?;
-    let is_done = next_message(alloc, host)?.is_none();
+    let is_done = host.act(alloc, 1)?.is_none();
     Ok((right, is_done, host.machine.sent()))
 }
 

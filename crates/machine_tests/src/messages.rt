@@ -1,4 +1,7 @@
 // The messages that turns take and put.
+ghost use Rattle.std.specs.Prelude.{◌≡◌};
+ghost use Rattle.sl_saves.specs.Rings.{ring_window};
+
 use sl_ids::{Wid, Width};
 use sl_machine::{Memory, Outputs};
 use sl_net::Packet;
@@ -65,16 +68,21 @@ fn no_packet() -> Packet {
     }
 }
 
+/// Adopts by so much, where that is from 1 to 3.
+fn adopt_some(saves: &mut RingSaves, by: u64, packets: u64, bytes: u64)
+    requires { ring_window saves.old ≡ 3 }
+    ensures { ring_window saves.new ≡ 3 }
+{
+    if by >= 1 && by <= 3 {
+        saves.adopt(by as u16, packets, bytes);
+    }
+}
+
 /// A view of three slots of a unit that went from 0 to a number below 7, by at most 3 in one step.
 fn view_at(alloc: Global, id: u64) -> Result<View, Memory> {
     let mut saves = RingSaves::new(alloc, 3, 3, 1)?;
-    let first = id.min(3);
-    if first >= 1 {
-        saves.adopt(first as u16, 5, 500);
-    }
-    if id > 3 && id <= 6 {
-        saves.adopt((id - 3) as u16, 7, 700);
-    }
+    adopt_some(&mut saves, id.min(3), 5, 500);
+    adopt_some(&mut saves, id.saturating_sub(3), 7, 700);
     saves.view()
 }
 

@@ -99,15 +99,26 @@ fn turns() -> &'static [Turn] {
     &TURNS
 }
 
+/// The place of the first turn that went wrong, and what an observer has collected, issued and sent
+/// again after the turns.
+fn observes(alloc: Global, rig: &mut Rig<Observer>) -> Result<(Option<usize>, [u64; 3]), Fail> {
+    let wrong = first_wrong(alloc, rig, turns())?;
+    let observer = &rig.machine;
+    Ok((
+        wrong,
+        [observer.floor(), observer.issued(), observer.resent()],
+    ))
+}
+
+/// The same of a new one.
+fn observed(alloc: Global) -> Result<(Option<usize>, [u64; 3]), Fail> {
+    let mut collector = make_collector(alloc)?;
+    observes(alloc, &mut collector.rig)
+}
+
 #[test]
 fn window_and_retries(rt: HostRuntime) -> Result<(), Fail> {
-    let mut rig = make_collector(rt.alloc())?.rig;
-    assert_eq!(rt; first_wrong(rt.alloc(), &mut rig, turns())?, None);
-    let observer = rig.machine;
-    assert_eq!(rt;
-        (observer.floor(), observer.issued(), observer.resent()),
-        (1, 3, 1)
-    );
+    assert_eq!(rt; observed(rt.alloc())?, (None, [1, 3, 1]));
     Ok(())
 }
 
@@ -135,11 +146,21 @@ fn has_third_row(collector: &Collector) -> bool {
         && collector.saved(1, 4).is_none()
 }
 
+/// Whether the ids are right after such reports, and just that row is left.
+fn hears(alloc: Global, collector: &mut Collector) -> Result<bool, Fail> {
+    let reports = [(1, 2, 2), (4, 4, 2), (3, 3, 3)];
+    let wrong = first_wrong_id(alloc, collector, &reports)?;
+    Ok(wrong.is_none() && has_third_row(collector))
+}
+
+/// The same of a new observer.
+fn heard(alloc: Global) -> Result<bool, Fail> {
+    let mut collector = make_collector(alloc)?;
+    hears(alloc, &mut collector)
+}
+
 #[test]
 fn rows_without_a_gap(rt: HostRuntime) -> Result<(), Fail> {
-    let mut collector = make_collector(rt.alloc())?;
-    let reports = [(1, 2, 2), (4, 4, 2), (3, 3, 3)];
-    let wrong = first_wrong_id(rt.alloc(), &mut collector, &reports)?;
-    assert!(rt; wrong.is_none() && has_third_row(&collector));
+    assert!(rt; heard(rt.alloc())?);
     Ok(())
 }

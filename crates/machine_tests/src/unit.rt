@@ -138,10 +138,15 @@ fn is_late_twice(alloc: Global, unit: &mut Rig<Unit>) -> Result<(bool, bool), Fa
     Ok((made, filled))
 }
 
+/// Whether it is so in a new unit with one credit.
+fn late_at_one(alloc: Global) -> Result<(bool, bool), Fail> {
+    let mut unit = unit(alloc, 3, 1)?;
+    is_late_twice(alloc, &mut unit)
+}
+
 #[test]
 fn late_packet(rt: HostRuntime) -> Result<(), Fail> {
-    let mut unit = unit(rt.alloc(), 3, 1)?;
-    assert_eq!(rt; is_late_twice(rt.alloc(), &mut unit)?, (true, true));
+    assert_eq!(rt; late_at_one(rt.alloc())?, (true, true));
     Ok(())
 }
 
@@ -171,10 +176,15 @@ fn is_credited_twice(alloc: Global, unit: &mut Rig<Unit>) -> Result<bool, Fail> 
     Ok(is_in_flight(polled(alloc, unit, None)?.get()))
 }
 
+/// Whether it is so in a new unit with two credits.
+fn credited_by_two(alloc: Global) -> Result<bool, Fail> {
+    let mut unit = unit(alloc, 3, 2)?;
+    is_credited_twice(alloc, &mut unit)
+}
+
 #[test]
 fn two_credits(rt: HostRuntime) -> Result<(), Fail> {
-    let mut unit = unit(rt.alloc(), 3, 2)?;
-    assert!(rt; is_credited_twice(rt.alloc(), &mut unit)?);
+    assert!(rt; credited_by_two(rt.alloc())?);
     Ok(())
 }
 
@@ -188,8 +198,8 @@ fn is_blank(dump: &Dump) -> bool {
         && (0..2usize).all(|place| dump.view.slots.get(place).back == 0)
 }
 
-/// Whether a new unit has blank registers.
-fn is_new(alloc: Global, place: u32) -> Result<bool, Fail> {
+/// Whether the registers of a unit are blank, and it counted nothing.
+fn counts_nothing(unit: &Unit) -> Result<bool, Memory> {
     let none = UnitCounts {
         packets: 0,
         bytes: 0,
@@ -197,8 +207,14 @@ fn is_new(alloc: Global, place: u32) -> Result<bool, Fail> {
         expired: 0,
         noroute: 0,
     };
-    let unit = unit(alloc, place, 1)?.machine;
-    Ok(is_blank(&unit.dump()?) && unit.counts() == none)
+    let dump = unit.dump()?;
+    Ok(is_blank(&dump) && unit.counts() == none)
+}
+
+/// Whether those of a new unit are.
+fn is_new(alloc: Global, place: u32) -> Result<bool, Fail> {
+    let unit = unit(alloc, place, 1)?;
+    Ok(counts_nothing(&unit.machine)?)
 }
 
 #[test]
@@ -224,10 +240,9 @@ fn frames() -> &'static [Turn] {
     &FRAMES
 }
 
-#[test]
-fn frames_of_the_host(rt: HostRuntime) -> Result<(), Fail> {
-    let mut unit = unit(rt.alloc(), 2, 1)?;
-    let wrong = first_wrong(rt.alloc(), &mut unit, frames())?;
+/// Whether a unit takes the frames as it should, and counts them.
+fn takes_frames(alloc: Global, unit: &mut Rig<Unit>) -> Result<bool, Fail> {
+    let wrong = first_wrong(alloc, unit, frames())?;
     let counts = UnitCounts {
         packets: 5,
         bytes: 500,
@@ -235,6 +250,17 @@ fn frames_of_the_host(rt: HostRuntime) -> Result<(), Fail> {
         expired: 2,
         noroute: 1,
     };
-    assert!(rt; wrong.is_none() && unit.machine.counts() == counts);
+    Ok(wrong.is_none() && unit.machine.counts() == counts)
+}
+
+/// Whether a new one does.
+fn frames_are_taken(alloc: Global) -> Result<bool, Fail> {
+    let mut unit = unit(alloc, 2, 1)?;
+    takes_frames(alloc, &mut unit)
+}
+
+#[test]
+fn frames_of_the_host(rt: HostRuntime) -> Result<(), Fail> {
+    assert!(rt; frames_are_taken(rt.alloc())?);
     Ok(())
 }

@@ -1,7 +1,7 @@
 -- The wirings of the tests are sound.
 use Rattle.std.proofs.Common.{◌≡◌, ℕ, zero, suc, ◌+◌, ◌^◌, ◌<◌, refl, arith}
 use Rattle.std.specs.Prelude.{slice_index}
-use Rattle.sl_machine.specs.Plan.{IsSound, link_at, link_in, link_out}
+use Rattle.sl_machine.specs.Plan.{IsSound, HasChoice, link_at, link_in, link_out}
 use Rattle.world_tests.specs.Plans.{ring, in_line}
 
 one : (P : ℕ → Type 0) → P 0 → (o : ℕ) → o < 1 → P o
@@ -64,3 +64,11 @@ line_is_sound =
           of_four (λ a. c < slice_index in_line.ins a → link_in in_line.links a c < 3) (none (λ c. link_in in_line.links 0 c < 3) c) (one (λ c. link_in in_line.links 1 c < 3) (omega arith) c) (one (λ c. link_in in_line.links 2 c < 3) (omega arith) c)
           (one (λ c. link_in in_line.links 3 c < 3) (omega arith) c) a low;
     }
+
+-- each actor of the ring has two choices
+pub ring_choice : (actor choice : ℕ) → actor < 2 → choice < 2 → HasChoice ring actor choice
+ring_choice actor choice here low = record { actor_below = here; choice_below = of_two (λ a. choice < slice_index ring.ins a + slice_index ring.actions a) low low actor here }
+
+-- each actor of the line has one
+pub line_choice : (actor : ℕ) → actor < 4 → HasChoice in_line actor 0
+line_choice actor here = record { actor_below = here; choice_below = of_four (λ a. 0 < slice_index in_line.ins a + slice_index in_line.actions a) (omega arith) (omega arith) (omega arith) (omega arith) actor here }

@@ -45,9 +45,9 @@ pub fn actors_in_line(alloc: Global, drops: &[u64]) -> Result<Vec<Actor<Relay>>,
 {
     made_actors_are_wired::<Relay>();
     let loss = Loss::new(alloc, 1, 1, 0, drops)?;
-    let wiring = line_wiring(alloc)?;
-    let machines = machines_in_line(alloc)?;
     let losses = vec![in alloc; None, Some(loss), None]?;
+    let machines = machines_in_line(alloc)?;
+    let wiring = line_wiring(alloc)?;
     let actors = make_actors(alloc, machines, &wiring, losses, 1)?;
     Ok(actors)
 }
@@ -71,16 +71,22 @@ pub fn turns_of<R: Wait>(rt: &R, actor: &mut Actor<Relay>) -> Result<bool, Memor
     Ok(moved)
 }
 
-/// How often one turn by each choice of the first actor moves something, until it does not.
-fn moves_of_first<R: Wait>(rt: &R, actors: &mut Vec<Actor<Relay>>) -> Result<u32, Memory> {
-    if let Some(host) = actors.first_mut() {
-        for moves in 0..10 {
-            if !turns_of(rt, host)? {
-                return Ok(moves);
-            }
+/// How often one turn by each choice of an actor moves something, until it does not.
+fn moves_of<R: Wait>(rt: &R, actor: &mut Actor<Relay>) -> Result<u32, Memory> {
+    for moves in 0..10 {
+        if !turns_of(rt, actor)? {
+            return Ok(moves);
         }
     }
     Ok(10)
+}
+
+/// The same of the first actor.
+fn moves_of_first<R: Wait>(rt: &R, actors: &mut Vec<Actor<Relay>>) -> Result<u32, Memory> {
+    match actors.first_mut() {
+        Some(host) => moves_of(rt, host),
+        None => Ok(10),
+    }
 }
 
 /// One turn by each choice of each actor. Whether anything moved.
@@ -111,15 +117,26 @@ fn have_seen(actors: &[Actor<Relay>], seen: &[u32]) -> bool {
     each && actors.len() == seen.len()
 }
 
-/// How many puts the links of actors lost, and whether a message waits in an outbox.
+/// How many puts the links of an actor lost, and whether a message waits in an outbox of it.
+fn lost_by_one(actor: Actor<Relay>) -> (u64, bool) {
+    let mut lost = 0;
+    let mut waits = false;
+    let parts = actor.into_parts();
+    for out in &parts.outs {
+        waits = waits || !out.outbox.is_empty();
+        lost = u64::saturating_add(lost, out.lost);
+    }
+    (lost, waits)
+}
+
+/// The same of actors.
 fn lost_by(actors: Vec<Actor<Relay>>) -> (u64, bool) {
     let mut lost = 0;
     let mut waits = false;
     for actor in actors {
-        for out in actor.into_parts().outs {
-            waits = waits || !out.outbox.is_empty();
-            lost = u64::saturating_add(lost, out.lost);
-        }
+        let one = lost_by_one(actor);
+        lost = u64::saturating_add(lost, one.0);
+        waits = waits || one.1;
     }
     (lost, waits)
 }

@@ -111,9 +111,9 @@ fn a_round_that_puts(rt: HostRuntime) -> Result<(), Fail> {
 
 /// Two actors that send to each other: the first has two tokens, the second four.
 fn actors_in_ring(alloc: Global) -> Result<Vec<Actor<Relay>>, Memory> {
-    let wiring = ring_wiring(alloc)?;
     let machines = vec![in alloc; Relay::new(1, 1, 1, 2), Relay::new(1, 1, 1, 4)]?;
     let losses = vec![in alloc; None, None]?;
+    let wiring = ring_wiring(alloc)?;
     make_actors(alloc, machines, &wiring, losses, 16)
 }
 

@@ -27,9 +27,9 @@ fn ring_world(alloc: Global) -> Result<World<Relay>, Memory>
     ensures { IfOk result (λ w. (scene w).plan ≡ ring) }
 {
     let loss = Loss::new(alloc, 1, 0, 0, &[2])?;
-    let wiring = ring_wiring(alloc)?;
-    let machines = vec![in alloc; Relay::new(1, 1, 1, 2), Relay::new(1, 1, 1, 0)]?;
     let losses = vec![in alloc; Some(loss), None]?;
+    let machines = vec![in alloc; Relay::new(1, 1, 1, 2), Relay::new(1, 1, 1, 0)]?;
+    let wiring = ring_wiring(alloc)?;
     World::new(alloc, machines, &wiring, losses)
 }
 
@@ -158,17 +158,17 @@ fn ring_later(alloc: Global, rest: Vec<u32>) -> Result<World<Relay>, Memory>
     ensures plan { IfOk result (λ w. (scene w).plan ≡ ring) }
     ensures states { IfOk result (λ w. length (scene w).states ≡ 2) }
 {
-    let wiring = ring_wiring(alloc)?;
-    let machines = vec![in alloc; Relay::new(1, 1, 1, 0), Relay::new(1, 1, 1, 0)]?;
-    let losses = vec![in alloc; None, None]?;
-    let lost = vec![in alloc; 7, 0]?;
     let rests = vec![in alloc; rest, Vec::new(alloc)]?;
+    let lost = vec![in alloc; 7, 0]?;
+    let losses = vec![in alloc; None, None]?;
+    let machines = vec![in alloc; Relay::new(1, 1, 1, 0), Relay::new(1, 1, 1, 0)]?;
     let first = Entry {
         number: 1,
         actor: 0,
         choice: 1,
     };
     let entries = vec![in alloc; first]?;
+    let wiring = ring_wiring(alloc)?;
     World::resume(
         alloc,
         machines,
@@ -187,15 +187,11 @@ fn ring_again(alloc: Global, world: World<Relay>) -> Result<World<Relay>, Memory
     ensures { IfOk result (λ w. (scene w).plan ≡ ring) }
 {
     let (machines, book) = world.into_book();
-    World::resume(
-        alloc,
-        machines,
-        &ring_wiring(alloc)?,
-        vec![in alloc; None, None]?,
-        vec![in alloc; 0, 0]?,
-        vec![in alloc; Vec::new(alloc), Vec::new(alloc)]?,
-        book,
-    )
+    let losses = vec![in alloc; None, None]?;
+    let lost = vec![in alloc; 0, 0]?;
+    let rests = vec![in alloc; Vec::new(alloc), Vec::new(alloc)]?;
+    let wiring = ring_wiring(alloc)?;
+    World::resume(alloc, machines, &wiring, losses, lost, rests, book)
 }
 
 /// What actor 0 saw last, after it took a message.

@@ -145,6 +145,38 @@ fn saved_entries(rt: HostRuntime) -> Result<(), Fail> {
     Ok(())
 }
 
+/// A step of at least one and at most the window, as a random number says.
+fn step_of(window: u16, random: u32) -> u16
+    requires some { 1 ≤ window }
+    ensures least { 1 ≤ result }
+    ensures most { result ≤ window }
+{
+    (random % u32::from(window) + 1) as u16
+}
+
+/// Adopts by so much, and answers it.
+fn adopt_by<S: Saves>(saves: &mut S, by: u16, random: u32) -> Result<u16, Memory>
+    requires least { 1 ≤ by }
+    requires most { by ≤ S.window saves.old }
+    ensures window { S.window saves.new ≡ S.window saves.old }
+    ensures size { S.size saves.new ≡ S.size saves.old }
+{
+    saves.ready()?;
+    saves.adopt(by, u64::from(random % 1000), u64::from(random));
+    Ok(by)
+}
+
+/// Credits a packet whose stamp lies so far below the number, and answers that it did not rise.
+fn credit_by<S: Saves>(saves: &mut S, age: u16, random: u32) -> Result<u16, Memory>
+    requires least { 1 ≤ age }
+    requires most { age ≤ S.window saves.old }
+    ensures window { S.window saves.new ≡ S.window saves.old }
+    ensures size { S.size saves.new ≡ S.size saves.old }
+{
+    saves.credit((random >> 16) % 8, age, u64::from(random % 1000));
+    Ok(0)
+}
+
 /// Adopts or credits, as a random number says. The answer is by how much the number rose.
 fn take_turn<S: Saves>(saves: &mut S, window: u16, random: u32) -> Result<u16, Memory>
     requires some { 1 ≤ window }
@@ -152,16 +184,12 @@ fn take_turn<S: Saves>(saves: &mut S, window: u16, random: u32) -> Result<u16, M
     ensures window { S.window saves.new ≡ S.window saves.old }
     ensures size { S.size saves.new ≡ S.size saves.old }
 {
-    let kind = random >> 29;
-    let step = ((random >> 8) % u32::from(window) + 1) as u16;
-    if kind < 3 {
-        let by = if kind == 0 { step } else { 1 };
-        saves.ready()?;
-        saves.adopt(by, u64::from(random % 1000), u64::from(random));
-        return Ok(by);
+    let step = step_of(window, random >> 8);
+    match random >> 29 {
+        0 => adopt_by(saves, step, random),
+        1 | 2 => adopt_by(saves, 1, random),
+        _ => credit_by(saves, step, random),
     }
-    saves.credit((random >> 16) % 8, step, u64::from(random % 1000));
-    Ok(0)
 }
 
 /// The number that a list and a ring have come to, and of the numbers below it that two views were

@@ -20,6 +20,7 @@ use Rattle.std.proofs.lemmas.List.Sums.{sum-map}
 use Rattle.sl_model.specs.declared.findings.Findings.{Findings}
 use Rattle.sl_model.specs.History.{Losses}
 use Rattle.sl_model.specs.Setup.{Setup, setup_of}
+use Rattle.sl_model.specs.Short.{SendsShort}
 use Rattle.sl_model.specs.World.{Entry as Turn, world}
 use Rattle.sl_model.specs.Books.{schedule_of}
 use Rattle.sl_model.specs.Findings.{findings}
@@ -39,18 +40,22 @@ each-map : {A B : Type 0} (P : B → Type 0) (f : A → B) (xs : List A) → ((x
 each-map P f [] all = tt
 each-map P f (x ∷ xs) all = (all x, each-map P f xs all)
 
-pub sample_runs : (n : ℕ) → IsSample (sample_parts n) → CanRun (sample_parts n)
-sample_runs n s = record {
+-- an input of a sample's sizes can be run
+sized_runs : (i : Input) → IsSample i → SendsShort (setup_of i) → CanRun i
+sized_runs i s short = record {
   net = record { made = s.net; right = s.right };
-  snapshot = record { some_bits = omega (arith, s.bits); few_bits = omega (arith, s.bits); some_window = s.some_window; few_window = subst (λ bits. (sample_parts n).snapshot.window < 2 ^ bits) (sym s.bits) s.few_window; some_ring = omega (arith, s.ring); some_credits = omega (arith, s.credits); few_credits = omega (arith, s.credits) };
+  snapshot = record { some_bits = omega (arith, s.bits); few_bits = omega (arith, s.bits); some_window = s.some_window; few_window = subst (λ bits. i.snapshot.window < 2 ^ bits) (sym s.bits) s.few_window; some_ring = omega (arith, s.ring); some_credits = omega (arith, s.credits); few_credits = omega (arith, s.credits) };
   carried = record {
-    snapshot = carries-is (sample_parts n).snapshot.width (sample_parts n).snapshot.version (inl (s.version, omega (arith, s.bits)));
-    cables = λ k d h. carries-is (sample_parts n).snapshot.width _ (inl (s.cables k d h, omega (arith, s.bits)));
+    snapshot = carries-is i.snapshot.width i.snapshot.version (inl (s.version, omega (arith, s.bits)));
+    cables = λ k d h. carries-is i.snapshot.width _ (inl (s.cables k d h, omega (arith, s.bits)));
   };
   addresses = λ k d h. let f = s.flows k d h in record { from = omega (arith, f.from, s.hosts); to = omega (arith, f.to, s.hosts) };
-  short = record { flows = each-map (λ (f : Flow). f.bytes < 2 ^ 16) (flow n) (below (host_count n)) (λ h. omega arith); raws = tt };
-  script = λ k d h. absurd (omega (arith, h));
+  short = short;
+  script = λ k d h. absurd (omega (arith, h, ap length s.script));
 }
+
+pub sample_runs : (n : ℕ) → IsSample (sample_parts n) → CanRun (sample_parts n)
+sample_runs n s = sized_runs (sample_parts n) s (record { flows = each-map (λ (f : Flow). f.bytes < 2 ^ 16) (flow n) (below (host_count n)) (λ h. omega arith); raws = tt })
 
 -- the bound of an input within its limits is small
 abbrev pub Small : Type 0

@@ -13,14 +13,20 @@ use sl_machine::Memory;
 use std::alloc::Global;
 use std::marker::Model;
 
-/// So many slots are not shared with a view, since a copy of them costs less.
+/// So many slots are shared with views only once they were shown often: what is shared takes memory of
+/// its own. To share three misses the caches less often than to copy them.
 const FEW: usize = 4;
+
+/// How often is often.
+const OFTEN: u8 = 32;
 
 /// The slots of a ring, with those that its views share.
 #[derive(Drop)]
 pub struct RingSlots {
     items: Vec<Slot>,
     shared: Option<Shared>,
+    // how often few slots were copied for a view
+    copies: u8,
 }
 
 impl Model for RingSlots {
@@ -44,6 +50,7 @@ impl RingSlots {
         Ok(RingSlots {
             items,
             shared: None,
+            copies: 0,
         })
     }
 
@@ -137,12 +144,18 @@ impl RingSlots {
         }
     }
 
+    /// Whether they are copied for a view. A single one always is.
+    fn is_copied(&self) -> bool {
+        self.items.len() <= 1 || (self.items.len() <= FEW && self.copies < OFTEN)
+    }
+
     /// Makes the slots of a view what they are: copies of few, and else shared ones.
     pub fn show(&mut self, view: &mut Slots) -> Result<(), Memory>
         ensures same { self.new ≡ self.old }
         ensures shown { OnOk result (view.new ≡ self.old) }
     {
-        if self.items.len() <= FEW {
+        if self.is_copied() {
+            self.copies = self.copies.saturating_add(1);
             return view.copy(&self.items);
         }
         view.release();

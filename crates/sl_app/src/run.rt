@@ -15,7 +15,7 @@ ghost use Rattle.sl_emul.specs.Threaded.{IsThreadedBook};
 ghost use Rattle.sl_app.specs.Served.{IsReport, ServesThreads, AllPassed, states_of};
 
 use sl_actor::Gate;
-use sl_emul::{EmulFault, Ran, finish_stepped, finish_threaded, report_of};
+use sl_emul::{EmulFault, FinishedRun, finish_stepped, finish_threaded, report_of};
 use sl_machine::{Book, Memory};
 use sl_net::{Input, Net};
 use sl_proto::Node;
@@ -75,7 +75,7 @@ fn add_trace_if(
 }
 
 /// What is served for a run that ended: its report, with its trace where that is asked for.
-fn report_run(alloc: Global, input: &Input, ran: Ran, trace: bool) -> Result<Served, Memory>
+fn report_run(alloc: Global, input: &Input, ran: FinishedRun, trace: bool) -> Result<Served, Memory>
     requires stands { StandsFor input.now.net (case_of input.now (losses input.now))
         (scene ran.world) }
     requires few { length (scene ran.world).book < 2 ^ 40 }

@@ -9,6 +9,6 @@ mod threaded;
 
 pub use fault::EmulFault;
 pub use reporting::report_of;
-pub use run::{Ran, Run};
+pub use run::{FinishedRun, Run};
 pub use stepped::{finish_stepped, run_stepped};
 pub use threaded::{finish_threaded, plans_of, run_threaded, threaded_world};

@@ -29,13 +29,17 @@ pub struct Run {
 /// A run that ended, before anything is told of it: the world that it came to, and how many entries
 /// of its book come before finishing.
 #[derive(Drop)]
-pub struct Ran {
+pub struct FinishedRun {
     pub world: World<Node>,
     pub front: u64,
 }
 
 /// Finishes. What the book has before is the front.
-pub fn finish_run(alloc: Global, input: &Input, mut world: World<Node>) -> Result<Ran, Memory>
+pub fn finish_run(
+    alloc: Global,
+    input: &Input,
+    mut world: World<Node>,
+) -> Result<FinishedRun, Memory>
     requires window { 0 < input.now.snapshot.window }
     requires stands { StandsFor input.now.net (case_of input.now (losses input.now)) (scene world) }
     requires observer { HasObserver (scene world) }
@@ -44,11 +48,11 @@ pub fn finish_run(alloc: Global, input: &Input, mut world: World<Node>) -> Resul
         (λ r. IsFinishedFrom input.now (losses input.now) (scene world) (scene r.world) r.front) }
 {
     let front = end_run(alloc, &input.net, &mut world)?;
-    Ok(Ran { world, front })
+    Ok(FinishedRun { world, front })
 }
 
 /// Tells what a run came to.
-pub fn tell_run(alloc: Global, input: &Input, ran: Ran) -> Result<Run, Memory>
+pub fn tell_run(alloc: Global, input: &Input, ran: FinishedRun) -> Result<Run, Memory>
     requires stands { StandsFor input.now.net (case_of input.now (losses input.now))
         (scene ran.world) }
     requires few { length (scene ran.world).book < 2 ^ 40 }

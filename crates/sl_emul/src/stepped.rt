@@ -6,21 +6,21 @@ ghost use Rattle.sl_proto.specs.Nodes.{node_state};
 ghost use Rattle.sl_proto.specs.RunBook.{CanRun, IsRunBook};
 ghost use Rattle.sl_emul.specs.Run.{HasEnded, IsOutcome};
 
-use crate::run::{Ran, Run, tell_run};
+use crate::run::{FinishedRun, Run, tell_run};
 use sl_machine::Memory;
 use sl_net::Input;
 use sl_proto::{first_world, run_script};
 use std::alloc::Global;
 
 /// Runs an input on the nodes of its net to its end: takes the turns of its script, and finishes.
-pub fn finish_stepped(alloc: Global, input: &Input) -> Result<Ran, Memory>
+pub fn finish_stepped(alloc: Global, input: &Input) -> Result<FinishedRun, Memory>
     requires { CanRun input.now }
     ensures { IfOk result
         (λ r. HasEnded IsRunBook input.now (losses input.now) (scene r.world) r.front) }
 {
     let mut world = first_world(alloc, input)?;
     let front = run_script(alloc, input, &mut world)?;
-    Ok(Ran { world, front })
+    Ok(FinishedRun { world, front })
 }
 
 /// Runs an input as `finish_stepped` does, and tells what the run came to.

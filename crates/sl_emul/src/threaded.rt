@@ -15,7 +15,7 @@ ghost use Rattle.sl_emul.specs.Threaded.{IsThreadedFront, IsThreadedBook, IsThre
 ghost use Rattle.sl_emul.specs.Run.{HasEnded};
 
 use crate::fault::EmulFault;
-use crate::run::{Ran, Run, finish_run, tell_run};
+use crate::run::{FinishedRun, Run, finish_run, tell_run};
 use sl_actor::Gate;
 use sl_machine::Memory;
 use sl_model::{
@@ -132,7 +132,7 @@ fn run_few<R: Threads + Wait + Sync, G: Gate + Sync>(
     alloc: Global,
     input: &Input,
     gate: &G,
-) -> Result<Ran, Memory>
+) -> Result<FinishedRun, Memory>
     requires can { CanRun input.now }
     requires few { length input.now.net.actors ≤ 256 }
     ensures run { IfOk result
@@ -155,7 +155,7 @@ pub fn finish_threaded<R: Threads + Wait + Sync, G: Gate + Sync>(
     alloc: Global,
     input: &Input,
     gate: &G,
-) -> Result<Ran, EmulFault>
+) -> Result<FinishedRun, EmulFault>
     requires { CanRun input.now }
     ensures run { IfOk result
         (λ r. HasEnded IsThreadedBook input.now (losses input.now) (scene r.world) r.front) }

@@ -13,7 +13,7 @@ use Rattle.sl_net.specs.Wired.{IsWired}
 use Rattle.sl_model.specs.History.{History}
 use Rattle.sl_model.specs.Knowledge.{upto_of, told_of}
 use Rattle.sl_value.specs.declared.whole.Whole.{Whole}
-use Rattle.sl_value.specs.Reading.{counted}
+use Rattle.sl_value.specs.Counted.{counted}
 use Rattle.sl_value.specs.Valued.{UnitValues, value_of, value_in}
 use Rattle.sl_value.specs.Standing.{kept_told, AreKept, IsToldOf, AnswersAsTold}
 use Rattle.sl_value.proofs.Takes.{joined, each-served}

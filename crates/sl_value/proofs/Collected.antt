@@ -30,7 +30,7 @@ use Rattle.sl_model.specs.Verdict.{channel_lag, lag_at, lag, cause, judged, issu
 use Rattle.sl_model.specs.Collected.{known_verdict}
 use Rattle.sl_value.specs.declared.whole.Whole.{Whole}
 use Rattle.sl_value.specs.declared.verdict.ValueVerdict.TheVariants.{Whole as IsWhole, NotIssued}
-use Rattle.sl_value.specs.Reading.{counted}
+use Rattle.sl_value.specs.Counted.{counted}
 use Rattle.sl_value.specs.Valued.{UnitValues, value_of, value_in}
 use Rattle.sl_value.specs.Standing.{values_told, kept_told, AreKept}
 use Rattle.sl_value.specs.Verdicts.{lagging, value_verdict, valued}

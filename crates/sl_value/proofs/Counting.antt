@@ -14,7 +14,7 @@ use Rattle.sl_model.specs.Cut.{before}
 use Rattle.sl_model.specs.Verdict.{adopted}
 use Rattle.sl_model.specs.Calls.{calls}
 use Rattle.sl_model.specs.Rows.{entry, entries}
-use Rattle.sl_value.specs.Reading.{value_read, counted, counters}
+use Rattle.sl_value.specs.Counted.{value_read, counted, counters}
 use Rattle.sl_value.specs.declared.whole.Whole.{Whole}
 use Rattle.sl_saves.proofs.Places.{below-le, below-twice, below-mod}
 use Rattle.sl_saves.proofs.Walking.{path-below}

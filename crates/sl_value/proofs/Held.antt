@@ -28,7 +28,7 @@ use Rattle.sl_control.specs.Rows.{row}
 use Rattle.sl_control.specs.Wires.{unit_wires, unheard}
 use Rattle.sl_control.proofs.Joining.{joined as joined_at}
 use Rattle.sl_value.specs.declared.whole.Whole.{Whole}
-use Rattle.sl_value.specs.Reading.{value_read}
+use Rattle.sl_value.specs.Counted.{value_read}
 use Rattle.sl_value.specs.Valued.{UnitValues, ValueState, or_done, first_done, values_by, kept_of, kept_by, with_kept, value_rules, no_values, first_value, value_of, value_in}
 use Rattle.sl_value.specs.Held.{collected_in, IsUncollected, turned}
 use Rattle.sl_value.proofs.Reports.{first-append, both}

@@ -33,7 +33,7 @@ use Rattle.sl_proto.specs.Meaning.{StandsAs, NodeStands}
 use Rattle.sl_proto.specs.Nodes.{NodeState, ObserverNode, ControlNode, UnitNode, HostNode}
 use Rattle.sl_proto.specs.Standing.{case_of, StandsFor}
 use Rattle.sl_proto.specs.Told.{HasAllRows, accounts_of, told}
-use Rattle.sl_value.specs.Reading.{counted}
+use Rattle.sl_value.specs.Counted.{counted}
 use Rattle.sl_value.specs.Valued.{ValueState, value_in}
 use Rattle.sl_value.specs.Nodes.{ValueNodeState, plain, plain_scene, controls_in}
 use Rattle.sl_value.specs.Standing.{ValueStands}

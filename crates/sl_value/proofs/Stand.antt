@@ -24,7 +24,7 @@ use Rattle.sl_proto.specs.Built.{first_node, first_at, first_states}
 use Rattle.sl_proto.specs.Machines.{FollowHistories, Begun}
 use Rattle.sl_proto.specs.Meaning.{NodeStands}
 use Rattle.sl_proto.specs.Nodes.{NodeState}
-use Rattle.sl_value.specs.Reading.{counted}
+use Rattle.sl_value.specs.Counted.{counted}
 use Rattle.sl_value.specs.Valued.{no_values, first_value}
 use Rattle.sl_value.specs.Nodes.{ValueNodeState, value_node_rules, first_values, plain}
 use Rattle.sl_value.specs.Standing.{values_told, kept_told, KeepsValues, ValueStands}

@@ -33,7 +33,7 @@ use Rattle.sl_model.specs.Brought.{IsBrought}
 use Rattle.sl_simulation.specs.Messages.{IsDumpOf, numbers_after}
 use Rattle.sl_simulation.specs.ControlImage.{known_of}
 use Rattle.sl_value.specs.declared.whole.Whole.{Whole}
-use Rattle.sl_value.specs.Reading.{value_read, counted}
+use Rattle.sl_value.specs.Counted.{value_read, counted}
 use Rattle.sl_value.specs.Valued.{UnitValues, first_done, or_done, values_by, kept_of, kept_by}
 use Rattle.sl_value.specs.Standing.{values_told, kept_told}
 use Rattle.sl_value.proofs.Reports.{first-append, each-in-span, both}

@@ -13,7 +13,7 @@ use Rattle.sl_model.specs.History.{History, id, last, heard, first}
 use Rattle.sl_model.specs.Counting.{packets, bytes}
 use Rattle.sl_model.specs.Knowledge.{upto_of}
 use Rattle.sl_value.specs.declared.whole.Whole.{Whole}
-use Rattle.sl_value.specs.Reading.{counted}
+use Rattle.sl_value.specs.Counted.{counted}
 use Rattle.sl_value.specs.Standing.{values_told}
 use Rattle.sl_value.proofs.Counting.{before-step}
 use Rattle.sl_value.proofs.Reports.{least-below}

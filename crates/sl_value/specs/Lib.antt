@@ -1,4 +1,4 @@
-pub mod Reading
+pub mod Counted
 pub mod Valued
 pub mod Held
 pub mod Prepared

@@ -18,7 +18,7 @@ use Rattle.sl_proto.specs.Nodes.{ControlNode}
 use Rattle.sl_proto.specs.Told.{HasAllRows, accounts_of}
 use Rattle.sl_value.specs.declared.whole.Whole.{Whole}
 use Rattle.sl_value.specs.declared.verdict.ValueVerdict.TheVariants.{Whole as IsWhole}
-use Rattle.sl_value.specs.Reading.{counted}
+use Rattle.sl_value.specs.Counted.{counted}
 use Rattle.sl_value.specs.Valued.{value_in}
 use Rattle.sl_value.specs.Nodes.{ValueNodeState}
 use Rattle.sl_value.specs.Verdicts.{value_verdict, valued}

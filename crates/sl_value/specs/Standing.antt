@@ -15,7 +15,7 @@ use Rattle.sl_model.specs.Knowledge.{upto_of, told_of}
 use Rattle.sl_proto.specs.Meaning.{NodeStands}
 use Rattle.sl_proto.specs.Nodes.{ControlNode}
 use Rattle.sl_value.specs.declared.whole.Whole.{Whole}
-use Rattle.sl_value.specs.Reading.{counted}
+use Rattle.sl_value.specs.Counted.{counted}
 use Rattle.sl_value.specs.Valued.{UnitValues, value_in}
 use Rattle.sl_value.specs.Nodes.{ValueNodeState, plain}
 

@@ -18,7 +18,7 @@ use Rattle.sl_control.specs.Control.{ControlState, control_take, control_act}
 use Rattle.sl_control.specs.Wires.{first_control}
 use Rattle.sl_value.specs.declared.whole.Whole.{Whole}
 use Rattle.sl_value.specs.declared.kept.Kept.{Kept}
-use Rattle.sl_value.specs.Reading.{value_read}
+use Rattle.sl_value.specs.Counted.{value_read}
 
 -- the values of a unit, by its place among the units, of the numbers from 1 on
 pub record UnitValues : Type 0 where

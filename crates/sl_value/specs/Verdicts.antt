@@ -23,7 +23,7 @@ use Rattle.sl_value.specs.declared.whole.Whole.{Whole}
 use Rattle.sl_value.specs.declared.verdict.ValueVerdict.{ValueVerdict}
 use Rattle.sl_value.specs.declared.verdict.ValueVerdict.TheVariants.{Whole as IsWhole, Pending, NotIssued}
 use Rattle.sl_value.specs.declared.verdict.ValueFinding.{ValueFinding}
-use Rattle.sl_value.specs.Reading.{counted}
+use Rattle.sl_value.specs.Counted.{counted}
 
 abbrev pub lagging : Option (ℕ × Lag) → ValueVerdict
 lagging None = IsWhole

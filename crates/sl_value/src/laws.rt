@@ -12,7 +12,7 @@ ghost use Rattle.sl_model.specs.Calls.{calls};
 ghost use Rattle.sl_wire.specs.declared.message.Msg.{Msg};
 ghost use Rattle.sl_wire.specs.Sizes.{Sizes};
 ghost use Rattle.sl_value.specs.Held.{collected_in, IsUncollected, turned};
-ghost use Rattle.sl_value.specs.Reading.{value_read, counted};
+ghost use Rattle.sl_value.specs.Counted.{value_read, counted};
 ghost use Rattle.sl_value.specs.Valued.{value_in};
 
 use sl_model::{calls_lead_to_id, entries_are_values};

@@ -1,7 +1,7 @@
 // The value of a number in a view.
 ghost use Rattle.std.specs.Prelude.{◌≡◌, ◌+◌, ◌<◌, ◌≤◌, length};
 ghost use Rattle.sl_saves.specs.Views.{IsLive};
-ghost use Rattle.sl_value.specs.Reading.{value_read};
+ghost use Rattle.sl_value.specs.Counted.{value_read};
 
 use crate::whole::Whole;
 use sl_saves::{View, place_below};

@@ -4,7 +4,7 @@ ghost use Rattle.std.specs.List.{range_with_len};
 ghost use Rattle.sl_layout.specs.Net.{actor_of, units};
 ghost use Rattle.sl_model.specs.History.{history};
 ghost use Rattle.sl_value.specs.declared.verdict.ValueVerdict.{ValueVerdict};
-ghost use Rattle.sl_value.specs.Reading.{counted};
+ghost use Rattle.sl_value.specs.Counted.{counted};
 ghost use Rattle.sl_value.specs.Verdicts.{values_for, value_finding};
 ghost use Rattle.sl_value.specs.Outcome.{control_for, world_after, HasValues, CanList};
 

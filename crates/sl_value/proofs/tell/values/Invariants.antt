@@ -1,7 +1,7 @@
 use Rattle.std.proofs.Common.{◌≡◌, map, take}
 use Rattle.sl_layout.specs.Net.{units}
 use Rattle.sl_model.specs.History.{history}
-use Rattle.sl_value.specs.Reading.{counted}
+use Rattle.sl_value.specs.Counted.{counted}
 use Rattle.sl_value.specs.Outcome.{world_after}
 use Rattle.sl_value.proofs.tell.values.Given as goal
 

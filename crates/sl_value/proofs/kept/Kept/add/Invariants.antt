@@ -1,5 +1,5 @@
 use Rattle.std.proofs.Common.{◌≡◌, ◌++◌, map, take}
-use Rattle.sl_value.specs.Reading.{value_read}
+use Rattle.sl_value.specs.Counted.{value_read}
 use Rattle.sl_value.proofs.kept.Kept.add.Given as goal
 
 abbrev pub invariant-loop-row : goal.invariant-loop-row

@@ -1,9 +1,9 @@
 // Calls over sources and sinks in memory, with faults at each.
 use crate::inputs::input_of;
-use crate::streams::{Streams, streams_of, words_of};
+use crate::streams::{Streams, call_on, streams_of};
 use sl_actor::FreeGate;
-use sl_app::{Ended, one_thread, speedlight};
-use std::alloc::Global;
+use sl_app::one_thread;
+use std::alloc::{AllocError, Global};
 use std::sync::Wait;
 use std::test::Fail;
 use std::thread::Threads;
@@ -77,26 +77,29 @@ fn error_of(name: &str) -> &'static str {
 }
 
 /// The digit at a place of a text.
-fn digit(text: &str, place: usize) -> u64 {
+fn digit(text: &str, place: usize) -> u8 {
     match text.as_bytes().get(place) {
-        Some(byte) => u64::from(byte.saturating_sub(b'0')),
+        Some(byte) => byte.saturating_sub(b'0'),
         None => 0,
     }
 }
 
-/// Whether a call left this status, this on the error sink, and a book, and wrote where it was served.
-pub fn is_left(ended: &Ended, streams: &Streams, status: u64, error: &str, book: &str) -> bool {
+/// The number of the call that fails, by the digit at a place.
+fn fail(text: &str, place: usize) -> u64 {
+    u64::from(digit(text, place))
+}
+
+/// Whether a call that left this status left this on the error sink, and wrote where it was served.
+pub fn is_told(streams: &Streams, status: u8, error: &str) -> bool {
     let writes = status == 0 || status == 8;
-    let told = streams.err.bytes() == error.as_bytes() && streams.out.bytes().is_empty() != writes;
-    let has_book = ended.book.is_some() == (book == "book");
-    told && has_book && u64::from(ended.status) == status
+    streams.err.bytes() == error.as_bytes() && streams.out.bytes().is_empty() != writes
 }
 
 /// A call, and what it leaves.
 #[derive(Drop)]
 struct Call<'a> {
     fails: (u64, u64, u64),
-    status: u64,
+    status: u8,
     error: &'a str,
     input: &'a str,
     book: &'a str,
@@ -111,7 +114,7 @@ fn call_of(line: &str) -> Result<Call<'_>, Fail> {
     let (error, head) = head.split_once(" ").ok_or("no input")?;
     let (input, book) = head.split_once(" ").ok_or("no book")?;
     Ok(Call {
-        fails: (digit(fails, 0), digit(fails, 1), digit(fails, 2)),
+        fails: (fail(fails, 0), fail(fails, 1), fail(fails, 2)),
         status: digit(status, 0),
         error: error_of(error),
         input: input_of(input),
@@ -120,20 +123,21 @@ fn call_of(line: &str) -> Result<Call<'_>, Fail> {
     })
 }
 
+/// Whether a call on such streams leaves what is told of it.
+fn leaves_on<R: Threads + Wait + Sync>(
+    rt: &R,
+    alloc: Global,
+    call: &Call<'_>,
+    streams: &mut Streams,
+) -> Result<bool, AllocError> {
+    let left = call_on(rt, alloc, call.words, streams, &FreeGate)?;
+    Ok(left == (call.status, call.book == "book") && is_told(streams, call.status, call.error))
+}
+
 /// Whether a call leaves what is told of it.
 fn leaves<R: Threads + Wait + Sync>(rt: &R, alloc: Global, call: &Call<'_>) -> Result<bool, Fail> {
-    let words = words_of(alloc, call.words)?;
     let mut streams = streams_of(alloc, call.input, call.fails)?;
-    let ended = speedlight(
-        rt,
-        alloc,
-        words.as_slice(),
-        &mut streams.input,
-        &mut streams.out,
-        &mut streams.err,
-        &FreeGate,
-    );
-    Ok(is_left(&ended, &streams, call.status, call.error, call.book))
+    Ok(leaves_on(rt, alloc, call, &mut streams)?)
 }
 
 /// The first line of the table that is not so.
@@ -157,17 +161,22 @@ fn words_and_faults(rt: HostRuntime) -> Result<(), Fail> {
     Ok(())
 }
 
-/// Without a word the call that takes no handle tells how the program is used.
-#[test]
-fn no_words(rt: HostRuntime) -> Result<(), Fail> {
-    let mut streams = streams_of(rt.alloc(), "", (0, 0, 0))?;
+/// Whether a call without a word tells how the program is used.
+fn tells_usage(alloc: Global, streams: &mut Streams) -> bool {
     let ended = one_thread(
-        rt.alloc(),
+        alloc,
         &[],
         &mut streams.input,
         &mut streams.out,
         &mut streams.err,
     );
-    assert!(rt; is_left(&ended, &streams, 2, USAGE, "none"));
+    ended.status == 2 && ended.book.is_none() && is_told(streams, 2, USAGE)
+}
+
+/// The call that takes no handle.
+#[test]
+fn no_words(rt: HostRuntime) -> Result<(), Fail> {
+    let mut streams = streams_of(rt.alloc(), "", (0, 0, 0))?;
+    assert!(rt; tells_usage(rt.alloc(), &mut streams));
     Ok(())
 }

@@ -1,9 +1,8 @@
 // The command run, where two actors meet.
-use crate::app::is_left;
+use crate::app::is_told;
 use crate::meeting::Meeting;
-use crate::streams::{streams_of, words_of};
-use sl_app::speedlight;
-use std::alloc::Global;
+use crate::streams::{Streams, call_on, streams_of};
+use std::alloc::{AllocError, Global};
 use std::sync::Wait;
 use std::test::Fail;
 use std::thread::Threads;
@@ -40,21 +39,22 @@ lost cable 0 crossbar 0 init 0 notice 0
 end
 "#;
 
-/// Whether a run whose actors pass this gate has the report that it should.
+/// Whether a run on such streams, whose actors pass this gate, has the report that it should.
+fn runs_on<R: Threads + Wait + Sync>(
+    rt: &R,
+    alloc: Global,
+    gate: &Meeting,
+    streams: &mut Streams,
+) -> Result<bool, AllocError> {
+    let left = call_on(rt, alloc, "run", streams, gate)?;
+    let is_report = streams.out.bytes() == REPORT.as_bytes();
+    Ok(left == (0, true) && is_report && is_told(streams, 0, ""))
+}
+
+/// The same on new streams.
 fn runs_at<R: Threads + Wait + Sync>(rt: &R, alloc: Global, gate: &Meeting) -> Result<bool, Fail> {
-    let words = words_of(alloc, "run")?;
     let mut streams = streams_of(alloc, NO_PACKET, (0, 0, 0))?;
-    let ended = speedlight(
-        rt,
-        alloc,
-        words.as_slice(),
-        &mut streams.input,
-        &mut streams.out,
-        &mut streams.err,
-        gate,
-    );
-    let is_told = streams.out.bytes() == REPORT.as_bytes();
-    Ok(is_told && is_left(&ended, &streams, 0, "", "book"))
+    Ok(runs_on(rt, alloc, gate, &mut streams)?)
 }
 
 /// How many of two actors see the other in its first round, and whether the report is right.

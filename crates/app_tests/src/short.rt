@@ -2,14 +2,33 @@
 ghost use Rattle.std.specs.Prelude.{◌<◌};
 
 use crate::inputs::input_of;
-use crate::streams::{Streams, streams_of, words_of};
+use crate::streams::{Streams, call, streams_of};
 use sl_actor::FreeGate;
-use sl_app::speedlight;
-use sl_io::Short;
-use std::alloc::Global;
+use sl_io::{MemorySink, MemorySource, Short};
+use std::alloc::{AllocError, Global};
 use std::sync::Wait;
 use std::test::Fail;
 use std::thread::Threads;
+
+/// Streams of which each call moves at most so many bytes.
+#[derive(Drop)]
+struct ShortStreams {
+    input: Short<MemorySource>,
+    out: Short<MemorySink>,
+    err: Short<MemorySink>,
+}
+
+/// Those of `step`, of which this write fails.
+fn short_streams(alloc: Global, most: usize, fail: u64) -> Result<ShortStreams, Fail>
+    requires { 0 < most }
+{
+    let Streams { input, out, err } = streams_of(alloc, input_of("packets"), (0, fail, 0))?;
+    Ok(ShortStreams {
+        input: Short { inner: input, most },
+        out: Short { inner: out, most },
+        err: Short { inner: err, most },
+    })
+}
 
 /// What a call leaves.
 #[derive(Drop)]
@@ -19,7 +38,30 @@ struct Left {
     out: Vec<u8>,
 }
 
-/// What `step` leaves where each call moves at most so many bytes, and this write fails.
+/// What `step` leaves on such streams.
+fn step_on<R: Threads + Wait + Sync>(
+    rt: &R,
+    alloc: Global,
+    streams: &mut ShortStreams,
+) -> Result<Left, AllocError> {
+    let (status, has_book) = call(
+        rt,
+        alloc,
+        "step",
+        &mut streams.input,
+        &mut streams.out,
+        &mut streams.err,
+        &FreeGate,
+    )?;
+    let out = Vec::from_slice(alloc, streams.out.inner.bytes())?;
+    Ok(Left {
+        status,
+        has_book,
+        out,
+    })
+}
+
+/// The same on new ones, of which each call moves at most so many bytes and this write fails.
 fn step<R: Threads + Wait + Sync>(
     rt: &R,
     alloc: Global,
@@ -28,18 +70,8 @@ fn step<R: Threads + Wait + Sync>(
 ) -> Result<Left, Fail>
     requires { 0 < most }
 {
-    let words = words_of(alloc, "step")?;
-    let Streams { input, out, err } = streams_of(alloc, input_of("packets"), (0, fail, 0))?;
-    let mut input = Short { inner: input, most };
-    let mut out = Short { inner: out, most };
-    let mut err = Short { inner: err, most };
-    let words = words.as_slice();
-    let ended = speedlight(rt, alloc, words, &mut input, &mut out, &mut err, &FreeGate);
-    Ok(Left {
-        status: ended.status,
-        has_book: ended.book.is_some(),
-        out: Vec::from_slice(alloc, out.inner.bytes())?,
-    })
+    let mut streams = short_streams(alloc, most, fail)?;
+    Ok(step_on(rt, alloc, &mut streams)?)
 }
 
 /// Whether a call left this status and a book, and wrote so many bytes of a report.
@@ -48,13 +80,26 @@ fn is_right(left: &Left, status: u8, report: &[u8], written: usize) -> bool {
     told && left.status == status && left.has_book
 }
 
+/// Whether `step` does, where each call moves one byte and this write fails.
+fn leaves<R: Threads + Wait + Sync>(
+    rt: &R,
+    alloc: Global,
+    fail: u64,
+    status: u8,
+    report: &[u8],
+    written: usize,
+) -> Result<bool, Fail> {
+    let left = step(rt, alloc, 1, fail)?;
+    Ok(is_right(&left, status, report, written))
+}
+
 /// A report that is written byte by byte is the same, and of one whose hundredth byte fails the
 /// first ninety-nine stand.
 #[test]
 fn one_byte_at_a_time(rt: HostRuntime) -> Result<(), Fail> {
     let whole = step(&rt, rt.alloc(), 4096, 0)?;
     let report = whole.out.as_slice();
-    assert!(rt; is_right(&step(&rt, rt.alloc(), 1, 0)?, 0, report, report.len()));
-    assert!(rt; is_right(&step(&rt, rt.alloc(), 1, 100)?, 5, report, 99));
+    assert!(rt; leaves(&rt, rt.alloc(), 0, 0, report, report.len())?);
+    assert!(rt; leaves(&rt, rt.alloc(), 100, 5, report, 99)?);
     Ok(())
 }

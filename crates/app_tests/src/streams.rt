@@ -1,7 +1,11 @@
-// The words and the streams of a call.
-use sl_io::{MemorySink, MemorySource};
+// The words and the streams of a call, and the call.
+use sl_actor::Gate;
+use sl_app::speedlight;
+use sl_io::{MemorySink, MemorySource, Sink, Source};
 use std::alloc::{AllocError, Global};
+use std::sync::Wait;
 use std::test::Fail;
+use std::thread::Threads;
 
 /// The streams of a call.
 #[derive(Drop)]
@@ -40,4 +44,38 @@ pub fn words_of(alloc: Global, line: &str) -> Result<Vec<String>, AllocError> {
         }
     }
     Ok(words)
+}
+
+/// Calls the program with the words of a line: the status, and whether there is a book.
+pub fn call<R: Threads + Wait + Sync, I: Source, O: Sink, E: Sink, G: Gate + Sync>(
+    rt: &R,
+    alloc: Global,
+    line: &str,
+    input: &mut I,
+    out: &mut O,
+    err: &mut E,
+    gate: &G,
+) -> Result<(u8, bool), AllocError> {
+    let words = words_of(alloc, line)?;
+    let ended = speedlight(rt, alloc, words.as_slice(), input, out, err, gate);
+    Ok((ended.status, ended.book.is_some()))
+}
+
+/// The same on streams in memory.
+pub fn call_on<R: Threads + Wait + Sync, G: Gate + Sync>(
+    rt: &R,
+    alloc: Global,
+    line: &str,
+    streams: &mut Streams,
+    gate: &G,
+) -> Result<(u8, bool), AllocError> {
+    call(
+        rt,
+        alloc,
+        line,
+        &mut streams.input,
+        &mut streams.out,
+        &mut streams.err,
+        gate,
+    )
 }

@@ -172,35 +172,49 @@ fn split_words(alloc: Global, line: &str) -> Result<Vec<String>, AllocError> {
     Ok(words)
 }
 
-fn option_text(is_asked: bool, name: &'static str) -> &'static str {
-    if is_asked { name } else { "" }
+/// What a command without numbers is called in the table, nothing where none is asked for.
+fn name_of(command: Option<Command>) -> &'static str {
+    match command {
+        Some(Command::Step(true)) => " step trace",
+        Some(Command::Step(false)) => " step",
+        Some(Command::Run(true)) => " run trace",
+        Some(Command::Run(false)) => " run",
+        Some(Command::Routes) => " routes",
+        Some(Command::Check) => " check",
+        Some(Command::Balance) => " balance",
+        Some(Command::Values) => " values",
+        _ => "",
+    }
 }
 
 /// What was asked for, as a line of the table has it.
 fn told(alloc: Global, command: Option<Command>) -> Result<String, AllocError> {
     match command {
-        None => Ok(String::new(alloc)),
-        Some(Command::Step(trace)) => { format!(in alloc; " step{}", option_text(trace, " trace")) }
-        Some(Command::Run(trace)) => format!(in alloc; " run{}", option_text(trace, " trace")),
-        Some(Command::Routes) => String::from_str(alloc, " routes"),
-        Some(Command::Check) => String::from_str(alloc, " check"),
-        Some(Command::Balance) => String::from_str(alloc, " balance"),
-        Some(Command::Values) => String::from_str(alloc, " values"),
         Some(Command::Poll(start, gap)) => format!(in alloc; " poll {start} {gap}"),
-        Some(Command::Sample(number, input)) => {
-            format!(in alloc; " sample {number}{}", option_text(input, " input"))
-        }
+        Some(Command::Sample(number, true)) => format!(in alloc; " sample {number} input"),
+        Some(Command::Sample(number, false)) => format!(in alloc; " sample {number}"),
+        command => String::from_str(alloc, name_of(command)),
     }
+}
+
+/// Whether words ask for what is wanted.
+fn ask_for(alloc: Global, words: &[String], wanted: &str) -> Result<bool, Fail> {
+    let command = words_of(alloc, words).ok().ok_or("memory")?;
+    let told = told(alloc, command)?;
+    Ok(told.as_str() == wanted)
+}
+
+/// Whether the words of a line do.
+fn is_right(alloc: Global, line: &str) -> Result<bool, Fail> {
+    let (words, wanted) = line.split_once(" =>").ok_or("no arrow")?;
+    let words = split_words(alloc, words)?;
+    ask_for(alloc, words.as_slice(), wanted)
 }
 
 /// The first line of the table that is not so.
 fn wrong_line<'a>(alloc: Global, lines: &'a str) -> Result<Option<&'a str>, Fail> {
     for line in lines.lines() {
-        let (words, wanted) = line.split_once(" =>").ok_or("no arrow")?;
-        let words = split_words(alloc, words)?;
-        let command = words_of(alloc, words.as_slice()).ok().ok_or("memory")?;
-        let is = told(alloc, command)?;
-        if is.as_str() != wanted {
+        if !is_right(alloc, line)? {
             return Ok(Some(line));
         }
     }
@@ -209,10 +223,7 @@ fn wrong_line<'a>(alloc: Global, lines: &'a str) -> Result<Option<&'a str>, Fail
 
 #[test]
 fn lists_of_words(rt: HostRuntime) -> Result<(), Fail> {
-    let alloc = rt.alloc();
-    assert_eq!(rt; wrong_line(alloc, table())?, None);
-    let none = Vec::new(alloc);
-    let command = words_of(alloc, none.as_slice()).ok().ok_or("memory")?;
-    assert!(rt; command.is_none());
+    assert_eq!(rt; wrong_line(rt.alloc(), table())?, None);
+    assert!(rt; ask_for(rt.alloc(), &[], "")?);
     Ok(())
 }

@@ -3,14 +3,4 @@
 #![tactic(auto)]
 
 #[cfg(test)]
-mod ids;
-#[cfg(test)]
-mod io;
-#[cfg(test)]
-mod loss;
-#[cfg(test)]
-mod outputs;
-#[cfg(test)]
-mod saves;
-#[cfg(test)]
-mod wire;
+mod tests;

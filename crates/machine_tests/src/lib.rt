@@ -3,16 +3,4 @@
 #![tactic(auto)]
 
 #[cfg(test)]
-mod control;
-#[cfg(test)]
-mod host;
-#[cfg(test)]
-mod messages;
-#[cfg(test)]
-mod nets;
-#[cfg(test)]
-mod observe;
-#[cfg(test)]
-mod rig;
-#[cfg(test)]
-mod unit;
+mod tests;

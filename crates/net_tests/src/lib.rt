@@ -2,12 +2,4 @@
 #![tactic(auto)]
 
 #[cfg(test)]
-mod flow;
-#[cfg(test)]
-mod net;
-#[cfg(test)]
-mod plan;
-#[cfg(test)]
-mod report;
-#[cfg(test)]
-mod route;
+mod tests;

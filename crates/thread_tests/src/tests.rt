@@ -1,0 +1,5 @@
+// The tests, by what they try.
+mod gates;
+mod machines;
+mod ring;
+mod runs;

@@ -1,0 +1,6 @@
+// The tests, by what they try.
+mod actor;
+mod link;
+mod merge;
+mod rounds;
+mod world;

@@ -1,132 +1,139 @@
 // Worked nets, and parts that are refused.
 use super::plan::{Plan, Port, built, parts};
 use sl_net::{
-    ActorId, Line, LinkKind, LinkPart, Net, NetFault, Place, Side, Sort, UnitId, choice_text,
-    find_choice,
+    ActorId, Line, LinkKind, Net, NetFault, Place, Side, Sort, UnitId, choice_text, find_choice,
 };
 use std::alloc::Global;
 use std::test::Fail;
 
-/// One device with two ports and a host at each.
-const PAIR: Plan = Plan {
-    devices: &[("a", 2)],
-    cables: &[],
-    hosts: &[("h0", (0, 0)), ("h1", (0, 1))],
-};
+/// A link: its number, the choice that takes it, spelled, its receiver, that choice, its sender and
+/// its sort.
+type Row = (usize, &'static str, u32, u32, u32, Sort);
 
-/// A cable with both ends on one device.
-const LOOP: Plan = Plan {
-    devices: &[("a", 3)],
-    cables: &[((0, 2), (0, 0))],
-    hosts: &[],
-};
-
-/// A link: the choice that takes it, spelled, its receiver, that choice, its sender and its sort.
-type Row = (&'static str, u32, u32, u32, Sort);
-
-static PAIR_LINKS: [Row; 24] = [
-    ("observer done:a", 0, 0, 1, Sort::Done),
-    ("control a begin", 1, 0, 0, Sort::Begin),
-    ("control a notice:in.0", 1, 1, 2, Sort::Notice),
-    ("control a dump:in.0", 1, 2, 2, Sort::Dump),
-    ("control a notice:out.0", 1, 3, 3, Sort::Notice),
-    ("control a dump:out.0", 1, 4, 3, Sort::Dump),
-    ("control a notice:in.1", 1, 5, 4, Sort::Notice),
-    ("control a dump:in.1", 1, 6, 4, Sort::Dump),
-    ("control a notice:out.1", 1, 7, 5, Sort::Notice),
-    ("control a dump:out.1", 1, 8, 5, Sort::Dump),
-    ("in a.0 host", 2, 0, 6, Sort::FromHost),
-    ("in a.0 init", 2, 1, 1, Sort::Init),
-    ("in a.0 poll", 2, 2, 1, Sort::Poll),
-    ("out a.0 x0", 3, 0, 2, Sort::Crossbar),
-    ("out a.0 x1", 3, 1, 4, Sort::Crossbar),
-    ("out a.0 poll", 3, 2, 1, Sort::Poll),
-    ("in a.1 host", 4, 0, 7, Sort::FromHost),
-    ("in a.1 init", 4, 1, 1, Sort::Init),
-    ("in a.1 poll", 4, 2, 1, Sort::Poll),
-    ("out a.1 x0", 5, 0, 2, Sort::Crossbar),
-    ("out a.1 x1", 5, 1, 4, Sort::Crossbar),
-    ("out a.1 poll", 5, 2, 1, Sort::Poll),
-    ("host h0 net", 6, 0, 3, Sort::ToHost),
-    ("host h1 net", 7, 0, 5, Sort::ToHost),
+/// The links inside a device of which two ports are wired, port 0 and the one that `#` stands for.
+static INNER: [Row; 20] = [
+    (0, "observer done:a", 0, 0, 1, Sort::Done),
+    (1, "control a begin", 1, 0, 0, Sort::Begin),
+    (2, "control a notice:in.0", 1, 1, 2, Sort::Notice),
+    (3, "control a dump:in.0", 1, 2, 2, Sort::Dump),
+    (4, "control a notice:out.0", 1, 3, 3, Sort::Notice),
+    (5, "control a dump:out.0", 1, 4, 3, Sort::Dump),
+    (6, "control a notice:in.#", 1, 5, 4, Sort::Notice),
+    (7, "control a dump:in.#", 1, 6, 4, Sort::Dump),
+    (8, "control a notice:out.#", 1, 7, 5, Sort::Notice),
+    (9, "control a dump:out.#", 1, 8, 5, Sort::Dump),
+    (11, "in a.0 init", 2, 1, 1, Sort::Init),
+    (12, "in a.0 poll", 2, 2, 1, Sort::Poll),
+    (13, "out a.0 x0", 3, 0, 2, Sort::Crossbar),
+    (14, "out a.0 x#", 3, 1, 4, Sort::Crossbar),
+    (15, "out a.0 poll", 3, 2, 1, Sort::Poll),
+    (17, "in a.# init", 4, 1, 1, Sort::Init),
+    (18, "in a.# poll", 4, 2, 1, Sort::Poll),
+    (19, "out a.# x0", 5, 0, 2, Sort::Crossbar),
+    (20, "out a.# x#", 5, 1, 4, Sort::Crossbar),
+    (21, "out a.# poll", 5, 2, 1, Sort::Poll),
 ];
 
-fn pair_links() -> &'static [Row] {
-    &PAIR_LINKS
+fn inner() -> &'static [Row] {
+    &INNER
 }
 
-static LOOP_LINKS: [Row; 22] = [
-    ("observer done:a", 0, 0, 1, Sort::Done),
-    ("control a begin", 1, 0, 0, Sort::Begin),
-    ("control a notice:in.0", 1, 1, 2, Sort::Notice),
-    ("control a dump:in.0", 1, 2, 2, Sort::Dump),
-    ("control a notice:out.0", 1, 3, 3, Sort::Notice),
-    ("control a dump:out.0", 1, 4, 3, Sort::Dump),
-    ("control a notice:in.2", 1, 5, 4, Sort::Notice),
-    ("control a dump:in.2", 1, 6, 4, Sort::Dump),
-    ("control a notice:out.2", 1, 7, 5, Sort::Notice),
-    ("control a dump:out.2", 1, 8, 5, Sort::Dump),
-    ("in a.0 cable", 2, 0, 5, Sort::Cable),
-    ("in a.0 init", 2, 1, 1, Sort::Init),
-    ("in a.0 poll", 2, 2, 1, Sort::Poll),
-    ("out a.0 x0", 3, 0, 2, Sort::Crossbar),
-    ("out a.0 x2", 3, 1, 4, Sort::Crossbar),
-    ("out a.0 poll", 3, 2, 1, Sort::Poll),
-    ("in a.2 cable", 4, 0, 3, Sort::Cable),
-    ("in a.2 init", 4, 1, 1, Sort::Init),
-    ("in a.2 poll", 4, 2, 1, Sort::Poll),
-    ("out a.2 x0", 5, 0, 2, Sort::Crossbar),
-    ("out a.2 x2", 5, 1, 4, Sort::Crossbar),
-    ("out a.2 poll", 5, 2, 1, Sort::Poll),
-];
-
-fn loop_links() -> &'static [Row] {
-    &LOOP_LINKS
+/// A net of one device of which two ports are wired.
+struct Worked {
+    plan: Plan,
+    /// The second of these ports, and its number as text.
+    second: (u32, &'static str),
+    /// How many actors it has.
+    actors: usize,
+    /// The links that come from outside the device or go there.
+    outer: &'static [Row],
+    /// The actor of each unit, and the units upstream of it.
+    units: &'static [(u32, &'static [u32])],
+    /// The sorts and kinds of some links.
+    kinds: &'static [(u32, Sort, LinkKind)],
+    /// Choices that are no links: spelled, the actor and the choice.
+    actions: &'static [(&'static str, u32, u32)],
+    /// Texts that spell no choice.
+    no_choices: &'static [&'static str],
 }
 
-/// The choices of the pair that are no links.
-static ACTIONS: [(&str, u32, u32); 5] = [
-    ("observer issue", 0, 1),
-    ("observer resend", 0, 2),
-    ("control a sweep", 1, 9),
-    ("host h0 inject", 6, 1),
-    ("host h1 inject", 7, 1),
+static NETS: [Worked; 2] = [
+    // a host at each port
+    Worked {
+        plan: Plan {
+            devices: &[("a", 2)],
+            cables: &[],
+            hosts: &[("h0", (0, 0)), ("h1", (0, 1))],
+        },
+        second: (1, "1"),
+        actors: 8,
+        outer: &[
+            (10, "in a.0 host", 2, 0, 6, Sort::FromHost),
+            (16, "in a.1 host", 4, 0, 7, Sort::FromHost),
+            (22, "host h0 net", 6, 0, 3, Sort::ToHost),
+            (23, "host h1 net", 7, 0, 5, Sort::ToHost),
+        ],
+        units: &[(2, &[]), (3, &[0, 2]), (4, &[]), (5, &[0, 2])],
+        kinds: &[(2, Sort::Notice, LinkKind::Notice)],
+        actions: &[
+            ("observer issue", 0, 1),
+            ("observer resend", 0, 2),
+            ("control a sweep", 1, 9),
+            ("host h0 inject", 6, 1),
+            ("host h1 inject", 7, 1),
+        ],
+        no_choices: &[
+            "",
+            " ",
+            "observer",
+            "observer ",
+            "observer done:b",
+            "observer done:a ",
+            "observer  issue",
+            "Observer issue",
+            "control b begin",
+            "control a notice:in.2",
+            "control a dump:in.00",
+            "in a.00 host",
+            "in a.0 host ",
+            " in a.0 host",
+            "in  a.0 host",
+            "in a.0  host",
+            "in a.0 cable",
+            "in a.2 host",
+            "out a.0 x2",
+            "out a.0 x01",
+            "host h1",
+            "host h2 net",
+            "host h1 net x",
+            "pass 1",
+        ],
+    },
+    // a cable from one to the other, past a port that is not wired
+    Worked {
+        plan: Plan {
+            devices: &[("a", 3)],
+            cables: &[((0, 2), (0, 0))],
+            hosts: &[],
+        },
+        second: (2, "2"),
+        actors: 6,
+        outer: &[
+            (10, "in a.0 cable", 2, 0, 5, Sort::Cable),
+            (16, "in a.2 cable", 4, 0, 3, Sort::Cable),
+        ],
+        units: &[(2, &[3]), (3, &[0, 2]), (4, &[1]), (5, &[0, 2])],
+        kinds: &[
+            (0, Sort::Done, LinkKind::Reliable),
+            (10, Sort::Cable, LinkKind::Cable),
+        ],
+        actions: &[],
+        no_choices: &["in a.1 init", "in a.0 host"],
+    },
 ];
 
-fn actions() -> &'static [(&'static str, u32, u32)] {
-    &ACTIONS
-}
-
-/// Texts that spell no choice of the pair.
-static NO_CHOICES: [&str; 24] = [
-    "",
-    " ",
-    "observer",
-    "observer ",
-    "observer done:b",
-    "observer done:a ",
-    "observer  issue",
-    "Observer issue",
-    "control b begin",
-    "control a notice:in.2",
-    "control a dump:in.00",
-    "in a.00 host",
-    "in a.0 host ",
-    " in a.0 host",
-    "in  a.0 host",
-    "in a.0  host",
-    "in a.0 cable",
-    "in a.2 host",
-    "out a.0 x2",
-    "out a.0 x01",
-    "host h1",
-    "host h2 net",
-    "host h1 net x",
-    "pass 1",
-];
-
-fn no_choices() -> &'static [&'static str] {
-    &NO_CHOICES
+fn nets() -> &'static [Worked] {
+    &NETS
 }
 
 fn unit(port: u32, side: Side) -> ActorId {
@@ -137,21 +144,18 @@ fn unit(port: u32, side: Side) -> ActorId {
     })
 }
 
-fn pair_actors() -> [ActorId; 8] {
+/// The actors of such a device and of two hosts.
+fn actors(second: u32) -> [ActorId; 8] {
     [
         ActorId::Observer,
         ActorId::Control(0),
         unit(0, Side::Ingress),
         unit(0, Side::Egress),
-        unit(1, Side::Ingress),
-        unit(1, Side::Egress),
+        unit(second, Side::Ingress),
+        unit(second, Side::Egress),
         ActorId::Host(0),
         ActorId::Host(1),
     ]
-}
-
-fn has_actors(net: &Net, actors: &[ActorId]) -> bool {
-    net.actors() == actors
 }
 
 fn spelled(alloc: Global, net: &Net, actor: u32, choice: u32) -> Result<Line, Fail> {
@@ -175,24 +179,34 @@ fn has_spelling(
     Ok(found == Some((actor, choice)) && line.items.as_slice() == text.as_bytes())
 }
 
-fn is_link(part: &LinkPart, (_, to, _, from, sort): &Row) -> bool {
-    part.to == *to && part.from == *from && part.sort.is(*sort)
+fn is_link(net: &Net, (number, _, to, _, from, sort): &Row) -> bool {
+    match net.links().get(*number) {
+        Some(part) => part.to == *to && part.from == *from && part.sort.is(*sort),
+        None => false,
+    }
 }
 
-/// The place of the first row that differs from the net's link, or from its spelling.
-fn first_wrong_link(alloc: Global, net: &Net, rows: &[Row]) -> Result<Option<usize>, Fail> {
-    for (place, (part, row)) in net.links().iter().zip(rows).enumerate() {
-        let (text, to, choice, _, _) = row;
-        if !is_link(part, row) || !has_spelling(alloc, net, text, *to, *choice)? {
-            return Ok(Some(place));
+/// Whether a net has the link of a row, with its spelling.
+fn has_link(alloc: Global, net: &Net, row: &Row, second: &str) -> Result<bool, Fail> {
+    let (_, text, to, choice, _, _) = row;
+    let text = text.replace(alloc, "#", second)?;
+    let found = has_spelling(alloc, net, text.as_str(), *to, *choice)?;
+    Ok(found && is_link(net, row))
+}
+
+/// The number of the first link that differs from its row.
+fn first_wrong_link(
+    alloc: Global,
+    net: &Net,
+    rows: &[Row],
+    second: &str,
+) -> Result<Option<usize>, Fail> {
+    for row in rows {
+        if !has_link(alloc, net, row, second)? {
+            return Ok(Some(row.0));
         }
     }
     Ok(None)
-}
-
-/// How many links a net has, and the place of the first row that is wrong there.
-fn compared(alloc: Global, net: &Net, rows: &[Row]) -> Result<(usize, Option<usize>), Fail> {
-    Ok((net.links().len(), first_wrong_link(alloc, net, rows)?))
 }
 
 fn first_wrong_action(
@@ -212,38 +226,6 @@ fn first_spelling(net: &Net, texts: &[&str]) -> Option<usize> {
     texts
         .iter()
         .position(|text| find_choice(net, text).is_some())
-}
-
-/// The places of the first action that is wrong, and of the first other text that is a spelling.
-fn wrong_texts(alloc: Global, net: &Net) -> Result<(Option<usize>, Option<usize>), Fail> {
-    let action = first_wrong_action(alloc, net, actions())?;
-    Ok((action, first_spelling(net, no_choices())))
-}
-
-/// Whether a net has the actors of the pair, its links with their spellings, and its texts.
-fn is_pair(alloc: Global, net: &Net) -> Result<bool, Fail> {
-    let links = compared(alloc, net, pair_links())?;
-    let texts = wrong_texts(alloc, net)?;
-    Ok(has_actors(net, &pair_actors()) && links == (24, None) && texts == (None, None))
-}
-
-fn pair_is_right(alloc: Global) -> Result<bool, Fail> {
-    let net = built(alloc, &PAIR)?;
-    is_pair(alloc, &net)
-}
-
-/// The actors of the pair in order, its links, its own actions, and texts that are no spelling.
-#[test]
-fn two_ports(rt: HostRuntime) -> Result<(), Fail> {
-    assert!(rt; pair_is_right(rt.alloc())?);
-    Ok(())
-}
-
-/// The actor of each unit of the loop, and the units upstream of it.
-static LOOP_UNITS: [(u32, &[u32]); 4] = [(2, &[3]), (3, &[0, 2]), (4, &[1]), (5, &[0, 2])];
-
-fn loop_units() -> &'static [(u32, &'static [u32])] {
-    &LOOP_UNITS
 }
 
 fn is_unit(net: &Net, unit: u32, (actor, upstream): &(u32, &[u32])) -> bool {
@@ -273,40 +255,43 @@ fn wired(net: &Net) -> usize {
     net.wiring().links.len()
 }
 
-fn sort_and_kind(net: &Net, link: u32) -> Option<(Sort, LinkKind)> {
-    if (link as usize) < net.links().len() {
-        Some((net.link(link).sort, net.kind(link)))
-    } else {
-        None
-    }
+fn has_kind(net: &Net, (link, sort, kind): &(u32, Sort, LinkKind)) -> bool {
+    (*link as usize) < net.links().len()
+        && net.link(*link).sort == *sort
+        && net.kind(*link) == *kind
 }
 
-/// Whether a net has the sizes, the wiring and the units of the loop, and two of its links.
-fn has_loop(net: &Net) -> bool {
-    let done = Some((Sort::Done, LinkKind::Reliable));
-    let cable = Some((Sort::Cable, LinkKind::Cable));
-    let units = first_wrong_unit(net, loop_units());
-    sizes(net) == [4, 6, 22]
-        && wired(net) == 22
-        && units.is_none()
-        && sort_and_kind(net, 0) == done
-        && sort_and_kind(net, 10) == cable
+/// Whether a net has as many links as are told, and the actors, the units, the sorts and the kinds,
+/// and whether the other texts spell no choice.
+fn has_parts(net: &Net, told: &Worked) -> bool {
+    let links = inner().len().saturating_add(told.outer.len());
+    sizes(net) == [told.units.len(), told.actors, links]
+        && wired(net) == links
+        && actors(told.second.0).starts_with(net.actors())
+        && first_wrong_unit(net, told.units).is_none()
+        && first_spelling(net, told.no_choices).is_none()
+        && told.kinds.iter().all(|row| has_kind(net, row))
 }
 
-fn is_loop(alloc: Global, net: &Net) -> Result<bool, Fail> {
-    let links = compared(alloc, net, loop_links())?;
-    Ok(has_loop(net) && links == (22, None))
+/// Whether a net is as it is told.
+fn is_as_told(alloc: Global, net: &Net, told: &Worked) -> Result<bool, Fail> {
+    let inner = first_wrong_link(alloc, net, inner(), told.second.1)?;
+    let outer = first_wrong_link(alloc, net, told.outer, told.second.1)?;
+    let action = first_wrong_action(alloc, net, told.actions)?;
+    Ok((inner, outer, action) == (None, None, None) && has_parts(net, told))
 }
 
-fn loop_is_right(alloc: Global) -> Result<bool, Fail> {
-    let net = built(alloc, &LOOP)?;
-    is_loop(alloc, &net)
+fn is_right(alloc: Global, told: &Worked) -> Result<bool, Fail> {
+    let net = built(alloc, &told.plan)?;
+    is_as_told(alloc, &net, told)
 }
 
-/// A cable with both ends on one device: its links, and the units upstream of each unit.
+/// The actors in order, the links, the units with those upstream of them, and the texts.
 #[test]
-fn loop_cable(rt: HostRuntime) -> Result<(), Fail> {
-    assert!(rt; loop_is_right(rt.alloc())?);
+fn worked_nets(rt: HostRuntime) -> Result<(), Fail> {
+    for told in nets() {
+        assert!(rt; is_right(rt.alloc(), told)?);
+    }
     Ok(())
 }
 

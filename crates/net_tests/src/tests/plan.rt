@@ -18,11 +18,7 @@ pub struct Plan {
 }
 
 fn name(alloc: Global, text: &str) -> Result<Name, Fail> {
-    Ok(
-        Name::new(alloc, text)
-            .map_err(|_| "no memory")?
-            .ok_or("no name")?,
-    )
+    Ok(Name::new(alloc, text)?.ok_or("no name")?)
 }
 
 fn port((device, port): Port) -> PortRef {

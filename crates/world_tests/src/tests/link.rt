@@ -10,23 +10,20 @@ fn message(number: u64) -> Stamped<u32> {
     Stamped { number, m: 7 }
 }
 
+type Ends = (PutEnd<u32>, TakeEnd<u32>);
+
 /// Puts a message of this number; without one, takes a message. Answers the number of the message
 /// that was given back or taken.
-fn step<R: Wait>(
-    rt: &R,
-    put: &mut PutEnd<u32>,
-    take: &mut TakeEnd<u32>,
-    number: Option<u64>,
-) -> Option<u64>
-    ensures put { put.new.channel ≡ put.old.channel }
-    ensures take { take.new.channel ≡ take.old.channel }
+fn step<R: Wait>(rt: &R, ends: &mut Ends, number: Option<u64>) -> Option<u64>
+    ensures put { ends.new.0.channel ≡ ends.old.0.channel }
+    ensures take { ends.new.1.channel ≡ ends.old.1.channel }
 {
     match number {
-        None => match take.take(rt) {
+        None => match ends.1.take(rt) {
             None => None,
             Some(s) => Some(s.number),
         },
-        Some(number) => match put.offer(rt, message(number)) {
+        Some(number) => match ends.0.offer(rt, message(number)) {
             Offer::Put => None,
             Offer::Full(back) => Some(back.number),
         },
@@ -50,16 +47,15 @@ fn steps() -> &'static [(Option<u64>, Option<u64>)] {
 /// The place of the first step that went wrong.
 fn first_wrong<R: Wait>(
     rt: &R,
-    put: &mut PutEnd<u32>,
-    take: &mut TakeEnd<u32>,
+    ends: &mut Ends,
     steps: &[(Option<u64>, Option<u64>)],
 ) -> Option<usize>
-    ensures put { put.new.channel ≡ put.old.channel }
-    ensures take { take.new.channel ≡ take.old.channel }
+    ensures put { ends.new.0.channel ≡ ends.old.0.channel }
+    ensures take { ends.new.1.channel ≡ ends.old.1.channel }
 {
     for i in 0..steps.len() {
         let (number, answer) = steps[i];
-        if step(rt, put, take, number) != answer {
+        if step(rt, ends, number) != answer {
             return Some(i);
         }
     }
@@ -78,8 +74,9 @@ fn leaves<R: Wait>(rt: &R, mut met: Met<u32>, numbers: &[u64]) -> bool {
 
 #[test]
 fn one_place_link(rt: HostRuntime) -> Result<(), Fail> {
-    let (mut put, mut take) = make_link::<u32>(rt.alloc(), 1)?;
-    let wrong = first_wrong(&rt, &mut put, &mut take, steps());
+    let mut ends = make_link::<u32>(rt.alloc(), 1)?;
+    let wrong = first_wrong(&rt, &mut ends, steps());
+    let (put, take) = ends;
     let rest = leaves(&rt, meet(put, take), &[3]);
     assert_eq!(rt; (wrong, rest), (None, true));
     Ok(())
@@ -139,37 +136,33 @@ fn a_thousand_messages(rt: HostRuntime) -> Result<(), Fail> {
 
 /// Puts a message on a link that holds none, and takes one from it. Neither call finds it otherwise: each
 /// end was told what the other did.
-fn through<R: Wait>(
-    rt: &R,
-    put: &mut PutEnd<u32>,
-    take: &mut TakeEnd<u32>,
-    s: Stamped<u32>,
-) -> Stamped<u32>
-    requires channel { take.old.channel ≡ put.old.channel }
-    requires none { length put.old.put ≡ length take.old.taken }
-    requires room { 1 ≤ put.old.capacity }
-    ensures channel { take.new.channel ≡ put.new.channel }
-    ensures none { length put.new.put ≡ length take.new.taken }
-    ensures room { put.new.capacity ≡ put.old.capacity }
+fn through<R: Wait>(rt: &R, ends: &mut Ends, number: u64) -> u64
+    requires channel { ends.old.1.channel ≡ ends.old.0.channel }
+    requires none { length ends.old.0.put ≡ length ends.old.1.taken }
+    requires room { 1 ≤ ends.old.0.capacity }
+    ensures channel { ends.new.1.channel ≡ ends.new.0.channel }
+    ensures none { length ends.new.0.put ≡ length ends.new.1.taken }
+    ensures room { ends.new.0.capacity ≡ ends.old.0.capacity }
 {
+    let (put, take) = ends;
     tell_each_other(put, take);
-    match put.offer(rt, s) {
+    match put.offer(rt, message(number)) {
         Offer::Put => {}
         Offer::Full(_) => unreachable!(),
     }
     tell_each_other(put, take);
     match take.take(rt) {
         None => unreachable!(),
-        Some(s) => s,
+        Some(s) => s.number,
     }
 }
 
 /// A message is found where its put was told of, and there is room where its take was.
 #[test]
 fn what_is_told_is_found(rt: HostRuntime) -> Result<(), Fail> {
-    let (mut put, mut take) = make_link::<u32>(rt.alloc(), 1)?;
-    let first = through(&rt, &mut put, &mut take, message(5));
-    let second = through(&rt, &mut put, &mut take, message(6));
-    assert_eq!(rt; (first.number, second.number), (5, 6));
+    let mut ends = make_link::<u32>(rt.alloc(), 1)?;
+    let first = through(&rt, &mut ends, 5);
+    let second = through(&rt, &mut ends, 6);
+    assert_eq!(rt; (first, second), (5, 6));
     Ok(())
 }

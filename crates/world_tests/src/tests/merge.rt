@@ -154,24 +154,6 @@ fn merged_line<R: Wait>(rt: &R, alloc: Global) -> Result<World<Relay>, Fail>
     Ok(merge(rt, alloc, actors, first.as_slice(), &wiring)?)
 }
 
-/// What turns by each actor's first choice come to in the merged world. Two tokens are on the first
-/// link, one in the channel and one that waited for room; the relay loses the first of them.
-static TURNS_ON: [(u32, Turn); 9] = [
-    (1, Turn::Did),
-    (1, Turn::Did),
-    (1, Turn::Idle),
-    (2, Turn::Did),
-    (2, Turn::Idle),
-    (3, Turn::Did),
-    (3, Turn::Did),
-    (3, Turn::Idle),
-    (0, Turn::Idle),
-];
-
-fn turns_on() -> &'static [(u32, Turn)] {
-    &TURNS_ON
-}
-
 /// One turn by the first choice of an actor in the line.
 fn turn_on(world: &mut World<Relay>, actor: u32) -> Result<Turn, Fail>
     requires { (scene world.old).plan ≡ in_line }
@@ -183,18 +165,28 @@ fn turn_on(world: &mut World<Relay>, actor: u32) -> Result<Turn, Fail>
     Ok(world.turn(actor, 0)?)
 }
 
-/// The place of the first turn that went wrong.
-fn first_wrong_on(world: &mut World<Relay>, turns: &[(u32, Turn)]) -> Result<Option<usize>, Fail>
+/// How many turns by the first choice of an actor do something before one does not.
+fn turns_on(world: &mut World<Relay>, actor: u32) -> Result<u32, Fail>
     requires { (scene world.old).plan ≡ in_line }
     ensures { (scene world.new).plan ≡ in_line }
 {
-    for i in 0..turns.len() {
-        let (actor, expected) = turns[i];
-        if turn_on(world, actor)? != expected {
-            return Ok(Some(i));
+    for turns in 0..10 {
+        if turn_on(world, actor)? == Turn::Idle {
+            return Ok(turns);
         }
     }
-    Ok(None)
+    Ok(10)
+}
+
+/// How many turns the relays take, then the last host and then the first.
+fn all_turns_on(world: &mut World<Relay>) -> Result<[u32; 4], Fail>
+    requires { (scene world.old).plan ≡ in_line }
+    ensures { (scene world.new).plan ≡ in_line }
+{
+    let first = turns_on(world, 1)?;
+    let second = turns_on(world, 2)?;
+    let last = turns_on(world, 3)?;
+    Ok([first, second, last, turns_on(world, 0)?])
 }
 
 /// How many puts the relays' link lost.
@@ -213,17 +205,13 @@ fn have_seen(machines: &[Relay], seen: &[(u32, u32)]) -> bool {
     each && machines.len() == seen.len()
 }
 
-/// Whether a world has just these entries in its book, and just so many tokens came to each of its
-/// machines, with so many hops the last of them.
-fn ends_as(world: World<Relay>, entries: &[Entry], seen: &[(u32, u32)]) -> bool {
+/// Whether the book of a world has so many entries, of which these are the first, and just so many
+/// tokens came to each of its machines, with so many hops the last of them.
+fn ends_as(world: World<Relay>, count: usize, entries: &[Entry], seen: &[(u32, u32)]) -> bool {
     let (machines, book) = world.into_book();
-    has_entries(&book, entries) && have_seen(machines.as_slice(), seen)
-}
-
-/// The same, where only the number of entries is told.
-fn ends_with(world: World<Relay>, entries: usize, seen: &[(u32, u32)]) -> bool {
-    let (machines, book) = world.into_book();
-    book.entries.len() == entries && have_seen(machines.as_slice(), seen)
+    book.entries.len() == count
+        && book.entries.as_slice().starts_with(entries)
+        && have_seen(machines.as_slice(), seen)
 }
 
 /// The book has the entries of all logs, in order of number and actor; the machines are the actors',
@@ -231,16 +219,19 @@ fn ends_with(world: World<Relay>, entries: usize, seen: &[(u32, u32)]) -> bool {
 #[test]
 fn actors_are_merged(rt: HostRuntime) -> Result<(), Fail> {
     let world = merged_line(&rt, rt.alloc())?;
-    let entries = merged_entries();
-    assert!(rt; ends_as(world, entries.as_slice(), &[(0, 0), (1, 3), (1, 2), (0, 0)]));
+    let seen = [(0, 0), (1, 3), (1, 2), (0, 0)];
+    assert!(rt; ends_as(world, 5, merged_entries().as_slice(), &seen));
     Ok(())
 }
 
+/// Two tokens are on the first link, one in the channel and one that waited for room; the relay loses
+/// the first of them.
 #[test]
 fn a_merged_world_goes_on(rt: HostRuntime) -> Result<(), Fail> {
     let mut world = merged_line(&rt, rt.alloc())?;
-    let wrong = first_wrong_on(&mut world, turns_on())?;
-    assert_eq!(rt; (wrong, lost_between(&world)), (None, 1));
-    assert!(rt; ends_with(world, 10, &[(0, 0), (3, 1), (2, 0), (2, 0)]));
+    let turns = all_turns_on(&mut world)?;
+    assert_eq!(rt; (turns, lost_between(&world)), ([2, 1, 2, 0], 1));
+    let seen = [(0, 0), (3, 1), (2, 0), (2, 0)];
+    assert!(rt; ends_as(world, 10, merged_entries().as_slice(), &seen));
     Ok(())
 }

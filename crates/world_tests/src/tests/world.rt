@@ -8,7 +8,6 @@ use sl_loss::Loss;
 use sl_machine::{Book, Entry, Memory, Wiring};
 use sl_world::{Turn, World, every_schedule};
 use std::alloc::{AllocError, Global};
-use std::collections::VecDeque;
 use std::test::Fail;
 
 pub fn ring_wiring(alloc: Global) -> Result<Wiring, AllocError>
@@ -266,16 +265,6 @@ fn numbers_down(alloc: Global, first: u32) -> Result<Vec<u32>, AllocError> {
     Ok(numbers)
 }
 
-/// The last of so many messages that are taken from a plain queue.
-fn last_of_queue(messages: Vec<u32>, count: u32) -> Option<u32> {
-    let mut queue = VecDeque::from(messages);
-    let mut last = None;
-    for _i in 0..count {
-        last = queue.pop_front();
-    }
-    last
-}
-
 /// Takes so many messages from the link to actor 0.
 fn take_many(world: &mut World<Relay>, count: u32) -> Result<(), Fail>
     requires { (scene world.old).plan ≡ ring }
@@ -290,26 +279,26 @@ fn take_many(world: &mut World<Relay>, count: u32) -> Result<(), Fail>
     Ok(())
 }
 
-/// What the actors saw last, the first one first.
-fn seen_last(alloc: Global, world: World<Relay>) -> Result<Vec<u32>, AllocError> {
+/// What the first actor saw last.
+fn seen_last(world: World<Relay>) -> Option<u32> {
     let (machines, _book) = world.into_book();
-    machines.iter().map(|m| m.last).collect(alloc)
+    match machines.first() {
+        Some(machine) => Some(machine.last),
+        None => None,
+    }
 }
 
-/// What the first actor saw last of so many messages, and what a plain queue gives last.
-fn both_last(alloc: Global, count: u32) -> Result<(Option<u32>, Option<u32>), Fail> {
+/// What the first actor saw last of so many messages, whose numbers go down from 300.
+fn last_of(alloc: Global, count: u32) -> Result<Option<u32>, Fail> {
     let mut world = ring_later(alloc, numbers_down(alloc, 300)?)?;
     take_many(&mut world, count)?;
-    let last = seen_last(alloc, world)?;
-    let plain = last_of_queue(numbers_down(alloc, 300)?, count);
-    Ok((last.first().copied(), plain))
+    Ok(seen_last(world))
 }
 
 #[test]
 fn many_messages_keep_their_order(rt: HostRuntime) -> Result<(), Fail> {
     for count in [1, 2, 3, 299, 300] {
-        let (last, plain) = both_last(rt.alloc(), count)?;
-        assert_eq!(rt; last, plain);
+        assert_eq!(rt; last_of(rt.alloc(), count)?, Some(301 - count));
     }
     Ok(())
 }

@@ -62,9 +62,10 @@ impl<A: Machine> Actor<A> {
     /// or for `quiet` rounds in a row no turn did or moved anything (`Rested`). The last of these has one
     /// turn by each choice. The others leave out each link on which nothing was put since the round
     /// before and nothing was found in it. A run that is refused for memory stands after the turns that
-    /// it took. The actor passes the gate before each round, by its place and the round's number from 0.
-    /// Between rounds in which nothing moved it sleeps while others run or are to begin, until a neighbour
-    /// puts something on one of its links or makes room.
+    /// it took. The actor passes the gate before each round, by its place and the round's number from 0;
+    /// `rounds` says it of as many rounds as the entries take, one at least. Between rounds in which
+    /// nothing moved it sleeps while others run or are to begin, until a neighbour puts something on one of
+    /// its links or makes room.
     pub fn run<R: Wait, G: Gate>(
         &mut self,
         rt: &R,

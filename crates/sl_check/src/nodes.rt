@@ -11,7 +11,7 @@ use crate::laws::settled_worlds_are_idle;
 use sl_machine::Memory;
 use sl_model::idle_passes_settle;
 use sl_net::{Net, nets_are_wired};
-use sl_proto::{Node, Taker, books_grow_by_turns, drive_within, pass_of, passes_are_choices};
+use sl_proto::{Node, Taker, books_grow_by_turns, drive, pass_of, passes_are_choices};
 use sl_world::World;
 use std::alloc::Global;
 
@@ -27,7 +27,7 @@ fn take_turn(net: &Net, world: &mut World<Node>, entry: (u32, u32)) -> Result<bo
 {
     books_grow_by_turns();
     let before = world.entries();
-    drive_within(net, world, &[entry], None)?;
+    drive(net, world, &[entry], None)?;
     Ok(world.entries() != before)
 }
 
@@ -74,6 +74,6 @@ pub fn take_pass(alloc: Global, net: &Net, world: &mut World<Node>) -> Result<bo
     settled_worlds_are_idle();
     let pass = pass_of(alloc, net, true)?;
     let before = world.entries();
-    drive_within(net, world, pass.as_slice(), None)?;
+    drive(net, world, pass.as_slice(), None)?;
     Ok(world.entries() == before)
 }

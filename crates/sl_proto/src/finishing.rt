@@ -15,7 +15,7 @@ ghost use Rattle.sl_proto.specs.Calls.{SweepingLeads, FinishingLeads};
 
 use crate::passes::Pass;
 use crate::schedule::{all_sweeps, passes_are_choices};
-use crate::taker::{Taker, drive_within};
+use crate::taker::{Taker, drive};
 use sl_machine::Memory;
 use sl_model::{finishing_ends, finishing_finishes, idle_passes_settle, issues_are_counted};
 use sl_net::{Net, nets_are_wired};
@@ -93,7 +93,7 @@ fn settle_by<T: Taker>(net: &Net, taker: &mut T, pass: &Pass) -> Result<(), Memo
     idle_passes_settle();
     for _pass in 0..u64::MAX {
         let before = taker.entries();
-        drive_within(net, taker, pass.entries.as_slice(), Some(&pass.links))?;
+        drive(net, taker, pass.entries.as_slice(), Some(&pass.links))?;
         if taker.entries() == before {
             return Ok(());
         }
@@ -109,7 +109,7 @@ fn take_resend<T: Taker>(net: &Net, taker: &mut T) -> Result<bool, Memory>
 {
     takes_choices(net);
     let before = taker.entries();
-    drive_within(net, taker, &[resend_entry(net)], None)?;
+    drive(net, taker, &[resend_entry(net)], None)?;
     Ok(taker.entries() != before)
 }
 
@@ -132,7 +132,7 @@ fn take_round<T: Taker>(
     if before.is_collected() {
         return Ok(false);
     }
-    drive_within(net, taker, sweep, None)?;
+    drive(net, taker, sweep, None)?;
     settle_by(net, taker, pass)?;
     if tell(taker).rose_since(before) {
         return Ok(true);

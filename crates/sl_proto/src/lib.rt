@@ -38,5 +38,5 @@ pub use scenes::{
 };
 pub use schedule::{all_sweeps, expand, pass_of, passes_are_choices};
 pub use script::drive_script;
-pub use taker::{Taker, drive_within};
+pub use taker::{Taker, drive};
 pub use verdicts::{finding, verdict};

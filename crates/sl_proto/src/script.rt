@@ -7,7 +7,7 @@ ghost use Rattle.sl_proto.specs.Script.{IsScriptEntry};
 ghost use Rattle.sl_proto.specs.Passes.{IsPass};
 
 use crate::passes::Pass;
-use crate::taker::{Taker, drive_within};
+use crate::taker::{Taker, drive};
 use sl_machine::Memory;
 use sl_net::{Net, Script1};
 use std::alloc::Global;
@@ -22,7 +22,7 @@ fn drive_passes<T: Taker>(net: &Net, taker: &mut T, once: &Pass, count: u32) -> 
 {
     for _done in 0..count {
         let before = taker.entries();
-        drive_within(net, taker, once.entries.as_slice(), Some(&once.links))?;
+        drive(net, taker, once.entries.as_slice(), Some(&once.links))?;
         if taker.entries() == before {
             return Ok(());
         }
@@ -45,7 +45,7 @@ fn drive_entry<T: Taker>(
 {
     match entry {
         Script1::Pass(count) => drive_passes(net, taker, once, count),
-        Script1::Choice { actor, choice } => drive_within(net, taker, &[(actor, choice)], None),
+        Script1::Choice { actor, choice } => drive(net, taker, &[(actor, choice)], None),
     }
 }
 

@@ -124,7 +124,7 @@ impl Taker for World<Node> {
 /// of their book they do so afterwards, also after want of memory: the book then has the turns of
 /// the schedule that aren't idle besides. Where the links of the schedule's entries are given, they
 /// are not looked up once more.
-pub fn drive_within<T: Taker>(
+pub fn drive<T: Taker>(
     net: &Net,
     taker: &mut T,
     schedule: &[(u32, u32)],

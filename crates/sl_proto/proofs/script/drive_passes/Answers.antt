@@ -12,27 +12,27 @@ pub loop-done-init : goal.loop-done-init
 loop-done-init g c = driven-none g.T.Taker.scene g.T.Taker.fixed c.args.net.now (Ok tt) c.args.taker.now c.requires.plan
 
 pub loop-done-preserved : goal.loop-done-preserved
-loop-done-preserved g c = let T = g.T.Taker in let net = c.args.net.now in let old = c.args.taker.now in let now = c.loop-done.taker in let new = c.drive_within.new.taker in
+loop-done-preserved g c = let T = g.T.Taker in let net = c.args.net.now in let old = c.args.taker.now in let now = c.loop-done.taker in let new = c.drive.new.taker in
     let es = c.args.once.now.entries.items in let n = c.loop-done._done in
     driven-as T.scene T.fixed net (Ok tt) old new _ _ (sym (passes-next es n))
-    (driven-on T.scene T.fixed net old now new (passes_of es n) es tt (Ok tt) c.loop-done.invariant (driven-as T.scene T.fixed net (Ok tt) now new _ es c.as_slice.ensures.value c.in_ok-drive_within.ensures.driven))
+    (driven-on T.scene T.fixed net old now new (passes_of es n) es tt (Ok tt) c.loop-done.invariant (driven-as T.scene T.fixed net (Ok tt) now new _ es c.as_slice.ensures.value c.in_ok-drive.ensures.driven))
 
-pub returns-in_err-drive_within : goal.returns-in_err-drive_within
-returns-in_err-drive_within g c = let T = g.T.Taker in let net = c.args.net.now in let old = c.args.taker.now in let now = c.loop-done.taker in let new = c.drive_within.new.taker in
+pub returns-in_err-drive : goal.returns-in_err-drive
+returns-in_err-drive g c = let T = g.T.Taker in let net = c.args.net.now in let old = c.args.taker.now in let now = c.loop-done.taker in let new = c.drive.new.taker in
     let es = c.args.once.now.entries.items in let n = c.loop-done._done in let more = passes-split es n c.args.count (omega arith) in
-    driven-short T.scene T.fixed net c.from_residual.result c.drive_within.result old new _ (passes_of es c.args.count) more.0 (search rules) more.1
-    (driven-on T.scene T.fixed net old now new (passes_of es n) es tt c.drive_within.result c.loop-done.invariant (driven-as T.scene T.fixed net c.drive_within.result now new _ es c.as_slice.ensures.value c.drive_within.ensures.driven))
+    driven-short T.scene T.fixed net c.from_residual.result c.drive.result old new _ (passes_of es c.args.count) more.0 (search rules) more.1
+    (driven-on T.scene T.fixed net old now new (passes_of es n) es tt c.drive.result c.loop-done.invariant (driven-as T.scene T.fixed net c.drive.result now new _ es c.as_slice.ensures.value c.drive.ensures.driven))
 
 pub returns-then-entries-before : goal.returns-then-entries-before
 returns-then-entries-before g c = let T = g.T.Taker in let net = c.args.net.now in let so_far = c.loop-done.invariant in let es = c.args.once.now.entries.items in let n = c.loop-done._done in
-    let step = driven-as T.scene T.fixed net (Ok tt) c.loop-done.taker c.drive_within.new.taker _ es c.as_slice.ensures.value c.in_ok-drive_within.ensures.driven in
+    let step = driven-as T.scene T.fixed net (Ok tt) c.loop-done.taker c.drive.new.taker _ es c.as_slice.ensures.value c.in_ok-drive.ensures.driven in
     let many : n + 1 + (c.args.count - (n + 1)) ≡ c.args.count = omega (arith, c.loop-done-test.true) in
-    driven-whole T.scene T.fixed net (Ok tt) c.args.taker.now c.drive_within.new.taker (passes_of es c.args.count)
-    (keeps_on T.scene T.fixed net c.args.taker.now c.loop-done.taker c.drive_within.new.taker so_far.keeps step.keeps)
+    driven-whole T.scene T.fixed net (Ok tt) c.args.taker.now c.drive.new.taker (passes_of es c.args.count)
+    (keeps_on T.scene T.fixed net c.args.taker.now c.loop-done.taker c.drive.new.taker so_far.keeps step.keeps)
     (λ x st.
     let old = run_at x (T.scene c.args.taker.now) in
     let mid = run_at x (T.scene c.loop-done.taker) in
-    let new = run_at x (T.scene c.drive_within.new.taker) in
+    let new = run_at x (T.scene c.drive.new.taker) in
     let follows = step.follows x (so_far.keeps.stands x st) in
     subst (λ k. Follows x.setup x.lost old (passes_of es k) new) many
     (idle-passes x.setup x.lost old new es (n + 1) (c.args.count - (n + 1)) (follows-passes x.setup x.lost old mid new es n (so_far.follows x st) follows)

@@ -4,7 +4,7 @@ use Rattle.sl_proto.specs.Runs.{Follows}
 use Rattle.sl_proto.specs.Standing.{run_at, StandsFor, HasObserver}
 use Rattle.sl_proto.proofs.Driven.{driven-nothing}
 use Rattle.sl_proto.proofs.Fronts.{front-taken}
-use Rattle.sl_proto.proofs.taker.drive_within.Goals as goal
+use Rattle.sl_proto.proofs.taker.drive.Goals as goal
 
 pub returns-then-entries-limit-clause-driven : goal.returns-then-entries-limit-clause-driven
 returns-then-entries-limit-clause-driven g c = driven-nothing g.T.Taker.scene g.T.Taker.fixed c.args.net.now _ c.args.taker.now c.args.schedule.now tt c.requires.plan

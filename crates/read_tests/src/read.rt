@@ -5,7 +5,8 @@ use std::alloc::{AllocError, Global};
 use std::test::Fail;
 
 /// Inputs up to a line `--`, and what is read of them: the number of links, the seed and the snapshots,
-/// then the flows, the cables and the script. Inputs stand apart by `==`.
+/// then the flows and the script, then each cable with its ends and its version. Inputs stand apart by
+/// `==`.
 ///
 /// The second has other credits. A cable without a version has that of the snapshots, by the third and
 /// the fourth. The last has each table, and what version 1.1 of TOML has more than 1.0: a line end, a
@@ -17,14 +18,14 @@ flow = [{from = "h0", to = "h1", count = 3, bytes = 100, hops = 8}]
 snapshot = {bits = 2, window = 3, ring = 3, count = 1, retries = 0}
 --
 24 0 Snapshot { width: 2, window: 3, ring: 3, count: 1, retries: 0, credits: 1, version: 1 }
-[Flow { from: 0, to: 1, count: 3, bytes: 100, hops: 8 }] [] []
+[Flow { from: 0, to: 1, count: 3, bytes: 100, hops: 8 }] []
 ==
 device = [{name = "a", ports = 2}]
 host = [{name = "h0", at = "a.0"}, {name = "h1", at = "a.1"}]
 snapshot = {bits = 2, window = 3, ring = 3, count = 1, credits = 2}
 --
 24 0 Snapshot { width: 2, window: 3, ring: 3, count: 1, retries: 0, credits: 2, version: 1 }
-[] [] []
+[] []
 ==
 device = [{name = "a", ports = 6}]
 cable = [
@@ -35,7 +36,10 @@ cable = [
 snapshot = {bits = 2, window = 3, ring = 3, count = 1, retries = 0}
 --
 86 0 Snapshot { width: 2, window: 3, ring: 3, count: 1, retries: 0, credits: 1, version: 1 }
-[] [CablePart { a: PortRef { device: 0, port: 0 }, b: PortRef { device: 0, port: 1 }, version: 1 }, CablePart { a: PortRef { device: 0, port: 2 }, b: PortRef { device: 0, port: 3 }, version: 1 }, CablePart { a: PortRef { device: 0, port: 4 }, b: PortRef { device: 0, port: 5 }, version: 2 }] []
+[] []
+cable 0.0 0.1 1
+cable 0.2 0.3 1
+cable 0.4 0.5 2
 ==
 device = [{name = "a", ports = 6}]
 cable = [
@@ -46,7 +50,10 @@ cable = [
 snapshot = {bits = 2, window = 3, ring = 3, count = 1, credits = 4, version = 2}
 --
 86 0 Snapshot { width: 2, window: 3, ring: 3, count: 1, retries: 0, credits: 4, version: 2 }
-[] [CablePart { a: PortRef { device: 0, port: 0 }, b: PortRef { device: 0, port: 1 }, version: 1 }, CablePart { a: PortRef { device: 0, port: 2 }, b: PortRef { device: 0, port: 3 }, version: 2 }, CablePart { a: PortRef { device: 0, port: 4 }, b: PortRef { device: 0, port: 5 }, version: 2 }] []
+[] []
+cable 0.0 0.1 1
+cable 0.2 0.3 2
+cable 0.4 0.5 2
 ==
 [[device]]
 name = "a"
@@ -89,7 +96,8 @@ hex = "00ff"
 entries = ["pass 10000", "control b_1 sweep", "observer issue"]
 --
 34 9223372036854775807 Snapshot { width: 16, window: 1000, ring: 1024, count: 100000, retries: 100, credits: 4, version: 2 }
-[Flow { from: 0, to: 0, count: 20000, bytes: 65535, hops: 255 }] [CablePart { a: PortRef { device: 0, port: 1 }, b: PortRef { device: 1, port: 7 }, version: 2 }] [Pass(10000), Choice { actor: 6, choice: 5 }, Choice { actor: 0, choice: 2 }]
+[Flow { from: 0, to: 0, count: 20000, bytes: 65535, hops: 255 }] [Pass(10000), Choice { actor: 6, choice: 5 }, Choice { actor: 0, choice: 2 }]
+cable 0.1 1.7 2
 "#
 }
 
@@ -102,26 +110,27 @@ fn told_counts(
     format!(in alloc; "{links} {seed} {snapshot:?}\n")
 }
 
-fn told_lists(
-    alloc: Global,
-    flows: &[Flow],
-    cables: &[CablePart],
-    script: &[Script1],
-) -> Result<String, AllocError> {
-    format!(in alloc; "{flows:?} {cables:?} {script:?}\n")
+fn told_lists(alloc: Global, flows: &[Flow], script: &[Script1]) -> Result<String, AllocError> {
+    format!(in alloc; "{flows:?} {script:?}\n")
+}
+
+fn told_cable(alloc: Global, cable: CablePart) -> Result<String, AllocError> {
+    let CablePart { a, b, version } = cable;
+    format!(in alloc;
+        "cable {}.{} {}.{} {version}\n",
+        a.device, a.port, b.device, b.port
+    )
 }
 
 /// What is read of an input, as the table has it.
 fn told(alloc: Global, input: &Input) -> Result<String, AllocError> {
     let links = input.net.links().len();
     let mut text = told_counts(alloc, links, input.loss.seed, input.snapshot)?;
-    let lists = told_lists(
-        alloc,
-        input.flows.as_slice(),
-        input.net.parts().cables.as_slice(),
-        input.script.as_slice(),
-    )?;
+    let lists = told_lists(alloc, input.flows.as_slice(), input.script.as_slice())?;
     text.push_str(lists.as_str())?;
+    for cable in input.net.parts().cables.as_slice() {
+        text.push_str(told_cable(alloc, *cable)?.as_str())?;
+    }
     Ok(text)
 }
 

@@ -1,6 +1,7 @@
 // Reading to the end, and writing a whole piece.
 ghost use Rattle.std.specs.Prelude.{◌≡◌, ◌≤◌, IfOk, IsOk, OnOk, OnErr};
 ghost use Rattle.std.specs.Io.KnownBytes.{Appends};
+ghost use Rattle.sl_io.specs.declared.transfer.ReadFault.TheVariants as fault;
 ghost use Rattle.sl_io.specs.Faults.{Rose};
 ghost use Rattle.sl_io.specs.Pieces.{TellsAsBefore, IsReadUpTo, TakesUpTo, AppendsPart};
 
@@ -20,9 +21,6 @@ pub enum ReadFault {
 }
 
 impl From<Failed> for ReadFault {
-    ghost use Rattle.std.specs.Prelude.{◌≡◌};
-    ghost use Rattle.sl_io.specs.declared.transfer.ReadFault.TheVariants as fault;
-
     ghost from_gives = { λ _ gives. gives ≡ fault.Failed };
 
     fn from(_: Failed) -> ReadFault {
@@ -31,9 +29,6 @@ impl From<Failed> for ReadFault {
 }
 
 impl From<AllocError> for ReadFault {
-    ghost use Rattle.std.specs.Prelude.{◌≡◌};
-    ghost use Rattle.sl_io.specs.declared.transfer.ReadFault.TheVariants as fault;
-
     ghost from_gives = { λ _ gives. gives ≡ fault.Memory };
 
     fn from(_: AllocError) -> ReadFault {

@@ -9,7 +9,7 @@ ghost use Rattle.sl_route.specs.Least.{least};
 ghost use Rattle.sl_model.specs.History.{history};
 ghost use Rattle.sl_model.specs.Knowledge.{floor, unit_floor};
 ghost use Rattle.sl_model.specs.Verdict.{skipped_to, is_old_data, miscredits, cause, channel_lag};
-ghost use Rattle.sl_model.specs.Verdict.{lag, issued_verdict, holds_floor, place_or_zero, verdict};
+ghost use Rattle.sl_model.specs.Verdict.{lag, holds_floor, floor_holder, place_or_zero, verdict};
 
 use crate::history::World;
 use crate::knowledge::{floor, issued, unit_floor};
@@ -213,25 +213,6 @@ fn units_of(net: &Net) -> &[u32]
     net.unit_actors()
 }
 
-fn issued_verdict(
-    alloc: Global,
-    credits: u8,
-    net: &Net,
-    world: &World,
-    snapshot: u64,
-) -> Result<Verdict, Memory>
-    ensures { IfOk result (λ answer. answer ≡ issued_verdict credits net.now world.now snapshot) }
-{
-    let units = units_of(net);
-    if let Some((place, lag)) = first_lag(alloc, net, world, snapshot, units)? {
-        return Ok(Verdict::Pending { unit: place, lag });
-    }
-    match first_with_cause(alloc, credits, world, snapshot, units)? {
-        Some((place, cause)) => Ok(Verdict::Inconsistent { unit: place, cause }),
-        None => Ok(Verdict::Consistent),
-    }
-}
-
 /// The first of some units at a floor, by its place, 0 where there is none.
 fn holder_of(alloc: Global, net: &Net, world: &World, units: &[u32]) -> Result<u32, Memory>
     requires each { All (λ u. u < length net.now.actors) units.now }
@@ -250,6 +231,17 @@ fn holder_of(alloc: Global, net: &Net, world: &World, units: &[u32]) -> Result<u
     Ok(0)
 }
 
+/// The verdict on a snapshot that is not issued: at which unit the floor is.
+fn not_issued(alloc: Global, net: &Net, world: &World) -> Result<Verdict, Memory>
+    ensures { IfOk result
+        (λ answer. answer
+        ≡ Verdict.NotIssued (floor_holder net.now world.now) (floor net.now world.now)) }
+{
+    let unit = holder_of(alloc, net, world, units_of(net))?;
+    let floor = floor(alloc, net, world)?;
+    Ok(Verdict::NotIssued { unit, floor })
+}
+
 /// The verdict on a snapshot, where a data packet is credited to so many numbers at most.
 pub fn verdict(
     alloc: Global,
@@ -260,12 +252,15 @@ pub fn verdict(
 ) -> Result<Verdict, Memory>
     ensures { IfOk result (λ answer. answer ≡ verdict credits net.now world.now snapshot) }
 {
-    if snapshot <= issued(net, world.steps(0)) {
-        return issued_verdict(alloc, credits, net, world, snapshot);
+    if snapshot > issued(net, world.steps(0)) {
+        return not_issued(alloc, net, world);
     }
-    let holder = holder_of(alloc, net, world, units_of(net))?;
-    Ok(Verdict::NotIssued {
-        unit: holder,
-        floor: floor(alloc, net, world)?,
-    })
+    let units = units_of(net);
+    if let Some((place, lag)) = first_lag(alloc, net, world, snapshot, units)? {
+        return Ok(Verdict::Pending { unit: place, lag });
+    }
+    match first_with_cause(alloc, credits, world, snapshot, units)? {
+        Some((place, cause)) => Ok(Verdict::Inconsistent { unit: place, cause }),
+        None => Ok(Verdict::Consistent),
+    }
 }

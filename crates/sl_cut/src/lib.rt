@@ -34,7 +34,7 @@ pub use hostile_laws::{
     hostile_turns_change_no_finding,
 };
 pub use knowledge::{can_issue, floor, issued, resent, unit_floor};
-pub use losses::{carried, without_lost};
+pub use losses::carried;
 pub use schedule::{follow, follow_legal};
 pub use sl_model::{
     Cause, Counts, Drops, Ending, Finding, FindingList, Findings, Lag, Lost, Message, Put, Puts,

@@ -1,6 +1,6 @@
 // What is lost of the messages that are put on a link.
 ghost use Rattle.std.specs.Prelude.{◌≡◌, [], ◌∷◌, ◌++◌, ◌<◌, length, cond, reverse, IfOk, OnOk};
-ghost use Rattle.sl_model.specs.History.{carried_by, without_lost};
+ghost use Rattle.sl_model.specs.History.{carried_by};
 ghost use Rattle.sl_model.specs.Losses.{losses};
 
 use crate::message::copy_message;
@@ -25,26 +25,6 @@ fn add_unless(
     Ok(())
 }
 
-/// The messages that are put on a link of an input, without the lost ones.
-pub fn without_lost(
-    alloc: Global,
-    input: &Input,
-    link: u32,
-    messages: &[Message],
-) -> Result<Vec<Message>, Memory>
-    requires { link < length input.now.net.links }
-    ensures { IfOk result
-        (λ kept. kept.items ≡ without_lost (losses input.now link) 0 messages.now) }
-{
-    losses_answer_in_order();
-    let mut loss = loss_on(alloc, input, link)?;
-    let mut kept = Vec::new(alloc);
-    for message in messages {
-        add_unless(alloc, &mut kept, loses_next(&mut loss), message)?;
-    }
-    Ok(kept)
-}
-
 /// The messages that a sender with these steps put on a link and that are not lost.
 pub fn carried(
     alloc: Global,
@@ -56,6 +36,12 @@ pub fn carried(
     ensures { IfOk result
         (λ kept. kept.items ≡ carried_by (losses input.now) link (reverse steps.now)) }
 {
+    losses_answer_in_order();
+    let mut loss = loss_on(alloc, input, link)?;
     let messages = put(alloc, link, steps)?;
-    without_lost(alloc, input, link, messages.as_slice())
+    let mut kept = Vec::new(alloc);
+    for message in &messages {
+        add_unless(alloc, &mut kept, loses_next(&mut loss), message)?;
+    }
+    Ok(kept)
 }

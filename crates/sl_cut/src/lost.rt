@@ -6,7 +6,7 @@ ghost use Rattle.sl_model.specs.Losses.{losses};
 ghost use Rattle.sl_model.specs.Words.{weigh};
 
 use crate::history::World;
-use crate::losses::without_lost;
+use crate::losses::carried;
 use crate::tell::put;
 use sl_machine::Memory;
 use sl_model::Lost;
@@ -20,8 +20,9 @@ fn lost_on(alloc: Global, input: &Input, world: &World, link: u32) -> Result<u64
     ensures { IfOk result
         (λ count. count ≡ lost_on input.now.net (losses input.now) world.now link) }
 {
-    let messages = put(alloc, link, world.steps(input.net.link(link).from))?;
-    let kept = without_lost(alloc, input, link, messages.as_slice())?;
+    let steps = world.steps(input.net.link(link).from);
+    let messages = put(alloc, link, steps)?;
+    let kept = carried(alloc, input, link, steps)?;
     Ok((messages.len() - kept.len()) as u64)
 }
 

@@ -1,6 +1,6 @@
 // The step that an entry makes.
 ghost use Rattle.std.specs.Prelude.{◌≡◌, ◌++◌, ◌<◌, length, suc, zero, reverse, not, OnOk, IfOk};
-ghost use Rattle.std.specs.Prelude.{slice_get, Some, None, flat_map};
+ghost use Rattle.std.specs.Prelude.{slice_get, Some, flat_map, option_map};
 ghost use Rattle.sl_layout.specs.Serving.{served};
 ghost use Rattle.sl_layout.specs.Roster.{IsActor};
 ghost use Rattle.sl_route.specs.Routes.{IsRoutesOf};
@@ -10,7 +10,7 @@ ghost use Rattle.sl_model.specs.Setup.{setup_of};
 ghost use Rattle.sl_model.specs.Knowledge.{can_issue, can_resend, issued, is_swept};
 ghost use Rattle.sl_layout.specs.Net.{links_out};
 ghost use Rattle.sl_model.specs.Puts.{puts_of, action, guarded, begin_all, poll_puts, send_all};
-ghost use Rattle.sl_model.specs.World.{front, step_by, next_step, floor_for};
+ghost use Rattle.sl_model.specs.World.{front, acting, step_by, next_step, floor_for};
 ghost use Rattle.sl_flow.specs.Flow.{HaveAddresses};
 ghost use Rattle.sl_model.specs.Losses.{losses};
 
@@ -88,32 +88,6 @@ fn add_puts(
         ActorId::Unit(unit) => add_unit(&by, routes, puts, unit, steps, choice, link, message),
         ActorId::Host(_) => Ok(()),
     }
-}
-
-fn puts_of(
-    alloc: Global,
-    input: &Input,
-    routes: &Routes,
-    actor: u32,
-    of: ActorId,
-    steps: &[Step],
-    choice: u32,
-    link: u32,
-    message: &Message,
-) -> Result<Puts, Memory>
-    requires actor { actor < length input.now.net.actors }
-    requires routes { IsRoutesOf input.now.net routes.now }
-    requires part { IsActor input.now.net.parts of }
-    requires link { link < length input.now.net.links }
-    ensures { IfOk result
-        (λ puts. puts ≡ puts_of (setup_of input.now) actor of
-        (reverse steps.now) choice link message.now) }
-{
-    let mut items = Vec::new(alloc);
-    add_puts(
-        alloc, input, routes, &mut items, actor, of, steps, choice, link, message,
-    )?;
-    Ok(Puts { items })
 }
 
 fn begin_all(alloc: Global, net: &Net, number: u64) -> Result<Puts, Memory>
@@ -263,54 +237,28 @@ fn step_of_link(
     let Some(message) = front(alloc, input, world, actor, choice, link)? else {
         return Ok(None);
     };
-    let puts = puts_of(
-        alloc,
-        input,
-        routes,
-        actor,
-        of,
-        world.steps(actor),
-        choice,
-        link,
-        &message,
+    let steps = world.steps(actor);
+    let mut items = Vec::new(alloc);
+    add_puts(
+        alloc, input, routes, &mut items, actor, of, steps, choice, link, &message,
     )?;
     Ok(Some(Step {
         choice,
         taken: Some(message),
-        puts,
+        puts: Puts { items },
     }))
 }
 
-fn step_of_action(
-    alloc: Global,
-    input: &Input,
-    world: &World,
-    actor: u32,
-    of: ActorId,
-    choice: u32,
-) -> Result<Option<Step>, Memory>
-    requires actor { actor < length input.now.net.actors }
-    requires addresses { HaveAddresses input.now.flows }
-    ensures { IfOk result
-        (λ step. step ≡ step_by (setup_of input.now) (losses input.now)
-        world.now actor choice None of) }
+/// The step of an own action with these puts, or none where its guard fails.
+fn acting(choice: u32, puts: Option<Puts>) -> Option<Step>
+    ensures { result ≡ option_map (acting choice) puts }
 {
-    let first = action_choice(&input.net, actor);
-    match action(
-        alloc,
-        input,
-        world,
-        actor,
-        of,
-        (choice as usize).saturating_sub(first),
-    )? {
-        Some(puts) => Ok(Some(Step {
-            choice,
-            taken: None,
-            puts,
-        })),
-        None => Ok(None),
-    }
+    let puts = puts?;
+    Some(Step {
+        choice,
+        taken: None,
+        puts,
+    })
 }
 
 /// The step that an entry makes, or none where it is idle.
@@ -335,6 +283,10 @@ pub fn next_step(
     let of = net.actor(actor);
     match net.links_into(actor).get(choice as usize) {
         Some(link) => step_of_link(alloc, input, routes, world, actor, of, choice, *link),
-        None => step_of_action(alloc, input, world, actor, of, choice),
+        None => {
+            let number = (choice as usize).saturating_sub(action_choice(net, actor));
+            let puts = action(alloc, input, world, actor, of, number)?;
+            Ok(acting(choice, puts))
+        }
     }
 }

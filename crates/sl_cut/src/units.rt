@@ -4,7 +4,7 @@ ghost use Rattle.sl_layout.specs.Net.{links_out};
 ghost use Rattle.sl_route.specs.Routes.{IsRoutesOf};
 ghost use Rattle.sl_model.specs.Frame.{plain_frame};
 ghost use Rattle.sl_model.specs.Puts.{send_all, crossbar_to, onward, route, ingress_puts};
-ghost use Rattle.sl_model.specs.Puts.{egress_puts, notice_puts, dump_puts, unit_puts};
+ghost use Rattle.sl_model.specs.Puts.{egress_puts, notice_puts, unit_puts};
 
 use crate::frames::plain_frame;
 use crate::sends::{Putter, add_out, add_sends};
@@ -187,23 +187,6 @@ fn add_notice(
     }
 }
 
-fn add_dump(
-    by: &Putter<'_>,
-    puts: &mut Vec<Put>,
-    count: u64,
-    message: &Message,
-) -> Result<(), Memory>
-    requires { by.now.actor < length by.now.net.now.actors }
-    ensures { OnOk result
-        (puts.new.items ≡ puts.old.items
-        ++ dump_puts by.now.net.now by.now.actor count message.now) }
-{
-    match message {
-        Message::Poll => add_out(by, puts, Sort::Dump, &Message::Dump(count)),
-        _ => Ok(()),
-    }
-}
-
 /// The puts of a unit that takes a message.
 pub fn add_unit(
     by: &Putter<'_>,
@@ -230,5 +213,8 @@ pub fn add_unit(
         Side::Egress => add_egress(by, puts, of, after, link, message)?,
     }
     add_notice(by, puts, last(choice, steps), stamp)?;
-    add_dump(by, puts, steps.len() as u64 + 1, message)
+    match message {
+        Message::Poll => add_out(by, puts, Sort::Dump, &Message::Dump(steps.len() as u64 + 1)),
+        _ => Ok(()),
+    }
 }

@@ -4,10 +4,10 @@ use Rattle.sl_loss.specs.Loss.{loses_next, after_put}
 use Rattle.sl_model.specs.History.{without_lost}
 use Rattle.sl_model.specs.Losses.{losses}
 use Rattle.sl_cut.proofs.ForwardLosses.{without_more}
-use Rattle.sl_cut.proofs.losses.without_lost.Goals as goal
+use Rattle.sl_cut.proofs.losses.carried.Goals as goal
 
 pub loop-message-preserved : goal.loop-message-preserved
-loop-message-preserved c = let i = c.args.input.now in let l = c.args.link in let n = c.loop-message.message-index in let ms = c.args.messages.now in let m = c.message-item.result in
+loop-message-preserved c = let i = c.args.input.now in let l = c.args.link in let n = c.loop-message.message-index in let ms = c.deref-message-items.result.now in let m = c.message-item.result in
     let lost : c.loses_next.result ≡ losses i l (n + 1) = c.loses_next.ensures.lost ∙ ap loses_next c.loop-message.invariant.1 ∙ c.losses_answer_in_order.ensures.next i l n in (
       c.in_ok-add_unless.ensures ∙ ap (λ xs. xs ++ cond c.loses_next.result [] (m ∷ [])) c.loop-message.invariant.0
           ∙ ap (λ b. without_lost (losses i l) 0 (take n ms) ++ cond b [] (m ∷ [])) lost

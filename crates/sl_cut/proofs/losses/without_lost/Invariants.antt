@@ -1,7 +1,0 @@
-use Rattle.std.proofs.Common.{◌≡◌, take}
-use Rattle.sl_model.specs.History.{without_lost}
-use Rattle.sl_model.specs.Losses.{loss_after, losses}
-use Rattle.sl_cut.proofs.losses.without_lost.Given as goal
-
-abbrev pub invariant-loop-message : goal.invariant-loop-message
-invariant-loop-message l = (l.kept.items ≡ without_lost (losses l.input l.link) 0 (take l.message-index l.messages)) × (l.loss ≡ loss_after l.input l.link l.message-index)

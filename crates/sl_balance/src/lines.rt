@@ -8,7 +8,7 @@ ghost use Rattle.sl_balance.specs.Balance.{balance, AreFew};
 
 use crate::cabled::list_cabled;
 use crate::line::Line1;
-use crate::spread::{highest_of, lowest_of, spread_of};
+use crate::spread::{ends_of, spread_of};
 use sl_machine::Memory;
 use sl_model::{Finding, Findings, Row, Verdict};
 use sl_net::{Input, Net};
@@ -47,12 +47,13 @@ fn push_line(lines: &mut Vec<Line1>, k: u64, device: u32, counts: &[u64]) -> Res
     ensures { OnOk result (lines.new.items ≡ lines.old.items ++ line_of k device counts.now) }
 {
     if let [first, others @ ..] = counts {
+        let (least, greatest) = ends_of(*first, others);
         lines.push(Line1 {
             k,
             device,
             cables: counts.len() as u32,
-            least: lowest_of(*first, others),
-            greatest: highest_of(*first, others),
+            least,
+            greatest,
             spread: spread_of(counts),
         })?;
     }

@@ -3,28 +3,19 @@ ghost use Rattle.std.specs.Prelude.{◌≡◌, ◌<◌, ◌≤◌, ◌^◌, leng
 ghost use Rattle.std.specs.List.{All};
 ghost use Rattle.sl_balance.specs.Spread.{lowest_of, highest_of, spread};
 
-/// The least of a count and others.
-#[tactic(auto, using(crate::proofs::Sums::lowest_more))]
-pub fn lowest_of(first: u64, others: &[u64]) -> u64
-    ensures { result ≡ lowest_of first others.now }
+/// The least and the greatest of a count and others.
+#[tactic(auto, using(crate::proofs::Sums::lowest_more, crate::proofs::Sums::highest_more))]
+pub fn ends_of(first: u64, others: &[u64]) -> (u64, u64)
+    ensures least { result.0 ≡ lowest_of first others.now }
+    ensures greatest { result.1 ≡ highest_of first others.now }
 {
-    let mut lowest = first;
+    let mut least = first;
+    let mut greatest = first;
     for count in others {
-        lowest = lowest.min(*count);
+        least = least.min(*count);
+        greatest = greatest.max(*count);
     }
-    lowest
-}
-
-/// The greatest of a count and others.
-#[tactic(auto, using(crate::proofs::Sums::highest_more))]
-pub fn highest_of(first: u64, others: &[u64]) -> u64
-    ensures { result ≡ highest_of first others.now }
-{
-    let mut highest = first;
-    for count in others {
-        highest = highest.max(*count);
-    }
-    highest
+    (least, greatest)
 }
 
 /// The sum, over all pairs of the counts, of the square of their difference: so many times the sum

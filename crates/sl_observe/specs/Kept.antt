@@ -1,8 +1,11 @@
 -- How the observer keeps what it stands for.
-use Rattle.std.specs.Prelude.{◌≡◌, ℕ, ◌≤◌, ◌<◌, List, length, map, Option, None, Some, slice_index_or}
+use Rattle.std.specs.Prelude.{◌≡◌, ℕ, ◌≤◌, ◌<◌, Bool, true, List, [], length, map, Option, None, Some, slice_index_or}
+use Rattle.std.specs.Bool.{OnTrue, OnFalse}
+use Rattle.sl_machine.specs.Machine.{After, Puts, is_fitting}
 use Rattle.sl_net.specs.declared.input.Snapshot.{Snapshot}
+use Rattle.sl_wire.specs.declared.message.Msg.{Msg}
 use Rattle.sl_observe.specs.declared.spans.Span.{Span}
-use Rattle.sl_observe.specs.Observer.{UnitState, ObserverState, new_unit, unit_at, floors_of}
+use Rattle.sl_observe.specs.Observer.{UnitState, ObserverState, new_unit, unit_at, floors_of, observer_counts}
 
 -- a unit, and for how many rows more there is room
 pub record Collected : Type 0 where
@@ -13,6 +16,17 @@ pub record Collected : Type 0 where
 pub record Observer : Type 0 where
   pub state : ObserverState
   pub ready : Option ℕ
+
+-- an action that is idle or did something, from the one to the other, and the puts before it and after it
+pub record Acted (act : ObserverState → Option (After ObserverState Msg)) (answer : Bool) (old new : Observer) (before after : Puts Msg) : Type 0 where
+  pub did : OnTrue answer (act old.state ≡ Some (record { state = new.state; puts = after.items }))
+  pub idle : OnFalse answer (act old.state ≡ None)
+  pub same : OnFalse answer (new.state ≡ old.state)
+  pub nothing : OnFalse answer (after.items ≡ [])
+  pub fitting : is_fitting old.state.outs after.items ≡ true
+  pub room : after.room ≡ before.room
+  pub counts : observer_counts new.state ≡ observer_counts old.state
+  pub ready : new.ready ≡ old.ready
 
 abbrev pub states : List Collected → List UnitState
 states us = map (λ u. u.state) us

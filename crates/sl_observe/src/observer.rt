@@ -1,11 +1,11 @@
 // The machine of the observer.
 ghost use Rattle.std.specs.Prelude.{◌≡◌, ◌≤◌, ◌<◌, [], Option, None, Some, IfOk, length, true};
-ghost use Rattle.std.specs.Bool.{OnTrue, OnFalse};
 ghost use Rattle.std.specs.Option.{option_copied};
 ghost use Rattle.sl_machine.specs.Machine.{is_fitting};
 ghost use Rattle.sl_observe.specs.Observer.{ObserverState, unit_at, seen_of, saved_of};
 ghost use Rattle.sl_observe.specs.Observer.{register_floor, begins_out, issue, resend};
 ghost use Rattle.sl_observe.specs.Observer.{observer_rules, observer_counts, first_state};
+ghost use Rattle.sl_observe.specs.Kept.{Acted};
 
 use crate::floors::Floors;
 use crate::spans::Span;
@@ -137,16 +137,7 @@ impl Observer {
     fn issue(&mut self, out: &mut Outputs<Msg>) -> bool
         requires empty { out.old.items ≡ [] }
         requires room { self.old.state.outs ≤ out.old.room }
-        ensures did { OnTrue result
-            (issue self.old.state
-            ≡ Some (record { state = self.new.state; puts = out.new.items })) }
-        ensures idle { OnFalse result (issue self.old.state ≡ None) }
-        ensures same { OnFalse result (self.new.state ≡ self.old.state) }
-        ensures nothing { OnFalse result (out.new.items ≡ []) }
-        ensures fitting { is_fitting self.old.state.outs out.new.items ≡ true }
-        ensures room { out.new.room ≡ out.old.room }
-        ensures counts { observer_counts self.new.state ≡ observer_counts self.old.state }
-        ensures ready { self.new.ready ≡ self.old.ready }
+        ensures { Acted issue result self.old self.new out.old out.new }
     {
         let most = self.floor().saturating_add(u64::from(self.snapshot.window));
         if self.issued >= self.snapshot.count || self.issued >= most {
@@ -162,16 +153,7 @@ impl Observer {
     fn resend(&mut self, out: &mut Outputs<Msg>) -> bool
         requires empty { out.old.items ≡ [] }
         requires room { self.old.state.outs ≤ out.old.room }
-        ensures did { OnTrue result
-            (resend self.old.state
-            ≡ Some (record { state = self.new.state; puts = out.new.items })) }
-        ensures idle { OnFalse result (resend self.old.state ≡ None) }
-        ensures same { OnFalse result (self.new.state ≡ self.old.state) }
-        ensures nothing { OnFalse result (out.new.items ≡ []) }
-        ensures fitting { is_fitting self.old.state.outs out.new.items ≡ true }
-        ensures room { out.new.room ≡ out.old.room }
-        ensures counts { observer_counts self.new.state ≡ observer_counts self.old.state }
-        ensures ready { self.new.ready ≡ self.old.ready }
+        ensures { Acted resend result self.old self.new out.old out.new }
     {
         if self.resent >= self.snapshot.retries || self.floor() >= self.issued {
             return false;

@@ -86,16 +86,11 @@ fn cable(c: u32) -> CablePart
 }
 
 /// Two cables a leaf, one to each spine.
-#[tactic(auto, using(crate::proofs::Counted::map_below_more))]
 fn cables(alloc: Global, count: u32) -> Result<Vec<CablePart>, AllocError>
     requires { count ≤ 16 }
     ensures { IfOk result (λ parts. parts.items ≡ map cable (below count)) }
 {
-    let mut parts = Vec::new(alloc);
-    for c in 0..count {
-        parts.push(cable(c))?;
-    }
-    Ok(parts)
+    (0..count).map(|c| cable(c)).collect(alloc)
 }
 
 fn host(alloc: Global, h: u32) -> Result<HostPart, AllocError>

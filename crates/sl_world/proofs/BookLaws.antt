@@ -48,6 +48,10 @@ low_after book after actor choice is low = subst (λ (es : List Entry). All (λ 
               omega (arith, long, ap (λ (e : Entry). e.number) (get_or_append_left book (new ∷ []) d k within), low k d within)
         ]
 
+-- the same, where room was made for the entry first
+pub low_noted : (book roomy after : List Entry) (actor choice : ℕ) → roomy ≡ book → after ≡ roomy ++ entry_after roomy actor choice ∷ [] → All (λ (e : Entry). e.number ≤ length book) book → All (λ (e : Entry). e.number ≤ length after) after
+low_noted book roomy after actor choice same is = low_after book after actor choice (is ∙ ap (λ es. es ++ entry_after es actor choice ∷ []) same)
+
 module _ {S M : Type 0} (rules : Rules S M) where
   -- two legal schedules, one after the other
   pub run_of-append : (w : Scene S M) (es fs : List (ℕ × ℕ)) → run_of rules w (es ++ fs) ≡ option_and_then (λ v. run_of rules v fs) (run_of rules w es)

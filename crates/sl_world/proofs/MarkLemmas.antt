@@ -41,6 +41,14 @@ marked-set views old words k new empty marked written low holds =
       end = ap (mark_at words) long ∙ (written.others (length views) (λ e. absurd (omega (arith, e, low))) ∙ marked.end);
     }
 
+-- a place in a list that was read
+pub below_too : {X : Type 0} (xs ys : List X) (k : ℕ) → xs ≡ ys → k < length ys → k < length xs
+below_too xs ys k is low = omega (arith, ap length is, low)
+
+-- a link of a list that was read is written, and its mark
+pub marked-written : {M : Type 0} (views now : List (LineView M)) (old words : List ℕ) (k : ℕ) (new : LineView M) (empty : Bool) → views ≡ now → k < length now → IsMarked views old → IsWritten old words k (not empty) → (IsTrue empty ↔ (new.line.queue ≡ [])) → IsMarked (set views k new) words
+marked-written views now old words k new empty is low marked written holds = marked-set views old words k new empty marked written (below_too views now k is low) holds
+
 -- a change that leaves what is on the links
 pub marked-same : {M : Type 0} (old new : List (LineView M)) (words : List ℕ) → lines_of new ≡ lines_of old → IsMarked old words → IsMarked new words
 marked-same old new words same marked =

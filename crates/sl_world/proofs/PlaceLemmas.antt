@@ -1,5 +1,5 @@
 -- Tables of places.
-use Rattle.std.proofs.Common.{◌≡◌, ◌≢◌, ℕ, zero, suc, ◌+◌, ◌<◌, ◌≤◌, List, [], ◌∷◌, ◌++◌, add-one, length, get_or, set, refl, ap, sym, ◌∙◌, subst, arith, inl, inr}
+use Rattle.std.proofs.Common.{◌≡◌, ◌≢◌, ℕ, zero, suc, ◌+◌, ◌^◌, ◌<◌, ◌≤◌, List, [], ◌∷◌, ◌++◌, add-one, length, get_or, set, map, refl, ap, sym, ◌∙◌, subst, arith, inl, inr}
 use Rattle.std.specs.Prelude.{slice_index}
 use Rattle.std.proofs.lemmas.Bool.{cases_eq, cases_lt}
 use Rattle.std.proofs.lemmas.List.{get_or-map, get_or-set_same, get_or-set_other, length-map, length-set, length_push, get_or_push, get_or_append_left}
@@ -107,66 +107,66 @@ entered t new counts pairs l a n laid numbering low pair starts places finds =
           ];
     }
 
--- the links of a sound wiring number its choices
-pub incoming_numbering : (plan : Plan) → IsSound plan → IsNumbering plan.ins (incoming plan.links)
-incoming_numbering plan sound =
-    let long : length (incoming plan.links) ≡ length plan.links = length-map plan.links (λ l. (l.to, l.choice)) in
-    let pair = λ (l : ℕ) (low : l < length plan.links). get_or-map {Y = ℕ × ℕ} (λ (k : Link). (k.to, k.choice)) plan.links l no_link (0, 0) low in
-    record {
-      fits = omega (arith, sound.links_fit);
-      actor_below = λ l low. let here : l < length plan.links = omega arith in rw (pair l here) (sound.to_below l here);
-      number_below = λ l low. let here : l < length plan.links = omega arith in rw (pair l here) (sound.choice_below l here);
-      apart = λ l k low_l low_k same_to same_choice.
-          let here_l : l < length plan.links = omega arith in
-          let here_k : k < length plan.links = omega arith in
-          let same_actor : (link_at plan.links l).to ≡ (link_at plan.links k).to = sym (ap (λ (p : ℕ × ℕ). p.0) (pair l here_l)) ∙ (same_to ∙ ap (λ (p : ℕ × ℕ). p.0) (pair k here_k)) in
-          let same_number : (link_at plan.links l).choice ≡ (link_at plan.links k).choice = sym (ap (λ (p : ℕ × ℕ). p.1) (pair l here_l)) ∙ (same_choice ∙ ap (λ (p : ℕ × ℕ). p.1) (pair k here_k)) in
-          sym (sound.once_in l here_l) ∙ (ap (λ (a : ℕ). link_in plan.links a (link_at plan.links l).choice) same_actor ∙ (ap (link_in plan.links (link_at plan.links k).to) same_number ∙ sound.once_in k here_k));
-    }
+-- links by the pairs that a search finds again
+module _ (links : List Link) (counts : List ℕ) (pair : Link → ℕ × ℕ) (find : ℕ → ℕ → ℕ) where
+  pair_is : (l : ℕ) → l < length links → pair_at (map pair links) l ≡ pair (link_at links l)
+  pair_is l low = get_or-map {Y = ℕ × ℕ} pair links l no_link (0, 0) low
 
-pub outgoing_numbering : (plan : Plan) → IsSound plan → IsNumbering plan.outs (outgoing plan.links)
-outgoing_numbering plan sound =
-    let long : length (outgoing plan.links) ≡ length plan.links = length-map plan.links (λ l. (l.from, l.out)) in
-    let pair = λ (l : ℕ) (low : l < length plan.links). get_or-map {Y = ℕ × ℕ} (λ (k : Link). (k.from, k.out)) plan.links l no_link (0, 0) low in
-    record {
-      fits = omega (arith, sound.links_fit);
-      actor_below = λ l low. let here : l < length plan.links = omega arith in rw (pair l here, sound.outs_each) (sound.from_below l here);
-      number_below = λ l low. let here : l < length plan.links = omega arith in rw (pair l here) (sound.out_below l here);
-      apart = λ l k low_l low_k same_from same_out.
-          let here_l : l < length plan.links = omega arith in
-          let here_k : k < length plan.links = omega arith in
-          let same_actor : (link_at plan.links l).from ≡ (link_at plan.links k).from = sym (ap (λ (p : ℕ × ℕ). p.0) (pair l here_l)) ∙ (same_from ∙ ap (λ (p : ℕ × ℕ). p.0) (pair k here_k)) in
-          let same_number : (link_at plan.links l).out ≡ (link_at plan.links k).out = sym (ap (λ (p : ℕ × ℕ). p.1) (pair l here_l)) ∙ (same_out ∙ ap (λ (p : ℕ × ℕ). p.1) (pair k here_k)) in
-          sym (sound.once_out l here_l) ∙ (ap (λ (a : ℕ). link_out plan.links a (link_at plan.links l).out) same_actor ∙ (ap (link_out plan.links (link_at plan.links k).from) same_number ∙ sound.once_out k here_k));
-    }
+  long : length (map pair links) ≡ length links
+  long = length-map links pair
 
--- and the table has what a search finds
-pub incoming_leads : (plan : Plan) (t : Places) → IsSound plan → IsTableOf t plan.ins (incoming plan.links) → Leads t plan.ins (link_in plan.links)
-incoming_leads plan t sound table =
-    record {
-      laid_out = table.laid_out;
-      is = λ a n low here.
-          let l : ℕ = link_in plan.links a n in
-          let below : l < length plan.links = sound.each_in a n low here in
-          let long : length (incoming plan.links) ≡ length plan.links = length-map plan.links (λ k. (k.to, k.choice)) in
-          let pair = get_or-map {Y = ℕ × ℕ} (λ (k : Link). (k.to, k.choice)) plan.links l no_link (0, 0) below in
-          let is = link_in_is plan.links a n below in
-          let to_is : (pair_at (incoming plan.links) l).0 ≡ a = ap (λ (p : ℕ × ℕ). p.0) pair ∙ is.0 in
-          let choice_is : (pair_at (incoming plan.links) l).1 ≡ n = ap (λ (p : ℕ × ℕ). p.1) pair ∙ is.1 in
-          subst (λ (m : ℕ). place_of t a m ≡ l) choice_is (subst (λ (b : ℕ). place_of t b (pair_at (incoming plan.links) l).1 ≡ l) to_is (table.finds l (omega arith)));
-    }
+  -- number the places of their actors
+  numbering_of : length links < 2 ^ 32 → ((l : ℕ) → l < length links → (pair (link_at links l)).0 < length counts) → ((l : ℕ) → l < length links → (pair (link_at links l)).1 < slice_index counts (pair (link_at links l)).0)
+      → ((l : ℕ) → l < length links → find (pair (link_at links l)).0 (pair (link_at links l)).1 ≡ l) → IsNumbering counts (map pair links)
+  numbering_of fits actors numbers once =
+      record {
+        fits = omega (arith, fits, long);
+        actor_below = λ l low. let here : l < length links = omega (arith, low, long) in rw (pair_is l here) (actors l here);
+        number_below = λ l low. let here : l < length links = omega (arith, low, long) in rw (pair_is l here) (numbers l here);
+        apart = λ l k low_l low_k same_actor same_number.
+            let here_l : l < length links = omega (arith, low_l, long) in
+            let here_k : k < length links = omega (arith, low_k, long) in
+            let p = pair (link_at links l) in
+            let q = pair (link_at links k) in
+            let actor : p.0 ≡ q.0 = sym (ap (λ (r : ℕ × ℕ). r.0) (pair_is l here_l)) ∙ (same_actor ∙ ap (λ (r : ℕ × ℕ). r.0) (pair_is k here_k)) in
+            let number : p.1 ≡ q.1 = sym (ap (λ (r : ℕ × ℕ). r.1) (pair_is l here_l)) ∙ (same_number ∙ ap (λ (r : ℕ × ℕ). r.1) (pair_is k here_k)) in
+            sym (once l here_l) ∙ (ap (λ (a : ℕ). find a p.1) actor ∙ (ap (find q.0) number ∙ once k here_k));
+      }
 
-pub outgoing_leads : (plan : Plan) (t : Places) → IsSound plan → IsTableOf t plan.outs (outgoing plan.links) → Leads t plan.outs (link_out plan.links)
-outgoing_leads plan t sound table =
-    record {
-      laid_out = table.laid_out;
-      is = λ a n low here.
-          let l : ℕ = link_out plan.links a n in
-          let below : l < length plan.links = sound.each_out a n (omega (arith, sound.outs_each)) here in
-          let long : length (outgoing plan.links) ≡ length plan.links = length-map plan.links (λ k. (k.from, k.out)) in
-          let pair = get_or-map {Y = ℕ × ℕ} (λ (k : Link). (k.from, k.out)) plan.links l no_link (0, 0) below in
-          let is = link_out_is plan.links a n below in
-          let from_is : (pair_at (outgoing plan.links) l).0 ≡ a = ap (λ (p : ℕ × ℕ). p.0) pair ∙ is.0 in
-          let out_is : (pair_at (outgoing plan.links) l).1 ≡ n = ap (λ (p : ℕ × ℕ). p.1) pair ∙ is.1 in
-          subst (λ (m : ℕ). place_of t a m ≡ l) out_is (subst (λ (b : ℕ). place_of t b (pair_at (outgoing plan.links) l).1 ≡ l) from_is (table.finds l (omega arith)));
-    }
+  -- and the table has what the search finds
+  leads_of : (t : Places) → ((a n : ℕ) → a < length counts → n < slice_index counts a → find a n < length links)
+      → ((a n : ℕ) → find a n < length links → ((pair (link_at links (find a n))).0 ≡ a) × ((pair (link_at links (find a n))).1 ≡ n)) → IsTableOf t counts (map pair links) → Leads t counts find
+  leads_of t each found table =
+      record {
+        laid_out = table.laid_out;
+        is = λ a n low here.
+            let l : ℕ = find a n in
+            let below : l < length links = each a n low here in
+            let is = found a n below in
+            let actor_is : (pair_at (map pair links) l).0 ≡ a = ap (λ (p : ℕ × ℕ). p.0) (pair_is l below) ∙ is.0 in
+            let number_is : (pair_at (map pair links) l).1 ≡ n = ap (λ (p : ℕ × ℕ). p.1) (pair_is l below) ∙ is.1 in
+            subst (λ (m : ℕ). place_of t a m ≡ l) number_is (subst (λ (b : ℕ). place_of t b (pair_at (map pair links) l).1 ≡ l) actor_is (table.finds l (omega (arith, below, long))));
+      }
+
+-- so do the links of a sound wiring, as they come to their receivers and as they go from their senders
+module _ (plan : Plan) (sound : IsSound plan) where
+  pub incoming_numbering : IsNumbering plan.ins (incoming plan.links)
+  incoming_numbering = numbering_of plan.links plan.ins (λ l. (l.to, l.choice)) (link_in plan.links) sound.links_fit sound.to_below sound.choice_below sound.once_in
+
+  pub outgoing_numbering : IsNumbering plan.outs (outgoing plan.links)
+  outgoing_numbering =
+      numbering_of plan.links plan.outs (λ l. (l.from, l.out)) (link_out plan.links) sound.links_fit (λ l low. omega (arith, sound.from_below l low, sound.outs_each)) sound.out_below sound.once_out
+
+  pub incoming_leads : (t : Places) → IsTableOf t plan.ins (incoming plan.links) → Leads t plan.ins (link_in plan.links)
+  incoming_leads t = leads_of plan.links plan.ins (λ l. (l.to, l.choice)) (link_in plan.links) t sound.each_in (link_in_is plan.links)
+
+  pub outgoing_leads : (t : Places) → IsTableOf t plan.outs (outgoing plan.links) → Leads t plan.outs (link_out plan.links)
+  outgoing_leads t =
+      leads_of plan.links plan.outs (λ l. (l.from, l.out)) (link_out plan.links) t (λ a n low here. sound.each_out a n (omega (arith, low, sound.outs_each)) here) (link_out_is plan.links)
+
+-- the table of pairs that were read from a wiring
+pub numbered : (counts ns : List ℕ) (pairs ps : List (ℕ × ℕ)) → counts ≡ ns → pairs ≡ ps → IsNumbering ns ps → IsNumbering counts pairs
+numbered counts ns pairs ps same_counts same_pairs h = subst (λ (ms : List ℕ). IsNumbering ms pairs) (sym same_counts) (subst (IsNumbering ns) (sym same_pairs) h)
+
+pub tabled : (t : Places) (counts ns : List ℕ) (pairs ps : List (ℕ × ℕ)) → counts ≡ ns → pairs ≡ ps → IsTableOf t counts pairs → IsTableOf t ns ps
+tabled t counts ns pairs ps same_counts same_pairs h = subst (λ (ms : List ℕ). IsTableOf t ms ps) same_counts (subst (IsTableOf t counts) same_pairs h)

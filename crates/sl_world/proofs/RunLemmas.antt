@@ -1,12 +1,15 @@
 -- What turns keep, and a schedule with one more entry.
-use Rattle.std.proofs.Common.{◌≡◌, ℕ, ◌+◌, ◌-◌, ◌<◌, ◌≤◌, List, [], ◌∷◌, ◌++◌, length, take, get_or, refl, ap, sym, ◌∙◌, arith, zero, suc, subst, true, slice_get, Option, Some, None, Result, Ok, Err, inl, inr}
-use Rattle.std.specs.Prelude.{unwrap_or, nat_lt, OnOk, OnErr}
+use Rattle.std.proofs.Common.{◌≡◌, ℕ, ◌+◌, ◌-◌, ◌<◌, ◌≤◌, List, [], ◌∷◌, ◌++◌, length, take, get_or, refl, ap, sym, ◌∙◌, arith, zero, suc, subst, true, true≢false, slice_get, Option, Some, None, Result, Ok, Err, inl, inr}
+use Rattle.std.specs.Prelude.{unwrap_or, nat_lt, OnOk, OnErr, IsErr}
 use Rattle.std.proofs.lemmas.Bool.Decides.{nat_tests}
 use Rattle.std.proofs.lemmas.Option.{get_or_from_slice_get}
-use Rattle.std.proofs.lemmas.List.{length_push, take_more}
+use Rattle.std.proofs.lemmas.List.{length_push, take_more, take_all}
 use Rattle.sl_machine.specs.Machine.{Rules}
 use Rattle.sl_machine.specs.Plan.{link_in}
 use Rattle.sl_world.specs.Scene.{Scene, Line, empty_line, line_at, take_first, take_turn, turn_of, after_turn, after_all, entry_after, FindsNothing}
+use Rattle.sl_world.specs.Turns.{IsTurn, AreTurns}
+use Rattle.sl_world.specs.declared.world.Turn.{Turn}
+use Rattle.sl_world.specs.declared.world.Turn.TheVariants.{Did, Idle}
 use Rattle.sl_world.proofs.TurnLaws.{turn_is}
 use Rattle.sl_world.proofs.BookLaws.{book_after}
 
@@ -58,6 +61,46 @@ so_far_more rules old w v es at low before after =
       plan = keeps.plan ∙ before.plan;
       book = omega (arith, keeps.book, before.book);
     }
+
+on_ok : {T E P : Type 0} (r : Result T E) → P → OnOk r P
+on_ok (Ok t) p = p
+on_ok (Err x) p = tt
+
+not_ok : {T E : Type 0} (P : Type 0) (r : Result T E) → IsErr r → OnOk r P
+not_ok P (Ok t) err = absurd (true≢false (sym err))
+not_ok P (Err x) err = tt
+
+pub on_err : {T E P : Type 0} (r : Result T E) → P → OnErr r P
+on_err (Ok t) p = tt
+on_err (Err x) p = p
+
+-- they are the turns of the schedule where all were run, or one was refused
+module _ {S M T E : Type 0} (rules : Rules S M) (old now new : Scene S M) (es : List (ℕ × ℕ)) (at : ℕ) (answer : Result T E) (before : IsSoFar rules old now es at) (same : new ≡ now) where
+  turns_to : at ≤ length es → OnOk answer (new ≡ after_all rules old es) → AreTurns rules es answer old new
+  turns_to within ok =
+      record {
+        ok = ok;
+        front = record { entries = at; within = within; is = same ∙ before.so_far };
+        plan = ap (λ (w : Scene S M). w.plan) same ∙ before.plan;
+        book = omega (arith, ap (λ (w : Scene S M). length w.book) same, before.book, within);
+      }
+
+  pub all_run : at ≡ length es → AreTurns rules es answer old new
+  all_run end = turns_to (omega (arith, end)) (on_ok answer (same ∙ (before.so_far ∙ ap (after_all rules old) (take_all at es (omega (arith, end))))))
+
+  pub one_refused : at ≤ length es → IsErr answer → AreTurns rules es answer old new
+  one_refused within err = turns_to within (not_ok (new ≡ after_all rules old es) answer err)
+
+-- a turn that was refused, one that was idle, and one that did something
+pub refused : {S M E : Type 0} (rules : Rules S M) (actor choice : ℕ) (answer : Result Turn E) (old new : Scene S M) → IsErr answer → new ≡ old → IsTurn rules actor choice answer old new
+refused rules actor choice (Ok t) old new err same = absurd (true≢false (sym err))
+refused rules actor choice (Err x) old new err same = record { after = tt; did = λ is. absurd (cc); idle = λ is. absurd (cc); same = λ _. same; err = same }
+
+pub was_idle : {S M E : Type 0} (rules : Rules S M) (actor choice : ℕ) (old new : Scene S M) → turn_of rules old actor choice ≡ None → new ≡ old → IsTurn {E = E} rules actor choice (Ok Idle) old new
+was_idle rules actor choice old new none same = record { after = same ∙ ap (λ o. unwrap_or o old) (sym none); did = λ is. absurd (cc); idle = λ _. none; same = λ _. same; err = tt }
+
+pub was_done : {S M E : Type 0} (rules : Rules S M) (actor choice : ℕ) (old new : Scene S M) → turn_of rules old actor choice ≡ Some new → IsTurn {E = E} rules actor choice (Ok Did) old new
+was_done rules actor choice old new did = record { after = ap (λ o. unwrap_or o old) (sym did); did = λ _. did; idle = λ is. absurd (cc); same = λ is. absurd (cc); err = tt }
 
 module _ {S M : Type 0} (rules : Rules S M) (w : Scene S M) where
   first_none : (actor choice link : ℕ) (s : S) (line : Line M) → line.queue ≡ [] → take_first rules w actor choice link s line line.queue ≡ None

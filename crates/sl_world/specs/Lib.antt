@@ -7,5 +7,6 @@ pub mod Places
 pub mod Counts
 pub mod World
 pub mod Resting
+pub mod Turns
 pub mod Legal
 pub mod Keeping

@@ -13,7 +13,7 @@ ghost use Rattle.sl_world.specs.Looked.{HasRuns, step_at};
 use crate::line::Line;
 use crate::lines::Lines;
 use crate::looked::{Looked, Step};
-use crate::make::{copy_wiring, incoming_places, outgoing_places};
+use crate::make::{copy_wiring, incoming_pairs, outgoing_pairs};
 use crate::places::{Places, place_in};
 use sl_machine::{Memory, Outputs, Wiring};
 use std::alloc::Global;
@@ -49,8 +49,10 @@ impl<M: Drop> Links<M> {
         ensures plan { IfOk result (λ m. m.plan ≡ wiring.now) }
         ensures lines { IfOk result (λ m. m.lines ≡ lines_of lines.items) }
     {
-        let ins = incoming_places(alloc, wiring)?;
-        let outs = outgoing_places(alloc, wiring)?;
+        let in_pairs = incoming_pairs(alloc, wiring.links.as_slice())?;
+        let ins = Places::make(alloc, wiring.in_counts.as_slice(), in_pairs.as_slice())?;
+        let out_pairs = outgoing_pairs(alloc, wiring.links.as_slice())?;
+        let outs = Places::make(alloc, wiring.out_counts.as_slice(), out_pairs.as_slice())?;
         let wiring = copy_wiring(alloc, wiring)?;
         let lines = Lines::new(alloc, lines)?;
         let roomy = vec![in alloc; false; wiring.in_counts.len()]?;

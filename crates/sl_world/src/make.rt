@@ -1,12 +1,10 @@
 // The parts of a world that are made once.
 ghost use Rattle.std.specs.Prelude.{◌≡◌, ◌≤◌, ℕ, length, map, slice_index, IfOk};
-ghost use Rattle.sl_machine.specs.Plan.{IsSound, link_in, link_out};
 ghost use Rattle.sl_world.specs.Scene.{new_line, lines_with};
 ghost use Rattle.sl_world.specs.Mesh.{lines_of};
-ghost use Rattle.sl_world.specs.Places.{Leads, incoming, outgoing};
+ghost use Rattle.sl_world.specs.Places.{incoming, outgoing};
 
 use crate::line::Line;
-use crate::places::Places;
 use sl_loss::Loss;
 use sl_machine::{Link, Memory, Wiring};
 use std::alloc::Global;
@@ -58,31 +56,15 @@ pub fn greatest(numbers: &[u32]) -> u32
     most
 }
 
-/// For each actor, the links that come to it by its choices.
-pub fn incoming_places(alloc: Global, wiring: &Wiring) -> Result<Places, Memory>
-    requires { IsSound wiring.now }
-    ensures { IfOk result (λ t. Leads t wiring.now.ins (link_in wiring.now.links)) }
-{
-    let pairs = incoming_pairs(alloc, wiring.links.as_slice())?;
-    Places::make(alloc, wiring.in_counts.as_slice(), pairs.as_slice())
-}
-
-fn incoming_pairs(alloc: Global, links: &[Link]) -> Result<Vec<(u32, u32)>, Memory>
+/// The pairs by which links come to their receivers: an actor and its choice.
+pub fn incoming_pairs(alloc: Global, links: &[Link]) -> Result<Vec<(u32, u32)>, Memory>
     ensures { IfOk result (λ v. v.items ≡ incoming links.now) }
 {
     Ok(links.iter().map(|l| (l.to, l.choice)).collect(alloc)?)
 }
 
-/// For each actor, the links that go from it by their numbers.
-pub fn outgoing_places(alloc: Global, wiring: &Wiring) -> Result<Places, Memory>
-    requires { IsSound wiring.now }
-    ensures { IfOk result (λ t. Leads t wiring.now.outs (link_out wiring.now.links)) }
-{
-    let pairs = outgoing_pairs(alloc, wiring.links.as_slice())?;
-    Places::make(alloc, wiring.out_counts.as_slice(), pairs.as_slice())
-}
-
-fn outgoing_pairs(alloc: Global, links: &[Link]) -> Result<Vec<(u32, u32)>, Memory>
+/// The pairs by which links go from their senders: an actor and its outgoing link's number.
+pub fn outgoing_pairs(alloc: Global, links: &[Link]) -> Result<Vec<(u32, u32)>, Memory>
     ensures { IfOk result (λ v. v.items ≡ outgoing links.now) }
 {
     Ok(links.iter().map(|l| (l.from, l.out)).collect(alloc)?)

@@ -51,6 +51,7 @@ impl<A: Machine> World<A> {
     ghost use Rattle.sl_world.specs.World.{scene};
     ghost use Rattle.sl_world.specs.Scene.{turn_of, after_turn, after_all, IsFront, FindsNothing};
     ghost use Rattle.sl_world.specs.Scene.{first_scene};
+    ghost use Rattle.sl_world.specs.Turns.{IsTurn, AreTurns};
 
     /// A world where nothing has happened: nothing is on the links, and the book is empty. After
     /// want of memory the machines and losses are given up.
@@ -113,13 +114,8 @@ impl<A: Machine> World<A> {
         requires lines { length lines.items ≡ length wiring.now.links }
         requires numbers { All (λ e. e.number ≤ length book.entries) book.entries }
         ensures { IfOk result
-            (λ w. scene w
-            ≡ record {
-              plan = wiring.now;
-              states = map A.state machines.items;
-              lines = lines_of lines.items;
-              book = book.entries;
-            }) }
+            (λ w. scene w ≡ record (first_scene wiring.now (map A.state machines.items) [])
+            { lines = lines_of lines.items; book = book.entries }) }
     {
         let out = Outputs::with_room(alloc, greatest(wiring.out_counts.as_slice()))?;
         let links = Links::join(alloc, wiring, lines)?;
@@ -226,12 +222,7 @@ impl<A: Machine> World<A> {
         requires choices { All (λ e. HasChoice (scene self.old).plan e.0 e.1) schedule.now }
         requires links { looked.now ≡ links_of (scene self.old).plan schedule.now }
         requires book { length (scene self.old).book + length schedule.now < 2 ^ 40 }
-        ensures ok { OnOk result
-            (scene self.new ≡ after_all A.rules (scene self.old) schedule.now) }
-        ensures front { IsFront A.rules (scene self.old) schedule.now (scene self.new) }
-        ensures plan { (scene self.new).plan ≡ (scene self.old).plan }
-        ensures book { length (scene self.new).book ≤ length
-            (scene self.old).book + length schedule.now }
+        ensures { AreTurns A.rules schedule.now result (scene self.old) (scene self.new) }
     {
         let steps = looked.steps();
         let mut at = self.links.next_by(steps, 0);
@@ -266,12 +257,7 @@ impl<A: Machine> World<A> {
     fn run_each(&mut self, schedule: &[(u32, u32)]) -> Result<(), Memory>
         requires choices { All (λ e. HasChoice (scene self.old).plan e.0 e.1) schedule.now }
         requires book { length (scene self.old).book + length schedule.now < 2 ^ 40 }
-        ensures ok { OnOk result
-            (scene self.new ≡ after_all A.rules (scene self.old) schedule.now) }
-        ensures front { IsFront A.rules (scene self.old) schedule.now (scene self.new) }
-        ensures plan { (scene self.new).plan ≡ (scene self.old).plan }
-        ensures book { length (scene self.new).book ≤ length
-            (scene self.old).book + length schedule.now }
+        ensures { AreTurns A.rules schedule.now result (scene self.old) (scene self.new) }
     {
         for at in 0..schedule.len() {
             let (actor, choice) = schedule[at];
@@ -287,15 +273,8 @@ impl<A: Machine> World<A> {
         requires book { length (scene self.old).book < 2 ^ 40 }
         requires link { link ≡ link_in (scene self.old).plan.links actor choice }
         requires below { link < length (scene self.old).plan.links }
-        ensures after { OnOk result
-            (scene self.new ≡ after_turn A.rules (scene self.old) (actor, choice)) }
-        ensures did { result ≡ Ok Turn.Did → turn_of A.rules (scene self.old) actor choice
-            ≡ Some (scene self.new) }
-        ensures idle { result ≡ Ok Turn.Idle → turn_of A.rules (scene self.old) actor choice
-            ≡ None }
-        ensures same { result ≡ Ok Turn.Idle → scene self.new ≡ scene self.old }
+        ensures turn { IsTurn A.rules actor choice result (scene self.old) (scene self.new) }
         ensures empty { (line_at (scene self.old).lines link).queue ≡ [] → result ≡ Ok Turn.Idle }
-        ensures err { OnErr result (scene self.new ≡ scene self.old) }
     {
         if self.links.is_empty(link) {
             return Ok(Turn::Idle);
@@ -334,14 +313,7 @@ impl<A: Machine> World<A> {
         requires book { length (scene self.old).book < 2 ^ 40 }
         requires none { length (scene self.old).plan.links ≤ link_in
             (scene self.old).plan.links actor choice }
-        ensures after { OnOk result
-            (scene self.new ≡ after_turn A.rules (scene self.old) (actor, choice)) }
-        ensures did { result ≡ Ok Turn.Did → turn_of A.rules (scene self.old) actor choice
-            ≡ Some (scene self.new) }
-        ensures idle { result ≡ Ok Turn.Idle → turn_of A.rules (scene self.old) actor choice
-            ≡ None }
-        ensures same { result ≡ Ok Turn.Idle → scene self.new ≡ scene self.old }
-        ensures err { OnErr result (scene self.new ≡ scene self.old) }
+        ensures { IsTurn A.rules actor choice result (scene self.old) (scene self.new) }
     {
         let action = u64::from(choice) + 1;
         if self.resting[actor as usize] == action {

@@ -31,20 +31,17 @@ returns-clause-same g c = on_false c.act.result (λ e. map-set_same _ _ _ _ c.in
 pub returns-clause-counts : goal.returns-clause-counts
 returns-clause-counts g c = same_counts _ _ _ c.index_mut.result.now _ (c.act.ensures.counts ∙ ap g.A.Machine.counts c.index_mut.ensures.value)
 
-pub act-requires-clause-low : goal.act-requires-clause-low
-act-requires-clause-low g c = subst (λ n. n ≤ c.args.choice) (count_read (λ a. (g.A.Machine.counts a).ins) c.args.machines.now.items c.args.actor c.index_mut.result.now c.requires.actor c.index_mut.ensures.value) c.requires.low
-
-pub act-requires-clause-action : goal.act-requires-clause-action
-act-requires-clause-action g c =
+pub act-requires : goal.act-requires
+act-requires g c =
     let ins = count_read (λ a. (g.A.Machine.counts a).ins) c.args.machines.now.items c.args.actor c.index_mut.result.now c.requires.actor c.index_mut.ensures.value in
     let actions = count_read (λ a. (g.A.Machine.counts a).actions) c.args.machines.now.items c.args.actor c.index_mut.result.now c.requires.actor c.index_mut.ensures.value in
-    subst (λ n. c.args.choice < n + (g.A.Machine.counts c.index_mut.result.now).actions) ins (subst (λ n. c.args.choice < get_or (ins_of g.A.Machine.counts c.args.machines.now.items) c.args.actor 0 + n) actions c.requires.choice)
-
-pub act-requires-clause-ready : goal.act-requires-clause-ready
-act-requires-clause-ready g c = meaning_is g.A.Machine.ready_for c.args.machines.now.items c.args.actor c.index_mut.result.now (Some c.args.choice) c.requires.actor c.index_mut.ensures.value c.requires.ready
-
-pub act-requires-clause-room : goal.act-requires-clause-room
-act-requires-clause-room g c = subst (λ n. n ≤ c.args.out.now.room) (count_read (λ a. (g.A.Machine.counts a).outs) c.args.machines.now.items c.args.actor c.index_mut.result.now c.requires.actor c.index_mut.ensures.value) c.requires.room
+    record {
+      low = subst (λ n. n ≤ c.args.choice) ins c.requires.low;
+      action = subst (λ n. c.args.choice < n + (g.A.Machine.counts c.index_mut.result.now).actions) ins (subst (λ n. c.args.choice < get_or (ins_of g.A.Machine.counts c.args.machines.now.items) c.args.actor 0 + n) actions c.requires.choice);
+      ready = meaning_is g.A.Machine.ready_for c.args.machines.now.items c.args.actor c.index_mut.result.now (Some c.args.choice) c.requires.actor c.index_mut.ensures.value c.requires.ready;
+      empty = c.requires.empty;
+      room = subst (λ n. n ≤ c.args.out.now.room) (count_read (λ a. (g.A.Machine.counts a).outs) c.args.machines.now.items c.args.actor c.index_mut.result.now c.requires.actor c.index_mut.ensures.value) c.requires.room;
+    }
 
 pub returns-clause-fitting : goal.returns-clause-fitting
 returns-clause-fitting g c = subst (λ n. is_fitting n c.act.new.out.items ≡ true) (sym (count_read (λ a. (g.A.Machine.counts a).outs) c.args.machines.now.items c.args.actor c.index_mut.result.now c.requires.actor c.index_mut.ensures.value)) c.act.ensures.fitting

@@ -14,14 +14,14 @@ returns-clause-puts g c s h =
 pub returns-clause-counts : goal.returns-clause-counts
 returns-clause-counts g c = same_counts _ _ _ c.index_mut.result.now _ (c.take.ensures.counts ∙ ap g.A.Machine.counts c.index_mut.ensures.value)
 
-pub take-requires-clause-link : goal.take-requires-clause-link
-take-requires-clause-link g c = subst (λ n. c.args.choice < n) (count_read (λ a. (g.A.Machine.counts a).ins) c.args.machines.now.items c.args.actor c.index_mut.result.now c.requires.actor c.index_mut.ensures.value) c.requires.choice
-
-pub take-requires-clause-ready : goal.take-requires-clause-ready
-take-requires-clause-ready g c = meaning_is g.A.Machine.ready_for c.args.machines.now.items c.args.actor c.index_mut.result.now (Some c.args.choice) c.requires.actor c.index_mut.ensures.value c.requires.ready
-
-pub take-requires-clause-room : goal.take-requires-clause-room
-take-requires-clause-room g c = subst (λ n. n ≤ c.args.out.now.room) (count_read (λ a. (g.A.Machine.counts a).outs) c.args.machines.now.items c.args.actor c.index_mut.result.now c.requires.actor c.index_mut.ensures.value) c.requires.room
+pub take-requires : goal.take-requires
+take-requires g c =
+    record {
+      link = subst (λ n. c.args.choice < n) (count_read (λ a. (g.A.Machine.counts a).ins) c.args.machines.now.items c.args.actor c.index_mut.result.now c.requires.actor c.index_mut.ensures.value) c.requires.choice;
+      ready = meaning_is g.A.Machine.ready_for c.args.machines.now.items c.args.actor c.index_mut.result.now (Some c.args.choice) c.requires.actor c.index_mut.ensures.value c.requires.ready;
+      empty = c.requires.empty;
+      room = subst (λ n. n ≤ c.args.out.now.room) (count_read (λ a. (g.A.Machine.counts a).outs) c.args.machines.now.items c.args.actor c.index_mut.result.now c.requires.actor c.index_mut.ensures.value) c.requires.room;
+    }
 
 pub returns-clause-fitting : goal.returns-clause-fitting
 returns-clause-fitting g c = subst (λ n. is_fitting n c.take.new.out.items ≡ true) (sym (count_read (λ a. (g.A.Machine.counts a).outs) c.args.machines.now.items c.args.actor c.index_mut.result.now c.requires.actor c.index_mut.ensures.value)) c.take.ensures.fitting

@@ -1,16 +1,14 @@
-use Rattle.std.proofs.Common.{◌∙◌, ◌<◌, ap, length, arith}
+use Rattle.std.proofs.Common.{◌∙◌, ap}
 use Rattle.sl_world.specs.Scene.{line_put, put_at}
 use Rattle.sl_world.specs.Mesh.{lines_of}
 use Rattle.sl_world.proofs.RoomLemmas.{lines_of-put}
-use Rattle.sl_world.proofs.MarkLemmas.{marked-set}
+use Rattle.sl_world.proofs.MarkLemmas.{below_too, marked-written}
 use Rattle.sl_world.proofs.lines.Lines.put.Goals as goal
 
 pub invariant_of-self : goal.invariant_of-self
 invariant_of-self g c =
-    let low : c.args.link < length c.self.inside.lines.items = omega (arith, ap length c.self.view_is, c.requires.link) in
-    marked-set c.self.inside.lines.items c.self.inside.filled c.write.new.self c.args.link c.put-has_room.new.self c.is_empty.result c.self.invariant (record { same = c.write.ensures.same; others = c.write.ensures.others; room = c.write.ensures.room }) low c.is_empty.ensures
+    marked-written c.self.inside.lines.items _ c.self.inside.filled c.write.new.self c.args.link c.put-has_room.new.self c.is_empty.result c.self.view_is c.requires.link c.self.invariant (record { same = c.write.ensures.same; others = c.write.ensures.others; room = c.write.ensures.room }) c.is_empty.ensures
 
 pub returns-clause-lines : goal.returns-clause-lines
 returns-clause-lines g c =
-    let low : c.args.link < length c.self.inside.lines.items = omega (arith, ap length c.self.view_is, c.requires.link) in
-    lines_of-put c.self.inside.lines.items c.args.link c.index_mut-line.result.now c.put-has_room.new.self c.args.m low (c.put-has_room.ensures.line ∙ ap (λ v. line_put v.line c.args.m) c.index_mut-line.ensures.value) ∙ ap (λ ls. put_at (lines_of ls) c.args.link c.args.m) c.self.view_is
+    lines_of-put c.self.inside.lines.items c.args.link c.index_mut-line.result.now c.put-has_room.new.self c.args.m (below_too _ _ _ c.self.view_is c.requires.link) (c.put-has_room.ensures.line ∙ ap (λ v. line_put v.line c.args.m) c.index_mut-line.ensures.value) ∙ ap (λ ls. put_at (lines_of ls) c.args.link c.args.m) c.self.view_is

@@ -1,21 +1,18 @@
-use Rattle.std.proofs.Common.{◌<◌, ap, arith, length, set, subst}
+use Rattle.std.proofs.Common.{ap, set, subst}
 use Rattle.sl_world.specs.Mesh.{lines_of, KeepsSomeRoom}
 use Rattle.sl_world.proofs.MeshLemmas.{taken_from}
-use Rattle.sl_world.proofs.MarkLemmas.{marked-set}
+use Rattle.sl_world.proofs.MarkLemmas.{below_too, marked-written}
 use Rattle.sl_world.proofs.RoomLemmas.{some_room_set}
 use Rattle.sl_world.proofs.lines.Lines.take.Goals as goal
 
 pub invariant_of-self : goal.invariant_of-self
 invariant_of-self g c =
-    let low : c.args.link < length c.self.inside.lines.items = omega (arith, ap length c.self.view_is, c.requires.link) in
-    marked-set c.self.inside.lines.items c.self.inside.filled c.write.new.self c.args.link c.take-m.new.self c.is_empty.result c.self.invariant (record { same = c.write.ensures.same; others = c.write.ensures.others; room = c.write.ensures.room }) low c.is_empty.ensures
+    marked-written c.self.inside.lines.items _ c.self.inside.filled c.write.new.self c.args.link c.take-m.new.self c.is_empty.result c.self.view_is c.requires.link c.self.invariant (record { same = c.write.ensures.same; others = c.write.ensures.others; room = c.write.ensures.room }) c.is_empty.ensures
 
 pub returns-clause-rest : goal.returns-clause-rest
 returns-clause-rest g c =
-    let low : c.args.link < length c.self.inside.lines.items = omega (arith, ap length c.self.view_is, c.requires.link) in
-    taken_from c.self.inside.lines.items (lines_of c.args.self.now) c.args.link c.index_mut-line.result.now c.take-m.new.self c.take-m.result (ap lines_of c.self.view_is) low c.index_mut-line.ensures.value c.take-m.ensures.queue c.take-m.ensures.line
+    taken_from c.self.inside.lines.items (lines_of c.args.self.now) c.args.link c.index_mut-line.result.now c.take-m.new.self c.take-m.result (ap lines_of c.self.view_is) (below_too _ _ _ c.self.view_is c.requires.link) c.index_mut-line.ensures.value c.take-m.ensures.queue c.take-m.ensures.line
 
 pub returns-clause-keeps : goal.returns-clause-keeps
 returns-clause-keeps g c =
-    let low : c.args.link < length c.self.inside.lines.items = omega (arith, ap length c.self.view_is, c.requires.link) in
-    subst (λ views. KeepsSomeRoom views (set c.self.inside.lines.items c.args.link c.take-m.new.self)) c.self.view_is (some_room_set c.self.inside.lines.items c.args.link c.index_mut-line.result.now c.take-m.new.self low c.index_mut-line.ensures.value c.take-m.ensures.room)
+    subst (λ views. KeepsSomeRoom views (set c.self.inside.lines.items c.args.link c.take-m.new.self)) c.self.view_is (some_room_set c.self.inside.lines.items c.args.link c.index_mut-line.result.now c.take-m.new.self (below_too _ _ _ c.self.view_is c.requires.link) c.index_mut-line.ensures.value c.take-m.ensures.room)

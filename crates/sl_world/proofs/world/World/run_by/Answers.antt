@@ -4,7 +4,7 @@ use Rattle.sl_machine.specs.Plan.{Plan, HasChoice, link_in}
 use Rattle.sl_world.specs.Looked.{step_at}
 use Rattle.sl_world.specs.World.{scene}
 use Rattle.sl_world.proofs.LookupLemmas.{by_links, looked_entry, looked_link, looked_most, looked_long}
-use Rattle.sl_world.proofs.RunLemmas.{so_far_more, quiet_until}
+use Rattle.sl_world.proofs.RunLemmas.{so_far_more, quiet_until, all_run, one_refused}
 use Rattle.sl_world.proofs.world.World.run_by.Goals as goal
 
 pub next_by-at-requires-clause-links : goal.next_by-at-requires-clause-links
@@ -68,3 +68,12 @@ loop-at-preserved g c =
       front = quiet_until rules now old es (at + 1) next.result next.ensures.from quiet.within one quiet.nothing;
       some = next.ensures.some;
     }
+
+pub returns-in_err-turn_by : goal.returns-in_err-turn_by
+returns-in_err-turn_by g c =
+    one_refused g.A.Machine.rules (scene c.args.self.now) (scene c.loop-at.self) (scene c.turn_by.new.self) c.args.schedule.now c.loop-at.at c.from_residual.result c.loop-at.invariant.front c.in_err-turn_by.ensures.err c.loop-at.invariant.within c.from_residual.ensures.0
+
+pub returns : goal.returns
+returns g c =
+    let long = looked_long (scene c.args.self.now).plan c.args.schedule.now c.steps-steps.result.now (c.steps-steps.ensures.entries ∙ c.requires.links) in
+    all_run g.A.Machine.rules (scene c.args.self.now) (scene c.loop-at.self) (scene c.loop-at.self) c.args.schedule.now c.loop-at.at _ c.loop-at.invariant.front refl (omega (arith, long, c.loop-at-test.false, c.loop-at.invariant.within))

@@ -3,7 +3,7 @@ use Rattle.std.proofs.lemmas.List.{length-map}
 use Rattle.sl_world.specs.Scene.{line_at, without_first, put_all, entry_after}
 use Rattle.sl_world.specs.World.{scene}
 use Rattle.sl_world.specs.Resting.{AreResting}
-use Rattle.sl_world.proofs.BookLaws.{low_after, last_low}
+use Rattle.sl_world.proofs.BookLaws.{low_noted, last_low}
 use Rattle.sl_world.proofs.TurnLemmas.{some_at, line_some, took, done_is}
 use Rattle.sl_world.proofs.RestLemmas.{not_resting}
 use Rattle.sl_world.proofs.world.World.take_from.Goals as goal
@@ -57,9 +57,7 @@ invariant_of-self-inside-2-clause-space g c = λ k.
     rw (c.deliver.ensures.plan ∙ (c.take-m.ensures.plan ∙ (c.prepare.ensures.plan ∙ ap (λ v. v.links.plan) c.self.view_is)), c.deliver.ensures.room ∙ (c.take_at.ensures.room ∙ ap (λ v. v.out.room) c.self.view_is)) (c.args.self.now.space k)
 
 pub invariant_of-self-inside-2-clause-low : goal.invariant_of-self-inside-2-clause-low
-invariant_of-self-inside-2-clause-low g c =
-    low_after c.args.self.now.book.entries c.note.new.entries.items c.args.actor c.args.choice (c.note.ensures ∙ ap (λ es. es ++ entry_after es c.args.actor c.args.choice ∷ []) (c.in_ok-make_room.ensures.entries ∙ ap (λ v. v.book.entries) c.self.view_is)) c.args.self.now.low
+invariant_of-self-inside-2-clause-low g c = low_noted _ _ _ c.args.actor c.args.choice (c.in_ok-make_room.ensures.entries ∙ ap (λ v. v.book.entries) c.self.view_is) c.note.ensures c.args.self.now.low
 
 pub invariant_of-self-inside-2-clause-numbered : goal.invariant_of-self-inside-2-clause-numbered
-invariant_of-self-inside-2-clause-numbered g c =
-    last_low c.note.new.entries.items (length c.note.new.entries.items) (invariant_of-self-inside-2-clause-low g c)
+invariant_of-self-inside-2-clause-numbered g c = last_low c.note.new.entries.items (length c.note.new.entries.items) (invariant_of-self-inside-2-clause-low g c)

@@ -7,14 +7,14 @@ use Rattle.sl_world.proofs.world.World.turn.Goals as goal
 pub returns-in-Some : goal.returns-in-Some
 returns-in-Some g c =
     let was = scene c.args.self.now in
-    let e = c.take_turn.ensures in
+    let e = c.take_turn.ensures.turn in
     let keeps = either_keeps g.A.Machine.rules was (scene c.take_turn.new.self) (c.args.actor, c.args.choice) c.take_turn.result e.after e.err in
     record {
       after = e.after;
       did = e.did;
       idle = e.idle;
       same = e.same;
-      empty = λ h. e.empty (ap (λ k. (line_at was.lines k).queue) c.in-Some.ensures.link ∙ h.empty);
+      empty = λ h. c.take_turn.ensures.empty (ap (λ k. (line_at was.lines k).queue) c.in-Some.ensures.link ∙ h.empty);
       err = e.err;
       plan = keeps.plan;
       book = keeps.book;

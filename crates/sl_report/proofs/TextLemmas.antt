@@ -21,9 +21,13 @@ pub totals_more : (net : Net) (ls : List ℕ) (ts : List Total) (i : ℕ) (d : T
 totals_more net ls ts i d h k = rw (drop_more ls i 0 h, drop_more ts i d k) (simp append_assoc)
 
 -- two lists walked side by side, past the end of one
-pub nothing_left : {A : Type 0} (text : List ℕ → List A → List ℕ) → ((ns : List ℕ) → text ns [] ≡ []) → ((xs : List A) → text [] xs ≡ []) → (ns : List ℕ) (xs : List A) (i : ℕ) → min (length ns) (length xs) ≤ i → text (drop i ns) (drop i xs) ≡ []
-nothing_left text no_xs no_ns ns xs i h = go (cases_order (length ns) i) (cases_order (length xs) i)
+pub nothing_left : {A : Type 0} (text : List ℕ → List A → List ℕ) → text [] [] ≡ [] → ((n : ℕ) (ns : List ℕ) → text (n ∷ ns) [] ≡ []) → ((xs : List A) → text [] xs ≡ []) → (ns : List ℕ) (xs : List A) (i : ℕ) → min (length ns) (length xs) ≤ i → text (drop i ns) (drop i xs) ≡ []
+nothing_left text none more no_ns ns xs i h = go (cases_order (length ns) i) (cases_order (length xs) i)
   where
+    no_xs : (ns : List ℕ) → text ns [] ≡ []
+    no_xs [] = none
+    no_xs (n ∷ ns) = more n ns
+
     go : (length ns ≡ i) ⊎ ((length ns < i) ⊎ (i < length ns)) → (length xs ≡ i) ⊎ ((length xs < i) ⊎ (i < length xs)) → text (drop i ns) (drop i xs) ≡ []
     go (inl a) o = rw (drop_all i ns (omega arith)) (no_ns (drop i xs))
     go (inr (inl a)) o = rw (drop_all i ns (omega arith)) (no_ns (drop i xs))
@@ -32,18 +36,10 @@ nothing_left text no_xs no_ns ns xs i h = go (cases_order (length ns) i) (cases_
     go (inr (inr a)) (inr (inr b)) = absurd (omega arith)
 
 pub totals_none : (net : Net) (ls : List ℕ) (ts : List Total) (i : ℕ) → min (length ls) (length ts) ≤ i → totals_text net (drop i ls) (drop i ts) ≡ []
-totals_none net = nothing_left (totals_text net) none (λ ts. refl)
-  where
-    none : (ns : List ℕ) → totals_text net ns [] ≡ []
-    none [] = refl
-    none (n ∷ ns) = refl
+totals_none net = nothing_left (totals_text net) refl (λ n ns. refl) (λ ts. refl)
 
 pub rows_none : (net : Net) (us : List ℕ) (rs : List Row) (i : ℕ) → min (length us) (length rs) ≤ i → rows_text net (drop i us) (drop i rs) ≡ []
-rows_none net = nothing_left (rows_text net) none (λ rs. refl)
-  where
-    none : (ns : List ℕ) → rows_text net ns [] ≡ []
-    none [] = refl
-    none (n ∷ ns) = refl
+rows_none net = nothing_left (rows_text net) refl (λ n ns. refl) (λ rs. refl)
 
 -- what is written so far, where nothing is left
 pub written_all : (out old rest whole : List ℕ) → out ++ rest ≡ old ++ whole → rest ≡ [] → out ≡ old ++ whole

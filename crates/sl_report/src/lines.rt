@@ -62,10 +62,12 @@ pub fn push_drops(out: &mut String, drops: &Drops) -> Result<(), AllocError>
 pub fn push_lost(out: &mut String, lost: &Lost) -> Result<(), AllocError>
     ensures { OnOk result (string_bytes out.new ≡ string_bytes out.old ++ lost_line lost.now) }
 {
-    let cable = lost.cable;
-    let crossbar = lost.crossbar;
-    let init = lost.init;
-    let notice = lost.notice;
+    let Lost {
+        cable,
+        crossbar,
+        init,
+        notice,
+    } = *lost;
     write!(
         out,
         "lost cable {cable} crossbar {crossbar} init {init} notice {notice}\n"

@@ -56,13 +56,7 @@ fn sum_of(counts: &[u64]) -> u128
 fn lost_in_all(lost: &Lost) -> u128
     ensures { result ≡ lost_in_all lost.now }
 {
-    let Lost {
-        cable,
-        crossbar,
-        init,
-        notice,
-    } = *lost;
-    cable as u128 + crossbar as u128 + init as u128 + notice as u128
+    lost.cable as u128 + lost.crossbar as u128 + lost.init as u128 + lost.notice as u128
 }
 
 #[tactic(auto, unfolding(crate::specs::SummaryText::sample_line))]

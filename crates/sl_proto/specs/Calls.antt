@@ -7,6 +7,7 @@
 --     SettlesFront, FinishesFront net v u  u is after the first turns of these
 -- Within settling and finishing, by what the call answers:
 --     LeadsFrom x P v Q u                  by the first turns of each schedule of P at v; those that are left are a schedule of Q
+--     CanFinish net v p es                 the scene, and what a round goes by
 --     AllDone answer, MoreRounds x u more, RoundsLeft x u answer     what is left; of a call that ends for want of memory nothing is said
 --     SettlingLeads, ResendingLeads, SweepingLeads, FinishingLeads net v answer u     by the first turns of whatever settling takes, of
 --         what finishing takes from where it resends, from where it has settled, from its start
@@ -18,11 +19,14 @@ use Rattle.sl_wire.specs.declared.message.Msg.{Msg}
 use Rattle.sl_model.specs.History.{World, Losses}
 use Rattle.sl_model.specs.Setup.{Setup}
 use Rattle.sl_model.specs.World.{Entry}
+use Rattle.sl_model.specs.Schedule.{sweeps}
 use Rattle.sl_model.specs.End.{Settled, IsFin}
 use Rattle.sl_world.specs.Scene.{Scene}
 use Rattle.sl_proto.specs.Nodes.{NodeState}
 use Rattle.sl_proto.specs.Runs.{Follows}
 use Rattle.sl_proto.specs.Standing.{Case, world_of, run_at, StandsFor, HasObserver, SettlesTo, FinishesTo}
+use Rattle.sl_proto.specs.declared.passes.Pass.{Pass}
+use Rattle.sl_proto.specs.Passes.{IsPass}
 use Rattle.sl_proto.specs.Fronts.{FollowsFront, SettlesTowards, FinishesTowards, Leads, Whatever, Nothing, SettlesBy, SweepsBy, ResendsBy}
 
 abbrev pub KeepsStanding : Net → Scene NodeState Msg → Scene NodeState Msg → Type 0
@@ -61,6 +65,13 @@ abbrev pub FinishesFront : Net → Scene NodeState Msg → Scene NodeState Msg �
 FinishesFront net v u = (x : Case) → 0 < x.setup.window → StandsFor net x v → FinishesTowards x.setup x.lost (run_at x v) (run_at x u)
 
 -- Within settling and finishing.
+
+-- the scene has the net's plan and an observer; these are the net's settling pass and its sweeps
+pub record CanFinish (net : Net) (v : Scene NodeState Msg) (p : Pass) (es : List Entry) : Type 0 where
+  pub plan : v.plan ≡ plan_of net
+  pub observer : HasObserver v
+  pub pass : IsPass net true p
+  pub sweep : es ≡ sweeps net
 
 abbrev pub LeadsFrom : Case → (Setup → Losses → World → List Entry → Type 0) → Scene NodeState Msg → (List Entry → Type 0) → Scene NodeState Msg → Type 0
 LeadsFrom x P v Q u = Leads x.setup x.lost (P x.setup x.lost (world_of x v)) (run_at x v) Q (run_at x u)

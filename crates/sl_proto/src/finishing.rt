@@ -10,7 +10,7 @@ ghost use Rattle.sl_proto.specs.Standing.{Case, world_of, StandsFor, HasObserver
 ghost use Rattle.sl_proto.specs.Reached.{HasReached, TellsCollected};
 ghost use Rattle.sl_proto.specs.Passes.{IsPass};
 ghost use Rattle.sl_proto.specs.Calls.{Keeps, Settles, SettlesFront, Finishes, FinishesFront};
-ghost use Rattle.sl_proto.specs.Calls.{SettlingLeads, IsSettledAfter, ResendingLeads};
+ghost use Rattle.sl_proto.specs.Calls.{SettlingLeads, IsSettledAfter, ResendingLeads, CanFinish};
 ghost use Rattle.sl_proto.specs.Calls.{SweepingLeads, FinishingLeads};
 
 use crate::passes::Pass;
@@ -120,10 +120,7 @@ fn take_round<T: Taker>(
     pass: &Pass,
     sweep: &[(u32, u32)],
 ) -> Result<bool, Memory>
-    requires plan { (T.scene taker.old).plan ≡ plan_of net.now }
-    requires observer { HasObserver (T.scene taker.old) }
-    requires pass { IsPass net.now true pass.now }
-    requires sweep { sweep.now ≡ sweeps net.now }
+    requires { CanFinish net.now (T.scene taker.old) pass.now sweep.now }
     ensures keeps { Keeps T.scene T.fixed net.now taker.old taker.new }
     ensures leads { SweepingLeads net.now (T.scene taker.old) result (T.scene taker.new) }
 {
@@ -148,10 +145,7 @@ fn finish_by<T: Taker>(
     pass: &Pass,
     sweep: &[(u32, u32)],
 ) -> Result<(), Memory>
-    requires plan { (T.scene taker.old).plan ≡ plan_of net.now }
-    requires observer { HasObserver (T.scene taker.old) }
-    requires pass { IsPass net.now true pass.now }
-    requires sweep { sweep.now ≡ sweeps net.now }
+    requires { CanFinish net.now (T.scene taker.old) pass.now sweep.now }
     ensures keeps { Keeps T.scene T.fixed net.now taker.old taker.new }
     ensures leads { FinishingLeads net.now (T.scene taker.old) result (T.scene taker.new) }
 {

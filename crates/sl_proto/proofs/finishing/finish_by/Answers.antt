@@ -8,8 +8,13 @@ use Rattle.sl_proto.proofs.Standing.{keeps_none, keeps_on}
 use Rattle.sl_proto.proofs.Fronts.{leads-none, leads-somewhere, done-short, finishing-settling, finishing-round}
 use Rattle.sl_proto.proofs.finishing.finish_by.Goals as goal
 
-pub take_round-requires-clause-observer : goal.take_round-requires-clause-observer
-take_round-requires-clause-observer g c = c.settle_by.ensures.keeps.observer (c.loop-round.invariant.keeps.observer c.requires.observer)
+pub take_round-requires : goal.take_round-requires
+take_round-requires g c = let kept = c.settle_by.ensures.keeps in record {
+  plan = kept.plan;
+  observer = kept.observer (c.loop-round.invariant.keeps.observer c.requires.observer);
+  pass = c.requires.pass;
+  sweep = c.requires.sweep;
+}
 
 pub loop-round-init : goal.loop-round-init
 loop-round-init g c = let v = g.T.Taker.scene c.args.taker.now in record {

@@ -34,7 +34,7 @@ pub place_is : (net : Net) (a : ℕ) (x : ActorId) → net ≡ net_of net.parts 
 place_is net a x made = subst (λ n. a < length n.actors → actor_of n a ≡ x → place_of x n.actors ≡ a) (sym made)
     (λ low q. ap (λ y. place_of y (actors_of net.parts)) (sym q) ∙ place-at net.parts a low)
 
-pub unit_fits : (net : Net) (a : ℕ) (u : UnitId) (ports : List (Option ℕ)) (n : Snapshot) → actor_of net a ≡ OfUnit u → counts_of (wires_of net a ports n) ≡ counts_at net a
+unit_fits : (net : Net) (a : ℕ) (u : UnitId) (ports : List (Option ℕ)) (n : Snapshot) → actor_of net a ≡ OfUnit u → counts_of (wires_of net a ports n) ≡ counts_at net a
 unit_fits net a u ports n q =
     let ins : length (map (entrance_by net a) (below (length (links_into net a)))) ≡ length (links_into net a) =
     length-map (below (length (links_into net a))) (entrance_by net a) ∙ length-range_with_len 0 (length (links_into net a)) in
@@ -92,10 +92,13 @@ pub record StandsAt (net : Net) (a place : ℕ) : Type 0 where
   pub within : place < length (units net)
   pub is : slice_index (units net) place ≡ a
 
-pub unit_stands : (net : Net) (a : ℕ) (u : UnitId) → ((net : Net) → HasWays net) → actor_of net a ≡ OfUnit u → StandsAt net a (unit_place net a)
+unit_stands : (net : Net) (a : ℕ) (u : UnitId) → ((net : Net) → HasWays net) → actor_of net a ≡ OfUnit u → StandsAt net a (unit_place net a)
 unit_stands net a u ways q = let r = place_finds 0 a (units net) ((ways net).unit a u q) in
     let z : unit_place net a - 0 ≡ unit_place net a = omega arith in
     record { within = omega (arith, r.0); is = ap (λ j. get_or (units net) j 0) (sym z) ∙ r.2 }
+
+pub unit_found : (net : Net) (a place : ℕ) (u : UnitId) → ((net : Net) → HasWays net) → actor_of net a ≡ OfUnit u → place ≡ unit_place net a → StandsAt net a place
+unit_found net a place u ways q p = subst (StandsAt net a) (sym p) (unit_stands net a u ways q)
 
 -- The observer.
 

@@ -4,7 +4,7 @@ ghost use Rattle.std.specs.Prelude.{slice_index};
 ghost use Rattle.std.specs.List.{All};
 ghost use Rattle.sl_machine.specs.Fit.{HasCounts};
 ghost use Rattle.sl_machine.specs.Machine.{Counts};
-ghost use Rattle.sl_layout.specs.Net.{Net, actor_of, units};
+ghost use Rattle.sl_layout.specs.Net.{Net, units};
 ghost use Rattle.sl_layout.specs.Wiring.{plan_of};
 ghost use Rattle.sl_route.specs.Routes.{IsRoutesOf};
 ghost use Rattle.sl_loss.specs.Loss.{IsFresh};
@@ -15,7 +15,7 @@ ghost use Rattle.sl_control.specs.Wires.{control_of, control_counts};
 ghost use Rattle.sl_world.specs.Scene.{first_scene};
 ghost use Rattle.sl_world.specs.World.{scene};
 ghost use Rattle.sl_proto.specs.Nodes.{node_state_by, node_counts_by, node_ready_by};
-ghost use Rattle.sl_proto.specs.Built.{IsBuildable, first_unit, first_node, first_at};
+ghost use Rattle.sl_proto.specs.Built.{IsBuildable, first_unit, first_at};
 ghost use Rattle.sl_proto.specs.Built.{first_states, first_states_by, counts_at, IsFirstNode};
 
 use crate::node::Node;
@@ -23,7 +23,7 @@ use sl_control::Control;
 use sl_host::Host;
 use sl_loss::Loss;
 use sl_machine::Memory;
-use sl_net::{ActorId, Input, Net, Side, Snapshot, UnitId, nets_are_wired, nets_have_ways};
+use sl_net::{ActorId, Input, Net, Side, Snapshot, nets_are_wired, nets_have_ways};
 use sl_observe::Observer;
 use sl_route::Routes;
 use sl_unit::Unit;
@@ -76,45 +76,6 @@ impl ControlPlane for Control {
     }
 }
 
-/// The observer's node.
-#[tactic(auto, using(crate::proofs::Counts::observer_at))]
-fn make_observer<C: ControlPlane>(
-    alloc: Global,
-    input: &Input,
-    actor: u32,
-) -> Result<Node<C>, Memory>
-    requires actor { actor_of input.now.net actor ≡ ActorId.Observer }
-    ensures { IfOk result (IsFirstNode C.state C.counts C.ready_for
-        (first_node C.first input.now actor ActorId.Observer) (counts_at input.now.net actor)) }
-{
-    // A net is that of its parts, so its first actor alone is the observer.
-    let _parts = input.net.parts();
-    nets_are_wired();
-    let observer = Observer::new(alloc, &input.net, &input.snapshot)?;
-    Ok(Node::Observer(observer))
-}
-
-/// The node of a control plane.
-#[tactic(auto, using(crate::proofs::Counts::place_is))]
-fn make_control<C: ControlPlane>(
-    alloc: Global,
-    input: &Input,
-    actor: u32,
-    device: u32,
-) -> Result<Node<C>, Memory>
-    requires below { actor < length input.now.net.actors }
-    requires actor { actor_of input.now.net actor ≡ ActorId.Control device }
-    requires device { device < length input.now.net.parts.devices }
-    requires input { IsBuildable input.now }
-    ensures { IfOk result (IsFirstNode C.state C.counts C.ready_for
-        (first_node C.first input.now actor (ActorId.Control device))
-        (counts_at input.now.net actor)) }
-{
-    let _parts = input.net.parts();
-    let control = C::make(alloc, &input.net, device, &input.snapshot)?;
-    Ok(Node::Control(control))
-}
-
 /// The unit at a place among the units.
 fn unit_at(
     alloc: Global,
@@ -138,50 +99,8 @@ fn unit_at(
     }
 }
 
-/// The node of a unit.
-#[tactic(auto, using(crate::proofs::Counts::unit_stands, crate::proofs::Counts::unit_fits))]
-fn make_unit<C: ControlPlane>(
-    alloc: Global,
-    input: &Input,
-    routes: &Routes,
-    actor: u32,
-    unit: UnitId,
-) -> Result<Node<C>, Memory>
-    requires below { actor < length input.now.net.actors }
-    requires actor { actor_of input.now.net actor ≡ ActorId.Unit unit }
-    requires routes { IsRoutesOf input.now.net routes.now }
-    requires input { IsBuildable input.now }
-    ensures { IfOk result (IsFirstNode C.state C.counts C.ready_for
-        (first_node C.first input.now actor (ActorId.Unit unit))
-        (counts_at input.now.net actor)) }
-{
-    nets_have_ways();
-    let place = input.net.unit_place(actor);
-    let unit = unit_at(alloc, input, routes, place, unit.side)?;
-    Ok(Node::Unit(unit))
-}
-
-/// The node of a host.
-fn make_host<C: ControlPlane>(
-    alloc: Global,
-    input: &Input,
-    actor: u32,
-    host: u32,
-) -> Result<Node<C>, Memory>
-    requires below { actor < length input.now.net.actors }
-    requires actor { actor_of input.now.net actor ≡ ActorId.Host host }
-    requires input { IsBuildable input.now }
-    ensures { IfOk result (IsFirstNode C.state C.counts C.ready_for
-        (first_node C.first input.now actor (ActorId.Host host))
-        (counts_at input.now.net actor)) }
-{
-    nets_are_wired();
-    let _parts = input.net.parts();
-    let node = Host::new(alloc, host, input)?;
-    Ok(Node::Host(node))
-}
-
-/// The node of an actor.
+/// The node of an actor. A net is that of its parts, so it is wired as such nets are.
+#[tactic(auto, using(crate::proofs::Counts::observer_at, crate::proofs::Counts::place_is))]
 fn make_node<C: ControlPlane>(
     alloc: Global,
     input: &Input,
@@ -194,11 +113,27 @@ fn make_node<C: ControlPlane>(
     ensures { IfOk result (IsFirstNode C.state C.counts C.ready_for
         (first_at C.first input.now actor) (counts_at input.now.net actor)) }
 {
+    let _parts = input.net.parts();
+    nets_are_wired();
+    nets_have_ways();
     match input.net.actor(actor) {
-        ActorId::Observer => make_observer(alloc, input, actor),
-        ActorId::Control(device) => make_control(alloc, input, actor, device),
-        ActorId::Unit(unit) => make_unit(alloc, input, routes, actor, unit),
-        ActorId::Host(host) => make_host(alloc, input, actor, host),
+        ActorId::Observer => {
+            let observer = Observer::new(alloc, &input.net, &input.snapshot)?;
+            Ok(Node::Observer(observer))
+        }
+        ActorId::Control(device) => {
+            let control = C::make(alloc, &input.net, device, &input.snapshot)?;
+            Ok(Node::Control(control))
+        }
+        ActorId::Unit(unit) => {
+            let place = input.net.unit_place(actor);
+            let unit = unit_at(alloc, input, routes, place, unit.side)?;
+            Ok(Node::Unit(unit))
+        }
+        ActorId::Host(host) => {
+            let host = Host::new(alloc, host, input)?;
+            Ok(Node::Host(host))
+        }
     }
 }
 

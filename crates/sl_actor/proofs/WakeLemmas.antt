@@ -1,7 +1,7 @@
 -- No wake-up is lost, act by act.
 use Rattle.std.proofs.Common.{◌≡◌, ◌≢◌, ◌+◌, ◌-◌, ◌<◌, ◌==◌, ◌⊎◌, inl, inr, ⊎_elim, ℕ, Bool, true, false, true≢false, List, [], ◌∷◌, if◌then◌else◌, refl, sym, ap, ◌∙◌, subst, eq-eqb, ne_eqb, arith}
 use Rattle.std.proofs.lemmas.Bool.{cases_eq}
-use Rattle.sl_actor.specs.Wakes.{Ends, Beds, Act, Put, Ask, Wake, LieDown, Sleep, GetUp, End, Begin, Rouse, FindEmpty, Take, HoldBack, PutAll, Mark, MeetFull, SeeNoMark, TakeMark, AskSender, WakeSender, at, IsAllowed, after, after_all, AreAllowed, begun, IsStill, LosesNoWakeUp, HoldsNothingBack}
+use Rattle.sl_actor.specs.Wakes.{Ends, Beds, Act, Put, Ask, Wake, LieDown, Sleep, GetUp, End, Begin, Rouse, FindEmpty, Take, HoldBack, PutAll, Mark, MeetFull, SeeNoMark, TakeMark, AskSender, WakeSender, at, IsAllowed, after, after_all, AreAllowed, begun, IsStill, OwesNothing, LosesNoWakeUp, HoldsNothingBack}
 
 module _ {X : Type 0} (i j : ℕ) (x : X) (f : ℕ → X) where
   at_is : j ≡ i → at i x f j ≡ x
@@ -9,6 +9,17 @@ module _ {X : Type 0} (i j : ℕ) (x : X) (f : ℕ → X) where
 
   at_else : j ≢ i → at i x f j ≡ f j
   at_else other = ap (λ (b : Bool). if b then x else f j) (ne_eqb j i other)
+
+  -- what is true of the new value and of what was there
+  at_either : (P : X → Type 0) → P x → P (f j) → P (at i x f j)
+  at_either P new old =
+      elim (cases_eq j i) [
+        | inl same ↦ subst P (sym (at_is same)) new
+        | inr other ↦ subst P (sym (at_else other)) old
+      ]
+
+  at_more : f j ≡ x → at i x f j ≡ x
+  at_more = at_either (λ (y : X). y ≡ x) refl
 
 -- what is true after one place became false was true, and is at another place
 still_true : (i j : ℕ) (f : ℕ → Bool) → at i false f j ≡ true → (f j ≡ true) × (j ≢ i)
@@ -31,6 +42,20 @@ not_cleared i j b h = still_true i j (λ _. b) h
 apart : (f : ℕ → Bool) (a b : ℕ) → f a ≡ true → f b ≡ false → a ≢ b
 apart f a b here there same = true≢false (sym here ∙ ap f same ∙ there)
 
+-- who is still after an act of an actor was still before it, but for that actor
+module _ (s : Beds) (a b : ℕ) where
+  slept_before : b ≢ a → (at a true s.sleeps b ≡ true) ⊎ (s.ended b ≡ true) → IsStill s b
+  slept_before other = ⊎_elim (λ (x : at a true s.sleeps b ≡ true). inl (sym (at_else a b true s.sleeps other) ∙ x)) (λ (x : s.ended b ≡ true). inr x)
+
+  ended_before : b ≢ a → (s.sleeps b ≡ true) ⊎ (at a true s.ended b ≡ true) → IsStill s b
+  ended_before other = ⊎_elim (λ (x : s.sleeps b ≡ true). inl x) (λ (x : at a true s.ended b ≡ true). inr (sym (at_else a b true s.ended other) ∙ x))
+
+  got_up_before : (at a false s.sleeps b ≡ true) ⊎ (s.ended b ≡ true) → IsStill s b
+  got_up_before = ⊎_elim (λ (x : at a false s.sleeps b ≡ true). inl (still_true a b s.sleeps x).0) (λ (x : s.ended b ≡ true). inr x)
+
+  begun_before : (s.sleeps b ≡ true) ⊎ (at a false s.ended b ≡ true) → IsStill s b
+  begun_before = ⊎_elim (λ (x : s.sleeps b ≡ true). inl x) (λ (x : at a false s.ended b ≡ true). inr (still_true a b s.ended x).0)
+
 pub record Keeps (e : Ends) (s : Beds) : Type 0 where
   -- a link that its receiver found empty since it lay down holds nothing, unless the receiver was or will be woken
   pub empty : (l : ℕ) → s.word (e.to l) ≡ true → s.lies (e.to l) ≡ true → s.seen l ≡ true → s.owed l ≡ false → s.held l ≡ 0
@@ -45,10 +70,14 @@ keeps_begun e = record { empty = λ l w d n o. refl; looked = λ l w. absurd (tr
 module _ (e : Ends) (s : Beds) (h : Keeps e s) where
   -- one link less is owed
   told_more : (l k : ℕ) → IsStill s (e.from k) → at l false s.owed k ≡ false
-  told_more l k still =
-      elim (cases_eq k l) [
-        | inl same ↦ at_is l k false s.owed same
-        | inr other ↦ at_else l k false s.owed other ∙ h.told k still
+  told_more l k still = at_more l k false s.owed (h.told k still)
+
+  -- one actor more is still, which has told of all that it put
+  told_then : (a k : ℕ) (Then : ℕ → Type 0) → OwesNothing e s a → ((b : ℕ) → b ≢ a → Then b → IsStill s b) → Then (e.from k) → s.owed k ≡ false
+  told_then a k Then owes before still =
+      elim (cases_eq (e.from k) a) [
+        | inl same ↦ owes.told k same
+        | inr other ↦ h.told k (before (e.from k) other still)
       ]
 
   never_still : (l k : ℕ) → k ≡ l → (s.sleeps (e.from l) ≡ false) × (s.ended (e.from l) ≡ false) → IsStill s (e.from k) → ⊥
@@ -97,34 +126,16 @@ module _ (e : Ends) (s : Beds) (h : Keeps e s) where
               | inl same ↦ (ap s.lies same ∙ may.0, may.1 k same)
               | inr other ↦ h.looked k (sym (at_else a (e.to k) true s.sleeps other) ∙ w)
             ];
-        told = λ k still.
-            elim (cases_eq (e.from k) a) [
-              | inl same ↦ may.2.told k same
-              | inr other ↦ h.told k (⊎_elim (λ (x : at a true s.sleeps (e.from k) ≡ true). inl (sym (at_else a (e.from k) true s.sleeps other) ∙ x)) (λ (x : s.ended (e.from k) ≡ true). inr x) still)
-            ];
+        told = λ k still. told_then a k (IsStill (after e s (Sleep a))) may.2 (slept_before s a) still;
       }
   keeps (GetUp a) _ =
       record {
         empty = λ k w d n o. h.empty k (still_true a (e.to k) s.word w).0 (still_true a (e.to k) s.lies d).0 n o;
         looked = λ k w. let was = still_true a (e.to k) s.sleeps w in let before = h.looked k was.0 in (at_else a (e.to k) false s.lies was.1 ∙ before.0, before.1);
-        told = λ k still. h.told k (⊎_elim (λ (x : at a false s.sleeps (e.from k) ≡ true). inl (still_true a (e.from k) s.sleeps x).0) (λ (x : s.ended (e.from k) ≡ true). inr x) still);
+        told = λ k still. h.told k (got_up_before s a (e.from k) still);
       }
-  keeps (End a) all =
-      record {
-        empty = h.empty;
-        looked = h.looked;
-        told = λ k still.
-            elim (cases_eq (e.from k) a) [
-              | inl same ↦ all.told k same
-              | inr other ↦ h.told k (⊎_elim (λ (x : s.sleeps (e.from k) ≡ true). inl x) (λ (x : at a true s.ended (e.from k) ≡ true). inr (sym (at_else a (e.from k) true s.ended other) ∙ x)) still)
-            ];
-      }
-  keeps (Begin a) _ =
-      record {
-        empty = h.empty;
-        looked = h.looked;
-        told = λ k still. h.told k (⊎_elim (λ (x : s.sleeps (e.from k) ≡ true). inl x) (λ (x : at a false s.ended (e.from k) ≡ true). inr (still_true a (e.from k) s.ended x).0) still);
-      }
+  keeps (End a) all = record { empty = h.empty; looked = h.looked; told = λ k still. told_then a k (IsStill (after e s (End a))) all (ended_before s a) still }
+  keeps (Begin a) _ = record { empty = h.empty; looked = h.looked; told = λ k still. h.told k (begun_before s a (e.from k) still) }
   keeps (Rouse a) _ = record { empty = λ k w d n o. h.empty k (still_true a (e.to k) s.word w).0 d n o; looked = h.looked; told = h.told }
   keeps (FindEmpty l) may =
       record {
@@ -134,13 +145,7 @@ module _ (e : Ends) (s : Beds) (h : Keeps e s) where
               | inr other ↦ h.empty k w d (sym (at_else l k true s.seen other) ∙ n) o
             ];
         looked = λ k w.
-            let was = h.looked k w in (
-              was.0,
-              elim (cases_eq k l) [
-                | inl same ↦ at_is l k true s.seen same
-                | inr other ↦ at_else l k true s.seen other ∙ was.1
-              ],
-            );
+            let was = h.looked k w in (was.0, at_more l k true s.seen was.1);
         told = h.told;
       }
   keeps (Take l) may =
@@ -182,42 +187,54 @@ rooms_begun e =
 module _ (e : Ends) (s : Beds) (r : Rooms e s) where
   -- one link less is owed for
   done_more : (l k : ℕ) → IsStill s (e.to k) → (s.due k ≡ false) × (at l false s.calls k ≡ false)
-  done_more l k still =
-      let was = r.done k still in (
-        was.0,
-        elim (cases_eq k l) [
-          | inl same ↦ at_is l k false s.calls same
-          | inr other ↦ at_else l k false s.calls other ∙ was.1
-        ],
-      )
+  done_more l k still = let was = r.done k still in (was.0, at_more l k false s.calls was.1)
+
+  -- one actor more is still, which owes nothing
+  done_then : (a k : ℕ) (Then : ℕ → Type 0) → OwesNothing e s a → ((b : ℕ) → b ≢ a → Then b → IsStill s b) → Then (e.to k) → (s.due k ≡ false) × (s.calls k ≡ false)
+  done_then a k Then owes before still =
+      elim (cases_eq (e.to k) a) [
+        | inl same ↦ (owes.looked k same, owes.called k same)
+        | inr other ↦ r.done k (before (e.to k) other still)
+      ]
 
   up_still : (l k : ℕ) → k ≡ l → s.sleeps (e.to l) ≡ false → s.ended (e.to l) ≡ false → IsStill s (e.to k) → ⊥
   up_still l k same up on still =
       ⊎_elim (λ (x : s.sleeps (e.to k) ≡ true). true≢false (sym x ∙ ap (λ n. s.sleeps (e.to n)) same ∙ up))
       (λ (x : s.ended (e.to k) ≡ true). true≢false (sym x ∙ ap (λ n. s.ended (e.to n)) same ∙ on)) still
 
+  -- an actor is woken, whatever is owed
+  woken : (a : ℕ) (owed : ℕ → Bool) → Rooms e (record s { word = at a false s.word; owed = owed })
+  woken a owed =
+      record {
+        placed = r.placed;
+        marks = λ k w f. r.marks k (still_true a (e.from k) s.word w).0 f;
+        full = λ k w m n d u c. r.full k (still_true a (e.from k) s.word w).0 m n d u c;
+        done = r.done;
+        back = r.back;
+      }
+
+  -- the sender of a link is awake, or is woken
+  answered : (l : ℕ) (word : ℕ → Bool) → ((k : ℕ) → word (e.from k) ≡ true → (s.word (e.from k) ≡ true) × (k ≢ l)) → Rooms e (record s { word = word; calls = at l false s.calls })
+  answered l word awake =
+      record {
+        placed = r.placed;
+        marks = λ k w f. let was = awake k w in ⊎_elim (λ (x : s.marked k ≡ true). inl x) (λ (x : s.calls k ≡ true). inr (at_else l k false s.calls was.1 ∙ x)) (r.marks k was.0 f);
+        full = λ k w m n d u c. let was = awake k w in r.full k was.0 m n d u (sym (at_else l k false s.calls was.1) ∙ c);
+        done = done_more l;
+        back = r.back;
+      }
+
   rooms : (a : Act) → IsAllowed e s a → Rooms e (after e s a)
   rooms (Put l) up =
       record {
         placed = r.placed;
         marks = r.marks;
-        full = λ k w m n d u c.
-            elim (cases_eq k l) [
-              | inl same ↦ let is = at_is l k (s.held l + 1) s.held same in omega (arith, is)
-              | inr other ↦ let is = at_else l k (s.held l + 1) s.held other in let was = r.full k w m n d u c in omega (arith, is, was)
-            ];
+        full = λ k w m n d u c. at_either l k (s.held l + 1) s.held (λ (h : ℕ). 0 < h) (omega arith) (r.full k w m n d u c);
         done = r.done;
         back = r.back;
       }
   rooms (Ask l) _ = record { placed = r.placed; marks = r.marks; full = r.full; done = r.done; back = r.back }
-  rooms (Wake l) _ =
-      record {
-        placed = r.placed;
-        marks = λ k w f. r.marks k (still_true (e.to l) (e.from k) s.word w).0 f;
-        full = λ k w m n d u c. r.full k (still_true (e.to l) (e.from k) s.word w).0 m n d u c;
-        done = r.done;
-        back = r.back;
-      }
+  rooms (Wake l) _ = woken (e.to l) (at l false s.owed)
   rooms (LieDown a) up =
       record {
         placed = λ k m. let was = not_cleared a (e.from k) (s.met k) m in at_else a (e.from k) false (λ _. s.fresh k) was.1 ∙ r.placed k was.0;
@@ -234,11 +251,7 @@ module _ (e : Ends) (s : Beds) (r : Rooms e s) where
         placed = r.placed;
         marks = r.marks;
         full = r.full;
-        done = λ k still.
-            elim (cases_eq (e.to k) a) [
-              | inl same ↦ (may.2.looked k same, may.2.called k same)
-              | inr other ↦ r.done k (⊎_elim (λ (x : at a true s.sleeps (e.to k) ≡ true). inl (sym (at_else a (e.to k) true s.sleeps other) ∙ x)) (λ (x : s.ended (e.to k) ≡ true). inr x) still)
-            ];
+        done = λ k still. done_then a k (IsStill (after e s (Sleep a))) may.2 (slept_before s a) still;
         back = λ k w x.
             elim (cases_eq (e.from k) a) [
               | inl same ↦ may.3 k same x
@@ -250,7 +263,7 @@ module _ (e : Ends) (s : Beds) (r : Rooms e s) where
         placed = r.placed;
         marks = λ k w f. r.marks k (still_true a (e.from k) s.word w).0 f;
         full = λ k w m n d u c. r.full k (still_true a (e.from k) s.word w).0 m n (still_true a (e.to k) s.lies d).0 u c;
-        done = λ k still. r.done k (⊎_elim (λ (x : at a false s.sleeps (e.to k) ≡ true). inl (still_true a (e.to k) s.sleeps x).0) (λ (x : s.ended (e.to k) ≡ true). inr x) still);
+        done = λ k still. r.done k (got_up_before s a (e.to k) still);
         back = λ k w x. r.back k (still_true a (e.from k) s.sleeps w).0 x;
       }
   rooms (End a) all =
@@ -258,29 +271,11 @@ module _ (e : Ends) (s : Beds) (r : Rooms e s) where
         placed = r.placed;
         marks = r.marks;
         full = r.full;
-        done = λ k still.
-            elim (cases_eq (e.to k) a) [
-              | inl same ↦ (all.looked k same, all.called k same)
-              | inr other ↦ r.done k (⊎_elim (λ (x : s.sleeps (e.to k) ≡ true). inl x) (λ (x : at a true s.ended (e.to k) ≡ true). inr (sym (at_else a (e.to k) true s.ended other) ∙ x)) still)
-            ];
+        done = λ k still. done_then a k (IsStill (after e s (End a))) all (ended_before s a) still;
         back = r.back;
       }
-  rooms (Begin a) _ =
-      record {
-        placed = r.placed;
-        marks = r.marks;
-        full = r.full;
-        done = λ k still. r.done k (⊎_elim (λ (x : s.sleeps (e.to k) ≡ true). inl x) (λ (x : at a false s.ended (e.to k) ≡ true). inr (still_true a (e.to k) s.ended x).0) still);
-        back = r.back;
-      }
-  rooms (Rouse a) _ =
-      record {
-        placed = r.placed;
-        marks = λ k w f. r.marks k (still_true a (e.from k) s.word w).0 f;
-        full = λ k w m n d u c. r.full k (still_true a (e.from k) s.word w).0 m n d u c;
-        done = r.done;
-        back = r.back;
-      }
+  rooms (Begin a) _ = record { placed = r.placed; marks = r.marks; full = r.full; done = λ k still. r.done k (begun_before s a (e.to k) still); back = r.back }
+  rooms (Rouse a) _ = woken a s.owed
   rooms (FindEmpty l) may =
       record {
         placed = r.placed;
@@ -320,11 +315,7 @@ module _ (e : Ends) (s : Beds) (r : Rooms e s) where
   rooms (PutAll l) _ = record { placed = r.placed; marks = r.marks; full = r.full; done = r.done; back = λ k w x. r.back k w (still_true l k s.waits x).0 }
   rooms (Mark l) _ =
       record {
-        placed = λ k m.
-            elim (cases_eq k l) [
-              | inl same ↦ at_is l k true s.fresh same
-              | inr other ↦ at_else l k true s.fresh other ∙ r.placed k m
-            ];
+        placed = λ k m. at_more l k true s.fresh (r.placed k m);
         marks = λ k w f.
             elim (cases_eq k l) [
               | inl same ↦ inl (at_is l k true s.marked same)
@@ -348,11 +339,7 @@ module _ (e : Ends) (s : Beds) (r : Rooms e s) where
               | inr other ↦ r.full k w (sym (at_else l k true s.met other) ∙ m) n d u c
             ];
         done = r.done;
-        back = λ k w x.
-            elim (cases_eq k l) [
-              | inl same ↦ at_is l k true s.met same
-              | inr other ↦ at_else l k true s.met other ∙ r.back k w x
-            ];
+        back = λ k w x. at_more l k true s.met (r.back k w x);
       }
   rooms (SeeNoMark l) may =
       record {
@@ -364,14 +351,7 @@ module _ (e : Ends) (s : Beds) (r : Rooms e s) where
                   absurd (⊎_elim (λ (x : s.marked k ≡ true). true≢false (sym x ∙ ap s.marked same ∙ may.1)) (λ (x : s.calls k ≡ true). true≢false (sym x ∙ c)) (r.marks k w (r.placed k m)))
               | inr other ↦ r.full k w m n d (sym (at_else l k false s.due other) ∙ u) c
             ];
-        done = λ k still.
-            let was = r.done k still in (
-              elim (cases_eq k l) [
-                | inl same ↦ at_is l k false s.due same
-                | inr other ↦ at_else l k false s.due other ∙ was.0
-              ],
-              was.1,
-            );
+        done = λ k still. let was = r.done k still in (at_more l k false s.due was.0, was.1);
         back = r.back;
       }
   rooms (TakeMark l) due =
@@ -391,34 +371,8 @@ module _ (e : Ends) (s : Beds) (r : Rooms e s) where
             ];
         back = r.back;
       }
-  rooms (AskSender l) may =
-      record {
-        placed = r.placed;
-        marks = λ k w f.
-            elim (cases_eq k l) [
-              | inl same ↦ absurd (true≢false (sym w ∙ ap (λ n. s.word (e.from n)) same ∙ may.1))
-              | inr other ↦ ⊎_elim (λ (x : s.marked k ≡ true). inl x) (λ (x : s.calls k ≡ true). inr (at_else l k false s.calls other ∙ x)) (r.marks k w f)
-            ];
-        full = λ k w m n d u c.
-            elim (cases_eq k l) [
-              | inl same ↦ absurd (true≢false (sym w ∙ ap (λ n. s.word (e.from n)) same ∙ may.1))
-              | inr other ↦ r.full k w m n d u (sym (at_else l k false s.calls other) ∙ c)
-            ];
-        done = done_more l;
-        back = r.back;
-      }
-  rooms (WakeSender l) _ =
-      record {
-        placed = r.placed;
-        marks = λ k w f.
-            let was = still_true (e.from l) (e.from k) s.word w in
-            ⊎_elim (λ (x : s.marked k ≡ true). inl x) (λ (x : s.calls k ≡ true). inr (at_else l k false s.calls (λ same. was.1 (ap e.from same)) ∙ x)) (r.marks k was.0 f);
-        full = λ k w m n d u c.
-            let was = still_true (e.from l) (e.from k) s.word w in
-            r.full k was.0 m n d u (sym (at_else l k false s.calls (λ same. was.1 (ap e.from same))) ∙ c);
-        done = done_more l;
-        back = r.back;
-      }
+  rooms (AskSender l) may = answered l s.word (λ k w. (w, λ same. true≢false (sym w ∙ ap (λ n. s.word (e.from n)) same ∙ may.1)))
+  rooms (WakeSender l) _ = answered l (at (e.from l) false s.word) (λ k w. let was = still_true (e.from l) (e.from k) s.word w in (was.0, λ same. was.1 (ap e.from same)))
 
 keeps_all : (e : Ends) (s : Beds) (acts : List Act) → Keeps e s → AreAllowed e s acts → Keeps e (after_all e s acts)
 keeps_all e s [] h may = h

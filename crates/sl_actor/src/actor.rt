@@ -188,69 +188,26 @@ impl<A: Machine> Actor<A> {
         ensures counts { (held self.new).counts ≡ (held self.old).counts }
         ensures place { (held self.new).place ≡ (held self.old).place }
     {
-        if (choice as usize) < self.takes.len() {
-            self.take_step(rt, choice)
+        // the number of the message that it takes, 0 where it acts
+        let taken = if (choice as usize) < self.takes.len() {
+            let end = &mut self.takes[choice as usize];
+            let s = match end.take(rt) {
+                None => {
+                    self.sleeper.found_empty(choice);
+                    return false;
+                }
+                Some(s) => s,
+            };
+            let taken = s.number;
+            self.machine.take(choice, s.m, &mut self.out);
+            taken
         } else {
-            self.act_step(rt, choice)
-        }
-    }
-
-    fn take_step<R: Wait>(&mut self, rt: &R, choice: u32) -> bool
-        requires choice { choice < length (held self.old).takes }
-        requires log { vec_len self.old.log < vec_capacity self.old.log }
-        requires spare { AreSpare self.old.outs.parts.items }
-        requires fronts { AreOffered (held self.old).outs }
-        requires ready { A.ready_for self.old.machine ≡ Some choice }
-        ensures did { OnTrue result (Stepped A.rules choice (held self.old) (held self.new)) }
-        ensures idle { OnFalse result (NothingDone A.rules choice (held self.old) (held self.new)) }
-        ensures outs { OnFalse result ((held self.new).outs ≡ (held self.old).outs) }
-        ensures fronts { AreOffered (held self.new).outs }
-        ensures ends { KeepsEnds (held self.old) (held self.new) }
-        ensures counts { (held self.new).counts ≡ (held self.old).counts }
-        ensures place { (held self.new).place ≡ (held self.old).place }
-    {
-        let end = &mut self.takes[choice as usize];
-        let s = match end.take(rt) {
-            None => {
-                self.sleeper.found_empty(choice);
+            if !self.machine.act(choice, &mut self.out) {
                 return false;
             }
-            Some(s) => s,
+            0
         };
-        let number = next_number(rt, self.number, s.number);
-        self.machine.take(choice, s.m, &mut self.out);
-        self.number = number;
-        note(
-            rt,
-            number,
-            choice,
-            &mut self.log,
-            &mut self.outs,
-            &mut self.out,
-            &mut self.sleeper,
-        );
-        true
-    }
-
-    fn act_step<R: Wait>(&mut self, rt: &R, choice: u32) -> bool
-        requires low { length (held self.old).takes ≤ choice }
-        requires choice { IsChoice (held self.old).counts choice }
-        requires log { vec_len self.old.log < vec_capacity self.old.log }
-        requires spare { AreSpare self.old.outs.parts.items }
-        requires fronts { AreOffered (held self.old).outs }
-        requires ready { A.ready_for self.old.machine ≡ Some choice }
-        ensures did { OnTrue result (Stepped A.rules choice (held self.old) (held self.new)) }
-        ensures idle { OnFalse result (NothingDone A.rules choice (held self.old) (held self.new)) }
-        ensures outs { OnFalse result ((held self.new).outs ≡ (held self.old).outs) }
-        ensures fronts { AreOffered (held self.new).outs }
-        ensures ends { KeepsEnds (held self.old) (held self.new) }
-        ensures counts { (held self.new).counts ≡ (held self.old).counts }
-        ensures place { (held self.new).place ≡ (held self.old).place }
-    {
-        if !self.machine.act(choice, &mut self.out) {
-            return false;
-        }
-        let number = next_number(rt, self.number, 0);
+        let number = next_number(rt, self.number, taken);
         self.number = number;
         note(
             rt,

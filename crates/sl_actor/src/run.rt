@@ -116,23 +116,16 @@ impl<A: Machine> Actor<A> {
         requires plan { All (λ choice. IsChoice (held self.old).counts choice) plan.now }
         requires steps { 0 < steps }
         requires quiet { 1 ≤ quiet }
-        ensures follows { (first : A.State) → Follows A.rules first (held self.old)
-            → Follows A.rules first (held self.new) }
-        ensures log { LogGoesOn plan.now (held self.old).log (held self.new).log }
+        ensures advances { Advances A.rules plan.now (held self.old) (held self.new) }
         ensures spent { result ≡ Ok Rest.Spent → length (held self.new).log
             ≡ length (held self.old).log + steps }
         ensures rested { result ≡ Ok Rest.Rested
             → length (held self.new).log < length (held self.old).log + steps }
-        ensures settled { result ≡ Ok Rest.Rested
-            → All (λ choice. Settled A.rules choice (held self.new)) plan.now }
-        ensures fronts { result ≡ Ok Rest.Rested → 0 < length plan.now
-            → AreOffered (held self.new).outs }
+        ensures quiet { result ≡ Ok Rest.Rested
+            → IsQuiet A.rules plan.now (length plan.now) (held self.new) }
         ensures rounds { HasRounds G.passed gate.now plan.now (held self.old) (held self.new) }
         ensures passed { result ≡ Ok Rest.Rested
             → HasPassed G.passed gate.now (held self.old).place quiet }
-        ensures ends { KeepsEnds (held self.old) (held self.new) }
-        ensures counts { (held self.new).counts ≡ (held self.old).counts }
-        ensures place { (held self.new).place ≡ (held self.old).place }
     {
         let backoff = Backoff::new();
         let mut done = 0;

@@ -1,14 +1,13 @@
 // What is wrong with parts: the reasons that need no table.
-ghost use Rattle.std.specs.Prelude.{◌≡◌, ◌<◌, ◌≤◌, None, Some, ◌≢◌, OnOk, IfOk, IfErr, length};
-ghost use Rattle.std.specs.Prelude.{bytes_eq, []};
-ghost use Rattle.std.specs.List.{position};
+ghost use Rattle.std.specs.Prelude.{◌≡◌, ℕ, ◌<◌, ◌≤◌, None, Some, ◌≢◌, OnOk, IfOk, IfErr, List};
+ghost use Rattle.std.specs.Prelude.{[], length, bytes_eq};
+ghost use Rattle.std.specs.List.{list_any, position};
 ghost use Rattle.sl_parts.specs.Valid.{IsValid};
 ghost use Rattle.sl_parts.specs.Ports.{ShowsPorts};
 ghost use Rattle.sl_parts.specs.Fault.{fault_of, is_port, no_device, too_many_devices};
 ghost use Rattle.sl_parts.specs.Fault.{wrong_ports, stray_cable, stray_host, too_many_hosts};
 ghost use Rattle.sl_parts.specs.Fault.{is_stray_cable, is_stray_host, has_wrong_ports};
-ghost use Rattle.sl_parts.specs.Fault.{first_clash, device_named, host_named, device_namesake};
-ghost use Rattle.sl_parts.specs.Fault.{host_namesake};
+ghost use Rattle.sl_parts.specs.Fault.{first_clash, device_namesake, host_namesake};
 
 use crate::fault::{NetFault, Place};
 use crate::parts::{CablePart, DevicePart, HostPart, Parts, PortRef};
@@ -68,33 +67,21 @@ fn first_stray_host(parts: &Parts) -> Option<usize>
 fn no_device(parts: &Parts) -> Option<NetFault>
     ensures { result ≡ no_device parts.now }
 {
-    if parts.devices.is_empty() {
-        Some(NetFault::N1)
-    } else {
-        None
-    }
+    parts.devices.is_empty().then_some(NetFault::N1)
 }
 
 fn too_many_devices(parts: &Parts) -> Option<NetFault>
     ensures { result ≡ too_many_devices parts.now }
 {
     let count = parts.devices.len();
-    if count > 64 {
-        Some(NetFault::N2(count as u64))
-    } else {
-        None
-    }
+    (count > 64).then_some(NetFault::N2(count as u64))
 }
 
 fn too_many_hosts(parts: &Parts) -> Option<NetFault>
     ensures { result ≡ too_many_hosts parts.now }
 {
     let count = parts.hosts.len();
-    if count > 128 {
-        Some(NetFault::N6(count as u64))
-    } else {
-        None
-    }
+    (count > 128).then_some(NetFault::N6(count as u64))
 }
 
 fn wrong_ports(parts: &Parts) -> Option<NetFault>
@@ -125,38 +112,48 @@ pub fn same_name(a: &Name, b: &Name) -> bool
     a.items.as_slice() == b.items.as_slice()
 }
 
-fn device_named(earlier: &[DevicePart], device: &DevicePart) -> bool
-    ensures { result ≡ device_named earlier.now device.now }
-{
-    earlier
-        .iter()
-        .any(|other| same_name(&other.name, &device.name))
+/// A part with a name.
+trait Named {
+    ghost name_of: { Self → List ℕ };
+
+    fn name(&self) -> &Name
+        ensures { result.now ≡ name_of self.now };
 }
 
-fn host_named(earlier: &[HostPart], host: &HostPart) -> bool
-    ensures { result ≡ host_named earlier.now host.now }
-{
-    earlier
-        .iter()
-        .any(|other| same_name(&other.name, &host.name))
-}
+impl Named for DevicePart {
+    ghost name_of = { λ device. device.name };
 
-fn first_device_namesake(devices: &[DevicePart]) -> Option<usize>
-    ensures { result ≡ first_clash device_named [] devices.now }
-{
-    for i in 0..devices.len() {
-        if device_named(&devices[..i], &devices[i]) {
-            return Some(i);
-        }
+    fn name(&self) -> &Name {
+        &self.name
     }
-    None
 }
 
-fn first_host_namesake(hosts: &[HostPart]) -> Option<usize>
-    ensures { result ≡ first_clash host_named [] hosts.now }
+impl Named for HostPart {
+    ghost name_of = { λ host. host.name };
+
+    fn name(&self) -> &Name {
+        &self.name
+    }
+}
+
+/// Whether an earlier part has the name of this one.
+fn is_named<P: Named>(earlier: &[P], part: &P) -> bool
+    ensures { result ≡ list_any (λ e. bytes_eq (P.name_of e) (P.name_of part.now)) earlier.now }
 {
-    for i in 0..hosts.len() {
-        if host_named(&hosts[..i], &hosts[i]) {
+    earlier
+        .iter()
+        .any(|other| same_name(other.name(), part.name()))
+}
+
+/// The first part with the name of an earlier one.
+fn first_namesake<P: Named>(parts: &[P]) -> Option<usize>
+    ensures { result
+        ≡ first_clash
+        (λ earlier part. list_any (λ e. bytes_eq (P.name_of e) (P.name_of part)) earlier) []
+        parts.now }
+{
+    for i in 0..parts.len() {
+        if is_named(&parts[..i], &parts[i]) {
             return Some(i);
         }
     }
@@ -166,14 +163,14 @@ fn first_host_namesake(hosts: &[HostPart]) -> Option<usize>
 fn device_namesake(parts: &Parts) -> Option<NetFault>
     ensures { result ≡ device_namesake parts.now }
 {
-    let found = first_device_namesake(&parts.devices);
+    let found = first_namesake::<DevicePart>(&parts.devices);
     found.map(|i| NetFault::N8(Place::Device(i as u64)))
 }
 
 fn host_namesake(parts: &Parts) -> Option<NetFault>
     ensures { result ≡ host_namesake parts.now }
 {
-    let found = first_host_namesake(&parts.hosts);
+    let found = first_namesake::<HostPart>(&parts.hosts);
     found.map(|i| NetFault::N8(Place::Host(i as u64)))
 }
 

@@ -37,7 +37,7 @@ impl Model for Wires {
 
 /// An end of a link.
 #[derive(Clone, Copy)]
-enum End {
+pub(crate) enum End {
     Receiver,
     Sender,
 }
@@ -131,7 +131,8 @@ impl Wires {
         }
     }
 
-    fn list(&self, actor: u32, end: End) -> &[u32]
+    /// The links of an actor at one of their ends, ascending.
+    pub(crate) fn links_at(&self, actor: u32, end: End) -> &[u32]
         requires { actor < length self.now.actors }
         ensures links { result.now ≡ links_at self.now end actor }
         ensures each { All (λ l. l < length self.now.links) result.now }
@@ -155,7 +156,7 @@ impl Wires {
         ensures each { All (λ l. l < length self.now.links) result.now }
         ensures few { length result.now ≤ 77888 }
     {
-        self.list(actor, End::Receiver)
+        self.links_at(actor, End::Receiver)
     }
 
     /// The links on which an actor puts, ascending.
@@ -165,7 +166,7 @@ impl Wires {
         ensures each { All (λ l. l < length self.now.links) result.now }
         ensures few { length result.now ≤ 77888 }
     {
-        self.list(actor, End::Sender)
+        self.links_at(actor, End::Sender)
     }
 
     /// The choice by which each link is taken.

@@ -1,10 +1,11 @@
 // How the actors of a net are joined, for the world that runs them.
-ghost use Rattle.std.specs.Prelude.{◌≡◌, ◌≤◌, IfOk, map};
-ghost use Rattle.sl_layout.specs.Wiring.{actions_of, wired_links, in_counts, out_counts};
-ghost use Rattle.sl_layout.specs.Wiring.{action_counts, plan_of};
+ghost use Rattle.std.specs.Prelude.{◌≡◌, ◌≤◌, IfOk, length, map};
+ghost use Rattle.sl_parts.specs.Parts.{below};
+ghost use Rattle.sl_layout.specs.Ends.{links_at};
+ghost use Rattle.sl_layout.specs.Wiring.{actions_of, wired_links, action_counts, plan_of};
 
 use crate::actor::ActorId;
-use crate::wires::Wires;
+use crate::wires::{End, Wires};
 use sl_machine::{Link, Wiring};
 use std::alloc::{AllocError, Global};
 
@@ -40,22 +41,15 @@ fn list_wired(alloc: Global, wires: &Wires) -> Result<Vec<Link>, AllocError>
     Ok(links)
 }
 
-fn count_into(alloc: Global, wires: &Wires) -> Result<Vec<u32>, AllocError>
-    ensures { IfOk result (λ counts. counts.items ≡ in_counts wires.now) }
+/// How many links each actor has at one of their ends.
+fn count_at(alloc: Global, wires: &Wires, end: End) -> Result<Vec<u32>, AllocError>
+    ensures { IfOk result
+        (λ counts. counts.items ≡ map (λ a. length (links_at wires.now end a))
+        (below (length wires.now.actors))) }
 {
     let mut counts = Vec::new(alloc);
     for actor in 0..wires.count() {
-        counts.push(wires.links_into(actor).len() as u32)?;
-    }
-    Ok(counts)
-}
-
-fn count_from(alloc: Global, wires: &Wires) -> Result<Vec<u32>, AllocError>
-    ensures { IfOk result (λ counts. counts.items ≡ out_counts wires.now) }
-{
-    let mut counts = Vec::new(alloc);
-    for actor in 0..wires.count() {
-        counts.push(wires.links_from(actor).len() as u32)?;
+        counts.push(wires.links_at(actor, end).len() as u32)?;
     }
     Ok(counts)
 }
@@ -72,8 +66,8 @@ pub fn make_wiring(alloc: Global, wires: &Wires) -> Result<Wiring, AllocError>
 {
     Ok(Wiring {
         links: list_wired(alloc, wires)?,
-        in_counts: count_into(alloc, wires)?,
-        out_counts: count_from(alloc, wires)?,
+        in_counts: count_at(alloc, wires, End::Receiver)?,
+        out_counts: count_at(alloc, wires, End::Sender)?,
         action_counts: count_actions(alloc, wires.roster().actors())?,
     })
 }

@@ -5,7 +5,7 @@ use Rattle.std.specs.Prelude.{◌==◌}
 use Rattle.sl_layout.specs.Ends.{actor_at, links_at}
 use Rattle.sl_layout.specs.Net.{link_of}
 use Rattle.sl_layout.proofs.Grouping.{few_filter, list_at, low_filter}
-use Rattle.sl_layout.proofs.wires.Wires.list.Goals as goal
+use Rattle.sl_layout.proofs.wires.Wires.links_at.Goals as goal
 
 pub list-requires : goal.list-requires
 list-requires c =

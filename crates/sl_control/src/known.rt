@@ -40,6 +40,10 @@ pub struct UnitWires {
 pub struct Known {
     /// How the unit is joined.
     pub wires: UnitWires,
+    /// Whether a poll to it is outstanding.
+    pub waits: bool,
+    /// Whether a notice or a sweep came since that poll.
+    pub again: bool,
     /// Its id.
     pub id: u64,
     /// The last-seen ids of its data channels in order, 0 past them.
@@ -48,10 +52,6 @@ pub struct Known {
     pub cpu: u64,
     /// The number up to which its rows are collected.
     pub upto: u64,
-    /// Whether a poll to it is outstanding.
-    pub waits: bool,
-    /// Whether a notice or a sweep came since that poll.
-    pub again: bool,
 }
 
 /// The numbers of a unit that a dump tells.

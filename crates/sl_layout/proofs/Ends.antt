@@ -11,7 +11,7 @@ use Rattle.sl_layout.specs.Net.{units_of, actors_of, ingress, egress, Net, net_o
 use Rattle.sl_layout.specs.Roster.{IsFew, IsActor}
 use Rattle.sl_parts.specs.Valid.{IsValid}
 use Rattle.sl_parts.proofs.Lists.{length_flat_le, each-imp, each-of, all-from_each, each-map, each-from_all, distinct-filter, distinct-from, member-filter, member-from, inside, each-below, each-both, each-index, Distinct}
-use Rattle.sl_layout.proofs.Actors.{each-actor, each-used, same_actor_refl, actor-member, IsLink, each-link}
+use Rattle.sl_layout.proofs.Actors.{each-actor, each-sender, each-used, same_actor_refl, actor-member, IsLink, IsSender, each-link}
 use Rattle.std.proofs.Math.ListN.{get_or-map as get_or-map_past}
 use Rattle.sl_layout.specs.declared.actor.Side.{Side}
 use Rattle.sl_layout.specs.declared.actor.Side.TheVariants.{Ingress, Egress}
@@ -59,6 +59,9 @@ few_of parts v h (OfHost i) k = omega arith
 
 pub all_few : (parts : Parts) → IsValid parts → length parts.hosts ≤ 128 → All IsFew (actors_of parts)
 all_few parts v h = all-from_each IsFew (actors_of parts) (each-imp (IsActor parts) IsFew (actors_of parts) (few_of parts v h) (each-actor parts))
+
+pub incoming_few : (parts : Parts) (a : ActorId) → IsValid parts → length parts.hosts ≤ 128 → IsActor parts a → All (λ (i : Incoming). IsFew i.0) (incoming parts a)
+incoming_few parts a v h k = all-from_each (λ (i : Incoming). IsFew i.0) (incoming parts a) (each-imp (IsSender parts) (λ i. IsFew i.0) (incoming parts a) (λ i s. few_of parts v h i.0 s.0) (each-sender parts a v k))
 
 pub small_ports : (parts : Parts) (d : ℕ) → IsValid parts → All (λ p. p < 8) (used_ports parts d)
 small_ports parts d v = all-from_each (λ p. p < 8) (used_ports parts d) (each-imp (λ p. (p < ports_of parts d) × (is_used parts (record { device = d; port = p }) ≡ true)) (λ p. p < 8) (used_ports parts d) (λ p h. omega (arith, h.0, v.ports d)) (each-used parts d))

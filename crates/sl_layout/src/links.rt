@@ -1,198 +1,148 @@
 // The links of a net in order.
 ghost use Rattle.std.specs.Prelude.{◌≡◌, ◌<◌, ◌++◌, ◌∷◌, [], OnOk, IfOk, length, map, flat_map};
-ghost use Rattle.sl_layout.specs.declared.actor.Sort.TheVariants.{Notice, Dump, Begin, Init, Poll};
+ghost use Rattle.std.specs.List.{All};
+ghost use Rattle.sl_layout.specs.declared.actor.Sort.TheVariants.{Notice, Dump};
 ghost use Rattle.sl_layout.specs.declared.actor.ActorId.TheVariants.{Observer, Control};
-ghost use Rattle.sl_parts.specs.Parts.{used_ports};
-ghost use Rattle.sl_layout.specs.Net.{actors_of, ingress, egress, incoming, unit_incoming};
-ghost use Rattle.sl_layout.specs.Net.{from_outside, place_of, links_to};
+ghost use Rattle.sl_layout.specs.Net.{actors_of, incoming, unit_incoming, from_outside};
+ghost use Rattle.sl_layout.specs.Net.{links_to};
 ghost use Rattle.sl_parts.specs.Valid.{IsValid};
 ghost use Rattle.sl_parts.specs.Ports.{IsNear};
 ghost use Rattle.sl_layout.specs.Roster.{IsFew, IsActor, link_by};
 
 use crate::actor::{ActorId, LinkPart, Side, Sort};
+use crate::layout::Layout;
 use crate::roster::{Roster, egress, ingress};
 use sl_parts::PortRef;
 use std::alloc::{AllocError, Global};
 
-/// Adds a link from an actor to the actor of the number `to`.
-fn add_link(
-    links: &mut Vec<LinkPart>,
-    roster: &Roster,
-    to: u32,
-    from: ActorId,
-    sort: Sort,
-) -> Result<(), AllocError>
-    requires { IsFew from }
-    ensures { OnOk result
-        (links.new.items ≡ links.old.items ++ map (link_by roster.now to) ((from, sort) ∷ [])) }
+/// The sender of a link, and the link's sort.
+type Incoming = (ActorId, Sort);
+
+/// What the observer takes from: each control plane.
+fn to_observer(alloc: Global, layout: &Layout) -> Result<Vec<Incoming>, AllocError>
+    ensures { IfOk result (λ all. all.items ≡ incoming layout.now Observer) }
 {
-    links.push(LinkPart {
-        from: roster.number_of(from),
-        to,
-        sort,
-    })?;
+    let devices = layout.parts().devices.len() as u32;
+    (0..devices)
+        .map(|device| (ActorId::Control(device), Sort::Done))
+        .collect(alloc)
+}
+
+fn add_reports(all: &mut Vec<Incoming>, unit: ActorId) -> Result<(), AllocError>
+    ensures { OnOk result
+        (all.new.items ≡ all.old.items ++ (unit, Notice) ∷ (unit, Dump) ∷ []) }
+{
+    all.push((unit, Sort::Notice))?;
+    all.push((unit, Sort::Dump))?;
     Ok(())
 }
 
-fn add_reports(
-    links: &mut Vec<LinkPart>,
-    roster: &Roster,
-    to: u32,
-    unit: ActorId,
-) -> Result<(), AllocError>
-    requires { IsFew unit }
-    ensures { OnOk result
-        (links.new.items ≡ links.old.items ++ map (link_by roster.now to)
-        ((unit, Notice) ∷ (unit, Dump) ∷ [])) }
+/// What a control plane takes from: the observer, and twice from each unit of its device.
+fn to_control(alloc: Global, layout: &Layout, device: u32) -> Result<Vec<Incoming>, AllocError>
+    requires { device < length layout.now.devices }
+    ensures { IfOk result (λ all. all.items ≡ incoming layout.now (Control device)) }
 {
-    add_link(links, roster, to, unit, Sort::Notice)?;
-    add_link(links, roster, to, unit, Sort::Dump)
-}
-
-/// The links to the observer: from each control plane.
-fn add_to_observer(links: &mut Vec<LinkPart>, roster: &Roster, to: u32) -> Result<(), AllocError>
-    requires { IsValid roster.now }
-    ensures { OnOk result
-        (links.new.items ≡ links.old.items ++ map (link_by roster.now to)
-        (incoming roster.now Observer)) }
-{
-    for device in 0..roster.layout().parts().devices.len() as u32 {
-        add_link(links, roster, to, ActorId::Control(device), Sort::Done)?;
+    let mut all = Vec::new(alloc);
+    all.push((ActorId::Observer, Sort::Begin))?;
+    for port in layout.used_ports(device) {
+        add_reports(&mut all, ingress(device, *port))?;
+        add_reports(&mut all, egress(device, *port))?;
     }
-    Ok(())
+    Ok(all)
 }
 
-/// The links to a control plane: from the observer, and two from each unit of its device.
-fn add_to_control(
-    links: &mut Vec<LinkPart>,
-    roster: &Roster,
-    to: u32,
-    device: u32,
-) -> Result<(), AllocError>
-    requires valid { IsValid roster.now }
-    requires place { device < length roster.now.devices }
-    ensures { OnOk result
-        (links.new.items ≡ links.old.items ++ map (link_by roster.now to)
-        (incoming roster.now (Control device))) }
+/// Adds what comes to a port from outside its device: from the host there, or else from the other
+/// end of its cable.
+fn add_outside(all: &mut Vec<Incoming>, layout: &Layout, port: PortRef) -> Result<(), AllocError>
+    requires { IsNear (length layout.now.devices) port }
+    ensures { OnOk result (all.new.items ≡ all.old.items ++ from_outside layout.now port) }
 {
-    add_link(links, roster, to, ActorId::Observer, Sort::Begin)?;
-    for port in roster.layout().used_ports(device) {
-        add_reports(links, roster, to, ingress(device, *port))?;
-        add_reports(links, roster, to, egress(device, *port))?;
-    }
-    Ok(())
-}
-
-/// The link to an ingress unit from outside its device: from the host at its port, or else from
-/// the other end of its cable.
-fn add_from_outside(
-    links: &mut Vec<LinkPart>,
-    roster: &Roster,
-    to: u32,
-    port: PortRef,
-) -> Result<(), AllocError>
-    requires valid { IsValid roster.now }
-    requires place { IsNear (length roster.now.devices) port }
-    ensures { OnOk result
-        (links.new.items ≡ links.old.items ++ map (link_by roster.now to)
-        (from_outside roster.now port)) }
-{
-    let layout = roster.layout();
     if let Some(host) = layout.host_at(port) {
-        add_link(links, roster, to, ActorId::Host(host), Sort::FromHost)
+        all.push((ActorId::Host(host), Sort::FromHost))?;
     } else if let Some(end) = layout.other_end(port) {
-        add_link(links, roster, to, egress(end.device, end.port), Sort::Cable)
-    } else {
-        Ok(())
+        all.push((egress(end.device, end.port), Sort::Cable))?;
     }
+    Ok(())
 }
 
-fn add_to_ingress(
-    links: &mut Vec<LinkPart>,
-    roster: &Roster,
-    to: u32,
-    port: PortRef,
-) -> Result<(), AllocError>
-    requires valid { IsValid roster.now }
-    requires place { IsNear (length roster.now.devices) port }
-    ensures { OnOk result
-        (links.new.items ≡ links.old.items ++ map (link_by roster.now to)
-        (unit_incoming roster.now port.device port.port Side.Ingress)) }
+fn to_ingress(alloc: Global, layout: &Layout, port: PortRef) -> Result<Vec<Incoming>, AllocError>
+    requires { IsNear (length layout.now.devices) port }
+    ensures { IfOk result
+        (λ all. all.items ≡ unit_incoming layout.now port.device port.port Side.Ingress) }
 {
     let control = ActorId::Control(port.device);
-    add_from_outside(links, roster, to, port)?;
-    add_link(links, roster, to, control, Sort::Init)?;
-    add_link(links, roster, to, control, Sort::Poll)
+    let mut all = Vec::new(alloc);
+    add_outside(&mut all, layout, port)?;
+    all.push((control, Sort::Init))?;
+    all.push((control, Sort::Poll))?;
+    Ok(all)
 }
 
-fn add_to_egress(
-    links: &mut Vec<LinkPart>,
-    roster: &Roster,
-    to: u32,
-    port: PortRef,
-) -> Result<(), AllocError>
-    requires valid { IsValid roster.now }
-    requires place { IsNear (length roster.now.devices) port }
-    ensures { OnOk result
-        (links.new.items ≡ links.old.items ++ map (link_by roster.now to)
-        (unit_incoming roster.now port.device port.port Side.Egress)) }
+fn to_egress(alloc: Global, layout: &Layout, port: PortRef) -> Result<Vec<Incoming>, AllocError>
+    requires { port.device < length layout.now.devices }
+    ensures { IfOk result
+        (λ all. all.items ≡ unit_incoming layout.now port.device port.port Side.Egress) }
 {
-    for other in roster.layout().used_ports(port.device) {
-        add_link(
-            links,
-            roster,
-            to,
-            ingress(port.device, *other),
-            Sort::Crossbar,
-        )?;
+    let mut all = Vec::new(alloc);
+    for other in layout.used_ports(port.device) {
+        all.push((ingress(port.device, *other), Sort::Crossbar))?;
     }
-    add_link(links, roster, to, ActorId::Control(port.device), Sort::Poll)
+    all.push((ActorId::Control(port.device), Sort::Poll))?;
+    Ok(all)
 }
 
-fn add_to_host(
-    links: &mut Vec<LinkPart>,
-    roster: &Roster,
-    to: u32,
-    host: u32,
-) -> Result<(), AllocError>
-    requires valid { IsValid roster.now }
-    requires place { host < length roster.now.hosts }
-    ensures { OnOk result
-        (links.new.items ≡ links.old.items ++ map (link_by roster.now to)
-        (incoming roster.now (ActorId.Host host))) }
+fn to_host(alloc: Global, layout: &Layout, host: u32) -> Result<Vec<Incoming>, AllocError>
+    requires { host < length layout.now.hosts }
+    ensures { IfOk result (λ all. all.items ≡ incoming layout.now (ActorId.Host host)) }
 {
-    let at = roster.layout().parts().hosts[host as usize].at;
-    add_link(links, roster, to, egress(at.device, at.port), Sort::ToHost)
+    let at = layout.parts().hosts[host as usize].at;
+    let mut all = Vec::new(alloc);
+    all.push((egress(at.device, at.port), Sort::ToHost))?;
+    Ok(all)
 }
 
-/// The links to an actor, in the order of its choices.
-fn add_links_to(
-    links: &mut Vec<LinkPart>,
-    roster: &Roster,
-    to: u32,
-    actor: ActorId,
-) -> Result<(), AllocError>
-    requires valid { IsValid roster.now }
-    requires actor { IsActor roster.now actor }
-    requires placed { place_of actor (actors_of roster.now) ≡ to }
-    ensures { OnOk result
-        (links.new.items ≡ links.old.items ++ links_to roster.now (actors_of roster.now) actor) }
+/// What an actor takes from, in the order of its choices.
+fn incoming(alloc: Global, layout: &Layout, actor: ActorId) -> Result<Vec<Incoming>, AllocError>
+    requires valid { IsValid layout.now }
+    requires actor { IsActor layout.now actor }
+    ensures { IfOk result (λ all. all.items ≡ incoming layout.now actor) }
 {
     match actor {
-        ActorId::Observer => add_to_observer(links, roster, to),
-        ActorId::Control(device) => add_to_control(links, roster, to, device),
+        ActorId::Observer => to_observer(alloc, layout),
+        ActorId::Control(device) => to_control(alloc, layout, device),
         ActorId::Unit(unit) => {
             let port = PortRef {
                 device: unit.device,
                 port: unit.port,
             };
             match unit.side {
-                Side::Ingress => add_to_ingress(links, roster, to, port),
-                Side::Egress => add_to_egress(links, roster, to, port),
+                Side::Ingress => to_ingress(alloc, layout, port),
+                Side::Egress => to_egress(alloc, layout, port),
             }
         }
-        ActorId::Host(host) => add_to_host(links, roster, to, host),
+        ActorId::Host(host) => to_host(alloc, layout, host),
     }
+}
+
+/// Adds links to the actor of the number `to`.
+fn add_links(
+    links: &mut Vec<LinkPart>,
+    roster: &Roster,
+    to: u32,
+    incoming: &[Incoming],
+) -> Result<(), AllocError>
+    requires { All (λ i. IsFew i.0) incoming.now }
+    ensures { OnOk result
+        (links.new.items ≡ links.old.items ++ map (link_by roster.now to) incoming.now) }
+{
+    for (from, sort) in incoming {
+        links.push(LinkPart {
+            from: roster.number_of(*from),
+            to,
+            sort: *sort,
+        })?;
+    }
+    Ok(())
 }
 
 /// The links in order: by receiving actor, then by choice.
@@ -201,10 +151,13 @@ pub fn list_links(alloc: Global, roster: &Roster) -> Result<Vec<LinkPart>, Alloc
         (λ links. links.items ≡ flat_map (links_to roster.now (actors_of roster.now))
         (actors_of roster.now)) }
 {
+    // The hosts are few.
+    let _parts = roster.layout().parts();
     let actors = roster.actors();
     let mut links = Vec::new(alloc);
     for i in 0..actors.len() {
-        add_links_to(&mut links, roster, i as u32, actors[i])?;
+        let all = incoming(alloc, roster.layout(), actors[i])?;
+        add_links(&mut links, roster, i as u32, all.as_slice())?;
     }
     Ok(links)
 }

@@ -63,8 +63,8 @@ impl Ring {
 #[derive(Drop)]
 pub struct RingSaves {
     window: u16,
-    credits: u8,
     ring: Ring,
+    credits: u8,
     ghost least: { 1 ≤ window },
     ghost most: { window ≤ length ring.slots },
     ghost some: { 1 ≤ credits },

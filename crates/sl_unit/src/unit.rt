@@ -19,11 +19,11 @@ use std::alloc::Global;
 /// port, an egress unit what goes out to it.
 #[derive(Drop)]
 pub struct Unit {
-    prepared: Option<u32>,
     dumps: Vec<Boxed<Dump>>,
     // one that was read, for the next that is made
     spare: Option<Boxed<Dump>>,
     wires: Wires,
+    prepared: Option<u32>,
     registers: Registers,
     ghost ready: { (c : ℕ) → prepared ≡ Some c → HasRoom wires registers dumps.items c },
 }

@@ -112,12 +112,12 @@ pub struct Spans {
     pub crossbar: Span,
     /// The links of notices.
     pub notice: Span,
-    /// The links of dumps.
-    pub dump: Span,
     /// The links of the cable.
     pub cable: Span,
     /// The links to the host.
     pub to_host: Span,
+    /// The links of dumps.
+    pub dump: Span,
 }
 
 /// Where the outgoing links of a way lie: from the first of them to the last.
@@ -152,18 +152,18 @@ pub struct Wires {
     pub entrances: Vec<Entrance>,
     /// The outgoing links by their numbers.
     pub exits: Vec<Exit>,
-    /// How many own actions it has, which is none.
-    pub actions: u32,
-    /// Where those of some ways lie.
-    pub spans: Spans,
     /// The next port to each host, where there is a way.
     pub ports: Vec<Option<u8>>,
+    /// How many own actions it has, which is none.
+    pub actions: u32,
     /// The number of its device.
     pub device: u32,
-    /// Its port.
-    pub port: u8,
+    /// Where the outgoing links of some ways lie.
+    pub spans: Spans,
     /// The version of the frames that it sends to other units.
     pub version: u8,
+    /// Its port.
+    pub port: u8,
     /// The width of wrapped ids.
     pub width: Width,
     /// What comes by the first choices, in place, so that no memory elsewhere is looked at.

@@ -1,7 +1,7 @@
 -- What the tables say is within its ranges, and a script has at most as many entries as the text of its document has bytes.
 use Rattle.std.proofs.Common.{◌≡◌, ℕ, ◌+◌, ◌≤◌, List, [], ◌∷◌, length, Option, Some, None, Ok, refl, subst, arith, suc, ◌-◌, ◌<◌, ◌^◌, min, Bool, true, false}
 use Rattle.std.specs.Prelude.{IfSome, nat_lt, nat_le, ◌&&◌, ◌*◌, if◌then◌else◌, option_map, option_and_then}
-use Rattle.toml.specs.Data.{Data, string, integer, float, boolean, datetime, array, table, Items, no_items, item, Members}
+use Rattle.toml.specs.Data.{Data, string, array, table, Items, no_items, item, Members}
 use Rattle.sl_form.specs.declared.path.TableName.TheVariants.{Top}
 use Rattle.sl_form.specs.declared.path.Key.TheVariants.{Device, Cable, Host, Snapshot as SnapshotKey, Loss, Flow, Raw, Script, Entries, A, B, Bits, Window, Ring, Count, Retries, Credits, Version, Seed, Crossbar, Init, Notice, Drop, Link, N, From, To, Bytes, Hops, Hex}
 use Rattle.sl_form.specs.declared.path.Path.{Path}
@@ -22,25 +22,23 @@ use Rattle.sl_read.specs.declared.raw.RawRow.{RawRow}
 use Rattle.sl_read.specs.declared.loss.DropRow.{DropRow}
 use Rattle.sl_read.specs.declared.loss.LossRow.{LossRow}
 use Rattle.sl_read.specs.declared.document.Document.{Document}
-use Rattle.sl_read.specs.Accepted.{IsSnapshot, HasVersion}
+use Rattle.sl_read.specs.Accepted.{IsSnapshot, HasVersion, IsDrop, IsLoss}
+use Rattle.sl_read.specs.Inputs.{losses, text_of}
+use Rattle.std.specs.List.{All}
+use Rattle.sl_layout.specs.Net.{Net}
+use Rattle.sl_net.specs.declared.input.Drop1.{Drop1}
 use Rattle.sl_form.specs.Forms.{name_of, port_of, digit_of, byte_of, pairs_of, hex_of}
 use Rattle.sl_read.specs.Documents.{walk_of, document_of}
 use Rattle.sl_form.specs.declared.path.TableName.TheVariants as table_name
 use Rattle.sl_form.proofs.Shorter.{IsShort, some-if, some-then}
 use Rattle.toml.specs.Parse.{parse_document}
 use Rattle.std.specs.Str.{is_utf8}
-use Rattle.sl_read.specs.Inputs.{text_of}
 
 -- The entries are the texts of an array.
 
 text_ok : (p : Path) (d : Data) (text : List ℕ) → text_at p d ≡ Ok text → text_weight d ≡ 1
 text_ok p (string s) text h = refl
-text_ok p (integer z) text h = absurd (cc)
-text_ok p (float x) text h = absurd (cc)
-text_ok p (boolean b) text h = absurd (cc)
-text_ok p (datetime t) text h = absurd (cc)
-text_ok p (array ds) text h = absurd (cc)
-text_ok p (table ms) text h = absurd (cc)
+text_ok p _ text h = absurd (cc)
 
 texts_ok : (i : ℕ) (ds : Items) (texts : List (List ℕ)) → texts_of i ds ≡ Ok texts → length texts ≡ text_count ds
 texts_ok i no_items texts h = subst (λ texts. length texts ≡ 0) (same_ok [] texts h) refl
@@ -53,12 +51,7 @@ texts_ok i (item d ds) texts h =
 
 items_ok : (p : Path) (n : ℕ) (d : Data) (ds : Items) → FewTexts n d → items_at p d ≡ Ok ds → text_count ds ≤ n
 items_ok p n (array xs) ds f h = subst (λ ds. text_count ds ≤ n) (same_ok xs ds h) f.0
-items_ok p n (string s) ds f h = absurd (cc)
-items_ok p n (integer z) ds f h = absurd (cc)
-items_ok p n (float x) ds f h = absurd (cc)
-items_ok p n (boolean b) ds f h = absurd (cc)
-items_ok p n (datetime t) ds f h = absurd (cc)
-items_ok p n (table ms) ds f h = absurd (cc)
+items_ok p n _ ds f h = absurd (cc)
 
 entries_few : (n : ℕ) (ms : Members) (ds : Items) → FewInMembers n ms → entries_at ms ≡ Ok ds → text_count ds ≤ n
 entries_few n ms ds f h = by_value (get_key Entries ms) (member-few n (key_text Entries) ms f) h
@@ -81,12 +74,7 @@ any_script_few n (Some ms) texts f h = script_texts_few n ms texts f h
 
 table_few : (p : Path) (n : ℕ) (d : Data) (ms : Members) → FewTexts n d → table_at p d ≡ Ok ms → FewInMembers n ms
 table_few p n (table xs) ms f h = subst (FewInMembers n) (same_ok xs ms h) f
-table_few p n (string s) ms f h = absurd (cc)
-table_few p n (integer z) ms f h = absurd (cc)
-table_few p n (float x) ms f h = absurd (cc)
-table_few p n (boolean b) ms f h = absurd (cc)
-table_few p n (datetime t) ms f h = absurd (cc)
-table_few p n (array ds) ms f h = absurd (cc)
+table_few p n _ ms f h = absurd (cc)
 
 optional_few : (n : ℕ) (ms : Members) (o : Option Members) → FewInMembers n ms → optional_table Top Script ms ≡ Ok o → IfSome o (FewInMembers n)
 optional_few n ms o f h = by_value (get_key Script ms) (member-few n (key_text Script) ms f) h
@@ -163,13 +151,9 @@ drop_ok i ms d h =
     let n = number_then (table_name.Drop i) N 1 1000000000 ms _ d link.2 in
     subst IsDropRow (same_ok _ d n.3) (record { some = n.1; most = n.2 })
 
+-- with as many drops, all of them of a net, it is a loss of this net
 pub record IsLossRow (l : LossRow) : Type 0 where
-  pub seed : l.seed < 2 ^ 63
-  pub cable : l.cable ≤ 1000
-  pub crossbar : l.crossbar ≤ 1000
-  pub init : l.init ≤ 1000
-  pub notice : l.notice ≤ 1000
-  pub few : length l.drops ≤ 1000
+  pub placed : (net : Net) (drops : List Drop1) → length drops ≡ length l.drops → All (IsDrop net) drops → IsLoss net (losses l drops)
   pub drops : Each IsDropRow l.drops
 
 few_ok : (ds es : Items) → few_drops ds ≡ Ok es → count_items es ≤ 1000
@@ -192,10 +176,16 @@ loss_ok ms l h =
     let r = rows_ok table_name.Loss Drop drop_of IsDropRow drop_ok 0 tables.0 drops.0 drops.1 in
     let low : seed.0 < 2 ^ 63 = omega (arith, seed.2) in
     let short : length drops.0 ≤ 1000 = omega (arith, few, r.1) in
-    subst IsLossRow (same_ok _ l drops.2) (record { seed = low; cable = cable.2; crossbar = crossbar.2; init = init.2; notice = notice.2; few = short; drops = r.0 })
+    subst IsLossRow (same_ok _ l drops.2) (record {
+      placed = λ net placed as_many all. record { seed = low; cable = cable.2; crossbar = crossbar.2; init = init.2; notice = notice.2; few = omega (arith, as_many, short); drops = all };
+      drops = r.0;
+    })
 
 any_loss_ok : (o : Option Members) (l : LossRow) → any_loss_of o ≡ Ok l → IsLossRow l
-any_loss_ok None l h = subst IsLossRow (same_ok (record { seed = 0; cable = 0; crossbar = 0; init = 0; notice = 0; drops = [] }) l h) (record { seed = omega arith; cable = omega arith; crossbar = omega arith; init = omega arith; notice = omega arith; few = omega arith; drops = tt })
+any_loss_ok None l h = subst IsLossRow (same_ok (record { seed = 0; cable = 0; crossbar = 0; init = 0; notice = 0; drops = [] }) l h) (record {
+  placed = λ net placed as_many all. record { seed = omega arith; cable = omega arith; crossbar = omega arith; init = omega arith; notice = omega arith; few = omega (arith, as_many); drops = all };
+  drops = tt;
+})
 any_loss_ok (Some ms) l h = loss_ok ms l h
 
 pub record IsFlowRow (f : FlowRow) : Type 0 where

@@ -95,8 +95,6 @@ module _ {A B : Type 0} (f : ℕ → A → Result B Refusal) where
   pub each_end : (xs : List A) (i : ℕ) (front : List B) (whole : Result (List B) Refusal) → length xs ≤ i → with_front front (each f i (drop i xs)) ≡ whole → whole ≡ Ok front
   each_end xs i front whole h w = sym w ∙ ap (λ ys. with_front front (each f i ys)) (drop_all i xs h) ∙ with_front_all front
 
-pub ruleset each_steps = (with_front_none, with_front_all, each_more, each_refused)
-
 -- Entries of a script that are read from the front.
 
 module _ (net : Net) where

@@ -327,9 +327,8 @@ contents_ok net doc c d short h =
     let t = traffic_ok net.parts doc traffic.0 d traffic.1 in
     let r = each_ok (drop_part net) IsDropRow (IsDrop net) (drop_settled net) 0 doc.loss.drops drops.0 d.loss.drops drops.1 in
     let s = entries_ok net 0 0 doc.script script.0 (omega arith) script.1 in
-    let few_drops : length drops.0 ≤ 1000 = omega (arith, r.1, d.loss.few) in
     subst (IsFilled net) (same_ok _ c few.2) (record {
-      loss = record { seed = d.loss.seed; cable = d.loss.cable; crossbar = d.loss.crossbar; init = d.loss.init; notice = d.loss.notice; few = few_drops; drops = all-from_each (IsDrop net) drops.0 r.0 };
+      loss = d.loss.placed net drops.0 r.1 (all-from_each (IsDrop net) drops.0 r.0);
       flows = t.flows;
       raws = t.raws;
       script = all-from_each (IsEntry net) script.0 s.0;

@@ -3,7 +3,7 @@ use Rattle.std.proofs.Common.{◌≡◌, ℕ, suc, ◌+◌, ◌≤◌, List, [],
 use Rattle.std.specs.Prelude.{ℤ, pos, negsuc, ◌&&◌, nat_le, if◌then◌else◌, option_map, option_and_then, IfSome}
 use Rattle.std.proofs.lemmas.Bool.{and_parts}
 use Rattle.std.proofs.lemmas.Bool.Decides.{nat_tests}
-use Rattle.toml.specs.Data.{Data, string, integer, float, boolean, datetime, array, table, Items, no_items, item, Members}
+use Rattle.toml.specs.Data.{Data, integer, Items, no_items, item, Members}
 use Rattle.sl_parts.specs.Lists.{Each}
 use Rattle.sl_form.specs.declared.path.TableName.{TableName}
 use Rattle.sl_form.specs.declared.path.Key.{Key}
@@ -69,12 +69,7 @@ range_ok p low high (negsuc m) n h = absurd (cc)
 
 number_ok : (p : Path) (low high : ℕ) (d : Data) (n : ℕ) → number p low high d ≡ Ok n → (low ≤ n) × (n ≤ high)
 number_ok p low high (integer z) n h = range_ok p low high z n h
-number_ok p low high (string x) n h = absurd (cc)
-number_ok p low high (float x) n h = absurd (cc)
-number_ok p low high (boolean x) n h = absurd (cc)
-number_ok p low high (datetime x) n h = absurd (cc)
-number_ok p low high (array x) n h = absurd (cc)
-number_ok p low high (table x) n h = absurd (cc)
+number_ok p low high _ n h = absurd (cc)
 
 pub required_ok : (t : TableName) (k : Key) (low high : ℕ) (ms : Members) (n : ℕ) → required_number t k low high ms ≡ Ok n → (low ≤ n) × (n ≤ high)
 required_ok t k low high ms n h = by_value (get_key k ms) h

@@ -38,23 +38,15 @@ fn walk(alloc: Global, sections: &Sections<'_>) -> Result<Document, ReadError>
     ensures { Answers result (walk_of (sections_view sections.now)) }
 {
     let at = TableName::Top;
-    let devices = rows::<DevicePart>(alloc, at, Key::Device, sections.devices)?;
-    let cables = rows::<CableRow>(alloc, at, Key::Cable, sections.cables)?;
-    let hosts = rows::<HostRow>(alloc, at, Key::Host, sections.hosts)?;
-    let snapshot = read_snapshot(sections.snapshot)?;
-    let loss = read_loss(alloc, sections.loss)?;
-    let flows = rows::<FlowRow>(alloc, at, Key::Flow, sections.flows)?;
-    let raws = rows::<RawRow>(alloc, at, Key::Raw, sections.raws)?;
-    let script = read_script(alloc, sections.script)?;
     Ok(Document {
-        devices,
-        cables,
-        hosts,
-        snapshot,
-        loss,
-        flows,
-        raws,
-        script,
+        devices: rows::<DevicePart>(alloc, at, Key::Device, sections.devices)?,
+        cables: rows::<CableRow>(alloc, at, Key::Cable, sections.cables)?,
+        hosts: rows::<HostRow>(alloc, at, Key::Host, sections.hosts)?,
+        snapshot: read_snapshot(sections.snapshot)?,
+        loss: read_loss(alloc, sections.loss)?,
+        flows: rows::<FlowRow>(alloc, at, Key::Flow, sections.flows)?,
+        raws: rows::<RawRow>(alloc, at, Key::Raw, sections.raws)?,
+        script: read_script(alloc, sections.script)?,
     })
 }
 

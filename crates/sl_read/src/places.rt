@@ -1,6 +1,7 @@
 // Names of devices and hosts, looked up.
-ghost use Rattle.std.specs.Prelude.{◌≡◌, Ok, Err, bytes_eq};
+ghost use Rattle.std.specs.Prelude.{◌≡◌, ℕ, Ok, Err, List, Result, bytes_eq};
 ghost use Rattle.std.specs.List.{position};
+ghost use Rattle.sl_form.specs.declared.refusal.Refusal.{Refusal};
 ghost use Rattle.sl_form.specs.Refusals.{Answers};
 ghost use Rattle.sl_read.specs.Places.{device_place, host_place, known, port_place, cable_part};
 ghost use Rattle.sl_read.specs.Places.{host_part, flow_part, raw_part, each, parts_of};
@@ -13,6 +14,41 @@ use sl_form::{Key, Path, PortText, ReadError, Refusal, TableName};
 use sl_machine::Listed;
 use sl_net::{Bytes, CablePart, DevicePart, Flow, HostPart, Name, Parts, PortRef, RawPart};
 use std::alloc::Global;
+
+/// A row that names devices or hosts.
+pub trait Placed: Sized {
+    /// What is named.
+    type Named;
+
+    /// What the row is, with the places of what it names.
+    type Part: Drop;
+
+    ghost part_of: { List Self.Named → ℕ → Self → Result Self.Part Refusal };
+
+    /// Looks the names of the row up. It has this place in its list.
+    fn place(
+        &self,
+        alloc: Global,
+        named: &[Self::Named],
+        index: u64,
+    ) -> Result<Self::Part, ReadError>
+        ensures { Answers result (part_of named.now index self.now) };
+}
+
+/// Each row, with the places of what it names.
+pub fn place_each<R: Placed>(
+    alloc: Global,
+    named: &[R::Named],
+    rows: &[R],
+) -> Result<Listed<R::Part>, ReadError>
+    ensures { Answers result (each (R.part_of named.now) 0 rows.now) }
+{
+    let mut found = Vec::new(alloc);
+    for (index, row) in rows.iter().enumerate() {
+        found.push(row.place(alloc, named, index as u64)?)?;
+    }
+    Ok(Listed { items: found })
+}
 
 fn same_name(a: &Name, b: &Name) -> bool
     ensures { result ≡ bytes_eq a.now b.now }
@@ -82,18 +118,24 @@ fn copy_name(alloc: Global, name: &Name) -> Result<Name, ReadError>
     }
 }
 
-fn host_part(
-    alloc: Global,
-    devices: &[DevicePart],
-    index: u64,
-    host: &HostRow,
-) -> Result<HostPart, ReadError>
-    ensures { Answers result (host_part devices.now index host.now) }
-{
-    let path = Path::at(TableName::Host(index), Key::At);
-    let at = port_place(devices, path, &host.at)?;
-    let name = copy_name(alloc, &host.name)?;
-    Ok(HostPart { name, at })
+impl Placed for HostRow {
+    type Named = DevicePart;
+
+    type Part = HostPart;
+
+    ghost part_of = { host_part };
+
+    fn place(
+        &self,
+        alloc: Global,
+        named: &[DevicePart],
+        index: u64,
+    ) -> Result<HostPart, ReadError> {
+        let path = Path::at(TableName::Host(index), Key::At);
+        let at = port_place(named, path, &self.at)?;
+        let name = copy_name(alloc, &self.name)?;
+        Ok(HostPart { name, at })
+    }
 }
 
 fn cable_parts(
@@ -107,21 +149,6 @@ fn cable_parts(
     let mut found = Vec::new(alloc);
     for (index, cable) in cables.iter().enumerate() {
         found.push(cable_part(devices, version, index as u64, cable)?)?;
-    }
-    Ok(Listed { items: found })
-}
-
-#[tactic(auto, using(crate::proofs::RowLemmas::each_steps))]
-fn host_parts(
-    alloc: Global,
-    devices: &[DevicePart],
-    hosts: &[HostRow],
-) -> Result<Listed<HostPart>, ReadError>
-    ensures { Answers result (each (host_part devices.now) 0 hosts.now) }
-{
-    let mut found = Vec::new(alloc);
-    for (index, host) in hosts.iter().enumerate() {
-        found.push(host_part(alloc, devices, index as u64, host)?)?;
     }
     Ok(Listed { items: found })
 }
@@ -159,7 +186,7 @@ pub fn place_parts(
     ensures { Answers result (parts_of devices.now version cables.now hosts.now) }
 {
     let cables = cable_parts(alloc, devices, version, cables)?;
-    let hosts = host_parts(alloc, devices, hosts)?;
+    let hosts = place_each::<HostRow>(alloc, devices, hosts)?;
     let devices = copy_devices(alloc, devices)?;
     Ok(Parts {
         devices: devices.items,
@@ -168,19 +195,25 @@ pub fn place_parts(
     })
 }
 
-fn flow_part(hosts: &[HostPart], index: u64, flow: &FlowRow) -> Result<Flow, ReadError>
-    ensures { Answers result (flow_part hosts.now index flow.now) }
-{
-    let at = TableName::Flow(index);
-    let from = known(Path::at(at, Key::From), host_place(hosts, &flow.from))?;
-    let to = known(Path::at(at, Key::To), host_place(hosts, &flow.to))?;
-    Ok(Flow {
-        from,
-        to,
-        count: flow.count,
-        bytes: flow.bytes,
-        hops: flow.hops,
-    })
+impl Placed for FlowRow {
+    type Named = HostPart;
+
+    type Part = Flow;
+
+    ghost part_of = { flow_part };
+
+    fn place(&self, _alloc: Global, named: &[HostPart], index: u64) -> Result<Flow, ReadError> {
+        let at = TableName::Flow(index);
+        let from = known(Path::at(at, Key::From), host_place(named, &self.from))?;
+        let to = known(Path::at(at, Key::To), host_place(named, &self.to))?;
+        Ok(Flow {
+            from,
+            to,
+            count: self.count,
+            bytes: self.bytes,
+            hops: self.hops,
+        })
+    }
 }
 
 fn copy_bytes(alloc: Global, bytes: &Bytes) -> Result<Bytes, ReadError>
@@ -190,48 +223,17 @@ fn copy_bytes(alloc: Global, bytes: &Bytes) -> Result<Bytes, ReadError>
     Ok(Bytes { items })
 }
 
-fn raw_part(
-    alloc: Global,
-    hosts: &[HostPart],
-    index: u64,
-    raw: &RawRow,
-) -> Result<RawPart, ReadError>
-    ensures { Answers result (raw_part hosts.now index raw.now) }
-{
-    let path = Path::at(TableName::Raw(index), Key::From);
-    let from = known(path, host_place(hosts, &raw.from))?;
-    let bytes = copy_bytes(alloc, &raw.bytes)?;
-    Ok(RawPart { from, bytes })
-}
+impl Placed for RawRow {
+    type Named = HostPart;
 
-/// The flows, with hosts by their places.
-#[tactic(auto, using(crate::proofs::RowLemmas::each_steps))]
-pub fn place_flows(
-    alloc: Global,
-    hosts: &[HostPart],
-    flows: &[FlowRow],
-) -> Result<Listed<Flow>, ReadError>
-    ensures { Answers result (each (flow_part hosts.now) 0 flows.now) }
-{
-    let mut found = Vec::new(alloc);
-    for (index, flow) in flows.iter().enumerate() {
-        found.push(flow_part(hosts, index as u64, flow)?)?;
-    }
-    Ok(Listed { items: found })
-}
+    type Part = RawPart;
 
-/// The raw frames, with hosts by their places.
-#[tactic(auto, using(crate::proofs::RowLemmas::each_steps))]
-pub fn place_raws(
-    alloc: Global,
-    hosts: &[HostPart],
-    raws: &[RawRow],
-) -> Result<Listed<RawPart>, ReadError>
-    ensures { Answers result (each (raw_part hosts.now) 0 raws.now) }
-{
-    let mut found = Vec::new(alloc);
-    for (index, raw) in raws.iter().enumerate() {
-        found.push(raw_part(alloc, hosts, index as u64, raw)?)?;
+    ghost part_of = { raw_part };
+
+    fn place(&self, alloc: Global, named: &[HostPart], index: u64) -> Result<RawPart, ReadError> {
+        let path = Path::at(TableName::Raw(index), Key::From);
+        let from = known(path, host_place(named, &self.from))?;
+        let bytes = copy_bytes(alloc, &self.bytes)?;
+        Ok(RawPart { from, bytes })
     }
-    Ok(Listed { items: found })
 }

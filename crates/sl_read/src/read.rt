@@ -13,9 +13,11 @@ ghost use Rattle.sl_read.specs.Inputs.{input_of};
 use crate::choices::{place_drops, read_entries};
 use crate::document::{Document, read_document};
 use crate::fault::{InputFault, fault_of};
+use crate::flow::FlowRow;
 use crate::limits::limits_kept;
 use crate::loss::LossRow;
-use crate::places::{place_flows, place_parts, place_raws};
+use crate::places::{place_each, place_parts};
+use crate::raw::RawRow;
 use sl_form::{ReadError, Refusal};
 use sl_machine::Listed;
 use sl_net::{
@@ -131,8 +133,8 @@ struct Traffic {
 fn traffic_in(alloc: Global, hosts: &[HostPart], document: &Document) -> Result<Traffic, ReadError>
     ensures { Answers result (traffic_in hosts.now document.now) }
 {
-    let flows = place_flows(alloc, hosts, document.flows.as_slice())?;
-    let raws = place_raws(alloc, hosts, document.raws.as_slice())?;
+    let flows = place_each::<FlowRow>(alloc, hosts, document.flows.as_slice())?;
+    let raws = place_each::<RawRow>(alloc, hosts, document.raws.as_slice())?;
     Ok(Traffic { flows, raws })
 }
 

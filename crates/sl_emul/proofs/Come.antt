@@ -14,7 +14,7 @@ use Rattle.sl_model.specs.Books.{schedule_of, numbers_of}
 use Rattle.sl_world.specs.Scene.{Scene}
 use Rattle.sl_merge.specs.Lamport.{lamport_numbers}
 use Rattle.sl_merge.specs.Merging.{IsAscending}
-use Rattle.sl_merge.specs.Ended.{StandsAsRun}
+use Rattle.sl_merge.specs.RunOfActors.{StandsAsRun}
 use Rattle.sl_threads.specs.Threads.{ArePlanned, AreAtRest}
 use Rattle.sl_proto.specs.Nodes.{NodeState, node_rules}
 use Rattle.sl_proto.specs.Built.{first_states}

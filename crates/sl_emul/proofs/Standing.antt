@@ -12,7 +12,7 @@ use Rattle.sl_model.specs.Setup.{setup_of}
 use Rattle.sl_model.specs.World.{Entry, start, world, IsLegal}
 use Rattle.sl_model.specs.Books.{schedule_of}
 use Rattle.sl_world.specs.Scene.{Scene, after_all, run_of}
-use Rattle.sl_merge.specs.Ended.{StandsAsRun}
+use Rattle.sl_merge.specs.RunOfActors.{StandsAsRun}
 use Rattle.sl_proto.specs.Nodes.{NodeState, node_rules}
 use Rattle.sl_proto.specs.Meaning.{NodeStands, IsRunnable}
 use Rattle.sl_proto.specs.Built.{first_states}

@@ -18,7 +18,7 @@ use Rattle.sl_actor.specs.Outs.{OutView, IsGiven}
 use Rattle.sl_actor.specs.Follows.{ActorView, Follows}
 use Rattle.sl_merge.specs.Merging.{entries_by, joined, IsMerge, AreLogs}
 use Rattle.sl_merge.specs.Outcome.{Outcome, AreFollowed, IsRun, all_entries}
-use Rattle.sl_merge.specs.Ended.{Ended, HaveMet, IsRunOf, take_at, out_at, log_entries}
+use Rattle.sl_merge.specs.RunOfActors.{EndedActors, HaveMet, IsRunOf, take_at, out_at, log_entries}
 use Rattle.sl_merge.proofs.GetLemmas.{some_at}
 use Rattle.sl_merge.proofs.MergeLemmas.{logs_rise, merge_is_run}
 use Rattle.sl_merge.proofs.CountLemmas.{AreStrict}
@@ -28,7 +28,7 @@ joined_same : (n : ℕ) (f g : ℕ → List (ℕ × ℕ)) → ((a : ℕ) → a <
 joined_same zero f g h = refl
 joined_same (suc n) f g h = ap₂ (λ xs ys. xs ++ ys) (joined_same n f g (λ a low. h a (omega arith))) (ap (entries_by n) (h n (omega arith)))
 
-module _ {S M : Type 0} (rules : Rules S M) (all : Ended S M) (h : HaveMet rules all) where
+module _ {S M : Type 0} (rules : Rules S M) (all : EndedActors S M) (h : HaveMet rules all) where
   abbrev Steps : Type 0
   Steps = List (Step (S × ℕ) (Stamped M))
 

@@ -26,7 +26,7 @@ use Rattle.sl_world.proofs.ResumeLemmas.{length-lines_with}
 use Rattle.sl_world.proofs.TurnLemmas.{some_at}
 use Rattle.sl_merge.specs.Lamport.{IsNumbered, AreLow}
 use Rattle.sl_merge.specs.Merging.{IsMerge, IsAscending, IsLog, all_entries, joined}
-use Rattle.sl_merge.specs.Ended.{Ended, HaveMet, IsMergeOf, IsRunOf, Rests, AreRests, StandsAsRun, resumed, log_entries, take_at, out_at}
+use Rattle.sl_merge.specs.RunOfActors.{EndedActors, HaveMet, IsMergeOf, IsRunOf, Rests, AreRests, StandsAsRun, resumed, log_entries, take_at, out_at}
 use Rattle.sl_merge.specs.Merged.{AreWired, AreLeft, left_on, loss_before, losses_before}
 use Rattle.sl_merge.specs.Parted.{AreApart, AreThere, AreRestsOf}
 use Rattle.sl_merge.proofs.EndedLemmas.{ended_is_run, ended_rise}
@@ -55,7 +55,7 @@ pub entries_of_logs : {S M : Type 0} (actors : List (ActorView S M)) (logs : Lis
 entries_of_logs actors logs is = ap all_entries is ∙ ap (λ (n : ℕ). joined n (λ a. get_or (map (λ x. x.log) actors) a [])) (length-map actors (λ x. x.log))
 
 -- the logs of actors that have met rise
-pub all_rise : {S M : Type 0} (rules : Rules S M) (e : Ended S M) (logs : List (List (ℕ × ℕ))) → HaveMet rules e → logs ≡ map (λ a. a.log) e.actors → All IsLog logs
+pub all_rise : {S M : Type 0} (rules : Rules S M) (e : EndedActors S M) (logs : List (List (ℕ × ℕ))) → HaveMet rules e → logs ≡ map (λ a. a.log) e.actors → All IsLog logs
 all_rise rules e logs met is =
     subst (All IsLog) (sym is) (are_logs (map (λ a. a.log) e.actors) (λ a low. ended_rise rules e met a (omega (arith, length-map e.actors (λ a. a.log), met.actors_each))))
 
@@ -75,7 +75,7 @@ module _ {S M : Type 0} where
       ap (λ xs. get_or xs link.choice d) (get_or-map (λ a. map f a.takes) actors link.to a [] low) ∙ get_or-map f (get_or actors link.to a).takes link.choice t d here
 
 -- the actors have ended, from these states of their machines on
-abbrev pub ended_by : {S M : Type 0} → Plan → List (ActorView S M) → List S → Ended S M
+abbrev pub ended_by : {S M : Type 0} → Plan → List (ActorView S M) → List S → EndedActors S M
 ended_by plan actors firsts = record { plan = plan; losses = losses_before plan.links actors; firsts = firsts; actors = actors; held = λ l. left_on actors (link_at plan.links l) }
 
 module _ {S M : Type 0} (plan : Plan) (actors : List (ActorView S M)) (wired : AreWired plan actors) where
@@ -179,7 +179,7 @@ module _ {S M : Type 0} (plan : Plan) (actors : List (ActorView S M)) (wired : A
           }
 
       module _ (rules : Rules S M) (firsts : List S) (firsts_each : length firsts ≡ length plan.ins) (follows : EachFollows rules firsts actors) where
-        abbrev pub ended : Ended S M
+        abbrev pub ended : EndedActors S M
         ended = ended_by plan actors firsts
 
         pub have_met : HaveMet rules ended

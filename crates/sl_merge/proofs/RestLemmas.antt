@@ -10,7 +10,7 @@ use Rattle.sl_link.specs.Ends.{TakeView}
 use Rattle.sl_link.specs.declared.ends.Stamped.{Stamped}
 use Rattle.sl_actor.specs.declared.part.OutPart.{OutPart}
 use Rattle.sl_actor.specs.Rows.{IsFilled, place_at}
-use Rattle.sl_merge.specs.Ended.{Rests}
+use Rattle.sl_merge.specs.RunOfActors.{Rests}
 use Rattle.sl_merge.specs.Parted.{empty_at, AreApart, AreThere, AreRestsOf, IsAdded, rest_of}
 use Rattle.sl_merge.proofs.RowLemmas.{filled_by, filled_row, else_there}
 use Rattle.sl_actor.proofs.MakeLemmas.{apart_by}
@@ -30,6 +30,15 @@ pushed_before xs xs' y d n l more len low = ap (λ ys. get_or ys l d) more ∙ g
 pushed_length : {X : Type 0} (xs xs' : List X) (y : X) (n : ℕ) → xs' ≡ xs ++ y ∷ [] → length xs ≡ n → length xs' ≡ n + 1
 pushed_length xs xs' y n more len = ap length more ∙ length_push xs y ∙ ap (λ k. k + 1) len
 
+-- what another link has at its place stays when the end of one is taken
+kept_there : {X : Type 0} (rows rows' : List (List (Option X))) (links : List Link) (find : ℕ → ℕ → ℕ) (l n : ℕ) (row place : Link → ℕ) (x : X) → find (row (link_at links l)) (place (link_at links l)) ≡ l → find (row (link_at links n)) (place (link_at links n)) ≡ n → l ≢ n
+    → place_at rows (row (link_at links n)) (place (link_at links n)) ≡ Some x → rows' ≡ empty_at (row (link_at links n)) (place (link_at links n)) rows → place_at rows' (row (link_at links l)) (place (link_at links l)) ≡ place_at rows (row (link_at links l)) (place (link_at links l))
+kept_there rows rows' links find l n row place x once_l once_n other at is =
+    let a = row (link_at links n) in
+    let b = place (link_at links n) in
+    ap (λ rs. place_at rs (row (link_at links l)) (place (link_at links l))) is
+    ∙ else_there rows a b (row (link_at links l)) (place (link_at links l)) (filled_row rows a b (filled_by _ x at)) (apart_by find l n (row (link_at links l)) a (place (link_at links l)) b once_l once_n other)
+
 module _ {M : Type 0} (links : List Link) (n : ℕ) (takes takes' : List (List (Option (TakeView (Stamped M))))) (outs outs' : List (List (Option (OutPart M)))) where
   pub before_on : (end : TakeView (Stamped M)) (part : OutPart M) (takes'' : List (List (Option (TakeView (Stamped M))))) (outs'' : List (List (Option (OutPart M)))) → AreApart links → n < length links → AreAsBefore links n takes takes' outs outs'
       → place_at takes' (link_at links n).to (link_at links n).choice ≡ Some end → place_at outs' (link_at links n).from (link_at links n).out ≡ Some part
@@ -38,16 +47,10 @@ module _ {M : Type 0} (links : List Link) (n : ℕ) (takes takes' : List (List (
       record {
         takes_at = λ l more here.
             let other : l ≢ n = λ same. absurd (omega arith) in
-            ap (λ rows. place_at rows (link_at links l).to (link_at links l).choice) takes_are
-            ∙ else_there takes' (link_at links n).to (link_at links n).choice (link_at links l).to (link_at links l).choice (filled_row takes' (link_at links n).to (link_at links n).choice (filled_by _ end end_at))
-            (apart_by (link_in links) l n (link_at links l).to (link_at links n).to (link_at links l).choice (link_at links n).choice (apart.once_in l here) (apart.once_in n low) other)
-            ∙ h.takes_at l (omega arith) here;
+            kept_there takes' takes'' links (link_in links) l n (λ k. k.to) (λ k. k.choice) end (apart.once_in l here) (apart.once_in n low) other end_at takes_are ∙ h.takes_at l (omega arith) here;
         outs_at = λ l more here.
             let other : l ≢ n = λ same. absurd (omega arith) in
-            ap (λ rows. place_at rows (link_at links l).from (link_at links l).out) outs_are
-            ∙ else_there outs' (link_at links n).from (link_at links n).out (link_at links l).from (link_at links l).out (filled_row outs' (link_at links n).from (link_at links n).out (filled_by _ part part_at))
-            (apart_by (link_out links) l n (link_at links l).from (link_at links n).from (link_at links l).out (link_at links n).out (apart.once_out l here) (apart.once_out n low) other)
-            ∙ h.outs_at l (omega arith) here;
+            kept_there outs' outs'' links (link_out links) l n (λ k. k.from) (λ k. k.out) part (apart.once_out l here) (apart.once_out n low) other part_at outs_are ∙ h.outs_at l (omega arith) here;
       }
 
   pub rests_on : (end : TakeView (Stamped M)) (part : OutPart M) (r r' : Rests M) → n < length links → AreAsBefore links n takes takes' outs outs'

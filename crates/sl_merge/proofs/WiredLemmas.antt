@@ -14,7 +14,7 @@ use Rattle.sl_actor.specs.Follows.{ActorView}
 use Rattle.sl_actor.specs.Turns.{KeepsEnds}
 use Rattle.sl_actor.specs.Made.{HasEnds, AreTied}
 use Rattle.sl_merge.specs.Merging.{entries_by, joined}
-use Rattle.sl_merge.specs.Ended.{log_entries, take_at, out_at}
+use Rattle.sl_merge.specs.RunOfActors.{log_entries, take_at, out_at}
 use Rattle.sl_merge.specs.Merged.{AreWired, AreKept, loss_before, losses_before}
 use Rattle.sl_merge.proofs.MergedLemmas.{counts_of, in_range, out_by, some_out}
 

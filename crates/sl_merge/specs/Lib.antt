@@ -1,7 +1,7 @@
 pub mod Lamport
 pub mod Merging
 pub mod Outcome
-pub mod Ended
+pub mod RunOfActors
 pub mod Merged
 pub mod Parted
 pub mod Windows

@@ -13,7 +13,7 @@ use Rattle.sl_actor.specs.Follows.{ActorView}
 use Rattle.sl_actor.specs.Turns.{KeepsEnds}
 use Rattle.sl_actor.specs.Made.{HasEnds}
 use Rattle.sl_world.specs.Scene.{Line, line_at}
-use Rattle.sl_merge.specs.Ended.{take_at, out_at}
+use Rattle.sl_merge.specs.RunOfActors.{take_at, out_at}
 
 module _ {S M : Type 0} where
   -- the list put on a link, at its sender, and the list taken from it, at its receiver

@@ -7,7 +7,7 @@ use Rattle.sl_link.specs.Ends.{TakeView}
 use Rattle.sl_link.specs.declared.ends.Stamped.{Stamped}
 use Rattle.sl_actor.specs.declared.part.OutPart.{OutPart}
 use Rattle.sl_actor.specs.Rows.{place_at}
-use Rattle.sl_merge.specs.Ended.{Rests}
+use Rattle.sl_merge.specs.RunOfActors.{Rests}
 
 -- a place of a row made empty
 abbrev pub empty_at : {X : Type 0} → ℕ → ℕ → List (List (Option X)) → List (List (Option X))

@@ -29,7 +29,7 @@ module _ {S M : Type 0} where
 
 -- how the actors are joined, the loss of each link before anything was put, the state of each machine at first, the actors,
 -- and for each link what it held when its two ends met
-pub record Ended (S M : Type 0) : Type 0 where
+pub record EndedActors (S M : Type 0) : Type 0 where
   pub plan : Plan
   pub losses : List (Option Loss)
   pub firsts : List S
@@ -38,7 +38,7 @@ pub record Ended (S M : Type 0) : Type 0 where
 
 -- Each actor follows the machine of its place and has an end for each of its links; the losses are those of the links
 -- before they answered; and of each link the list put is the list taken and then what it held.
-pub record HaveMet {S M : Type 0} (rules : Rules S M) (e : Ended S M) : Type 0 where
+pub record HaveMet {S M : Type 0} (rules : Rules S M) (e : EndedActors S M) : Type 0 where
   pub sound : IsSound e.plan
   pub losses_each : length e.losses ≡ length e.plan.links
   pub firsts_each : length e.firsts ≡ length e.plan.ins
@@ -54,7 +54,7 @@ pub record HaveMet {S M : Type 0} (rules : Rules S M) (e : Ended S M) : Type 0 w
 -- The book's schedule is legal, from a world where nothing has happened. It leaves each machine as its actor has it and on
 -- each link what the link held and then its outbox, with its loss and its count of lost puts. The book's numbers are the
 -- Lamport numbers of the schedule, and none is above the number of entries.
-pub record IsRunOf {S M : Type 0} (rules : Rules S M) (e : Ended S M) (book : List Entry) : Type 0 where
+pub record IsRunOf {S M : Type 0} (rules : Rules S M) (e : EndedActors S M) (book : List Entry) : Type 0 where
   pub world : Scene S M
   pub run : run_of rules (first_scene e.plan e.firsts e.losses) (schedule_of book) ≡ Some world
   pub states : world.states ≡ map (λ a. a.state) e.actors
@@ -69,7 +69,7 @@ pub record IsRunOf {S M : Type 0} (rules : Rules S M) (e : Ended S M) (book : Li
   pub small : AreLow book
 
 -- the book is a merge of their logs
-abbrev pub IsMergeOf : {S M : Type 0} → Ended S M → List Entry → Type 0
+abbrev pub IsMergeOf : {S M : Type 0} → EndedActors S M → List Entry → Type 0
 IsMergeOf e book = IsMerge (log_entries e.actors) book
 
 -- for each link its loss, how many puts it lost, and messages
@@ -79,7 +79,7 @@ pub record Rests (M : Type 0) : Type 0 where
   pub messages : List (List M)
 
 -- the loss of each link and its count are those of now, and the messages are those that the link held and then its outbox
-pub record AreRests {S M : Type 0} (e : Ended S M) (r : Rests M) : Type 0 where
+pub record AreRests {S M : Type 0} (e : EndedActors S M) (r : Rests M) : Type 0 where
   pub losses_each : length r.losses ≡ length e.plan.links
   pub lost_each : length r.lost ≡ length e.plan.links
   pub messages_each : length r.messages ≡ length e.plan.links
@@ -91,7 +91,7 @@ pub record AreRests {S M : Type 0} (e : Ended S M) (r : Rests M) : Type 0 where
       → slice_index_or r.messages l [] ≡ map (λ s. s.m) (e.held l ++ (out_at e.actors (link_at e.plan.links l) b o).outbox)
 
 -- what a world that goes on from these actors has, with this book
-abbrev pub resumed : {S M : Type 0} → Ended S M → Rests M → List Entry → Scene S M
+abbrev pub resumed : {S M : Type 0} → EndedActors S M → Rests M → List Entry → Scene S M
 resumed e r book =
     record { plan = e.plan; states = map (λ a. a.state) e.actors; lines = lines_with r.losses r.lost r.messages; book = book }
 

@@ -9,8 +9,8 @@ ghost use Rattle.sl_loss.specs.Loss.{Loss, IsFresh};
 ghost use Rattle.sl_actor.specs.Follows.{ActorView};
 ghost use Rattle.sl_actor.specs.Made.{HasEnds, AreTied};
 ghost use Rattle.sl_merge.specs.Merging.{IsMerge, AreLogs};
-ghost use Rattle.sl_merge.specs.Ended.{Ended, HaveMet, IsMergeOf, IsRunOf, Rests, AreRests};
-ghost use Rattle.sl_merge.specs.Ended.{StandsAsRun, resumed, log_entries};
+ghost use Rattle.sl_merge.specs.RunOfActors.{EndedActors, HaveMet, IsMergeOf, IsRunOf, Rests};
+ghost use Rattle.sl_merge.specs.RunOfActors.{AreRests, StandsAsRun, resumed, log_entries};
 ghost use Rattle.sl_merge.specs.Merged.{AreWired, AreKept, losses_before};
 ghost use Rattle.sl_merge.specs.Outcome.{Outcome, AreFollowed, IsRun, all_entries};
 
@@ -30,17 +30,18 @@ pub fn merges_are_runs<A: Machine>()
 /// leaves on each link what the link held and then its outbox. The logs, joined actor by actor, are
 /// what `sort_book` asks for.
 pub fn actors_are_runs<A: Machine>()
-    ensures run { (e : Ended A.State A.Msg) (book : List Entry) → HaveMet A.rules e
+    ensures run { (e : EndedActors A.State A.Msg) (book : List Entry) → HaveMet A.rules e
         → IsMergeOf e book → IsRunOf A.rules e book }
-    ensures logs { (e : Ended A.State A.Msg) → HaveMet A.rules e → AreLogs (log_entries e.actors) }
-    ensures in_order { (e : Ended A.State A.Msg) → HaveMet A.rules e
+    ensures logs { (e : EndedActors A.State A.Msg) → HaveMet A.rules e
+        → AreLogs (log_entries e.actors) }
+    ensures in_order { (e : EndedActors A.State A.Msg) → HaveMet A.rules e
         → IsNonDecreasingBy (λ x. x.actor) (log_entries e.actors) }
 {}
 
 /// What `World::resume` makes of such actors, with the merge of their logs as its book, is the world
 /// to which that book's schedule leads, but for the numbers of the book.
 pub fn merges_are_resumed<A: Machine>()
-    ensures { (e : Ended A.State A.Msg) (r : Rests A.Msg) (book : List Entry)
+    ensures { (e : EndedActors A.State A.Msg) (r : Rests A.Msg) (book : List Entry)
         → HaveMet A.rules e → AreRests e r → IsMergeOf e book
         → StandsAsRun A.rules e.plan e.firsts e.losses (resumed e r book) }
 {

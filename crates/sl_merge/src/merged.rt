@@ -5,7 +5,7 @@ ghost use Rattle.sl_actor.specs.Made.{EachFollows};
 ghost use Rattle.sl_world.specs.World.{scene};
 ghost use Rattle.sl_merge.specs.Merging.{IsMerge, IsAscending};
 ghost use Rattle.sl_merge.specs.Lamport.{IsNumbered, AreLow};
-ghost use Rattle.sl_merge.specs.Ended.{log_entries, StandsAsRun};
+ghost use Rattle.sl_merge.specs.RunOfActors.{log_entries, StandsAsRun};
 ghost use Rattle.sl_merge.specs.Merged.{AreWired, AreLeft, losses_before};
 
 use crate::laws::{actors_are_runs, merges_are_resumed};

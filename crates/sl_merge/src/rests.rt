@@ -22,7 +22,7 @@ pub struct Rests<M> {
 
 impl<M> Model for Rests<M> {
     ghost use Rattle.std.specs.Prelude.{map};
-    ghost use Rattle.sl_merge.specs.Ended.{Rests as RestsView};
+    ghost use Rattle.sl_merge.specs.RunOfActors.{Rests as RestsView};
 
     ghost Value = { RestsView M };
 

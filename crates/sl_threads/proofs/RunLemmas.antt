@@ -24,7 +24,7 @@ use Rattle.sl_world.specs.Scene.{Scene}
 use Rattle.sl_world.proofs.TurnLemmas.{some_at}
 use Rattle.sl_merge.specs.Lamport.{IsNumbered}
 use Rattle.sl_merge.specs.Merging.{IsMerge, entries_by, joined}
-use Rattle.sl_merge.specs.Ended.{StandsAsRun, log_entries}
+use Rattle.sl_merge.specs.RunOfActors.{StandsAsRun, log_entries}
 use Rattle.sl_merge.specs.Merged.{AreKept, AreWired}
 use Rattle.sl_threads.specs.declared.jobs.Job.{Job}
 use Rattle.sl_threads.specs.Threads.{HasRun, ArePlanned, AreAtRest}

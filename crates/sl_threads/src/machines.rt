@@ -6,7 +6,7 @@ ghost use Rattle.sl_loss.specs.Loss.{IsFresh};
 ghost use Rattle.sl_world.specs.World.{scene};
 ghost use Rattle.sl_merge.specs.Lamport.{IsNumbered};
 ghost use Rattle.sl_merge.specs.Merging.{IsAscending};
-ghost use Rattle.sl_merge.specs.Ended.{StandsAsRun};
+ghost use Rattle.sl_merge.specs.RunOfActors.{StandsAsRun};
 ghost use Rattle.sl_threads.specs.Threads.{ArePlans, ArePlanned, HavePassed, AreAtRest};
 
 use crate::jobs::{actors_of, jobs_of, run_each};

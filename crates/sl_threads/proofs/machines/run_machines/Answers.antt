@@ -6,7 +6,7 @@ use Rattle.sl_actor.specs.Follows.{ActorView}
 use Rattle.sl_actor.specs.Made.{EachFollows}
 use Rattle.sl_actor.specs.Held.{held}
 use Rattle.sl_world.specs.World.{scene}
-use Rattle.sl_merge.specs.Ended.{log_entries}
+use Rattle.sl_merge.specs.RunOfActors.{log_entries}
 use Rattle.sl_threads.specs.Threads.{ArePlans}
 use Rattle.sl_threads.proofs.RunLemmas.{jobs_have_run, jobs_have_passed, kept, all_follow, logs_are_short, if_both, as_many, few_all, stands_by, numbers_by, all_chosen, logs_within, at_rest}
 use Rattle.sl_threads.proofs.machines.run_machines.Goals as goal
@@ -16,20 +16,19 @@ jobs_of-requires g c = subst (λ l. ArePlans l (map (λ (p : Vec ℕ Global). p.
 
 pub merge-requires : goal.merge-requires
 merge-requires g c =
-    let plans = map (λ (p : Vec ℕ Global). p.items) c.args.plans.items in
     let olds = map held c.in_ok-actors.actors.items in
     let news = map held c.in_ok-actors-2.actors.items in
-    let h = jobs_have_run g.A.Machine 134217728 c.in_ok-jobs.jobs.items c.in_ok-ran.ran.items olds news c.in_ok-jobs.ensures.actors c.in_ok-actors-2.ensures.actors c.in_ok-ran.ensures.len c.in_ok-actors-2.ensures.answers c.in_ok-ran.ensures.each plans c.in_ok-jobs.ensures.plans in
+    let h = jobs_have_run g.A.Machine 134217728 c.in_ok-jobs.jobs.items c.in_ok-ran.ran.items olds news c.in_ok-jobs.ensures.actors c.in_ok-actors-2.ensures.actors c.in_ok-ran.ensures.len c.in_ok-actors-2.ensures.answers c.in_ok-ran.ensures.each _ c.in_ok-jobs.ensures.plans in
     let made = c.in_ok-actors.ensures in
     let law = c.made_actors_are_wired.ensures in
     let firsts = map g.A.Machine.state c.args.machines.items in
     let each : length firsts ≡ length olds = sym (ap length made.states) ∙ length-map olds (λ (v : ActorView g.A.Machine.State g.row.A-Msg.Denot). v.state) in
     let many : length news ≡ length c.args.machines.items = h.each ∙ sym (length-map olds (λ (v : ActorView g.A.Machine.State g.row.A-Msg.Denot). v.counts)) ∙ ap length made.counts ∙ length-map c.args.machines.items g.A.Machine.counts in
     record {
-      wired = law.kept c.args.wiring.now olds news (kept g.A.Machine.rules 134217728 plans olds news h) (law.wired c.args.wiring.now c.args.machines.items c.args.losses.items 16 olds c.requires.fit made.counts made.ends made.tied);
+      wired = law.kept c.args.wiring.now olds news (kept g.A.Machine.rules 134217728 _ olds news h) (law.wired c.args.wiring.now c.args.machines.items c.args.losses.items 16 olds c.requires.fit made.counts made.ends made.tied);
       first = as_many g.A.Machine.state g.A.Machine.counts c.args.first.now c.args.machines.items c.args.wiring.now c.requires.first c.requires.fit.machines_fit;
-      follows = subst (λ (fs : List g.A.Machine.State). EachFollows g.A.Machine.rules fs news) (sym c.requires.first) (all_follow g.A.Machine.rules 134217728 plans olds news h firsts each made.follows);
-      few = few_all (length news) (length (log_entries news)) (law.few 134217728 news (logs_are_short g.A.Machine.rules 134217728 plans olds news h made.logs)) (subst (λ (n : ℕ). n ≤ 2048) (sym many) c.requires.few);
+      follows = subst (λ (fs : List g.A.Machine.State). EachFollows g.A.Machine.rules fs news) (sym c.requires.first) (all_follow g.A.Machine.rules 134217728 _ olds news h firsts each made.follows);
+      few = few_all (length news) (length (log_entries news)) (law.few 134217728 news (logs_are_short g.A.Machine.rules 134217728 _ olds news h made.logs)) (subst (λ (n : ℕ). n ≤ 2048) (sym many) c.requires.few);
     }
 
 pub returns : goal.returns

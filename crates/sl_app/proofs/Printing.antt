@@ -1,12 +1,13 @@
 -- What is printed of a run, by the contract of the top call.
-use Rattle.std.proofs.Common.{◌≡◌, ℕ, ◌+◌, ◌<◌, ◌^◌, List, [], ◌++◌, length, length-append, take, refl, sym, ap, ◌∙◌, arith}
-use Rattle.std.specs.Prelude.{Bool, if◌then◌else◌}
+use Rattle.std.proofs.Common.{◌≡◌, ℕ, ◌<◌, ◌^◌, List, [], ◌++◌, length, length-append, take, refl, sym, ap, subst, ◌∙◌, arith}
+use Rattle.std.specs.Prelude.{Bool, if◌then◌else◌, Ok}
 use Rattle.std.proofs.Math.Seq.{take-append_seam}
 use Rattle.std.proofs.lemmas.List.{length-map}
 use Rattle.sl_machine.specs.declared.wiring.Entry.{Entry}
 use Rattle.sl_layout.specs.Net.{Net}
 use Rattle.sl_net.specs.Input.{Input}
 use Rattle.sl_read.specs.Accepted.{IsAccepted}
+use Rattle.sl_read.specs.Inputs.{input_of}
 use Rattle.sl_model.specs.declared.findings.Findings.{Findings}
 use Rattle.sl_model.specs.Books.{schedule_of}
 use Rattle.sl_model.specs.Findings.{findings}
@@ -17,7 +18,9 @@ use Rattle.sl_model.specs.World.{Entry as Turn}
 use Rattle.sl_proto.specs.RunBook.{CanRun}
 use Rattle.sl_report.specs.Report.{report_text}
 use Rattle.sl_report.specs.TraceText.{trace_text}
-use Rattle.sl_app.specs.PrintedFindings.{printed_of}
+use Rattle.sl_app.specs.Ends.{Reading, WasRead}
+use Rattle.sl_app.specs.Served.{run_text}
+use Rattle.sl_app.specs.PrintedFindings.{printed_of, TellsFindings}
 use Rattle.sl_report.specs.Sayable.{IsSayable}
 use Rattle.sl_report.specs.ShortRun.{IsShortRun}
 
@@ -48,9 +51,27 @@ pub record Facts (net : Net) : Type 0 where
   pub sayable : SayableOn net
   pub tells : TellsOn net
 
-pub printed-tells : (i : Input) (book : List Entry) (trace : Bool) (found : Findings) → Facts i.net → IsAccepted i → CanRun i → length book < 2 ^ 40 → IsSayable i.net i.snapshot.count found
+-- the same of an input that goes by two names
+pub facts-of : (i j : Input) → j ≡ i → SayableOn j.net → TellsOn j.net → Facts i.net
+facts-of i j is sayable tells = record { sayable = subst (λ (k : Input). SayableOn k.net) is sayable; tells = subst (λ (k : Input). TellsOn k.net) is tells }
+
+printed-tells : (i : Input) (book : List Entry) (trace : Bool) (found : Findings) → Facts i.net → IsAccepted i → CanRun i → length book < 2 ^ 40 → IsSayable i.net i.snapshot.count found
     → printed_of i book trace (findings (setup_of i) (losses i) (schedule_of book)) ≡ printed_of i book trace found → found ≡ findings (setup_of i) (losses i) (schedule_of book)
 printed-tells i book trace found facts a can few said same =
     let real = findings (setup_of i) (losses i) (schedule_of book) in
     facts.tells i.snapshot.count found real said (facts.sayable i.snapshot.count (setup_of i) (losses i) (schedule_of book) (short-run i book a can few))
     (sym (same-front (report_text i.net i.snapshot.count real) (report_text i.net i.snapshot.count found) (if trace then trace_text i.net book else []) same))
+
+-- what laws say of inputs that were read
+abbrev pub Accepts : Type 0
+Accepts = (bytes : List ℕ) (i : Input) → input_of bytes ≡ Ok i → IsAccepted i
+
+abbrev pub Runs : Type 0
+Runs = (i : Input) → IsAccepted i → CanRun i
+
+-- a text that was printed of a run of an input that was read
+pub run-tells : (r : Reading) (i j : Input) (book : List Entry) (trace : Bool) (text : List ℕ) → Facts i.net → Accepts → Runs → WasRead r j → j ≡ i → length book < 2 ^ 40
+    → text ≡ run_text j (losses j) book trace → TellsFindings i book trace text
+run-tells r i j book trace text facts accepts runs read same few is = let a : IsAccepted i = subst IsAccepted same (accepts read.bytes j read.input) in
+    λ found said printed. printed-tells i book trace found facts a (runs i a) few said
+    (ap (λ (k : Input). run_text k (losses k) book trace) (sym same) ∙ sym is ∙ printed)

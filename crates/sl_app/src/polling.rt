@@ -5,7 +5,7 @@ ghost use Rattle.sl_model.specs.Losses.{losses};
 ghost use Rattle.sl_proto.specs.RunBook.{CanRun};
 ghost use Rattle.sl_app.specs.Served.{IsReading, states_of};
 
-use crate::run::Served;
+use crate::run::{Served, text_of_run};
 use sl_emul::finish_stepped;
 use sl_machine::{Entry, Memory};
 use sl_net::Input;
@@ -37,11 +37,5 @@ pub fn serve_poll(alloc: Global, input: &Input, start: u64, gap: u64) -> Result<
     let schedule = schedule_of(alloc, book.entries.as_slice())?;
     let polled = poll_of(alloc, input, schedule.as_slice(), start, gap)?;
     let text = polled_bytes(alloc, &input.net, &polled)?;
-    Ok(Served {
-        book: Some(book),
-        front: ran.front,
-        nodes: None,
-        status: 0,
-        text,
-    })
+    Ok(text_of_run(book, ran.front, text))
 }

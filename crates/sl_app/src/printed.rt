@@ -2,15 +2,9 @@
 // law, and the proof is in proofs/.
 ghost use Rattle.std.specs.Prelude.{◌≡◌, ℕ, List};
 ghost use Rattle.sl_machine.specs.declared.wiring.Entry.{Entry};
-ghost use Rattle.sl_model.specs.declared.findings.Findings.{Findings};
-ghost use Rattle.sl_model.specs.Books.{schedule_of};
-ghost use Rattle.sl_model.specs.Findings.{findings};
-ghost use Rattle.sl_model.specs.Losses.{losses};
-ghost use Rattle.sl_model.specs.Setup.{setup_of};
 ghost use Rattle.sl_proto.specs.Nodes.{NodeState};
 ghost use Rattle.sl_app.specs.Ends.{Reading, IsStepped, IsThreaded};
-ghost use Rattle.sl_app.specs.PrintedFindings.{printed_of};
-ghost use Rattle.sl_report.specs.Sayable.{IsSayable};
+ghost use Rattle.sl_app.specs.PrintedFindings.{TellsFindings};
 
 use sl_check::accepted_inputs_can_run;
 use sl_net::Input;
@@ -22,17 +16,13 @@ use sl_report::{findings_are_sayable, reports_tell_findings};
 /// that is asked is what the contract of the top call says.
 pub fn printed_reports_tell_findings(input: &Input)
     ensures stepped { (r : Reading) (book : List Entry) (front : ℕ)
-        (nodes : List NodeState) (text : List ℕ) (found : Findings)
+        (nodes : List NodeState) (text : List ℕ)
         → (run : IsStepped r book front nodes text) → run.input ≡ input.now
-        → IsSayable input.now.net input.now.snapshot.count found
-        → text ≡ printed_of input.now book run.trace found
-        → found ≡ findings (setup_of input.now) (losses input.now) (schedule_of book) }
+        → TellsFindings input.now book run.trace text }
     ensures threaded { (r : Reading) (book : List Entry) (front : ℕ)
-        (nodes : List NodeState) (text : List ℕ) (found : Findings)
+        (nodes : List NodeState) (text : List ℕ)
         → (run : IsThreaded r book front nodes text) → run.input ≡ input.now
-        → IsSayable input.now.net input.now.snapshot.count found
-        → text ≡ printed_of input.now book run.trace found
-        → found ≡ findings (setup_of input.now) (losses input.now) (schedule_of book) }
+        → TellsFindings input.now book run.trace text }
 {
     inputs_are_accepted();
     accepted_inputs_can_run();

@@ -1,6 +1,6 @@
 // What is served for an input: the report of a run with its trace, stepped or in threads, and routes.
-ghost use Rattle.std.specs.Prelude.{◌≡◌, ◌<◌, ◌^◌, None, IfOk, OnOk, length, if◌then◌else◌, []};
-ghost use Rattle.std.specs.Prelude.{◌++◌};
+ghost use Rattle.std.specs.Prelude.{◌≡◌, ◌<◌, ◌^◌, None, Some, IfOk, OnOk, length, [], ◌++◌};
+ghost use Rattle.std.specs.Prelude.{if◌then◌else◌};
 ghost use Rattle.std.specs.List.{All};
 ghost use Rattle.sl_model.specs.Setup.{setup_of};
 ghost use Rattle.sl_model.specs.Losses.{losses};
@@ -50,6 +50,23 @@ pub fn only_text(status: u8, text: Vec<u8>) -> Served
         front: 0,
         nodes: None,
         status,
+        text,
+    }
+}
+
+/// A text that tells of a run, with the run's book.
+pub fn text_of_run(book: Book, front: u64, text: Vec<u8>) -> Served
+    ensures status { result.status ≡ 0 }
+    ensures text { result.text.items ≡ text.items }
+    ensures book { result.book ≡ Some book }
+    ensures front { result.front ≡ front }
+    ensures nodes { states_of result.nodes ≡ None }
+{
+    Served {
+        book: Some(book),
+        front,
+        nodes: None,
+        status: 0,
         text,
     }
 }

@@ -5,7 +5,7 @@ ghost use Rattle.sl_model.specs.Losses.{losses};
 ghost use Rattle.sl_proto.specs.RunBook.{CanRun};
 ghost use Rattle.sl_app.specs.Served.{IsTable, states_of};
 
-use crate::run::Served;
+use crate::run::{Served, text_of_run};
 use sl_balance::{balance_bytes, balance_of, counts_are_few};
 use sl_emul::run_stepped;
 use sl_machine::Memory;
@@ -27,11 +27,5 @@ pub fn serve_balance(alloc: Global, input: &Input) -> Result<Served, Memory>
     let lines = balance_of(alloc, input, &run.findings)?;
     let routes = Routes::make(alloc, &input.net)?;
     let text = balance_bytes(alloc, input, &routes, lines.as_slice())?;
-    Ok(Served {
-        book: Some(run.book),
-        front: run.front,
-        nodes: None,
-        status: 0,
-        text,
-    })
+    Ok(text_of_run(run.book, run.front, text))
 }

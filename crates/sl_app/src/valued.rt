@@ -4,7 +4,7 @@ ghost use Rattle.sl_model.specs.Losses.{losses};
 ghost use Rattle.sl_proto.specs.RunBook.{CanRun};
 ghost use Rattle.sl_app.specs.Served.{AreValues, states_of};
 
-use crate::run::Served;
+use crate::run::{Served, text_of_run};
 use sl_machine::Memory;
 use sl_net::Input;
 use sl_value::{run_values, values_bytes};
@@ -20,11 +20,5 @@ pub fn serve_values(alloc: Global, input: &Input) -> Result<Served, Memory>
 {
     let run = run_values(alloc, input)?;
     let text = values_bytes(alloc, input, &run)?;
-    Ok(Served {
-        book: Some(run.book),
-        front: run.front,
-        nodes: None,
-        status: 0,
-        text,
-    })
+    Ok(text_of_run(run.book, run.front, text))
 }

@@ -31,8 +31,9 @@ returns-clause-reading c =
     let book : c.book.inside.entries.items ≡ c.into_book-nodes.result.1.entries = ap (λ (b : Book). b.entries) c.book.view_is in
     let schedule : c.as_slice-2.result.now ≡ schedule_of c.into_book-nodes.result.1.entries = c.as_slice-2.ensures.value ∙ c.in_ok-schedule.ensures ∙ ap schedule_of (c.as_slice.ensures.value ∙ book) in
     let told = c.in_ok-polled.ensures in
-    record {
+    let served = c.text_of_run.ensures in
+    rw (served.book, served.front, served.nodes, served.text) (record {
       run = subst (λ es. IsRunBook i (losses i) es c.in_ok-ran.ran.front) (sym c.into_book-nodes.ensures.book) c.in_ok-ran.ensures.run;
       text_is = c.in_ok-text.ensures ∙ (λ j. poll_text (net j) (told.reads j) (told.broken j))
           ∙ ap (λ es. poll_text i.net (reads (setup_of i) (losses i) es c.args.start c.args.gap) (broken_by (setup_of i) (losses i) es c.args.start c.args.gap)) schedule;
-    }
+    })

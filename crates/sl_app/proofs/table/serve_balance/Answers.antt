@@ -13,7 +13,8 @@ pub returns-clause-table : goal.returns-clause-table
 returns-clause-table c =
     let net = c.args.input.now.net in
     let told = c.in_ok-run.ensures in
-    record {
+    let served = c.text_of_run.ensures in
+    rw (served.book, served.front, served.nodes, served.text) (record {
       run = told.run;
       text_is = c.in_ok-text.ensures ∙ ap (balance_text net) (c.as_slice.ensures.value ∙ c.in_ok-lines.ensures ∙ ap (λ (f : Findings). balance net f.list) told.tells);
-    }
+    })

@@ -1,7 +1,7 @@
 -- How the world of a schedule ends, as its last turns and the observer tell it.
 use Rattle.std.proofs.Common.{◌≡◌, ℕ, ◌+◌, ◌<◌, List, [], ◌∷◌, length, map, get_or, drop, replicate, true, false, Bool, Option, Some, None, refl, sym, ap, subst, ◌∙◌, inl, inr}
 use Rattle.std.proofs.lemmas.Bool.Decides.{eqb_tells}
-use Rattle.std.specs.Prelude.{◌⊎◌, ◌≢◌, nat_eq, ◌==◌, ◌&&◌, ◌||◌, IsSome, slice_set, slice_index_or}
+use Rattle.std.specs.Prelude.{◌⊎◌, ◌≢◌, nat_eq, ◌==◌, ◌&&◌, ◌||◌, if◌then◌else◌, IsSome, slice_set, slice_index_or}
 use Rattle.std.specs.List.{list_all}
 use Rattle.std.proofs.lemmas.List.{map-set, drop_more, length-set, length-replicate}
 use Rattle.std.proofs.Math.ListN.{get_or-map}
@@ -24,6 +24,7 @@ use Rattle.sl_proto.specs.Nodes.{NodeState}
 use Rattle.sl_proto.specs.Standing.{Case, case_of, world_of, StandsFor}
 use Rattle.sl_proto.specs.Calls.{KeepsStanding}
 use Rattle.sl_model.specs.Ending.{HasEnding}
+use Rattle.sl_model.specs.declared.ending.Ending.{Ending}
 use Rattle.sl_model.specs.declared.ending.Ending.TheVariants.{Idle, Unfinished, Finished}
 use Rattle.sl_check.specs.Polled.{newest, is_polled, all_polled, ends_well, choose_all, last_choices}
 use Rattle.sl_check.specs.Driven.{FirstIdle, TakesAll, IsIdle, StandsIn, Tells}
@@ -92,10 +93,16 @@ differs n m d = go (eqb_tells n m)
 collected-told : (s : Setup) (w : World) (o : ObserverState) → Tells s w o → ((register_floor o == o.issued) && (o.issued == s.count)) ≡ is_collected s w
 collected-told s w o t = ap (λ n. (n == o.issued) && (o.issued == s.count)) t.floor ∙ ap (λ n. (floor s.net w == n) && (n == s.count)) t.issued
 
-pub ends-as : (s : Setup) (w : World) (o : ObserverState) (b r p : Bool) → Tells s w o → ((register_floor o == o.issued) && (o.issued == s.count)) ≡ b
+ends-as : (s : Setup) (w : World) (o : ObserverState) (b r p : Bool) → Tells s w o → ((register_floor o == o.issued) && (o.issued == s.count)) ≡ b
     → (o.resent == s.retries) ≡ r → all_polled s.net w ≡ p → (b || (r && p)) ≡ ends_well s w
 ends-as s w o b r p t c k q = ap (λ e. e || (r && p)) (sym c ∙ collected-told s w o t) ∙ ap (λ e. is_collected s w || (e && p)) (sym k ∙ ap (λ n. n == s.retries) t.resent)
     ∙ ap (λ e. is_collected s w || ((resent s.net (observer w) == s.retries) && e)) (sym q)
+
+-- the same of a world of nodes of an input, by the state of its observer
+pub ends-in : (i : Input) (v : Scene NodeState Msg) (o : ObserverState) (b r p : Bool) → Tells (setup_of i) (world_of (case_of i (losses i)) v) o
+    → ((register_floor o == o.issued) && (o.issued == i.snapshot.count)) ≡ b → (o.resent == i.snapshot.retries) ≡ r → all_polled i.net (world_of (case_of i (losses i)) v) ≡ p
+    → (b || (r && p)) ≡ ends_well (setup_of i) (world_of (case_of i (losses i)) v)
+ends-in i v = ends-as (setup_of i) (world_of (case_of i (losses i)) v)
 
 -- How the schedule es ends, whose turns lead to the scene u.
 
@@ -158,9 +165,14 @@ module _ (i : Input) (net : Net) (v u w : Scene NodeState Msg) (es : List Entry)
       pub took-on : schedule_of w.book ≡ es
       took-on = rested.1 ∙ took
 
-      pub finished-in : FinishesWell → ends_well (setup_of i) (world_of (case_of i (losses i)) w) ≡ true → HasEnding (setup_of i) (losses i) es Finished
+      finished-in : FinishesWell → ends_well (setup_of i) (world_of (case_of i (losses i)) w) ≡ true → HasEnding (setup_of i) (losses i) es Finished
       finished-in law e = ends-finished i.net (case_of i (losses i)) es w stands_on took-on law
           (subst (λ (fs : List Entry). Settled (setup_of i) (losses i) (world (setup_of i) (losses i) fs)) (sym rested.1) rested.0) e
 
-      pub unfinished-in : OnlyWell → ends_well (setup_of i) (world_of (case_of i (losses i)) w) ≡ false → HasEnding (setup_of i) (losses i) es Unfinished
+      unfinished-in : OnlyWell → ends_well (setup_of i) (world_of (case_of i (losses i)) w) ≡ false → HasEnding (setup_of i) (losses i) es Unfinished
       unfinished-in law e = ends-unfinished i.net (case_of i (losses i)) es w stands_on took-on law e
+
+      pub ended-in : FinishesWell → OnlyWell → (b : Bool) (e : Ending) → ends_well (setup_of i) (world_of (case_of i (losses i)) w) ≡ b → e ≡ (if b then Finished else Unfinished)
+          → HasEnding (setup_of i) (losses i) es e
+      ended-in law only true e well is = subst (HasEnding (setup_of i) (losses i) es) (sym is) (finished-in law well)
+      ended-in law only false e well is = subst (HasEnding (setup_of i) (losses i) es) (sym is) (unfinished-in only well)

@@ -1,5 +1,5 @@
 // How the run of a schedule ends, by the nodes of an input.
-ghost use Rattle.std.specs.Prelude.{◌≡◌, [], ◌&&◌, ◌==◌, IfOk, All, Some, slice_get};
+ghost use Rattle.std.specs.Prelude.{◌≡◌, [], ◌&&◌, ◌==◌, if◌then◌else◌, IfOk, All, Some, slice_get};
 ghost use Rattle.sl_machine.specs.Plan.{HasChoice};
 ghost use Rattle.sl_layout.specs.Wiring.{plan_of};
 ghost use Rattle.sl_net.specs.Input.{Input};
@@ -74,6 +74,17 @@ fn ends_well(
     Ok(all_polled(&input.net, last.as_slice()))
 }
 
+/// The ending of a schedule none of whose turns is idle.
+fn ending(finished: bool) -> Ending
+    ensures { result ≡ (if finished then Ending.Finished else Ending.Unfinished) }
+{
+    if finished {
+        Ending::Finished
+    } else {
+        Ending::Unfinished
+    }
+}
+
 /// How a schedule ends, by nodes that take its turns from the first one on. Where its world is
 /// finished the nodes stand for it.
 pub fn end_of(
@@ -99,9 +110,6 @@ pub fn end_of(
     if !take_pass(alloc, &input.net, world)? {
         return Ok(Ending::Unfinished);
     }
-    Ok(if ends_well(alloc, input, world, schedule)? {
-        Ending::Finished
-    } else {
-        Ending::Unfinished
-    })
+    let finished = ends_well(alloc, input, world, schedule)?;
+    Ok(ending(finished))
 }

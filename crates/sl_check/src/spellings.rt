@@ -3,7 +3,7 @@ ghost use Rattle.std.specs.Prelude.{◌≡◌, ℕ, ◌<◌, OnOk, IfOk, IfSome,
 ghost use Rattle.std.specs.List.{All};
 ghost use Rattle.sl_layout.specs.Net.{Net};
 ghost use Rattle.sl_net.specs.Spelling.{choice_text, HasChoice};
-ghost use Rattle.sl_check.specs.Spellings.{IsSpelled};
+ghost use Rattle.sl_check.specs.Spellings.{IsSpelled, FindsTurn};
 
 use sl_machine::Memory;
 use sl_net::{Line, Net, choice_text};
@@ -73,12 +73,7 @@ fn find_at(alloc: Global, net: &Net, actor: u32, text: &[u8]) -> Result<Option<u
 
 /// The choice with this spelling, where the sorted list doesn't have it.
 fn find_slowly(alloc: Global, net: &Net, text: &[u8]) -> Result<Option<(u32, u32)>, Memory>
-    ensures found { IfOk result (λ found. IfSome found (λ e. HasChoice net.now e.0 e.1)) }
-    ensures spelled { IfOk result
-        (λ found. IfSome found (λ e. choice_text net.now e.0 e.1 ≡ text.now)) }
-    ensures none { IfOk result
-        (λ found. IfNone found ((a c : ℕ) → HasChoice net.now a c
-        → ¬ (choice_text net.now a c ≡ text.now))) }
+    ensures { IfOk result (λ found. FindsTurn net.now text.now found) }
 {
     for actor in 0..net.actors().len() as u32 {
         if let Some(choice) = find_at(alloc, net, actor, text)? {
@@ -121,12 +116,7 @@ pub fn find_spelled(
     text: &[u8],
 ) -> Result<Option<(u32, u32)>, Memory>
     requires { All (IsSpelled net.now) spelled.now }
-    ensures found { IfOk result (λ found. IfSome found (λ e. HasChoice net.now e.0 e.1)) }
-    ensures spelled { IfOk result
-        (λ found. IfSome found (λ e. choice_text net.now e.0 e.1 ≡ text.now)) }
-    ensures none { IfOk result
-        (λ found. IfNone found ((a c : ℕ) → HasChoice net.now a c
-        → ¬ (choice_text net.now a c ≡ text.now))) }
+    ensures { IfOk result (λ found. FindsTurn net.now text.now found) }
 {
     match find_sorted(spelled, text) {
         Some(entry) => Ok(Some(entry)),

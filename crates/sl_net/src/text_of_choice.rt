@@ -2,7 +2,7 @@
 ghost use Rattle.std.specs.Prelude.{◌≡◌, ◌<◌, ◌++◌, decimal, codes, OnOk, IfOk, length};
 ghost use Rattle.sl_parts.specs.Valid.{IsValid};
 ghost use Rattle.sl_layout.specs.Roster.{IsActor};
-ghost use Rattle.sl_net.specs.Spelling.{port_of, side_text, actor_text, sender_text, link_text};
+ghost use Rattle.sl_net.specs.Spelling.{port_of, actor_text, sender_text, link_text};
 ghost use Rattle.sl_net.specs.Spelling.{action_text, device_name, host_name, choice_word};
 ghost use Rattle.sl_net.specs.Spelling.{choice_text, HasChoice};
 
@@ -20,6 +20,15 @@ fn add_digit(line: &mut Vec<u8>, digit: u32) -> Result<(), AllocError>
 {
     line.push(b'0' + digit as u8)?;
     Ok(())
+}
+
+/// Adds the number of a port, after a point.
+fn add_port(line: &mut Vec<u8>, port: u32) -> Result<(), AllocError>
+    requires { port < 8 }
+    ensures { OnOk result (line.new.items ≡ line.old.items ++ (codes "." ++ decimal port)) }
+{
+    line.extend_from_slice(b".")?;
+    add_digit(line, port)
 }
 
 fn add_device(line: &mut Vec<u8>, parts: &Parts, device: u32) -> Result<(), AllocError>
@@ -47,8 +56,7 @@ fn add_unit(line: &mut Vec<u8>, parts: &Parts, unit: UnitId) -> Result<(), Alloc
     line.extend_from_slice(side_word(unit.side))?;
     line.extend_from_slice(b" ")?;
     add_device(line, parts, unit.device)?;
-    line.extend_from_slice(b".")?;
-    add_digit(line, unit.port)
+    add_port(line, unit.port)
 }
 
 fn add_actor(line: &mut Vec<u8>, parts: &Parts, actor: ActorId) -> Result<(), AllocError>
@@ -70,17 +78,6 @@ fn add_actor(line: &mut Vec<u8>, parts: &Parts, actor: ActorId) -> Result<(), Al
     }
 }
 
-fn add_port(line: &mut Vec<u8>, unit: UnitId) -> Result<(), AllocError>
-    requires { unit.port < 8 }
-    ensures { OnOk result
-        (line.new.items ≡ line.old.items
-        ++ (side_text unit.side ++ (codes "." ++ decimal unit.port))) }
-{
-    line.extend_from_slice(side_word(unit.side))?;
-    line.extend_from_slice(b".")?;
-    add_digit(line, unit.port)
-}
-
 fn add_sender(line: &mut Vec<u8>, parts: &Parts, sender: ActorId) -> Result<(), AllocError>
     requires valid { IsValid parts.now }
     requires sender { IsActor parts.now sender }
@@ -88,7 +85,10 @@ fn add_sender(line: &mut Vec<u8>, parts: &Parts, sender: ActorId) -> Result<(), 
 {
     match sender {
         ActorId::Control(device) => add_device(line, parts, device),
-        ActorId::Unit(unit) => add_port(line, unit),
+        ActorId::Unit(unit) => {
+            line.extend_from_slice(side_word(unit.side))?;
+            add_port(line, unit.port)
+        }
         _ => Ok(()),
     }
 }

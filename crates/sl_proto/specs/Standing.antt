@@ -4,6 +4,8 @@
 --     run_at x v          this world beside the book
 --     IsImageOf x w v     the scene v of nodes stands for the world w
 --     StandsFor net x v   the scene v of nodes of the net stands for the world of its book
+--     StandsSomehow i v   it does so in a run of the input under some loss table
+--     WhenFinished i v P  P is true of the findings of each finished world of such a run
 --     FirstNodes x        what the first scene of nodes is made of; scene_of f is this scene
 --     SettlesTo, FinishesTo    from one scene to another by settling, by finishing
 use Rattle.std.specs.Prelude.{◌≡◌, ℕ, ◌<◌, List, length, Option, Some, None, slice_get, slice_index_or}
@@ -15,11 +17,13 @@ use Rattle.sl_layout.specs.Wiring.{plan_of}
 use Rattle.sl_wire.specs.declared.message.Msg.{Msg}
 use Rattle.sl_wire.specs.Sizes.{sizes_of}
 use Rattle.sl_observe.specs.Observer.{ObserverState}
+use Rattle.sl_model.specs.declared.findings.Findings.{Findings}
 use Rattle.sl_model.specs.History.{World, Losses}
 use Rattle.sl_model.specs.Setup.{Setup, setup_of}
 use Rattle.sl_model.specs.World.{Entry, world, IsLegal}
 use Rattle.sl_model.specs.Books.{schedule_of}
 use Rattle.sl_model.specs.End.{settle, Settled, IsFin, IsFinished}
+use Rattle.sl_model.specs.Findings.{findings}
 use Rattle.sl_world.specs.Scene.{Scene, first_scene}
 use Rattle.sl_proto.specs.Runs.{Run, Goes}
 use Rattle.sl_proto.specs.Nodes.{NodeState, ObserverNode}
@@ -50,6 +54,13 @@ pub record StandsFor (net : Net) (x : Case) (v : Scene NodeState Msg) : Type 0 w
   pub runnable : IsRunnable x.setup x.table x.lost
   pub legal : IsLegal x.setup x.lost (schedule_of v.book)
   pub image : IsImageOf x (world_of x v) v
+
+abbrev pub StandsSomehow : Input → Scene NodeState Msg → Type 0
+StandsSomehow i v = (lost : Losses) × StandsFor i.net (case_of i lost) v
+
+abbrev pub WhenFinished : Input → Scene NodeState Msg → (Findings → Type 0) → Type 0
+WhenFinished i v P = (lost : Losses) → StandsFor i.net (case_of i lost) v → IsFinished (setup_of i) lost (world_of (case_of i lost) v)
+    → P (findings (setup_of i) lost (schedule_of v.book))
 
 pub record FirstNodes (x : Case) : Type 0 where
   pub states : List NodeState

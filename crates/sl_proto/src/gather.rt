@@ -15,7 +15,8 @@ ghost use Rattle.sl_simulation.specs.ObserverImage.{IsObserverOf};
 ghost use Rattle.sl_world.specs.Scene.{Scene};
 ghost use Rattle.sl_world.specs.World.{scene};
 ghost use Rattle.sl_proto.specs.Nodes.{NodeState, ObserverNode, node_state};
-ghost use Rattle.sl_proto.specs.Standing.{case_of, world_of, StandsFor};
+ghost use Rattle.sl_proto.specs.Standing.{case_of, world_of, StandsFor, StandsSomehow};
+ghost use Rattle.sl_proto.specs.Standing.{WhenFinished};
 ghost use Rattle.sl_proto.specs.Told.{sent_told, delivered_told, drops_told, all_drops};
 ghost use Rattle.sl_proto.specs.Told.{lost_told, all_lost, HasAllRows, CanTell, told};
 
@@ -174,8 +175,7 @@ fn tell(
 
 /// The observer of a world of nodes of an input. It has every row that was collected.
 pub fn observer_of<'a>(input: &Input, world: &'a World<Node>) -> &'a Observer
-    requires { (lost : Losses) × StandsFor input.now.net (case_of input.now lost)
-        (scene world.now) }
+    requires { StandsSomehow input.now (scene world.now) }
     ensures observer { slice_get (scene world.now).states 0 ≡ Some (ObserverNode result.now.state) }
     ensures rows { HasAllRows input.now.net result.now.state }
 {
@@ -191,14 +191,10 @@ pub fn findings_but_list(
     input: &Input,
     world: &World<Node>,
 ) -> Result<Findings, Memory>
-    requires stands { (lost : Losses) × StandsFor input.now.net (case_of input.now lost)
-        (scene world.now) }
+    requires stands { StandsSomehow input.now (scene world.now) }
     requires book { length (scene world.now).book < 2 ^ 40 }
-    ensures { (lost : Losses) → StandsFor input.now.net (case_of input.now lost) (scene world.now)
-        → IsFinished (setup_of input.now) lost (world_of (case_of input.now lost) (scene world.now))
-        → IfOk result
-        (λ f. f ≡ record (findings (setup_of input.now) lost (schedule_of (scene world.now).book))
-        { list = [] }) }
+    ensures { WhenFinished input.now (scene world.now)
+        (λ found. IfOk result (λ f. f ≡ record found { list = [] })) }
 {
     nets_are_wired();
     worlds_take_turns();
@@ -211,13 +207,10 @@ pub fn findings_but_list(
 /// What a finished world of nodes of an input tells: the findings of the world of histories that it
 /// stands for, by what the observer collected, the units counted and the links lost.
 pub fn findings(alloc: Global, input: &Input, world: &World<Node>) -> Result<Findings, Memory>
-    requires stands { (lost : Losses) × StandsFor input.now.net (case_of input.now lost)
-        (scene world.now) }
+    requires stands { StandsSomehow input.now (scene world.now) }
     requires book { length (scene world.now).book < 2 ^ 40 }
-    ensures { (lost : Losses) → StandsFor input.now.net (case_of input.now lost) (scene world.now)
-        → IsFinished (setup_of input.now) lost (world_of (case_of input.now lost) (scene world.now))
-        → IfOk result
-        (λ f. f ≡ findings (setup_of input.now) lost (schedule_of (scene world.now).book)) }
+    ensures { WhenFinished input.now (scene world.now)
+        (λ found. IfOk result (λ f. f ≡ found)) }
 {
     nodes_tell_findings();
     let observer = observer_of(input, world);

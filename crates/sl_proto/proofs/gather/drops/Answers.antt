@@ -22,21 +22,16 @@ overflow_add-noroute c = let next = weigh_next (λ x. (drops_told x).noroute) (s
     let same = ap (λ d. d.noroute) c.drops_at-more.ensures in
     omega (arith, next.0, next.1, same, c.loop-actor.invariant.noroute, c.requires.noroute)
 
-sum-bad : (xs : List NodeState) (i total more : ℕ) (x : NodeState) → slice_get xs i ≡ Some x → total ≡ weigh (λ x. (drops_told x).bad) (take i xs) → more ≡ (drops_told x).bad → total + more ≡ weigh (λ x. (drops_told x).bad) (take (i + 1) xs)
-sum-bad xs i total more x e t m = let next = weigh_next (λ x. (drops_told x).bad) xs i x e in omega (arith, next.0, t, m)
-
-sum-expired : (xs : List NodeState) (i total more : ℕ) (x : NodeState) → slice_get xs i ≡ Some x → total ≡ weigh (λ x. (drops_told x).expired) (take i xs) → more ≡ (drops_told x).expired → total + more ≡ weigh (λ x. (drops_told x).expired) (take (i + 1) xs)
-sum-expired xs i total more x e t m = let next = weigh_next (λ x. (drops_told x).expired) xs i x e in omega (arith, next.0, t, m)
-
-sum-noroute : (xs : List NodeState) (i total more : ℕ) (x : NodeState) → slice_get xs i ≡ Some x → total ≡ weigh (λ x. (drops_told x).noroute) (take i xs) → more ≡ (drops_told x).noroute → total + more ≡ weigh (λ x. (drops_told x).noroute) (take (i + 1) xs)
-sum-noroute xs i total more x e t m = let next = weigh_next (λ x. (drops_told x).noroute) xs i x e in omega (arith, next.0, t, m)
+-- one node more, in each of the three
+sum-next : (f : NodeState → ℕ) (xs : List NodeState) (i total more : ℕ) (x : NodeState) → slice_get xs i ≡ Some x → total ≡ weigh f (take i xs) → more ≡ f x → total + more ≡ weigh f (take (i + 1) xs)
+sum-next f xs i total more x e t m = let next = weigh_next f xs i x e in omega (arith, next.0, t, m)
 
 pub loop-actor-preserved : goal.loop-actor-preserved
 loop-actor-preserved c = let xs = (scene c.args.world.now).states in
     let i = c.loop-actor.actor in
     let x = node_state c.machine.result.now in
     record {
-      bad = sum-bad xs i c.loop-actor.bad c.drops_at-more.result.bad x c.machine.ensures.state c.loop-actor.invariant.bad (ap (λ d. d.bad) c.drops_at-more.ensures);
-      expired = sum-expired xs i c.loop-actor.expired c.drops_at-more.result.expired x c.machine.ensures.state c.loop-actor.invariant.expired (ap (λ d. d.expired) c.drops_at-more.ensures);
-      noroute = sum-noroute xs i c.loop-actor.noroute c.drops_at-more.result.noroute x c.machine.ensures.state c.loop-actor.invariant.noroute (ap (λ d. d.noroute) c.drops_at-more.ensures);
+      bad = sum-next (λ x. (drops_told x).bad) xs i c.loop-actor.bad c.drops_at-more.result.bad x c.machine.ensures.state c.loop-actor.invariant.bad (ap (λ d. d.bad) c.drops_at-more.ensures);
+      expired = sum-next (λ x. (drops_told x).expired) xs i c.loop-actor.expired c.drops_at-more.result.expired x c.machine.ensures.state c.loop-actor.invariant.expired (ap (λ d. d.expired) c.drops_at-more.ensures);
+      noroute = sum-next (λ x. (drops_told x).noroute) xs i c.loop-actor.noroute c.drops_at-more.result.noroute x c.machine.ensures.state c.loop-actor.invariant.noroute (ap (λ d. d.noroute) c.drops_at-more.ensures);
     }

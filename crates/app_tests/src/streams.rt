@@ -36,7 +36,7 @@ pub fn streams_of(alloc: Global, text: &str, fails: (u64, u64, u64)) -> Result<S
 }
 
 /// The words of a line.
-pub fn words_of(alloc: Global, line: &str) -> Result<Vec<String>, AllocError> {
+pub fn words_in(alloc: Global, line: &str) -> Result<Vec<String>, AllocError> {
     let mut words = Vec::new(alloc);
     for word in line.split(" ") {
         if !word.is_empty() {
@@ -56,7 +56,7 @@ pub fn call<R: Threads + Wait + Sync, I: Source, O: Sink, E: Sink, G: Gate + Syn
     err: &mut E,
     gate: &G,
 ) -> Result<(u8, bool), AllocError> {
-    let words = words_of(alloc, line)?;
+    let words = words_in(alloc, line)?;
     let ended = speedlight(rt, alloc, words.as_slice(), input, out, err, gate);
     Ok((ended.status, ended.book.is_some()))
 }

@@ -48,7 +48,7 @@ impl<C: Machine<Msg = Msg>> Node<C> {
 impl<C: Machine<Msg = Msg>> Node<C> {
     /// `ready` of a machine that is no unit.
     #[inline(never)]
-    fn ready_apart(&mut self, choice: u32) -> Result<(), Memory>
+    fn ready_of_others(&mut self, choice: u32) -> Result<(), Memory>
         requires { IsChoice (node_counts_by C.counts self.old) choice }
         ensures state { node_state_by C.state self.new ≡ node_state_by C.state self.old }
         ensures counts { node_counts_by C.counts self.new ≡ node_counts_by C.counts self.old }
@@ -65,7 +65,7 @@ impl<C: Machine<Msg = Msg>> Node<C> {
 
     /// `take` of a machine that is no unit.
     #[inline(never)]
-    fn take_apart(&mut self, link: u32, m: Msg, out: &mut Outputs<Msg>)
+    fn take_of_others(&mut self, link: u32, m: Msg, out: &mut Outputs<Msg>)
         requires link { link < (node_counts_by C.counts self.old).ins }
         requires ready { node_ready_by C.ready_for self.old ≡ Some link }
         requires empty { out.old.items ≡ [] }
@@ -107,14 +107,14 @@ impl<C: Machine<Msg = Msg>> Machine for Node<C> {
     fn ready(&mut self, choice: u32) -> Result<(), Memory> {
         match self {
             Node::Unit(unit) => unit.ready(choice),
-            _ => self.ready_apart(choice),
+            _ => self.ready_of_others(choice),
         }
     }
 
     fn take(&mut self, link: u32, m: Msg, out: &mut Outputs<Msg>) {
         match self {
             Node::Unit(unit) => unit.take(link, m, out),
-            _ => self.take_apart(link, m, out),
+            _ => self.take_of_others(link, m, out),
         }
     }
 

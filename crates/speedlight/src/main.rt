@@ -10,7 +10,7 @@ use std::io::{self, ErrorKind};
 use std::process::ExitCode;
 
 /// The words after the program's name.
-fn words_of(alloc: Global, args: Args) -> Result<Vec<String>, AllocError> {
+fn words_from(alloc: Global, args: Args) -> Result<Vec<String>, AllocError> {
     let mut words = Vec::new(alloc);
     for word in args.skip(1) {
         words.push(word)?;
@@ -22,7 +22,7 @@ fn words_of(alloc: Global, args: Args) -> Result<Vec<String>, AllocError> {
 /// command.
 fn read_words(alloc: Global, args: io::Result<Args>) -> Result<Vec<String>, AllocError> {
     match args {
-        Ok(args) => words_of(alloc, args),
+        Ok(args) => words_from(alloc, args),
         Err(error) if error.kind() == ErrorKind::InvalidData => Ok(Vec::new(alloc)),
         Err(_) => Err(AllocError),
     }

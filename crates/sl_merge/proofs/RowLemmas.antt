@@ -1,5 +1,5 @@
 -- Rows of places from which things are taken, and lists that go from one place to another.
-use Rattle.std.proofs.Common.{◌≡◌, ◌≢◌, ◌⊎◌, ℕ, zero, suc, ◌<◌, List, [], ◌∷◌, ◌++◌, length, get_or, set, map, Option, None, Some, refl, ap, sym, ◌∙◌, arith, inl, inr, append_assoc}
+use Rattle.std.proofs.Common.{◌≡◌, ◌≢◌, ◌⊎◌, ℕ, zero, suc, ◌<◌, List, [], ◌∷◌, ◌++◌, length, get_or, set, map, Option, None, Some, refl, ap, sym, ◌∙◌, arith, inl, inr, append_assoc, append-nil}
 use Rattle.std.specs.Option.{option_map}
 use Rattle.std.proofs.lemmas.Bool.{cases_eq}
 use Rattle.std.proofs.lemmas.List.{map-append, get_or-set_same, get_or-set_other}
@@ -67,3 +67,7 @@ moved_by f g e xs xs' ws ws' x w all h first more is = moved_on g e (map f xs) (
 pub moved : {W Z : Type 0} (g : W → Z) (done done' : List Z) (ws ws' : List W) (w : W) (z : Z) (all : List Z) → done ++ map g ws ≡ all → ws ≡ w ∷ ws' → done' ≡ done ++ z ∷ [] → z ≡ g w → done' ++ map g ws' ≡ all
 moved g done done' ws ws' w z all h first more is =
     ap (λ l. l ++ map g ws') more ∙ append_assoc done (z ∷ []) (map g ws') ∙ ap (λ y. done ++ y ∷ map g ws') is ∙ ap (λ l. done ++ map g l) (sym first) ∙ h
+
+-- all have been moved
+pub moved_all : {W Y Z : Type 0} (g : Y → Z) (e : W → Y) (done : List Z) (ws : List W) (all : List Z) → done ++ map g (map e ws) ≡ all → ws ≡ [] → done ≡ all
+moved_all {W} g e done ws all h none = sym (append-nil done) ∙ ap (λ (l : List W). done ++ map g (map e l)) (sym none) ∙ h

@@ -69,5 +69,5 @@ moved g done done' ws ws' w z all h first more is =
     ap (λ l. l ++ map g ws') more ∙ append_assoc done (z ∷ []) (map g ws') ∙ ap (λ y. done ++ y ∷ map g ws') is ∙ ap (λ l. done ++ map g l) (sym first) ∙ h
 
 -- all have been moved
-pub moved_all : {W Y Z : Type 0} (g : Y → Z) (e : W → Y) (done : List Z) (ws : List W) (all : List Z) → done ++ map g (map e ws) ≡ all → ws ≡ [] → done ≡ all
-moved_all {W} g e done ws all h none = sym (append-nil done) ∙ ap (λ (l : List W). done ++ map g (map e l)) (sym none) ∙ h
+pub moved_all : {W Z : Type 0} (rest : List W → List Z) (done : List Z) (ws : List W) (all : List Z) → rest [] ≡ [] → done ++ rest ws ≡ all → ws ≡ [] → done ≡ all
+moved_all rest done ws all nothing h none = sym (append-nil done) ∙ ap (λ l. done ++ l) (sym nothing) ∙ ap (λ l. done ++ rest l) (sym none) ∙ h

@@ -1,4 +1,4 @@
-use Rattle.std.proofs.Common.{◌≡◌, ◌∙◌, ◌++◌, ◌∷◌, [], List, Option, Some, map, ap, rules}
+use Rattle.std.proofs.Common.{◌≡◌, ◌∙◌, ◌++◌, ◌∷◌, [], List, Option, Some, map, ap, refl, rules}
 use Rattle.std.specs.Option.{option_map}
 use Rattle.sl_actor.specs.declared.part.OutPart.{OutPart}
 use Rattle.sl_actor.specs.Outs.{out_view}
@@ -34,9 +34,9 @@ returns g c =
     let ws = c.loop-actor.actors.items in
     let none : ws ≡ [] = search rules in
     record {
-      states = moved_all (λ (a : ActorView g.A.Machine.State g.row.A-Msg.Denot). a.state) held _ ws _ h.0 none;
-      counts = moved_all (λ (a : ActorView g.A.Machine.State g.row.A-Msg.Denot). a.counts) held _ ws _ h.1 none;
-      logs = moved_all (λ (a : ActorView g.A.Machine.State g.row.A-Msg.Denot). a.log) held _ ws _ h.2 none;
-      takes = moved_all (λ (a : ActorView g.A.Machine.State g.row.A-Msg.Denot). map Some a.takes) held _ ws _ h.3 none;
-      outs = moved_all (λ (a : ActorView g.A.Machine.State g.row.A-Msg.Denot). map Some a.outs) held _ ws _ h.4 none;
+      states = moved_all (λ l. map (λ a. a.state) (map held l)) _ ws _ refl h.0 none;
+      counts = moved_all (λ l. map (λ a. a.counts) (map held l)) _ ws _ refl h.1 none;
+      logs = moved_all (λ l. map (λ a. a.log) (map held l)) _ ws _ refl h.2 none;
+      takes = moved_all (λ l. map (λ a. map Some a.takes) (map held l)) _ ws _ refl h.3 none;
+      outs = moved_all (λ l. map (λ a. map Some a.outs) (map held l)) _ ws _ refl h.4 none;
     }

@@ -266,69 +266,65 @@ awaits-at s lost es e sizes step given p small x (DumpMsg n) t = let us = histor
     (given.awaited lost es e step x) (given.brought lost es e n step x t)
 awaits-at s lost es e sizes step given p small x _ t = tt
 
-pub takes-message : (s : Setup) (lost : Losses) (es : List Entry) (e : Entry) (d : ℕ) (sizes : Sizes) (step : Step) (m : Message) (told : ℕ → ℕ) (x : Msg) (t : ControlState) → Given s → IsWired s.net → actor_of s.net e.0 ≡ Control d → HoldWindow s.window sizes → 1 ≤ sizes.credits → length es < 2 ^ 40
-    → next_step s lost (world s lost es) e ≡ Some step → step.taken ≡ Some m → IsMessage s.net sizes (history (world s lost es)) (link_of s.net (link_at s.net e.0 e.1)).from told m x → IsControlOf s.net sizes (history (world s lost es)) e.0 t
-    → ControlSimulates s.net sizes (history (world s lost es)) (history (turn s lost (world s lost es) e)) e.0 step.puts (control_take t e.1 x)
-takes-message s lost es e d sizes step m told x t given z q p some small n k is r = by_view (given.turns.view s lost (world s lost es) e step n)
-  where
-    us : ℕ → History
-    us = history (world s lost es)
+module _ (s : Setup) (lost : Losses) (es : List Entry) (e : Entry) (d : ℕ) (sizes : Sizes) (step : Step) where
+  -- before the entry and after it
+  abbrev us : ℕ → History
+  us = history (world s lost es)
 
-    ws : ℕ → History
-    ws = history (turn s lost (world s lost es) e)
+  abbrev ws : ℕ → History
+  ws = history (turn s lost (world s lost es) e)
 
-    c : step.choice ≡ e.1
-    c = given.turns.choice s lost (world s lost es) e step n
+  pub takes-message : (m : Message) (told : ℕ → ℕ) (x : Msg) (t : ControlState) → Given s → IsWired s.net → actor_of s.net e.0 ≡ Control d → HoldWindow s.window sizes → 1 ≤ sizes.credits → length es < 2 ^ 40
+      → next_step s lost (world s lost es) e ≡ Some step → step.taken ≡ Some m → IsMessage s.net sizes (history (world s lost es)) (link_of s.net (link_at s.net e.0 e.1)).from told m x → IsControlOf s.net sizes (history (world s lost es)) e.0 t
+      → ControlSimulates s.net sizes (history (world s lost es)) (history (turn s lost (world s lost es) e)) e.0 step.puts (control_take t e.1 x)
+  takes-message m told x t given z q p some small n k is r = by_view (given.turns.view s lost (world s lost es) e step n)
+    where
+      c : step.choice ≡ e.1
+      c = given.turns.choice s lost (world s lost es) e step n
 
-    by_view : Takes s lost (world s lost es) e.0 step ⊎ Acts s (world s lost es) e.0 step → ControlSimulates s.net sizes us ws e.0 step.puts (control_take t e.1 x)
-    by_view (inr y) = absurd (let o : None ≡ Some m = sym y.acted.taken ∙ k in cc)
-    by_view (inl y) = let same : y.took.message ≡ m = of_message (sym y.took.taken ∙ k) in
-        let at : link_at s.net e.0 e.1 ≡ y.took.link = get_or_from_slice_get (links_into s.net e.0) e.1 y.took.link 0 (ap (slice_get (links_into s.net e.0)) (sym c) ∙ y.took.into) in
-        let f : fits_link s.net y.took.link m ≡ true = ap (fits_link s.net y.took.link) (sym same) ∙ given.turns.fits s lost (world s lost es) e.0 step (given.turns.ran s lost es) y in
-        let puts : step.puts ≡ control_puts s.net e.0 (us e.0) step.choice m = y.took.puts ∙ ap (λ x. puts_of s e.0 x (us e.0) step.choice y.took.link y.took.message) q ∙ ap (control_puts s.net e.0 (us e.0) step.choice) same in
-        let whole : step ≡ taking step.choice m (control_puts s.net e.0 (us e.0) step.choice m) = λ i. record { choice = step.choice; taken = k i; puts = puts i } in
-        let g = given.turns.grows s lost es e step n in
-        subst (λ b. ControlSimulates s.net sizes us ws e.0 step.puts (control_take t b x)) c
-        (subst (λ ps. ControlSimulates s.net sizes us ws e.0 ps (control_take t step.choice x)) (sym puts)
-        (takes-anywhere given.facts s.net sizes s.window e.0 d us ws z q p some (given.asked lost es e.0 d q) step.choice y.took.link m told x t y.took.into f
-        (awaits-at s lost es e sizes step given p small n m k) (record { same = g.same ∙ ap (λ o. o ∷ us e.0) whole; other = g.other })
-        (subst (λ l. IsMessage s.net sizes us (link_of s.net l).from told m x) at is) r))
-      where
-        of_message : {x y : Message} → Some x ≡ Some y → x ≡ y
-        of_message e = cc
+      by_view : Takes s lost (world s lost es) e.0 step ⊎ Acts s (world s lost es) e.0 step → ControlSimulates s.net sizes us ws e.0 step.puts (control_take t e.1 x)
+      by_view (inr y) = absurd (let o : None ≡ Some m = sym y.acted.taken ∙ k in cc)
+      by_view (inl y) = let same : y.took.message ≡ m = of_message (sym y.took.taken ∙ k) in
+          let at : link_at s.net e.0 e.1 ≡ y.took.link = get_or_from_slice_get (links_into s.net e.0) e.1 y.took.link 0 (ap (slice_get (links_into s.net e.0)) (sym c) ∙ y.took.into) in
+          let f : fits_link s.net y.took.link m ≡ true = ap (fits_link s.net y.took.link) (sym same) ∙ given.turns.fits s lost (world s lost es) e.0 step (given.turns.ran s lost es) y in
+          let puts : step.puts ≡ control_puts s.net e.0 (us e.0) step.choice m = y.took.puts ∙ ap (λ x. puts_of s e.0 x (us e.0) step.choice y.took.link y.took.message) q ∙ ap (control_puts s.net e.0 (us e.0) step.choice) same in
+          let whole : step ≡ taking step.choice m (control_puts s.net e.0 (us e.0) step.choice m) = λ i. record { choice = step.choice; taken = k i; puts = puts i } in
+          let g = given.turns.grows s lost es e step n in
+          subst (λ b. ControlSimulates s.net sizes us ws e.0 step.puts (control_take t b x)) c
+          (subst (λ ps. ControlSimulates s.net sizes us ws e.0 ps (control_take t step.choice x)) (sym puts)
+          (takes-anywhere given.facts s.net sizes s.window e.0 d us ws z q p some (given.asked lost es e.0 d q) step.choice y.took.link m told x t y.took.into f
+          (awaits-at s lost es e sizes step given p small n m k) (record { same = g.same ∙ ap (λ o. o ∷ us e.0) whole; other = g.other })
+          (subst (λ l. IsMessage s.net sizes us (link_of s.net l).from told m x) at is) r))
+        where
+          of_message : {x y : Message} → Some x ≡ Some y → x ≡ y
+          of_message e = cc
 
--- Actions.
+  -- Actions.
 
-pub acts : (s : Setup) (lost : Losses) (es : List Entry) (e : Entry) (d : ℕ) (sizes : Sizes) (step : Step) (t : ControlState) → TakesTurns → Each (λ v. IsAsked v (history (world s lost es) e.0)) (served s.net e.0) → IsWired s.net → actor_of s.net e.0 ≡ Control d
-    → next_step s lost (world s lost es) e ≡ Some step → step.taken ≡ None → IsControlOf s.net sizes (history (world s lost es)) e.0 t
-    → ControlActSimulates s.net sizes (history (world s lost es)) (history (turn s lost (world s lost es) e)) e.0 step.puts (control_act t e.1)
-acts s lost es e d sizes step t turns asked z q n k r = by_view (turns.view s lost (world s lost es) e step n)
-  where
-    us : ℕ → History
-    us = history (world s lost es)
+  pub acts : (t : ControlState) → TakesTurns → Each (λ v. IsAsked v (history (world s lost es) e.0)) (served s.net e.0) → IsWired s.net → actor_of s.net e.0 ≡ Control d
+      → next_step s lost (world s lost es) e ≡ Some step → step.taken ≡ None → IsControlOf s.net sizes (history (world s lost es)) e.0 t
+      → ControlActSimulates s.net sizes (history (world s lost es)) (history (turn s lost (world s lost es) e)) e.0 step.puts (control_act t e.1)
+  acts t turns asked z q n k r = by_view (turns.view s lost (world s lost es) e step n)
+    where
+      c : step.choice ≡ e.1
+      c = turns.choice s lost (world s lost es) e step n
 
-    ws : ℕ → History
-    ws = history (turn s lost (world s lost es) e)
+      by_view : Takes s lost (world s lost es) e.0 step ⊎ Acts s (world s lost es) e.0 step → ControlActSimulates s.net sizes us ws e.0 step.puts (control_act t e.1)
+      by_view (inl y) = absurd (let o : None ≡ Some y.took.message = sym k ∙ y.took.taken in cc)
+      by_view (inr y) = of_choice (step.choice - action_choice s.net e.0) refl (subst (λ x. action s y.acted.floor e.0 x (us e.0) (step.choice - action_choice s.net e.0) ≡ Some step.puts) q y.acted.puts)
+        where
+          of_guard : step.choice ≡ action_choice s.net e.0 → (b : Bool) → is_swept s.net e.0 (us e.0) ≡ b → guarded (not b) (flat_map (λ v. poll_puts v (us e.0)) (served s.net e.0)) ≡ Some step.puts → ControlActSimulates s.net sizes us ws e.0 step.puts (control_act t e.1)
+          of_guard at true g h = absurd cc
+          of_guard at false g0 h = let p : flat_map (λ v. poll_puts v (us e.0)) (served s.net e.0) ≡ step.puts = cc in
+              let whole : step ≡ acting (action_choice s.net e.0) (flat_map (λ v. poll_puts v (us e.0)) (served s.net e.0)) = λ i. record { choice = at i; taken = k i; puts = sym p i } in
+              let g = turns.grows s lost es e step n in
+              subst (λ ps. ControlActSimulates s.net sizes us ws e.0 ps (control_act t e.1)) p
+              (subst (λ b. ControlActSimulates s.net sizes us ws e.0 (flat_map (λ v. poll_puts v (us e.0)) (served s.net e.0)) (control_act t b)) (sym at ∙ c)
+              (sweeps-anywhere s.net sizes e.0 d us ws t z q asked g0 (record { same = g.same ∙ ap (λ o. o ∷ us e.0) whole; other = g.other }) r))
 
-    c : step.choice ≡ e.1
-    c = turns.choice s lost (world s lost es) e step n
-
-    by_view : Takes s lost (world s lost es) e.0 step ⊎ Acts s (world s lost es) e.0 step → ControlActSimulates s.net sizes us ws e.0 step.puts (control_act t e.1)
-    by_view (inl y) = absurd (let o : None ≡ Some y.took.message = sym k ∙ y.took.taken in cc)
-    by_view (inr y) = of_choice (step.choice - action_choice s.net e.0) refl (subst (λ x. action s y.acted.floor e.0 x (us e.0) (step.choice - action_choice s.net e.0) ≡ Some step.puts) q y.acted.puts)
-      where
-        of_guard : step.choice ≡ action_choice s.net e.0 → (b : Bool) → is_swept s.net e.0 (us e.0) ≡ b → guarded (not b) (flat_map (λ v. poll_puts v (us e.0)) (served s.net e.0)) ≡ Some step.puts → ControlActSimulates s.net sizes us ws e.0 step.puts (control_act t e.1)
-        of_guard at true g h = absurd cc
-        of_guard at false g0 h = let p : flat_map (λ v. poll_puts v (us e.0)) (served s.net e.0) ≡ step.puts = cc in
-            let whole : step ≡ acting (action_choice s.net e.0) (flat_map (λ v. poll_puts v (us e.0)) (served s.net e.0)) = λ i. record { choice = at i; taken = k i; puts = sym p i } in
-            let g = turns.grows s lost es e step n in
-            subst (λ ps. ControlActSimulates s.net sizes us ws e.0 ps (control_act t e.1)) p
-            (subst (λ b. ControlActSimulates s.net sizes us ws e.0 (flat_map (λ v. poll_puts v (us e.0)) (served s.net e.0)) (control_act t b)) (sym at ∙ c)
-            (sweeps-anywhere s.net sizes e.0 d us ws t z q asked g0 (record { same = g.same ∙ ap (λ o. o ∷ us e.0) whole; other = g.other }) r))
-
-        of_choice : (j : ℕ) → step.choice - action_choice s.net e.0 ≡ j → action s y.acted.floor e.0 (Control d) (us e.0) j ≡ Some step.puts → ControlActSimulates s.net sizes us ws e.0 step.puts (control_act t e.1)
-        of_choice zero j h = let l : action_choice s.net e.0 ≤ step.choice = past-end (links_into s.net e.0) step.choice y.acted.past in of_guard (omega (arith, j, l)) (is_swept s.net e.0 (us e.0)) refl h
-        of_choice (suc i) j h = absurd cc
+          of_choice : (j : ℕ) → step.choice - action_choice s.net e.0 ≡ j → action s y.acted.floor e.0 (Control d) (us e.0) j ≡ Some step.puts → ControlActSimulates s.net sizes us ws e.0 step.puts (control_act t e.1)
+          of_choice zero j h = let l : action_choice s.net e.0 ≤ step.choice = past-end (links_into s.net e.0) step.choice y.acted.past in of_guard (omega (arith, j, l)) (is_swept s.net e.0 (us e.0)) refl h
+          of_choice (suc i) j h = absurd cc
 
 is-there : (net : Net) (a d : ℕ) → actor_of net a ≡ Control d → slice_get net.actors a ≡ Some (Control d)
 is-there net a d q = by_cases (cases_lt a (length net.actors))

@@ -1,4 +1,5 @@
 pub mod Messages
+pub mod Taking
 pub mod UnitImage
 pub mod ControlImage
 pub mod Simulates

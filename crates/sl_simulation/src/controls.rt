@@ -23,6 +23,7 @@ ghost use Rattle.sl_model.specs.Puts.{control_puts, poll_puts};
 ghost use Rattle.sl_model.specs.Setup.{Setup};
 ghost use Rattle.sl_model.specs.World.{Entry, start, taking, acting, next_step, turn, world};
 ghost use Rattle.sl_simulation.specs.Messages.{HoldWindow, IsMessage, IsDumpOf, numbers_after};
+ghost use Rattle.sl_simulation.specs.Taking.{TakesMessage};
 ghost use Rattle.sl_simulation.specs.ControlImage.{known_of, IsControlOf, ControlSimulates};
 ghost use Rattle.sl_simulation.specs.ControlImage.{ControlActSimulates, GrowsBy, Awaits};
 
@@ -50,8 +51,7 @@ pub fn controls_start()
 pub fn dumps_are_unwrapped()
     ensures { (s : Setup) (lost : Losses) (es : List Entry) (e : Entry)
         (n : ℕ) (sizes : Sizes) (step : Step) (d : Dump)
-        → IsNet s.net → HoldWindow s.window sizes → next_step s lost (world s lost es) e ≡ Some step
-        → step.taken ≡ Some (DumpMsg n)
+        → TakesMessage s lost es e step (DumpMsg n) → HoldWindow s.window sizes
         → Each (λ v. step.choice ≡ v.dump
         → IsDumpOf s.net sizes v.unit (first n (history (world s lost es) v.unit)) d
         → numbers_told sizes.bits d (known_of s.net (history (world s lost es)) e.0 v)
@@ -68,10 +68,9 @@ pub fn dumps_are_unwrapped()
 pub fn controls_take()
     ensures { (s : Setup) (lost : Losses) (es : List Entry) (e : Entry)
         (d : ℕ) (sizes : Sizes) (step : Step) (m : Message)
-        (told : ℕ → ℕ) (x : Msg) (t : ControlState) → IsNet s.net
+        (told : ℕ → ℕ) (x : Msg) (t : ControlState) → TakesMessage s lost es e step m
         → actor_of s.net e.0 ≡ Control d → HoldWindow s.window sizes
         → 1 ≤ sizes.credits → length es < 2 ^ 40
-        → next_step s lost (world s lost es) e ≡ Some step → step.taken ≡ Some m
         → IsMessage s.net sizes (history (world s lost es))
         (link_of s.net (link_at s.net e.0 e.1)).from told m x
         → IsControlOf s.net sizes (history (world s lost es)) e.0 t

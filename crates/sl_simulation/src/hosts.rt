@@ -15,6 +15,7 @@ ghost use Rattle.sl_model.specs.Setup.{Setup, setup_of};
 ghost use Rattle.sl_model.specs.World.{Entry, next_step, turn, world};
 ghost use Rattle.sl_simulation.specs.HostImage.{IsHostOf, HostSimulates, HostActSimulates};
 ghost use Rattle.sl_simulation.specs.Messages.{IsMessage};
+ghost use Rattle.sl_simulation.specs.Taking.{TakesMessage};
 
 use sl_model::worlds_take_turns;
 use sl_net::nets_are_wired;
@@ -52,10 +53,9 @@ pub fn hosts_stay()
 pub fn hosts_take()
     ensures { (s : Setup) (lost : Losses) (es : List Entry) (a c i : ℕ)
         (sizes : Sizes) (b : ℕ) (told before : ℕ → ℕ)
-        (step : Step) (m : Message) (x : Msg) (o : HostState) → IsNet s.net
-        → slice_get s.net.actors a ≡ Some (OfHost i)
+        (step : Step) (m : Message) (x : Msg) (o : HostState)
+        → TakesMessage s lost es (a, c) step m → slice_get s.net.actors a ≡ Some (OfHost i)
         → length es < 2 ^ 40 → IsHostOf s a i (world s lost es) o
-        → next_step s lost (world s lost es) (a, c) ≡ Some step → step.taken ≡ Some m
         → IsMessage s.net sizes (λ u. history (world s lost es) u) b before m x
         → HostSimulates s sizes a i (turn s lost (world s lost es) (a, c)) told step.puts
         (host_take o c x) }

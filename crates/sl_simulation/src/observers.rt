@@ -26,6 +26,7 @@ ghost use Rattle.sl_model.specs.Rows.{row};
 ghost use Rattle.sl_model.specs.Short.{SendsShort};
 ghost use Rattle.sl_model.specs.Accounts.{accounts, finding_by};
 ghost use Rattle.sl_simulation.specs.Messages.{IsDoneOf, IsMessage};
+ghost use Rattle.sl_simulation.specs.Taking.{TakesMessage};
 ghost use Rattle.sl_simulation.specs.ObserverImage.{IsObserverOf, IsTableOf, IsNextReport};
 ghost use Rattle.sl_simulation.specs.ObserverImage.{known_at, account_of, seen_by};
 ghost use Rattle.sl_simulation.specs.ObserverImage.{ObserverSimulates, ObserverActSimulates};
@@ -63,9 +64,8 @@ pub fn observers_take()
     ensures { (s : Setup) (lost : Losses) (table : Snapshot) (es : List Entry)
         (c : ℕ) (sizes : Sizes) (a : ℕ) (told : ℕ → ℕ)
         (step : Step) (m : Message) (x : Msg) (o : ObserverState)
-        → IsNet s.net → IsTableOf s table → sizes.credits ≡ table.credits
-        → IsObserverOf s.net table (world s lost es) o
-        → next_step s lost (world s lost es) (0, c) ≡ Some step → step.taken ≡ Some m
+        → TakesMessage s lost es (0, c) step m → IsTableOf s table
+        → sizes.credits ≡ table.credits → IsObserverOf s.net table (world s lost es) o
         → IsMessage s.net sizes (λ u. history (world s lost es) u) a
         (known_at (world s lost es)) m x
         → ObserverSimulates s.net table sizes (turn s lost (world s lost es) (0, c)) told step.puts
@@ -83,9 +83,8 @@ pub fn observers_take()
 pub fn dones_reach_what_they_tell()
     ensures { (s : Setup) (lost : Losses) (table : Snapshot) (es : List Entry)
         (c u n : ℕ) (i : UnitId) (step : Step) (d : Done) (o : ObserverState)
-        → IsNet s.net → IsTableOf s table → IsObserverOf s.net table (world s lost es) o
-        → next_step s lost (world s lost es) (0, c) ≡ Some step → actor_of s.net u ≡ OfUnit i
-        → step.taken ≡ Some (DoneMsg (unit_place s.net u) n)
+        → TakesMessage s lost es (0, c) step (DoneMsg (unit_place s.net u) n) → IsTableOf s table
+        → IsObserverOf s.net table (world s lost es) o → actor_of s.net u ≡ OfUnit i
         → IsDoneOf table.credits s.net u (collected s.net (world s lost es) u)
         (first n (history (world s lost es) u)) d
         → IsNextReport table.ring (unit_at o.units (unit_place s.net u)) d }

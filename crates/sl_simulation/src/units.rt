@@ -21,6 +21,7 @@ ghost use Rattle.sl_model.specs.Counting.{packets, bytes, bad, expired, noroute}
 ghost use Rattle.sl_model.specs.Setup.{Setup};
 ghost use Rattle.sl_model.specs.World.{Entry, next_step, turn, world};
 ghost use Rattle.sl_simulation.specs.Messages.{CarryIds, IsMessage};
+ghost use Rattle.sl_simulation.specs.Taking.{TakesMessage};
 ghost use Rattle.sl_model.specs.Short.{SendsShort};
 ghost use Rattle.sl_simulation.specs.UnitImage.{IsDistance, IsUnitOf, UnitSimulates, CanTake};
 ghost use Rattle.sl_simulation.specs.UnitImage.{step_on, dropped};
@@ -74,10 +75,9 @@ pub fn units_take_messages()
     ensures follows { (s : Setup) (table : Snapshot) (lost : Losses)
         (es : List Entry) (u c a : ℕ) (i : UnitId) (step : Step) (m : Message)
         (x : Msg) (state : UnitState) (us : ℕ → History) (was told : ℕ → ℕ)
-        → IsNet s.net → s.window ≡ table.window → table.window < modulus table.width
-        → table.window ≤ table.ring → CarryIds s.net table → SendsShort s
-        → length es < 2 ^ 40 → actor_of s.net u ≡ OfUnit i
-        → next_step s lost (world s lost es) (u, c) ≡ Some step → step.taken ≡ Some m
+        → TakesMessage s lost es (u, c) step m → s.window ≡ table.window
+        → table.window < modulus table.width → table.window ≤ table.ring → CarryIds s.net table
+        → SendsShort s → length es < 2 ^ 40 → actor_of s.net u ≡ OfUnit i
         → IsMessage s.net (sizes_of table) us a was m x
         → IsUnitOf s.net table u i (history (world s lost es) u) state
         → UnitSimulates s.net table u i (λ b. history (turn s lost (world s lost es) (u, c)) b)

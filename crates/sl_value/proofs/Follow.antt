@@ -29,6 +29,7 @@ use Rattle.sl_model.specs.Turns.{Takes, Acts, TakesTurns}
 use Rattle.sl_model.specs.Reported.{AreReported}
 use Rattle.sl_model.specs.Brought.{IsBrought}
 use Rattle.sl_simulation.specs.Messages.{HoldWindow, IsMessage, IsDumpOf, numbers_after}
+use Rattle.sl_simulation.specs.Taking.{TakesMessage}
 use Rattle.sl_simulation.specs.ControlImage.{known_of, IsControlOf}
 use Rattle.sl_proto.specs.Nodes.{ObserverNode, ControlNode, UnitNode, HostNode, as_node, node_rules}
 use Rattle.sl_proto.specs.Meaning.{StandsAs, NodeStands, IsRunnable}
@@ -47,7 +48,7 @@ Brings = (s : Setup) (lost : Losses) (es : List Entry) (e : Entry) (n : ℕ) (st
     → Each (λ v. step.choice ≡ v.dump → IsBrought s.net s.window v.unit (history (world s lost es) v.unit) (dumped v.dump (history (world s lost es) e.0)) n) (served s.net e.0)
 
 abbrev pub Unwraps : Type 0
-Unwraps = (s : Setup) (lost : Losses) (es : List Entry) (e : Entry) (n : ℕ) (sizes : Sizes) (step : Step) (d : UnitDump) → IsNet s.net → HoldWindow s.window sizes → next_step s lost (world s lost es) e ≡ Some step → step.taken ≡ Some (DumpMsg n)
+Unwraps = (s : Setup) (lost : Losses) (es : List Entry) (e : Entry) (n : ℕ) (sizes : Sizes) (step : Step) (d : UnitDump) → TakesMessage s lost es e step (DumpMsg n) → HoldWindow s.window sizes
     → Each (λ v. step.choice ≡ v.dump → IsDumpOf s.net sizes v.unit (first n (history (world s lost es) v.unit)) d
     → numbers_told sizes.bits d (known_of s.net (history (world s lost es)) e.0 v) ≡ numbers_after s.net v.unit (first n (history (world s lost es) v.unit))) (served s.net e.0)
 
@@ -146,7 +147,7 @@ module _ (s : Setup) (table : Snapshot) (lost : Losses) (r : IsRunnable s table 
           ∙ ap (λ k. kept_by y.view (first_done (flat_map (dump_puts (lengths (sizes_of table)) o.control.wires.done c y) (map (known_of s.net us a) (served s.net a)))) k) kept
           ∙ ap (λ b. kept_by y.view (first_done (flat_map (dump_puts (lengths (sizes_of table)) o.control.wires.done b y) (map (known_of s.net us a) (served s.net a)))) (map (kept_told s.net us a) (served s.net a))) (sym choice)
           ∙ kept-dump s.net (sizes_of table) us ws a d l n step y z q same other t (ap (slice_get (links_into s.net a)) choice ∙ into) of units s.window window.room
-          (brings s lost es (a, c) n step r.net next t) (unwraps s lost es (a, c) n (sizes_of table) step y r.net window next t) counts o.control.wires.done
+          (brings s lost es (a, c) n step r.net next t) (unwraps s lost es (a, c) n (sizes_of table) step y (record { net = r.net; next = next; taken = t }) window) counts o.control.wires.done
 
       by_message : (m : Message) → step.taken ≡ Some m → IsMessage s.net (sizes_of table) us (link_of s.net l).from (told_by c (us a)) m x → AreKept s.net ws a (kept_after x (control_take o.control c x).puts o.kept)
       by_message (Host bytes) t h = still (Host bytes) refl t h

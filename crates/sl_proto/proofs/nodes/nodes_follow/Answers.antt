@@ -64,7 +64,7 @@ returns c s table lost r = record {
         → MachineSimulates s (sizes_of table) (NodeStands s table) (world s lost es) (turn s lost (world s lost es) (a, k)) a step (as_node ObserverNode (observer_take o k x))
     observer-takes es (suc a) k l step m x next into taken msg q o st = absurd (let e : suc a ≡ 0 = wired.one_observer (suc a) q in omega (arith, e))
     observer-takes es zero k l step m x next into taken msg q o st = let w = world s lost es in let v = turn s lost w (0, k) in
-        let g = λ (told : ℕ → ℕ). c.observers_take.ensures s lost table es k (sizes_of table) (link_of s.net l).from told step m x o r.net r.is_table refl st next taken
+        let g = λ (told : ℕ → ℕ). c.observers_take.ensures s lost table es k (sizes_of table) (link_of s.net l).from told step m x o (record { net = r.net; next = next; taken = taken }) r.is_table refl st
         (retold s.net (sizes_of table) (history w) (link_of s.net l).from (told_by k (history w 0)) (known_at w) m x (told-known turns c.links_pass_messages.ensures s lost w k l m step reported wired (turns.ran s lost es) next into taken) msg) in
         leaves s table w v 0 step Observer (as_node ObserverNode (observer_take o k x)) q (g untold).stands (put-by-any s.net (sizes_of table) (history v) 0 (history w 0) step.puts (observer_take o k x).puts (λ told. (g told).sent))
 
@@ -74,15 +74,15 @@ returns c s table lost r = record {
     takes es a k l step m x few next into taken msg Observer q (ObserverNode o) st = observer-takes es a k l step m x next into taken msg q o st
     takes es a k l step m x few next into taken msg (Control d) q (ControlNode o) st = let w = world s lost es in let v = turn s lost w (a, k) in
         let at : link_at s.net a k ≡ l = get_or_from_slice_get (links_into s.net a) k l 0 into in let size = r.is_table.window in let apart = r.is_table.apart in let room = r.is_table.room in
-        let g = c.controls_take.ensures s lost es (a, k) d (sizes_of table) step m (told_by k (history w a)) x o r.net q (record { few_bits = r.is_table.few_bits; apart = omega (arith, size, apart); room = omega (arith, size, room) }) r.is_table.some_credits few next taken
+        let g = c.controls_take.ensures s lost es (a, k) d (sizes_of table) step m (told_by k (history w a)) x o (record { net = r.net; next = next; taken = taken }) q (record { few_bits = r.is_table.few_bits; apart = omega (arith, size, apart); room = omega (arith, size, room) }) r.is_table.some_credits few
         (subst (λ l. IsMessage s.net (sizes_of table) (history w) (link_of s.net l).from (told_by k (history w a)) m x) (sym at) msg) st in
         leaves s table w v a step (Control d) (as_node ControlNode (control_take o k x)) q g.stands
         (put-by-told s.net (sizes_of table) (history v) a (told_at s.net (history w) a) (history w a) step.puts (control_take o k x).puts (step-dones turns c.links_pass_messages.ensures s lost w a d k step reported wired (turns.ran s lost es) q next) g.sent)
     takes es a k l step m x few next into taken msg (OfUnit i) q (UnitNode o) st = let w = world s lost es in let v = turn s lost w (a, k) in
-        let g = λ (told : ℕ → ℕ). c.units_take_messages.ensures.follows s table lost es a k (link_of s.net l).from i step m x o (history w) (told_by k (history w a)) told r.net (sym r.is_table.window) r.is_table.apart r.is_table.room r.is_table.carried r.short few q next taken msg st in
+        let g = λ (told : ℕ → ℕ). c.units_take_messages.ensures.follows s table lost es a k (link_of s.net l).from i step m x o (history w) (told_by k (history w a)) told (record { net = r.net; next = next; taken = taken }) (sym r.is_table.window) r.is_table.apart r.is_table.room r.is_table.carried r.short few q msg st in
         leaves s table w v a step (OfUnit i) (as_node UnitNode (unit_rules.take o k x)) q (g untold).stands (put-by-any s.net (sizes_of table) (history v) a (history w a) step.puts (unit_rules.take o k x).puts (λ told. (g told).sent))
     takes es a k l step m x few next into taken msg (OfHost i) q (HostNode o) st = let w = world s lost es in let v = turn s lost w (a, k) in
-        let g = λ (told : ℕ → ℕ). c.hosts_take.ensures s lost es a k i (sizes_of table) (link_of s.net l).from told (told_by k (history w a)) step m x o r.net (is-host a i (turns.within s lost w (a, k) step next) q) few st next taken msg in
+        let g = λ (told : ℕ → ℕ). c.hosts_take.ensures s lost es a k i (sizes_of table) (link_of s.net l).from told (told_by k (history w a)) step m x o (record { net = r.net; next = next; taken = taken }) (is-host a i (turns.within s lost w (a, k) step next) q) few st msg in
         leaves s table w v a step (OfHost i) (as_node HostNode (host_take o k x)) q (g untold).stands (put-by-any s.net (sizes_of table) (history v) a (history w a) step.puts (host_take o k x).puts (λ told. (g told).sent))
     takes es a k l step m x few next into taken msg _ q _ st = absurd st
 

@@ -8,7 +8,7 @@ use Rattle.sl_simulation.proofs.ObserverWorlds.{unit-next-is}
 use Rattle.sl_simulation.proofs.observers.dones_reach_what_they_tell.Goals as goal
 
 pub returns : goal.returns
-returns c s lost table es choice u n i step d o net f h q a e of =
+returns c s lost table es choice u n i step d o r f h a of =
     subst (λ x. IsNextReport table.ring x d) (sym (ap (λ o. unit_at o.units (unit_place s.net u)) h ∙ unit-there s.net (c.nets_have_ways.ensures s.net) table (world s lost es) u i a))
-    (unit-next-is c.worlds_take_turns.ensures s lost table es choice n step d (c.known_steps_are_made.ensures s net)
-    (λ u m i y d. c.dones_bring_rows.ensures s lost es choice u m i step net q y d) (c.nets_are_wired.ensures s.net net) f q u i a e of)
+    (unit-next-is c.worlds_take_turns.ensures s lost table es choice n step d (c.known_steps_are_made.ensures s r.net)
+    (λ u m i y d. c.dones_bring_rows.ensures s lost es choice u m i step r.net r.next y d) (c.nets_are_wired.ensures s.net r.net) f r.next u i a r.taken of)

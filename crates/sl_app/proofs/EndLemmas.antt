@@ -20,10 +20,10 @@ use Rattle.sl_machine.specs.Book.{Book}
 use Rattle.sl_proto.specs.Nodes.{NodeState}
 use Rattle.sl_app.specs.declared.run.Served.{Served}
 use Rattle.sl_app.specs.Served.{states_of}
-use Rattle.sl_app.specs.Ends.{Reading, Writing, TellsWriteFault, Refuses, HasReadStream, TellsStreamFault, TellsTooMany, WasRead, HasCause, asks_for_run, reads, IsUnread, IsServed, Serves, ServesSample}
+use Rattle.sl_app.specs.Ends.{SourceChange, SinkChange, TellsWriteFault, Refuses, HasReadStream, TellsStreamFault, TellsTooMany, WasRead, HasCause, asks_for_run, reads, IsUnread, IsServed, Serves, ServesSample}
 
 -- a stream that is refused for a fault
-pub stream_refused : (r : Reading) (bytes : List ℕ) (fault : CheckFault) (e : Refusal) → words_of r.words ≡ Some Check → HasReadStream r bytes → IsChecked bytes (Err fault)
+pub stream_refused : (r : SourceChange) (bytes : List ℕ) (fault : CheckFault) (e : Refusal) → words_of r.words ≡ Some Check → HasReadStream r bytes → IsChecked bytes (Err fault)
     → TellsStreamFault fault e → HasCause r e
 stream_refused r bytes fault (StreamRefused line) words read checked told =
     record { words = words; bytes = bytes; fault = fault; refusal = told.0; read = read; refused = checked; line_is = told.1 }
@@ -34,7 +34,7 @@ stream_refused r bytes fault ReadFault words read checked told = absurd told
 stream_refused r bytes fault (TooMany line) words read checked told = absurd told
 
 -- an input whose net has too many actors for threads
-pub too_many_told : (r : Reading) (i : Input) (actors : ℕ) (e : Refusal) → asks_for_run (words_of r.words) → WasRead r i → 256 < length i.net.actors → actors ≡ length i.net.actors
+pub too_many_told : (r : SourceChange) (i : Input) (actors : ℕ) (e : Refusal) → asks_for_run (words_of r.words) → WasRead r i → 256 < length i.net.actors → actors ≡ length i.net.actors
     → TellsTooMany actors e → HasCause r e
 too_many_told r i actors (TooMany line) words read many is told =
     record { words = words; input = i; accepted = read; many = many; line_is = told ∙ ap many_text is }
@@ -56,12 +56,12 @@ too_many_told r i actors (StreamRefused line) words read many is told = absurd t
 too_many_told r i actors ReadFault words read many is told = absurd told
 
 -- want of memory, where an input is read
-pub memory_told : (r : Reading) (c : Command) (x : Result Served Refusal) → words_of r.words ≡ Some c → reads (Some c) → IsErr x × IsErrAnd x (λ e. e ≡ Memory) → Serves r x
+pub memory_told : (r : SourceChange) (c : Command) (x : Result Served Refusal) → words_of r.words ≡ Some c → reads (Some c) → IsErr x × IsErrAnd x (λ e. e ≡ Memory) → Serves r x
 memory_told r c (Ok s) words read h = let k = h.0 in absurd (cc)
 memory_told r c (Err e) words read h = subst (λ (x : Refusal). HasCause r x) (sym h.1) (λ none. absurd (none (subst reads (sym words) read)))
 
 -- a sample is served without reading
-pub sample_served : (r : Reading) (number : ℕ) (input : Bool) (x : Result Served Refusal) → words_of r.words ≡ Some (Sample number input) → IsUnread r
+pub sample_served : (r : SourceChange) (number : ℕ) (input : Bool) (x : Result Served Refusal) → words_of r.words ≡ Some (Sample number input) → IsUnread r
     → ServesSample number input x → Serves r x
 sample_served r number input (Ok s) words unread h =
     subst (λ (b : Option Book). IsServed r b s.front (states_of s.nodes) s.status s.text.items) (sym h.1)
@@ -79,7 +79,7 @@ rose_on a b c k (inr h) l = go (cases_order b c)
     go (inr (inl e)) = inl (omega arith)
     go (inr (inr e)) = absurd (omega arith)
 
-pub told_prefix : (w : Writing) → TellsWriteFault w → (n : ℕ) × Appends w.before w.after (take n write_fault_text)
+pub told_prefix : (w : SinkChange) → TellsWriteFault w → (n : ℕ) × Appends w.before w.after (take n write_fault_text)
 told_prefix w (inl h) = (length write_fault_text, subst (λ (t : List ℕ). Appends w.before w.after t) (sym (take-length write_fault_text)) h)
 told_prefix w (inr h) = (h.0.0, h.0.2)
 

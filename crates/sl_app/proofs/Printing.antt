@@ -18,7 +18,7 @@ use Rattle.sl_model.specs.World.{Entry as Turn}
 use Rattle.sl_proto.specs.RunBook.{CanRun}
 use Rattle.sl_report.specs.Report.{report_text}
 use Rattle.sl_report.specs.TraceText.{trace_text}
-use Rattle.sl_app.specs.Ends.{Reading, WasRead}
+use Rattle.sl_app.specs.Ends.{SourceChange, WasRead}
 use Rattle.sl_app.specs.Served.{run_text}
 use Rattle.sl_app.specs.PrintedFindings.{printed_of, TellsFindings}
 use Rattle.sl_report.specs.Sayable.{IsSayable}
@@ -70,7 +70,7 @@ abbrev pub Runs : Type 0
 Runs = (i : Input) → IsAccepted i → CanRun i
 
 -- a text that was printed of a run of an input that was read
-pub run-tells : (r : Reading) (i j : Input) (book : List Entry) (trace : Bool) (text : List ℕ) → Facts i.net → Accepts → Runs → WasRead r j → j ≡ i → length book < 2 ^ 40
+pub run-tells : (r : SourceChange) (i j : Input) (book : List Entry) (trace : Bool) (text : List ℕ) → Facts i.net → Accepts → Runs → WasRead r j → j ≡ i → length book < 2 ^ 40
     → text ≡ run_text j (losses j) book trace → TellsFindings i book trace text
 run-tells r i j book trace text facts accepts runs read same few is = let a : IsAccepted i = subst IsAccepted same (accepts read.bytes j read.input) in
     λ found said printed. printed-tells i book trace found facts a (runs i a) few said

@@ -34,7 +34,7 @@ use Rattle.sl_balance.specs.Balance.{AreFew}
 use Rattle.sl_words.specs.declared.command.Command.TheVariants.{Step, Run, Balance, Poll, Values}
 use Rattle.sl_words.specs.Words.{words_of}
 use Rattle.sl_app.specs.Served.{run_text, IsPrinted, IsReport, AllPassed, IsTable, IsReading, AreValues}
-use Rattle.sl_app.specs.Ends.{Reading, WasRead, IsServed, NodesPassed}
+use Rattle.sl_app.specs.Ends.{SourceChange, WasRead, IsServed, NodesPassed}
 
 each-map : {A B : Type 0} (P : B → Type 0) (f : A → B) (xs : List A) → ((x : A) → P (f x)) → Each P (map f xs)
 each-map P f [] all = tt
@@ -85,14 +85,14 @@ report-of IsBook i lost trace kept front states book nodes text run stand same l
     subst (λ b. IsPrinted IsBook i lost b front nodes trace text) (sym same) (record { run = run; stand = subst (AreNodesOf i (world (setup_of i) lost (schedule_of kept))) (sym left) stand; text_is = told })
 
 -- a report that was made of an input that was read, of a run of the script and of one in threads
-pub stepped : (r : Reading) (i : Input) (trace : Bool) → words_of r.words ≡ Some (Step trace) → WasRead r i → input_bound i < 2 ^ 27
+pub stepped : (r : SourceChange) (i : Input) (trace : Bool) → words_of r.words ≡ Some (Step trace) → WasRead r i → input_bound i < 2 ^ 27
     → (book : Option Book) (front : ℕ) (nodes : Option (List NodeState)) (status : ℕ) (text : List ℕ)
     → IsReport IsRunBook i (losses i) book front nodes trace text → status ≡ 0 → IsServed r book front nodes status text
 stepped r i trace words read few (Some book) front (Some nodes) status text told is = (inl (record { trace = trace; words = words; input = i; accepted = read; small = few; run = told }), is)
 stepped r i trace words read few (Some book) front None status text told is = absurd told
 stepped r i trace words read few None front nodes status text told is = absurd told
 
-pub threaded : (r : Reading) (i : Input) (trace : Bool) → words_of r.words ≡ Some (Run trace) → WasRead r i → bound_of (setup_of i) 0 < 2 ^ 27 → length i.net.actors ≤ 256
+pub threaded : (r : SourceChange) (i : Input) (trace : Bool) → words_of r.words ≡ Some (Run trace) → WasRead r i → bound_of (setup_of i) 0 < 2 ^ 27 → length i.net.actors ≤ 256
     → (book : Option Book) (front : ℕ) (nodes : Option (List NodeState)) (status : ℕ) (text : List ℕ)
     → IsReport IsThreadedBook i (losses i) book front nodes trace text → status ≡ 0 → IsServed r book front nodes status text
 threaded r i trace words read small few (Some book) front (Some nodes) status text told is =
@@ -108,7 +108,7 @@ nodes-passed passed gate i trace front text small all book None told = tt
 nodes-passed passed gate i trace front text small all None (Some nodes) told = absurd told
 
 -- a table that was made of an input that was read
-pub tabled : (r : Reading) (i : Input) → words_of r.words ≡ Some Balance → WasRead r i → input_bound i < 2 ^ 27
+pub tabled : (r : SourceChange) (i : Input) → words_of r.words ≡ Some Balance → WasRead r i → input_bound i < 2 ^ 27
     → (book : Option Book) (front : ℕ) (nodes : Option (List NodeState)) (status : ℕ) (text : List ℕ)
     → IsTable i (losses i) book front nodes text → status ≡ 0 → IsServed r book front nodes status text
 tabled r i words read few (Some book) front None status text told is = (inl (record { words = words; input = i; accepted = read; small = few; run = told }), is)
@@ -116,7 +116,7 @@ tabled r i words read few (Some book) front (Some nodes) status text told is = a
 tabled r i words read few None front nodes status text told is = absurd told
 
 -- a reading that was made of an input that was read
-pub polled : (r : Reading) (i : Input) (start gap : ℕ) → words_of r.words ≡ Some (Poll start gap) → WasRead r i → input_bound i < 2 ^ 27
+pub polled : (r : SourceChange) (i : Input) (start gap : ℕ) → words_of r.words ≡ Some (Poll start gap) → WasRead r i → input_bound i < 2 ^ 27
     → (book : Option Book) (front : ℕ) (nodes : Option (List NodeState)) (status : ℕ) (text : List ℕ)
     → IsReading i (losses i) book front nodes start gap text → status ≡ 0 → IsServed r book front nodes status text
 polled r i start gap words read few (Some book) front None status text told is = (inr (inl (record { start = start; gap = gap; words = words; input = i; accepted = read; small = few; run = told })), is)
@@ -124,7 +124,7 @@ polled r i start gap words read few (Some book) front (Some nodes) status text t
 polled r i start gap words read few None front nodes status text told is = absurd told
 
 -- values that were kept of an input that was read
-pub valued : (r : Reading) (i : Input) → words_of r.words ≡ Some Values → WasRead r i → input_bound i < 2 ^ 27
+pub valued : (r : SourceChange) (i : Input) → words_of r.words ≡ Some Values → WasRead r i → input_bound i < 2 ^ 27
     → (book : Option Book) (front : ℕ) (nodes : Option (List NodeState)) (status : ℕ) (text : List ℕ)
     → AreValues i (losses i) book front nodes text → status ≡ 0 → IsServed r book front nodes status text
 valued r i words read few (Some book) front None status text told is = (inr (inr (record { words = words; input = i; accepted = read; small = few; run = told })), is)

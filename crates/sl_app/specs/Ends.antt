@@ -40,7 +40,7 @@ use Rattle.sl_emul.specs.Threaded.{HasRested, IsThreadedBook}
 use Rattle.sl_app.specs.Served.{IsPrinted, IsTabledRun, IsPolledRun, IsValuedRun, IsSampleText, AllPassed, states_of}
 
 -- the words, and the source before and after: the bytes left, where it tells them, and its count of faults
-pub record Reading : Type 0 where
+pub record SourceChange : Type 0 where
   pub words : List (List ℕ)
   pub before : Option (List ℕ)
   pub after : Option (List ℕ)
@@ -48,15 +48,15 @@ pub record Reading : Type 0 where
   pub faults_after : ℕ
 
 -- a sink before and after: the bytes written, where it tells them, and its count of faults
-pub record Writing : Type 0 where
+pub record SinkChange : Type 0 where
   pub before : Option (List ℕ)
   pub after : Option (List ℕ)
   pub faults_before : ℕ
   pub faults_after : ℕ
 
 -- these words and what a source, or a sink, went through, by the members of its trait
-abbrev pub reading : {S : Type 0} → Source S → List (List ℕ) → S → S → Reading
-reading source words old new = record {
+abbrev pub source_change : {S : Type 0} → Source S → List (List ℕ) → S → S → SourceChange
+source_change source words old new = record {
   words = words;
   before = source.left old;
   after = source.left new;
@@ -64,37 +64,37 @@ reading source words old new = record {
   faults_after = source.faults new;
 }
 
-abbrev pub writing : {S : Type 0} → Sink S → S → S → Writing
-writing sink old new = record { before = sink.written old; after = sink.written new; faults_before = sink.faults old; faults_after = sink.faults new }
+abbrev pub sink_change : {S : Type 0} → Sink S → S → S → SinkChange
+sink_change sink old new = record { before = sink.written old; after = sink.written new; faults_before = sink.faults old; faults_after = sink.faults new }
 
 -- words as lists of bytes
 abbrev pub texts_of : List (String Global) → List (List ℕ)
 texts_of words = map (λ w. string_bytes w) words
 
-pub record IsUnread (r : Reading) : Type 0 where
+pub record IsUnread (r : SourceChange) : Type 0 where
   pub bytes : Keeps r.before r.after
   pub faults : r.faults_after ≡ r.faults_before
 
-pub record IsUntouched (w : Writing) : Type 0 where
+pub record IsUntouched (w : SinkChange) : Type 0 where
   pub bytes : Keeps w.before w.after
   pub faults : w.faults_after ≡ w.faults_before
 
 -- all bytes were read, or as many as an input may have and one more
-abbrev pub HasRead : Reading → List ℕ → Type 0
+abbrev pub HasRead : SourceChange → List ℕ → Type 0
 HasRead r bytes = IsReadUpTo 1048577 r.before r.after bytes
 
 -- all bytes were read, or as many as a stream may have and one more
-abbrev pub HasReadStream : Reading → List ℕ → Type 0
+abbrev pub HasReadStream : SourceChange → List ℕ → Type 0
 HasReadStream r bytes = IsReadUpTo 4194305 r.before r.after bytes
 
 -- this input was read
-pub record WasRead (r : Reading) (i : Input) : Type 0 where
+pub record WasRead (r : SourceChange) (i : Input) : Type 0 where
   pub bytes : List ℕ
   pub read : HasRead r bytes
   pub input : input_of bytes ≡ Ok i
 
 -- the bytes that were read are refused with this line
-pub record IsRefusedInput (r : Reading) (line : List ℕ) : Type 0 where
+pub record IsRefusedInput (r : SourceChange) (line : List ℕ) : Type 0 where
   pub bytes : List ℕ
   pub fault : InputFault
   pub read : HasRead r bytes
@@ -113,7 +113,7 @@ IsStreamFault check.Memory = ⊥
 IsStreamFault _ = Unit {0}
 
 -- the bytes that were read are no stream that is checked, for this fault, and this is its line
-pub record IsRefusedStream (r : Reading) (line : List ℕ) : Type 0 where
+pub record IsRefusedStream (r : SourceChange) (line : List ℕ) : Type 0 where
   pub words : words_of r.words ≡ Some command.Check
   pub bytes : List ℕ
   pub fault : CheckFault
@@ -149,7 +149,7 @@ asks_for_run (Some (command.Run trace)) = Unit {0}
 asks_for_run _ = ⊥
 
 -- an input was read whose net has more actors than run in threads, and this line says how many
-pub record IsTooMany (r : Reading) (line : List ℕ) : Type 0 where
+pub record IsTooMany (r : SourceChange) (line : List ℕ) : Type 0 where
   pub words : asks_for_run (words_of r.words)
   pub input : Input
   pub accepted : WasRead r input
@@ -163,7 +163,7 @@ TellsTooMany actors Memory = Unit {0}
 TellsTooMany actors _ = ⊥
 
 -- the cause of a refusal; want of memory has none, but where the words ask for no input and no stream, nothing was read then either
-abbrev pub HasCause : Reading → Refusal → Type 0
+abbrev pub HasCause : SourceChange → Refusal → Type 0
 HasCause r Usage = (words_of r.words ≡ None) × IsUnread r
 HasCause r (InputRefused line) = reads_input (words_of r.words) × IsRefusedInput r line.items
 HasCause r (StreamRefused line) = IsRefusedStream r line.items
@@ -173,7 +173,7 @@ HasCause r Memory = ¬ reads (words_of r.words) → IsUnread r
 
 -- an input was run, with this book, these nodes and this text: its report, and where it was asked for, the trace of the book; no input has a bound on
 -- the turns of its run of 2^27 or more
-pub record IsStepped (r : Reading) (book : List Entry) (front : ℕ) (nodes : List NodeState) (text : List ℕ) : Type 0 where
+pub record IsStepped (r : SourceChange) (book : List Entry) (front : ℕ) (nodes : List NodeState) (text : List ℕ) : Type 0 where
   pub trace : Bool
   pub words : words_of r.words ≡ Some (command.Step trace)
   pub input : Input
@@ -183,7 +183,7 @@ pub record IsStepped (r : Reading) (book : List Entry) (front : ℕ) (nodes : Li
 
 -- an input was run with a thread for each actor, with this book, these nodes and this text: its report, and where it was asked for, the trace; the net
 -- has few actors, no input has a bound on the turns of such a run of 2^27 or more, and when the threads ended nothing was left to send or to issue
-pub record IsThreaded (r : Reading) (book : List Entry) (front : ℕ) (nodes : List NodeState) (text : List ℕ) : Type 0 where
+pub record IsThreaded (r : SourceChange) (book : List Entry) (front : ℕ) (nodes : List NodeState) (text : List ℕ) : Type 0 where
   pub trace : Bool
   pub words : words_of r.words ≡ Some (command.Run trace)
   pub input : Input
@@ -194,7 +194,7 @@ pub record IsThreaded (r : Reading) (book : List Entry) (front : ℕ) (nodes : L
   pub run : IsPrinted IsThreadedBook input (losses input) book front nodes trace text
 
 -- an input was run, with this book, and the text is the table of balance of its findings
-pub record IsBalanced (r : Reading) (book : List Entry) (front : ℕ) (text : List ℕ) : Type 0 where
+pub record IsBalanced (r : SourceChange) (book : List Entry) (front : ℕ) (text : List ℕ) : Type 0 where
   pub words : words_of r.words ≡ Some command.Balance
   pub input : Input
   pub accepted : WasRead r input
@@ -202,7 +202,7 @@ pub record IsBalanced (r : Reading) (book : List Entry) (front : ℕ) (text : Li
   pub run : IsTabledRun input (losses input) book front text
 
 -- an input was run, with this book, and the text is that of the reading of its units
-pub record IsPolled (r : Reading) (book : List Entry) (front : ℕ) (text : List ℕ) : Type 0 where
+pub record IsPolled (r : SourceChange) (book : List Entry) (front : ℕ) (text : List ℕ) : Type 0 where
   pub start : ℕ
   pub gap : ℕ
   pub words : words_of r.words ≡ Some (command.Poll start gap)
@@ -212,7 +212,7 @@ pub record IsPolled (r : Reading) (book : List Entry) (front : ℕ) (text : List
   pub run : IsPolledRun input (losses input) book front start gap text
 
 -- an input was run, with this book, and the text is that of its values
-pub record IsValued (r : Reading) (book : List Entry) (front : ℕ) (text : List ℕ) : Type 0 where
+pub record IsValued (r : SourceChange) (book : List Entry) (front : ℕ) (text : List ℕ) : Type 0 where
   pub words : words_of r.words ≡ Some command.Values
   pub input : Input
   pub accepted : WasRead r input
@@ -220,14 +220,14 @@ pub record IsValued (r : Reading) (book : List Entry) (front : ℕ) (text : List
   pub run : IsValuedRun input (losses input) book front text
 
 -- the text of the routes of an input's net
-pub record IsRouted (r : Reading) (text : List ℕ) : Type 0 where
+pub record IsRouted (r : SourceChange) (text : List ℕ) : Type 0 where
   pub words : words_of r.words ≡ Some command.Routes
   pub input : Input
   pub accepted : WasRead r input
   pub routes : text ≡ routes_text input.net
 
 -- the summary of a run of a sample's input, or its text; nothing was read
-pub record IsSampled (r : Reading) (text : List ℕ) : Type 0 where
+pub record IsSampled (r : SourceChange) (text : List ℕ) : Type 0 where
   pub number : ℕ
   pub input : Bool
   pub words : words_of r.words ≡ Some (command.Sample number input)
@@ -235,7 +235,7 @@ pub record IsSampled (r : Reading) (text : List ℕ) : Type 0 where
   pub sample : IsSampleText number input text
 
 -- a stream was checked, and this is the text of the answer, with the status that it has
-pub record IsAnswered (r : Reading) (status : ℕ) (text : List ℕ) : Type 0 where
+pub record IsAnswered (r : SourceChange) (status : ℕ) (text : List ℕ) : Type 0 where
   pub words : words_of r.words ≡ Some command.Check
   pub bytes : List ℕ
   pub answer : Checked
@@ -246,7 +246,7 @@ pub record IsAnswered (r : Reading) (status : ℕ) (text : List ℕ) : Type 0 wh
 
 -- what is served, with the status that it has once it is written: a run; the table, the reading or the values of one of the script, for which there is
 -- no node; or a text for which there is no book either
-abbrev pub IsServed : Reading → Option Book → ℕ → Option (List NodeState) → ℕ → List ℕ → Type 0
+abbrev pub IsServed : SourceChange → Option Book → ℕ → Option (List NodeState) → ℕ → List ℕ → Type 0
 IsServed r (Some book) front (Some nodes) status text = (IsStepped r book.entries front nodes text ⊎ IsThreaded r book.entries front nodes text) × (status ≡ 0)
 IsServed r (Some book) front None status text =
     (IsBalanced r book.entries front text ⊎ (IsPolled r book.entries front text ⊎ IsValued r book.entries front text)) × (status ≡ 0)
@@ -254,12 +254,12 @@ IsServed r None front None status text = (((IsRouted r text ⊎ IsSampled r text
 IsServed r _ front _ status text = ⊥
 
 -- what a command comes to: what is served, or a refusal with its cause
-abbrev pub Serves : Reading → Result Served Refusal → Type 0
+abbrev pub Serves : SourceChange → Result Served Refusal → Type 0
 Serves r (Ok s) = IsServed r s.book s.front (states_of s.nodes) s.status s.text.items
 Serves r (Err refusal) = HasCause r refusal
 
 -- the same of an input that is read, and of a sample
-abbrev pub Accepts : Reading → Result Input Refusal → Type 0
+abbrev pub Accepts : SourceChange → Result Input Refusal → Type 0
 Accepts r (Ok i) = WasRead r i × IsAccepted i
 Accepts r (Err refusal) = HasCause r refusal
 
@@ -268,41 +268,41 @@ ServesSample number text (Ok s) = IsSampleText number text s.text.items × (s.bo
 ServesSample number text (Err refusal) = refusal ≡ Memory
 
 -- the whole line for status 5 was appended, or a part of it where the sink's count rose
-abbrev pub TellsWriteFault : Writing → Type 0
+abbrev pub TellsWriteFault : SinkChange → Type 0
 TellsWriteFault err = Appends err.before err.after write_fault_text ⊎ (AppendsPart err.before err.after write_fault_text × Rose err.faults_before err.faults_after)
 
 -- The ways in which writing ends.
 
 -- the text was written whole, and the status is its own: nothing was appended to `err`
-pub record IsWhole (out err : Writing) (status : ℕ) (text : List ℕ) (e : Ended) : Type 0 where
+pub record IsWhole (out err : SinkChange) (status : ℕ) (text : List ℕ) (e : Ended) : Type 0 where
   pub status_is : e.status ≡ status
   pub written : Appends out.before out.after text
   pub silent : IsUntouched err
 
 -- `out` failed: a part of the text was appended to it, and the line for status 5 to `err`
-pub record IsOutFault (out err : Writing) (text : List ℕ) (e : Ended) : Type 0 where
+pub record IsOutFault (out err : SinkChange) (text : List ℕ) (e : Ended) : Type 0 where
   pub status : e.status ≡ 5
   pub rose : Rose out.faults_before out.faults_after
   pub part : AppendsPart out.before out.after text
   pub told : TellsWriteFault err
 
 -- what writing a text leaves: the book and the nodes, where there are any, are returned either way
-pub record Reports (out err : Writing) (book : Option Book) (front : ℕ) (nodes : Option (List NodeState)) (status : ℕ) (text : List ℕ) (e : Ended) : Type 0 where
+pub record Reports (out err : SinkChange) (book : Option Book) (front : ℕ) (nodes : Option (List NodeState)) (status : ℕ) (text : List ℕ) (e : Ended) : Type 0 where
   pub kept : e.book ≡ book
   pub front_kept : e.front ≡ front
   pub nodes_kept : states_of e.nodes ≡ nodes
   pub ending : IsWhole out err status text e ⊎ IsOutFault out err text e
 
-abbrev pub ReportsServed : Writing → Writing → Served → Ended → Type 0
+abbrev pub ReportsServed : SinkChange → SinkChange → Served → Ended → Type 0
 ReportsServed out err s e = Reports out err s.book s.front (states_of s.nodes) s.status s.text.items e
 
 -- the line for a refusal was written whole
-pub record IsTold (err : Writing) (refusal : Refusal) (e : Ended) : Type 0 where
+pub record IsTold (err : SinkChange) (refusal : Refusal) (e : Ended) : Type 0 where
   pub status : e.status ≡ status_of refusal
   pub told : Appends err.before err.after (refusal_text refusal)
 
 -- `err` failed: a part of the line was appended to it, then the line for status 5 or a part of that
-pub record IsErrFault (err : Writing) (refusal : Refusal) (e : Ended) : Type 0 where
+pub record IsErrFault (err : SinkChange) (refusal : Refusal) (e : Ended) : Type 0 where
   pub status : e.status ≡ 5
   pub rose : Rose err.faults_before err.faults_after
   pub between : Option (List ℕ)
@@ -310,7 +310,7 @@ pub record IsErrFault (err : Writing) (refusal : Refusal) (e : Ended) : Type 0 w
   pub told : (n : ℕ) × Appends between err.after (take n write_fault_text)
 
 -- what writing a refusal leaves: there is no book, and no node
-pub record Refuses (err : Writing) (refusal : Refusal) (e : Ended) : Type 0 where
+pub record Refuses (err : SinkChange) (refusal : Refusal) (e : Ended) : Type 0 where
   pub no_book : e.book ≡ None
   pub no_nodes : states_of e.nodes ≡ None
   pub no_front : e.front ≡ 0
@@ -319,7 +319,7 @@ pub record Refuses (err : Writing) (refusal : Refusal) (e : Ended) : Type 0 wher
 -- The ending of a call.
 
 -- what was asked for was served, and the text written, or a part of it
-pub record IsReported (r : Reading) (out err : Writing) (e : Ended) : Type 0 where
+pub record IsReported (r : SourceChange) (out err : SinkChange) (e : Ended) : Type 0 where
   pub book : Option Book
   pub front : ℕ
   pub nodes : Option (List NodeState)
@@ -329,13 +329,13 @@ pub record IsReported (r : Reading) (out err : Writing) (e : Ended) : Type 0 whe
   pub reports : Reports out err book front nodes status text e
 
 -- a refusal had its cause, and nothing was appended to `out`
-pub record IsRefused (r : Reading) (out err : Writing) (e : Ended) : Type 0 where
+pub record IsRefused (r : SourceChange) (out err : SinkChange) (e : Ended) : Type 0 where
   pub refusal : Refusal
   pub cause : HasCause r refusal
   pub silent : IsUntouched out
   pub refuses : Refuses err refusal e
 
-abbrev pub Ends : Reading → Writing → Writing → Ended → Type 0
+abbrev pub Ends : SourceChange → SinkChange → SinkChange → Ended → Type 0
 Ends r out err e = IsReported r out err e ⊎ IsRefused r out err e
 
 -- the actors of the nodes that a run in threads left passed the gate

@@ -5,7 +5,7 @@ ghost use Rattle.sl_machine.specs.declared.wiring.Entry.{Entry};
 ghost use Rattle.sl_proto.specs.Nodes.{NodeState};
 ghost use Rattle.sl_proto.specs.RunBook.{IsRunBook};
 ghost use Rattle.sl_emul.specs.Threaded.{IsThreadedBook};
-ghost use Rattle.sl_app.specs.Ends.{Reading, IsStepped, IsThreaded};
+ghost use Rattle.sl_app.specs.Ends.{SourceChange, IsStepped, IsThreaded};
 ghost use Rattle.sl_app.specs.Printed.{IsRightOf, IsWindowed};
 
 use sl_check::printed_runs_are_right;
@@ -27,10 +27,10 @@ pub fn printed_runs_are_checked(input: &Input)
 /// each number is at most K, and K is at most F + W. All that is asked is what the contract of the
 /// top call says.
 pub fn served_worlds_are_in_window()
-    ensures stepped { (r : Reading) (book : List Entry) (front : ℕ)
+    ensures stepped { (r : SourceChange) (book : List Entry) (front : ℕ)
         (nodes : List NodeState) (text : List ℕ)
         → (run : IsStepped r book front nodes text) → IsWindowed run.input book }
-    ensures threaded { (r : Reading) (book : List Entry) (front : ℕ)
+    ensures threaded { (r : SourceChange) (book : List Entry) (front : ℕ)
         (nodes : List NodeState) (text : List ℕ)
         → (run : IsThreaded r book front nodes text) → IsWindowed run.input book }
 {

@@ -7,7 +7,7 @@ ghost use Rattle.sl_proto.specs.RunBook.{CanRun};
 ghost use Rattle.sl_words.specs.Words.{words_of};
 ghost use Rattle.sl_words.specs.declared.command.Command.TheVariants as command;
 ghost use Rattle.sl_app.specs.Texts.{many_text};
-ghost use Rattle.sl_app.specs.Ends.{reading, writing, texts_of, reads_input, reads, asks_for_run};
+ghost use Rattle.sl_app.specs.Ends.{source_change, sink_change, texts_of, reads_input, reads, asks_for_run};
 ghost use Rattle.sl_app.specs.Ends.{TellsFault, TellsTooMany, Accepts, Serves, ServesSample};
 ghost use Rattle.sl_app.specs.Ends.{TellsWriteFault, Refuses, ReportsServed, Ends, NodesPassed};
 ghost use Rattle.sl_app.specs.Served.{states_of};
@@ -52,7 +52,7 @@ fn refused(alloc: Global, fault: &InputFault) -> Refusal
 fn accept<I: Source>(alloc: Global, words: &[String], input: &mut I) -> Result<Input, Refusal>
     requires input { reads_input (words_of (texts_of words.now)) }
     requires source { reads (words_of (texts_of words.now)) }
-    ensures accepts { Accepts (reading I.Source (texts_of words.now) input.old input.new) result }
+    ensures accepts { Accepts (source_change I.Source (texts_of words.now) input.old input.new) result }
     ensures can { IfOk result CanRun }
     ensures small { IfOk result (λ i. input_bound i < 2 ^ 27) }
     ensures threads { IfOk result (λ i. bound_of (setup_of i) 0 < 2 ^ 27) }
@@ -78,7 +78,7 @@ fn step<I: Source>(
     input: &mut I,
 ) -> Result<Served, Refusal>
     requires { words_of (texts_of words.now) ≡ Some (command.Step trace) }
-    ensures { Serves (reading I.Source (texts_of words.now) input.old input.new) result }
+    ensures { Serves (source_change I.Source (texts_of words.now) input.old input.new) result }
 {
     let accepted = accept(alloc, words, input)?;
     Ok(serve_run(alloc, &accepted, trace)?)
@@ -111,7 +111,7 @@ fn run<R: Threads + Wait + Sync, I: Source, G: Gate + Sync>(
     gate: &G,
 ) -> Result<Served, Refusal>
     requires { words_of (texts_of words.now) ≡ Some (command.Run trace) }
-    ensures serves { Serves (reading I.Source (texts_of words.now) input.old input.new) result }
+    ensures serves { Serves (source_change I.Source (texts_of words.now) input.old input.new) result }
     ensures passed { IfOk result (λ s. NodesPassed G.passed gate.now (states_of s.nodes)) }
 {
     let accepted = accept(alloc, words, input)?;
@@ -124,7 +124,7 @@ fn run<R: Threads + Wait + Sync, I: Source, G: Gate + Sync>(
 
 fn check<I: Source>(alloc: Global, words: &[String], input: &mut I) -> Result<Served, Refusal>
     requires { words_of (texts_of words.now) ≡ Some command.Check }
-    ensures { Serves (reading I.Source (texts_of words.now) input.old input.new) result }
+    ensures { Serves (source_change I.Source (texts_of words.now) input.old input.new) result }
 {
     let bytes = match read_all(alloc, input, STREAM_LIMIT) {
         Ok(bytes) => bytes,
@@ -140,7 +140,7 @@ fn check<I: Source>(alloc: Global, words: &[String], input: &mut I) -> Result<Se
 
 fn balance<I: Source>(alloc: Global, words: &[String], input: &mut I) -> Result<Served, Refusal>
     requires { words_of (texts_of words.now) ≡ Some command.Balance }
-    ensures { Serves (reading I.Source (texts_of words.now) input.old input.new) result }
+    ensures { Serves (source_change I.Source (texts_of words.now) input.old input.new) result }
 {
     let accepted = accept(alloc, words, input)?;
     Ok(serve_balance(alloc, &accepted)?)
@@ -154,7 +154,7 @@ fn poll<I: Source>(
     input: &mut I,
 ) -> Result<Served, Refusal>
     requires { words_of (texts_of words.now) ≡ Some (command.Poll start gap) }
-    ensures { Serves (reading I.Source (texts_of words.now) input.old input.new) result }
+    ensures { Serves (source_change I.Source (texts_of words.now) input.old input.new) result }
 {
     let accepted = accept(alloc, words, input)?;
     Ok(serve_poll(alloc, &accepted, start, gap)?)
@@ -162,7 +162,7 @@ fn poll<I: Source>(
 
 fn values<I: Source>(alloc: Global, words: &[String], input: &mut I) -> Result<Served, Refusal>
     requires { words_of (texts_of words.now) ≡ Some command.Values }
-    ensures { Serves (reading I.Source (texts_of words.now) input.old input.new) result }
+    ensures { Serves (source_change I.Source (texts_of words.now) input.old input.new) result }
 {
     let accepted = accept(alloc, words, input)?;
     Ok(serve_values(alloc, &accepted)?)
@@ -170,7 +170,7 @@ fn values<I: Source>(alloc: Global, words: &[String], input: &mut I) -> Result<S
 
 fn routes<I: Source>(alloc: Global, words: &[String], input: &mut I) -> Result<Served, Refusal>
     requires { words_of (texts_of words.now) ≡ Some command.Routes }
-    ensures { Serves (reading I.Source (texts_of words.now) input.old input.new) result }
+    ensures { Serves (source_change I.Source (texts_of words.now) input.old input.new) result }
 {
     let accepted = accept(alloc, words, input)?;
     Ok(serve_routes(alloc, &accepted)?)
@@ -187,7 +187,7 @@ fn sample(alloc: Global, number: u8, text: bool) -> Result<Served, Refusal>
 /// Serves each command but `run`.
 fn serve<I: Source>(alloc: Global, words: &[String], input: &mut I) -> Result<Served, Refusal>
     requires { ¬ asks_for_run (words_of (texts_of words.now)) }
-    ensures { Serves (reading I.Source (texts_of words.now) input.old input.new) result }
+    ensures { Serves (source_change I.Source (texts_of words.now) input.old input.new) result }
 {
     match words_of(alloc, words) {
         Ok(Some(Command::Step(trace))) => step(alloc, words, trace, input),
@@ -206,7 +206,7 @@ fn serve<I: Source>(alloc: Global, words: &[String], input: &mut I) -> Result<Se
 /// Appends the line for status 5. Its own failure changes nothing.
 #[tactic(auto, unfolding(crate::specs::Texts::write_fault_text))]
 fn tell_write_fault<E: Sink>(err: &mut E)
-    ensures told { TellsWriteFault (writing E.Sink err.old err.new) }
+    ensures told { TellsWriteFault (sink_change E.Sink err.old err.new) }
     ensures never_falls { E.faults err.old ≤ E.faults err.new }
 {
     let _ = write_all(err, b"speedlight: write fault\n");
@@ -226,7 +226,7 @@ fn ended_without(status: u8) -> Ended
 
 /// Ends with a refusal: writes its line, or that it could not be written.
 pub fn refuse<E: Sink>(refusal: &Refusal, err: &mut E) -> Ended
-    ensures { Refuses (writing E.Sink err.old err.new) refusal.now result }
+    ensures { Refuses (sink_change E.Sink err.old err.new) refusal.now result }
 {
     match write_all(err, refusal.text()) {
         Ok(()) => ended_without(refusal.status()),
@@ -239,8 +239,8 @@ pub fn refuse<E: Sink>(refusal: &Refusal, err: &mut E) -> Ended
 
 /// Writes what is served, or that it could not be written.
 fn report<O: Sink, E: Sink>(served: Served, out: &mut O, err: &mut E) -> Ended
-    ensures { ReportsServed (writing O.Sink out.old out.new)
-        (writing E.Sink err.old err.new) served result }
+    ensures { ReportsServed (sink_change O.Sink out.old out.new)
+        (sink_change E.Sink err.old err.new) served result }
 {
     let status = match write_all(out, &served.text) {
         Ok(()) => served.status,
@@ -267,8 +267,8 @@ pub fn one_thread<I: Source, O: Sink, E: Sink>(
     err: &mut E,
 ) -> Ended
     requires { ¬ asks_for_run (words_of (texts_of words.now)) }
-    ensures { Ends (reading I.Source (texts_of words.now) input.old input.new)
-        (writing O.Sink out.old out.new) (writing E.Sink err.old err.new) result }
+    ensures { Ends (source_change I.Source (texts_of words.now) input.old input.new)
+        (sink_change O.Sink out.old out.new) (sink_change E.Sink err.old err.new) result }
 {
     match serve(alloc, words, input) {
         Ok(served) => report(served, out, err),
@@ -288,8 +288,8 @@ pub fn speedlight<R: Threads + Wait + Sync, I: Source, O: Sink, E: Sink, G: Gate
     err: &mut E,
     gate: &G,
 ) -> Ended
-    ensures ends { Ends (reading I.Source (texts_of words.now) input.old input.new)
-        (writing O.Sink out.old out.new) (writing E.Sink err.old err.new) result }
+    ensures ends { Ends (source_change I.Source (texts_of words.now) input.old input.new)
+        (sink_change O.Sink out.old out.new) (sink_change E.Sink err.old err.new) result }
     ensures passed { asks_for_run (words_of (texts_of words.now))
         → NodesPassed G.passed gate.now (states_of result.nodes) }
 {

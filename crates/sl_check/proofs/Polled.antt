@@ -30,7 +30,7 @@ use Rattle.sl_model.specs.Knowledge.{observer, known}
 use Rattle.sl_model.specs.Puts.{send_all, onward, route, route_frame, crossbar_to, ingress_puts, egress_puts, is_own_port, side_puts, notice_puts, dump_puts, unit_puts, id_after, puts_of, action}
 use Rattle.sl_model.specs.World.{Entry, IsLossTable, carried, receiver, sender, taken_by, world}
 use Rattle.sl_model.specs.Window.{on_way}
-use Rattle.sl_model.specs.Made.{Took, Acted, IsMade, Ran}
+use Rattle.sl_model.specs.Made.{Took, Acted, IsMade, IsFifoRun}
 use Rattle.sl_model.specs.Fit.{fits, fits_link}
 use Rattle.sl_model.specs.Reported.{AreReported}
 use Rattle.sl_model.specs.Passing.{PassesMessages}
@@ -262,7 +262,7 @@ units_are net = each-imp (λ u. is_unit (actor_of net u) ≡ true) (λ u. (i : U
     (λ u e. unit_of (actor_of net u) e) (each-passes (λ u. is_unit (actor_of net u)) (below (length net.actors)))
 
 module _ (s : Setup) (lost : Losses) (es : List Entry) (wired : IsWired s.net) (table : IsLossTable s.net lost) (all : AllTaken s.net lost (world s lost es))
-    (ran : Ran s lost (world s lost es)) (reported : AreReported s) (passes : PassesMessages) (told : Told) where
+    (ran : IsFifoRun s lost (world s lost es)) (reported : AreReported s) (passes : PassesMessages) (told : Told) where
   fitting : (u : ℕ) → TookFitting s.net u (history (world s lost es) u)
   fitting u c l k = each-member (λ m. fits_link s.net l m ≡ true) (put l (sender s.net (world s lost es) l)) (takes c (history (world s lost es) u))
       (passes.fits s lost (world s lost es) l ran) (passes.taken s lost (world s lost es) u c l ran k)

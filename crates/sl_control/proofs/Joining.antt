@@ -52,12 +52,12 @@ outs-apart net ways a s = record {
 
 -- Units.
 
-record Served (net : Net) (a l : ℕ) : Type 0 where
+record IsServed (net : Net) (a l : ℕ) : Type 0 where
   pub out : IsOut net a Poll l
   pub reports : Reports net (link_of net l).to
   pub control : reports.control ≡ a
 
-is-served : (net : Net) (a l : ℕ) → IsWired net → IsOut net a Poll l → Served net a l
+is-served : (net : Net) (a l : ℕ) → IsWired net → IsOut net a Poll l → IsServed net a l
 is-served net a l w o =
     let u = w.poll_to l o.is_link o.sort in
     let r = w.reports (link_of net l).to u.0 u.1 in
@@ -70,11 +70,11 @@ record Taken (net : Net) (a l : ℕ) (s : Sort) : Type 0 where
   pub choice : choice_from net a (link_of net l).to s ≡ choice_of net link
   pub taken : slice_get (links_into net a) (choice_of net link) ≡ Some link
 
-dump-taken : (net : Net) (a l : ℕ) → Served net a l → Taken net a l Dump
+dump-taken : (net : Net) (a l : ℕ) → IsServed net a l → Taken net a l Dump
 dump-taken net a l v = let r = v.reports in subst (λ b. Taken net b l Dump) v.control
     (record { link = r.dump; from = r.dump_out.from; choice = r.dump_choice; taken = r.dump_taken })
 
-notice-taken : (net : Net) (a l : ℕ) → Served net a l → Taken net a l Notice
+notice-taken : (net : Net) (a l : ℕ) → IsServed net a l → Taken net a l Notice
 notice-taken net a l v = let r = v.reports in subst (λ b. Taken net b l Notice) v.control
     (record { link = r.notice; from = r.notice_out.from; choice = r.notice_choice; taken = r.notice_taken })
 
@@ -87,7 +87,7 @@ one-unit net a l k s t u q =
     let d : t.link ≡ u.link = cc in
     sym u.from ∙ ap (λ d. (link_of net d).from) (sym d) ∙ t.from
 
-choices-apart : (net : Net) (a : ℕ) (s : Sort) → ((l : ℕ) → Served net a l → Taken net a l s) → IsWired net
+choices-apart : (net : Net) (a : ℕ) (s : Sort) → ((l : ℕ) → IsServed net a l → Taken net a l s) → IsWired net
     → AreApart (map (λ l. choice_from net a (link_of net l).to s) (links_out net a Poll))
 choices-apart net a s taken w =
     apart (map choice (links_out net a Poll)) (distinct-map choice (links_out net a Poll) one (outs-distinct net a Poll))
@@ -108,7 +108,7 @@ two a b n p q ne = by_cases (cases_lt 1 n)
     by_cases (inl h) = h
     by_cases (inr h) = absurd (ne (omega arith))
 
-done-apart : (net : Net) → HasWays net → (a l : ℕ) → Served net a l → AreOuts (length (links_from net a)) (slice_index_or (outs_of net a Done) 0 0 ∷ out_of net l ∷ [])
+done-apart : (net : Net) → HasWays net → (a l : ℕ) → IsServed net a l → AreOuts (length (links_from net a)) (slice_index_or (outs_of net a Done) 0 0 ∷ out_of net l ∷ [])
 done-apart net ways a l v =
     let only : links_out net a Done ≡ v.reports.done ∷ [] = subst (λ b. links_out net b Done ≡ v.reports.done ∷ []) v.control v.reports.dones in
     let o = subst (λ b. IsOut net b Done v.reports.done) v.control v.reports.done_out in

@@ -1,4 +1,4 @@
-pub mod Reading
+pub mod ReadableSpans
 pub mod EachUnit
 pub mod Fitting
 pub mod Joining

@@ -43,7 +43,7 @@ pub record IsJoined (outs : ℕ) (inits : List ℕ) (done : ℕ) (units : List K
   pub notices_apart : AreApart (choices_of Notice units)
   pub dumps_apart : AreApart (choices_of Dump units)
 
--- there is no row yet, and room for those of a dump and a report to be filled in, where a turn was prepared
+-- there is no row yet, and room for those of a dump and a Done to be filled in, where a turn was prepared
 pub record HasRoom (ring : ℕ) (prepared : Option ℕ) (rows : List (ℕ × Saved)) (capacity : ℕ) (done : Option Done) : Type 0 where
   pub empty : rows ≡ []
   pub room : IsSome prepared → ring ≤ capacity

@@ -1,6 +1,6 @@
 -- What a dump tells of a unit, with the number that it has reached: each is what it is by the numbers that the dump tells.
 --     told_of n r      what the numbers n tell of the unit r
--- and by what is told: whether the dump can be read, its rows, the report, what is known afterwards, and what is put. Of `told_of n r` these are
+-- and by what is told: whether the dump can be read, its rows, the Done, what is known afterwards, and what is put. Of `told_of n r` these are
 -- `is_read`, `rows_of`, `dump_floor`, `done_of`, `answered` and `answer_by` of n and r.
 use Rattle.std.specs.Prelude.{ℕ, min, max, Bool, false, ◌&&◌, List, [], ◌∷◌, map, if◌then◌else◌}
 use Rattle.std.specs.List.{list_all}

@@ -6,7 +6,7 @@ use Rattle.sl_layout.specs.declared.actor.Sort.{Sort}
 use Rattle.sl_layout.specs.declared.actor.Sort.TheVariants.{Init, Done}
 use Rattle.sl_layout.specs.declared.actor.ActorId.TheVariants.{Control}
 use Rattle.sl_layout.specs.Net.{Net, place_of, links_into, links_from, links_out, choices_of, data_channels, action_choice, unit_place}
-use Rattle.sl_layout.specs.Serving.{Served, served}
+use Rattle.sl_layout.specs.Serving.{ServedUnit, served}
 use Rattle.sl_layout.specs.Wires.{out_of}
 use Rattle.sl_wire.specs.Sizes.{Sizes, lengths}
 use Rattle.sl_control.specs.declared.known.UnitWires.{UnitWires}
@@ -22,7 +22,7 @@ abbrev pub outs_of : Net → ℕ → Sort → List ℕ
 outs_of net a s = map (out_of net) (links_out net a s)
 
 -- a unit with a link for initiations is an ingress unit
-abbrev pub unit_wires : Net → Served → UnitWires
+abbrev pub unit_wires : Net → ServedUnit → UnitWires
 unit_wires net v = record {
   place = unit_place net v.unit;
   notice = v.notice;

@@ -1,4 +1,4 @@
-// What is made ready for a report.
+// What is made ready for a Done.
 ghost use Rattle.std.specs.Prelude.{◌≡◌, ◌≤◌, [], ◌∷◌, OnOk, IsSome, IfOk, IfSome, IfNone};
 ghost use Rattle.std.specs.Vec.{vec_capacity};
 
@@ -35,8 +35,8 @@ impl OneRow {
     }
 }
 
-/// Room for the rows of a report, the report to be filled in, and dumps that were read, which go back
-/// with polls. A report of one row takes along no more room than that.
+/// Room for the rows of a Done, the Done to be filled in, and dumps that were read, which go back
+/// with polls. A Done of one row takes along no more room than that.
 #[derive(Drop)]
 pub struct Blanks {
     pub rows: Vec<(u64, Saved)>,
@@ -47,7 +47,7 @@ pub struct Blanks {
     early: usize,
 }
 
-/// A report of nothing.
+/// A Done of nothing.
 fn blank_done(alloc: Global) -> Result<Boxed<Done>, Memory> {
     let rows = Rows {
         items: Vec::new(alloc),
@@ -89,7 +89,7 @@ impl Blanks {
         }
     }
 
-    /// Makes room for so many rows and for a report.
+    /// Makes room for so many rows and for a Done.
     pub fn ready(&mut self, ring: u16) -> Result<(), Memory>
         requires { self.old.rows.items ≡ [] }
         ensures rows { self.new.rows.items ≡ [] }

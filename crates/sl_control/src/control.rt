@@ -175,7 +175,7 @@ impl Machine for Control {
 
     ghost ready_for = { λ c. c.ready };
 
-    /// Makes room for the report on a dump.
+    /// Makes room for the Done on a dump.
     fn ready(&mut self, choice: u32) -> Result<(), Memory> {
         self.prepared = None;
         self.blanks.ready(self.ring)?;

@@ -3,7 +3,7 @@ ghost use Rattle.std.specs.Prelude.{◌≡◌, [], ◌∷◌, ◌++◌, ◌&&◌
 ghost use Rattle.std.specs.Prelude.{OnOk, IfOk, if◌then◌else◌, ◌==◌, Option};
 ghost use Rattle.std.specs.List.{All};
 ghost use Rattle.sl_layout.specs.Net.{links_out, action_choice, unit_place};
-ghost use Rattle.sl_layout.specs.Serving.{Served, serving, served};
+ghost use Rattle.sl_layout.specs.Serving.{ServedUnit, serving, served};
 ghost use Rattle.sl_model.specs.Knowledge.{is_outstanding, is_again, is_swept, asks};
 ghost use Rattle.sl_model.specs.Puts.{send, poll_puts, dump_answer, control_puts};
 
@@ -27,9 +27,9 @@ pub struct Serving {
 }
 
 impl Model for Serving {
-    ghost use Rattle.sl_layout.specs.Serving.{Served};
+    ghost use Rattle.sl_layout.specs.Serving.{ServedUnit};
 
-    ghost Value = { Served };
+    ghost Value = { ServedUnit };
 
     ghost view = { λ s. record { unit = s.unit; notice = s.notice; dump = s.dump; poll = s.poll } };
 }

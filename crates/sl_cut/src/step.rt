@@ -103,7 +103,12 @@ fn begin_all(alloc: Global, net: &Net, number: u64) -> Result<Puts, Memory>
     Ok(Puts { items })
 }
 
-fn issue(alloc: Global, input: &Input, floor: u64, steps: &[Step]) -> Result<Option<Puts>, Memory>
+fn issue_puts(
+    alloc: Global,
+    input: &Input,
+    floor: u64,
+    steps: &[Step],
+) -> Result<Option<Puts>, Memory>
     ensures { let h = reverse steps.now in
         IfOk result (λ puts. puts ≡ guarded (can_issue (setup_of input.now) floor h)
         (begin_all input.now.net (suc (issued input.now.net h)))) }
@@ -115,7 +120,12 @@ fn issue(alloc: Global, input: &Input, floor: u64, steps: &[Step]) -> Result<Opt
     Ok(Some(begin_all(alloc, &input.net, number)?))
 }
 
-fn resend(alloc: Global, input: &Input, floor: u64, steps: &[Step]) -> Result<Option<Puts>, Memory>
+fn resend_puts(
+    alloc: Global,
+    input: &Input,
+    floor: u64,
+    steps: &[Step],
+) -> Result<Option<Puts>, Memory>
     ensures { let h = reverse steps.now in
         IfOk result (λ puts. puts ≡ guarded (can_resend (setup_of input.now) floor h)
         (begin_all input.now.net (issued input.now.net h))) }
@@ -127,7 +137,7 @@ fn resend(alloc: Global, input: &Input, floor: u64, steps: &[Step]) -> Result<Op
     Ok(Some(begin_all(alloc, &input.net, number)?))
 }
 
-fn sweep(alloc: Global, net: &Net, actor: u32, steps: &[Step]) -> Result<Option<Puts>, Memory>
+fn sweep_puts(alloc: Global, net: &Net, actor: u32, steps: &[Step]) -> Result<Option<Puts>, Memory>
     requires { actor < length net.now.actors }
     ensures { let h = reverse steps.now in
         IfOk result (λ puts. puts ≡ guarded (not (is_swept net.now actor h))
@@ -187,8 +197,8 @@ fn observer_action(
 {
     let floor = floor(alloc, &input.net, world)?;
     match number {
-        0 => issue(alloc, input, floor, world.steps(actor)),
-        1 => resend(alloc, input, floor, world.steps(actor)),
+        0 => issue_puts(alloc, input, floor, world.steps(actor)),
+        1 => resend_puts(alloc, input, floor, world.steps(actor)),
         _ => Ok(None),
     }
 }
@@ -210,7 +220,12 @@ fn action(
 {
     match of {
         ActorId::Observer => observer_action(alloc, input, world, actor, number),
-        ActorId::Control(_) if number == 0 => sweep(alloc, &input.net, actor, world.steps(actor)),
+        ActorId::Control(_) if number == 0 => sweep_puts(
+            alloc,
+            &input.net,
+            actor,
+            world.steps(actor),
+        ),
         ActorId::Host(host) if number == 0 => inject(alloc, input, actor, host, world.steps(actor)),
         _ => Ok(None),
     }

@@ -26,9 +26,9 @@ use Rattle.sl_world.proofs.ResumeLemmas.{length-lines_with}
 use Rattle.sl_world.proofs.TurnLemmas.{some_at}
 use Rattle.sl_merge.specs.Lamport.{IsNumbered, AreLow}
 use Rattle.sl_merge.specs.Merging.{IsMerge, IsAscending, IsLog, all_entries, joined}
-use Rattle.sl_merge.specs.RunOfActors.{EndedActors, HaveMet, IsMergeOf, IsRunOf, Rests, AreRests, StandsAsRun, resumed, log_entries, take_at, out_at}
+use Rattle.sl_merge.specs.RunOfActors.{EndedActors, HaveMet, IsMergeOf, IsRunOf, LeftOnLinks, AreLeftOnLinks, StandsAsRun, resumed, log_entries, take_at, out_at}
 use Rattle.sl_merge.specs.Merged.{AreWired, AreLeft, left_on, loss_before, losses_before}
-use Rattle.sl_merge.specs.Parted.{AreApart, AreThere, AreRestsOf}
+use Rattle.sl_merge.specs.Parted.{AreApart, AreThere, AreLeftOnLinksOf}
 use Rattle.sl_merge.proofs.EndedLemmas.{ended_is_run, ended_rise}
 use Rattle.sl_merge.proofs.WindowLemmas.{are_logs}
 use Rattle.sl_merge.proofs.ResumedLemmas.{line_with}
@@ -152,7 +152,7 @@ module _ {S M : Type 0} (plan : Plan) (actors : List (ActorView S M)) (wired : A
           one_channel = wired.one_channel l a b t o low ∙ sym (ap (λ (x : OutView M). x.put.channel) p.is);
         }
 
-    module _ (rests : Rests M) (are : AreRestsOf plan.links (length plan.links) takes outs rests) where
+    module _ (rests : LeftOnLinks M) (are : AreLeftOnLinksOf plan.links (length plan.links) takes outs rests) where
       record IsRest (l : ℕ) (a b : ActorView S M) (t : TakeView (Stamped M)) (o : OutView M) : Type 0 where
         met : (out_at actors (link_at plan.links l) b o).put.put ≡ (take_at actors (link_at plan.links l) a t).taken ++ left_on actors (link_at plan.links l)
         loss_is : get_or rests.losses l None ≡ (out_at actors (link_at plan.links l) b o).loss
@@ -195,7 +195,7 @@ module _ {S M : Type 0} (plan : Plan) (actors : List (ActorView S M)) (wired : A
           met = λ l a b t o low. (rest l a b t o low).met;
         }
 
-        pub are_rests : AreRests ended rests
+        pub are_rests : AreLeftOnLinks ended rests
         are_rests = record {
           losses_each = are.losses_each;
           lost_each = are.lost_each;
@@ -257,9 +257,9 @@ module _ {S M : Type 0} (plan : Plan) (actors : List (ActorView S M)) (wired : A
               is ∙ (λ i. record { plan = plan; states = same_states i; lines = lines_with (same_losses i) (same_lost i) (same_messages i); book = book })
 
     -- the same of the links as they were read
-    pub rests_by : (links : List Link) → links ≡ plan.links → (rests : Rests M) → AreRestsOf links (length links) takes outs rests → AreRestsOf plan.links (length plan.links) takes outs rests
-    rests_by links is rests are = subst (λ (l : List Link). AreRestsOf l (length l) takes outs rests) is are
+    pub rests_by : (links : List Link) → links ≡ plan.links → (rests : LeftOnLinks M) → AreLeftOnLinksOf links (length links) takes outs rests → AreLeftOnLinksOf plan.links (length plan.links) takes outs rests
+    rests_by links is rests are = subst (λ (l : List Link). AreLeftOnLinksOf l (length l) takes outs rests) is are
 
-    pub met_by : (links : List Link) → links ≡ plan.links → (rests : Rests M) → AreRestsOf links (length links) takes outs rests
+    pub met_by : (links : List Link) → links ≡ plan.links → (rests : LeftOnLinks M) → AreLeftOnLinksOf links (length links) takes outs rests
         → (rules : Rules S M) (firsts : List S) → length firsts ≡ length plan.ins → EachFollows rules firsts actors → HaveMet rules (ended_by plan actors firsts)
     met_by links is rests are rules firsts each follows = have_met rests (rests_by links is rests are) rules firsts each follows

@@ -10,8 +10,8 @@ use Rattle.sl_link.specs.Ends.{TakeView}
 use Rattle.sl_link.specs.declared.ends.Stamped.{Stamped}
 use Rattle.sl_actor.specs.declared.part.OutPart.{OutPart}
 use Rattle.sl_actor.specs.Rows.{IsFilled, place_at}
-use Rattle.sl_merge.specs.RunOfActors.{Rests}
-use Rattle.sl_merge.specs.Parted.{empty_at, AreApart, AreThere, AreRestsOf, IsAdded, rest_of}
+use Rattle.sl_merge.specs.RunOfActors.{LeftOnLinks}
+use Rattle.sl_merge.specs.Parted.{empty_at, AreApart, AreThere, AreLeftOnLinksOf, IsAdded, rest_of}
 use Rattle.sl_merge.proofs.RowLemmas.{filled_by, filled_row, else_there}
 use Rattle.sl_actor.proofs.MakeLemmas.{apart_by}
 
@@ -53,9 +53,9 @@ module _ {M : Type 0} (links : List Link) (n : ℕ) (takes takes' : List (List (
             kept_there outs' outs'' links (link_out links) l n (λ k. k.from) (λ k. k.out) part (apart.once_out l here) (apart.once_out n low) other part_at outs_are ∙ h.outs_at l (omega arith) here;
       }
 
-  pub rests_on : (end : TakeView (Stamped M)) (part : OutPart M) (r r' : Rests M) → n < length links → AreAsBefore links n takes takes' outs outs'
+  pub rests_on : (end : TakeView (Stamped M)) (part : OutPart M) (r r' : LeftOnLinks M) → n < length links → AreAsBefore links n takes takes' outs outs'
       → place_at takes' (link_at links n).to (link_at links n).choice ≡ Some end → place_at outs' (link_at links n).from (link_at links n).out ≡ Some part
-      → IsAdded end part r r' → AreRestsOf links n takes outs r → AreRestsOf links (n + 1) takes outs r'
+      → IsAdded end part r r' → AreLeftOnLinksOf links n takes outs r → AreLeftOnLinksOf links (n + 1) takes outs r'
   rests_on end part r r' low before end_at part_at added h =
       record {
         losses_each = pushed_length r.losses r'.losses part.loss n added.losses h.losses_each;
@@ -110,7 +110,7 @@ before_first links takes outs = record { takes_at = λ l more low. refl; outs_at
 left_is : {X : Type 0} (put taken left : List X) → put ≡ taken ++ left → drop (length taken) put ≡ left
 left_is put taken left h = ap (drop (length taken)) h ∙ drop_at taken left (length taken) refl
 
-pub rest_added : {M : Type 0} (end : TakeView (Stamped M)) (part : OutPart M) (r r' : Rests M) (put taken left : List (Stamped M)) (ms ms' : List M) → put ≡ part.put.put → taken ≡ end.taken → put ≡ taken ++ left
+pub rest_added : {M : Type 0} (end : TakeView (Stamped M)) (part : OutPart M) (r r' : LeftOnLinks M) (put taken left : List (Stamped M)) (ms ms' : List M) → put ≡ part.put.put → taken ≡ end.taken → put ≡ taken ++ left
     → ms ≡ map (λ s. s.m) left → ms' ≡ ms ++ map (λ s. s.m) part.outbox.items → r'.losses ≡ r.losses ++ part.loss ∷ [] → r'.lost ≡ r.lost ++ part.lost ∷ [] → r'.messages ≡ r.messages ++ ms' ∷ [] → IsAdded end part r r'
 rest_added {M} end part r r' put taken left ms ms' put_is taken_is met ms_are more losses lost messages =
     let whole : part.put.put ≡ end.taken ++ left = sym put_is ∙ met ∙ ap (λ ts. ts ++ left) taken_is in

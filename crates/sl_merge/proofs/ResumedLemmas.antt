@@ -9,7 +9,7 @@ use Rattle.sl_actor.specs.Follows.{ActorView}
 use Rattle.sl_world.specs.Scene.{Scene, empty_line, line_at, lines_with, first_scene, after_all, run_of, schedule_of}
 use Rattle.sl_world.specs.Keeping.{SameShape}
 use Rattle.sl_world.proofs.ResumeLemmas.{length-lines_with}
-use Rattle.sl_merge.specs.RunOfActors.{EndedActors, HaveMet, IsMergeOf, IsRunOf, Rests, AreRests, StandsAsRun, resumed}
+use Rattle.sl_merge.specs.RunOfActors.{EndedActors, HaveMet, IsMergeOf, IsRunOf, LeftOnLinks, AreLeftOnLinks, StandsAsRun, resumed}
 use Rattle.sl_merge.proofs.EndedLemmas.{ended_is_run, out_end}
 
 -- lists of one length with the same elements by place
@@ -32,7 +32,7 @@ KeepShape {S} {M} rules = (w : Scene S M) (es : List (ℕ × ℕ)) → SameShape
 abbrev pub LeadWhereLegal : {S M : Type 0} → Rules S M → Type 0
 LeadWhereLegal {S} {M} rules = (w v : Scene S M) (es : List (ℕ × ℕ)) → run_of rules w es ≡ Some v → after_all rules w es ≡ v
 
-module _ {S M : Type 0} (rules : Rules S M) (shape : KeepShape rules) (only : LeadWhereLegal rules) (e : EndedActors S M) (h : HaveMet rules e) (rests : Rests M) (are : AreRests e rests) (book : List Entry) (m : IsMergeOf e book) where
+module _ {S M : Type 0} (rules : Rules S M) (shape : KeepShape rules) (only : LeadWhereLegal rules) (e : EndedActors S M) (h : HaveMet rules e) (rests : LeftOnLinks M) (are : AreLeftOnLinks e rests) (book : List Entry) (m : IsMergeOf e book) where
   r : IsRunOf rules e book
   r = ended_is_run rules e h book m
 

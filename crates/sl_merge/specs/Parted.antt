@@ -7,7 +7,7 @@ use Rattle.sl_link.specs.Ends.{TakeView}
 use Rattle.sl_link.specs.declared.ends.Stamped.{Stamped}
 use Rattle.sl_actor.specs.declared.part.OutPart.{OutPart}
 use Rattle.sl_actor.specs.Rows.{place_at}
-use Rattle.sl_merge.specs.RunOfActors.{Rests}
+use Rattle.sl_merge.specs.RunOfActors.{LeftOnLinks}
 
 -- a place of a row made empty
 abbrev pub empty_at : {X : Type 0} → ℕ → ℕ → List (List (Option X)) → List (List (Option X))
@@ -46,14 +46,14 @@ pub record IsRestOf {M : Type 0} (link : Link) (takes : List (List (Option (Take
   pub messages_are : messages ≡ rest_of end part
 
 -- so of the first n links
-pub record AreRestsOf {M : Type 0} (links : List Link) (n : ℕ) (takes : List (List (Option (TakeView (Stamped M))))) (outs : List (List (Option (OutPart M)))) (r : Rests M) : Type 0 where
+pub record AreLeftOnLinksOf {M : Type 0} (links : List Link) (n : ℕ) (takes : List (List (Option (TakeView (Stamped M))))) (outs : List (List (Option (OutPart M)))) (r : LeftOnLinks M) : Type 0 where
   pub losses_each : length r.losses ≡ n
   pub lost_each : length r.lost ≡ n
   pub messages_each : length r.messages ≡ n
   pub rests : (l : ℕ) → l < n → IsRestOf (link_at links l) takes outs (slice_index_or r.losses l None) (slice_index_or r.lost l 0) (slice_index_or r.messages l [])
 
 -- the rests of one more link
-pub record IsAdded {M : Type 0} (end : TakeView (Stamped M)) (part : OutPart M) (old new : Rests M) : Type 0 where
+pub record IsAdded {M : Type 0} (end : TakeView (Stamped M)) (part : OutPart M) (old new : LeftOnLinks M) : Type 0 where
   pub met : part.put.put ≡ end.taken ++ drop (length end.taken) part.put.put
   pub losses : new.losses ≡ old.losses ++ part.loss ∷ []
   pub lost : new.lost ≡ old.lost ++ part.lost ∷ []

@@ -73,13 +73,13 @@ abbrev pub IsMergeOf : {S M : Type 0} → EndedActors S M → List Entry → Typ
 IsMergeOf e book = IsMerge (log_entries e.actors) book
 
 -- for each link its loss, how many puts it lost, and messages
-pub record Rests (M : Type 0) : Type 0 where
+pub record LeftOnLinks (M : Type 0) : Type 0 where
   pub losses : List (Option Loss)
   pub lost : List ℕ
   pub messages : List (List M)
 
 -- the loss of each link and its count are those of now, and the messages are those that the link held and then its outbox
-pub record AreRests {S M : Type 0} (e : EndedActors S M) (r : Rests M) : Type 0 where
+pub record AreLeftOnLinks {S M : Type 0} (e : EndedActors S M) (r : LeftOnLinks M) : Type 0 where
   pub losses_each : length r.losses ≡ length e.plan.links
   pub lost_each : length r.lost ≡ length e.plan.links
   pub messages_each : length r.messages ≡ length e.plan.links
@@ -91,7 +91,7 @@ pub record AreRests {S M : Type 0} (e : EndedActors S M) (r : Rests M) : Type 0 
       → slice_index_or r.messages l [] ≡ map (λ s. s.m) (e.held l ++ (out_at e.actors (link_at e.plan.links l) b o).outbox)
 
 -- what a world that goes on from these actors has, with this book
-abbrev pub resumed : {S M : Type 0} → EndedActors S M → Rests M → List Entry → Scene S M
+abbrev pub resumed : {S M : Type 0} → EndedActors S M → LeftOnLinks M → List Entry → Scene S M
 resumed e r book =
     record { plan = e.plan; states = map (λ a. a.state) e.actors; lines = lines_with r.losses r.lost r.messages; book = book }
 

@@ -9,8 +9,8 @@ ghost use Rattle.sl_loss.specs.Loss.{Loss, IsFresh};
 ghost use Rattle.sl_actor.specs.Follows.{ActorView};
 ghost use Rattle.sl_actor.specs.Made.{HasEnds, AreTied};
 ghost use Rattle.sl_merge.specs.Merging.{IsMerge, AreLogs};
-ghost use Rattle.sl_merge.specs.RunOfActors.{EndedActors, HaveMet, IsMergeOf, IsRunOf, Rests};
-ghost use Rattle.sl_merge.specs.RunOfActors.{AreRests, StandsAsRun, resumed, log_entries};
+ghost use Rattle.sl_merge.specs.RunOfActors.{EndedActors, HaveMet, IsMergeOf, IsRunOf, LeftOnLinks};
+ghost use Rattle.sl_merge.specs.RunOfActors.{AreLeftOnLinks, StandsAsRun, resumed, log_entries};
 ghost use Rattle.sl_merge.specs.Merged.{AreWired, AreKept, losses_before};
 ghost use Rattle.sl_merge.specs.Outcome.{Outcome, AreFollowed, IsRun, all_entries};
 
@@ -41,8 +41,8 @@ pub fn actors_are_runs<A: Machine>()
 /// What `World::resume` makes of such actors, with the merge of their logs as its book, is the world
 /// to which that book's schedule leads, but for the numbers of the book.
 pub fn merges_are_resumed<A: Machine>()
-    ensures { (e : EndedActors A.State A.Msg) (r : Rests A.Msg) (book : List Entry)
-        → HaveMet A.rules e → AreRests e r → IsMergeOf e book
+    ensures { (e : EndedActors A.State A.Msg) (r : LeftOnLinks A.Msg) (book : List Entry)
+        → HaveMet A.rules e → AreLeftOnLinks e r → IsMergeOf e book
         → StandsAsRun A.rules e.plan e.firsts e.losses (resumed e r book) }
 {
     every_schedule::<A>()

@@ -1,6 +1,6 @@
 // What is left on links.
 ghost use Rattle.std.specs.Prelude.{◌≡◌, ◌++◌, ◌∷◌, [], length, map, IfOk, OnOk};
-ghost use Rattle.sl_merge.specs.Parted.{AreApart, AreThere, AreRestsOf, IsAdded};
+ghost use Rattle.sl_merge.specs.Parted.{AreApart, AreThere, AreLeftOnLinksOf, IsAdded};
 
 use crate::rows::{Row, take_at};
 use sl_actor::OutPart;
@@ -14,17 +14,17 @@ use std::sync::Wait;
 
 /// For each link its loss, how many puts it lost, and the messages on it.
 #[derive(Drop)]
-pub struct Rests<M> {
+pub struct LeftOnLinks<M> {
     losses: Vec<Option<Loss>>,
     lost: Vec<u64>,
     messages: Vec<Vec<M>>,
 }
 
-impl<M> Model for Rests<M> {
+impl<M> Model for LeftOnLinks<M> {
     ghost use Rattle.std.specs.Prelude.{map};
-    ghost use Rattle.sl_merge.specs.RunOfActors.{Rests as RestsView};
+    ghost use Rattle.sl_merge.specs.RunOfActors.{LeftOnLinks as LeftOnLinksView};
 
-    ghost Value = { RestsView M };
+    ghost Value = { LeftOnLinksView M };
 
     ghost view = { λ r.
         record {
@@ -34,12 +34,12 @@ impl<M> Model for Rests<M> {
         } };
 }
 
-impl<M: Drop> Rests<M> {
+impl<M: Drop> LeftOnLinks<M> {
     /// Of no links.
-    pub fn new(alloc: Global) -> Rests<M>
+    pub fn new(alloc: Global) -> LeftOnLinks<M>
         ensures { result ≡ record { losses = []; lost = []; messages = [] } }
     {
-        Rests {
+        LeftOnLinks {
             losses: Vec::new(alloc),
             lost: Vec::new(alloc),
             messages: Vec::new(alloc),
@@ -76,13 +76,13 @@ pub fn meet_all<R: Wait, M: Drop>(
     links: &[Link],
     takes: &mut Vec<Row<TakeEnd<M>>>,
     outs: &mut Vec<Row<OutPart<M>>>,
-) -> Result<Rests<M>, Memory>
+) -> Result<LeftOnLinks<M>, Memory>
     requires apart { AreApart links.now }
     requires there { AreThere links.now takes.old.items outs.old.items }
     ensures { IfOk result
-        (λ r. AreRestsOf links.now (length links.now) takes.old.items outs.old.items r) }
+        (λ r. AreLeftOnLinksOf links.now (length links.now) takes.old.items outs.old.items r) }
 {
-    let mut rests = Rests::new(alloc);
+    let mut rests = LeftOnLinks::new(alloc);
     for link in links {
         let end = take_at(takes, link.to, link.choice);
         let part = take_at(outs, link.from, link.out);
@@ -97,7 +97,7 @@ fn add_rest<R: Wait, M: Drop>(
     alloc: Global,
     end: TakeEnd<M>,
     part: OutPart<M>,
-    rests: &mut Rests<M>,
+    rests: &mut LeftOnLinks<M>,
 ) -> Result<(), Memory>
     requires { end.channel ≡ part.put.channel }
     ensures { OnOk result (IsAdded end part rests.old rests.new) }

@@ -3,7 +3,7 @@ pub mod Steps
 pub mod Turns
 pub mod Trails
 pub mod Legal
-pub mod Ran
+pub mod FifoRuns
 pub mod Numbers
 pub mod Stamps
 pub mod Spared

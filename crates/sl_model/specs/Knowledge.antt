@@ -9,7 +9,7 @@ use Rattle.std.specs.Prelude.{ℕ, suc, ◌+◌, min, Bool, false, ◌&&◌, ◌
 use Rattle.std.specs.List.{fold, list_any, list_all}
 use Rattle.sl_layout.specs.declared.actor.Sort.TheVariants.{Init}
 use Rattle.sl_layout.specs.Net.{Net, choices_of, action_choice, data_channels, units, unit_place}
-use Rattle.sl_layout.specs.Serving.{Served, served}
+use Rattle.sl_layout.specs.Serving.{ServedUnit, served}
 use Rattle.sl_model.specs.declared.message.Message.{Message}
 use Rattle.sl_model.specs.declared.message.Message.TheVariants.{Notice as NoticeMsg}
 use Rattle.sl_model.specs.declared.message.Put.{Put}
@@ -34,24 +34,24 @@ abbrev pub dumped : ℕ → History → ℕ
 dumped c h = heard dump_of c h
 
 -- the part that it knows of the unit's history, where us gives the history of each unit
-abbrev pub told_of : (ℕ → History) → Served → History → History
+abbrev pub told_of : (ℕ → History) → ServedUnit → History → History
 told_of us v h = first (dumped v.dump h) (us v.unit)
 
 -- it put more polls to the unit than it took dumps from it
-abbrev pub is_outstanding : Served → History → Bool
+abbrev pub is_outstanding : ServedUnit → History → Bool
 is_outstanding v h = nat_lt (taken v.dump h) (length (put v.poll h))
 
 abbrev pub puts_on : ℕ → List Put → Bool
 puts_on l ps = list_any (λ p. p.link == l) ps
 
 -- a step by this choice that took this, or nothing, took a notice of the unit or was a sweep
-abbrev pub asks : ℕ → Served → ℕ → Option Message → Bool
+abbrev pub asks : ℕ → ServedUnit → ℕ → Option Message → Bool
 asks sweep v c (Some NoticeMsg) = c == v.notice
 asks sweep v c (Some m) = false
 asks sweep v c None = c == sweep
 
 -- a notice of the unit or a sweep came after the last poll to it
-abbrev pub is_again : ℕ → Served → History → Bool
+abbrev pub is_again : ℕ → ServedUnit → History → Bool
 is_again sweep v [] = false
 is_again sweep v (s ∷ h) = if puts_on v.poll s.puts then false else asks sweep v s.choice s.taken || is_again sweep v h
 

@@ -1,7 +1,7 @@
 -- How the steps of a history are made, with no world in sight, and the order on links.
 --     IsMade s a h     each step of h is a step of the actor a after the steps before it
 --     Fifo c h ms      what h took by the choice c is, in order, a front of ms
---     Ran s lost w     what holds in every world that a schedule reaches
+--     IsFifoRun s lost w     what holds in every world that a schedule reaches
 use Rattle.std.specs.Prelude.{◌≡◌, ℕ, ◌-◌, ◌⊎◌, List, [], ◌∷◌, ◌++◌, length, Some, None, slice_get}
 use Rattle.sl_layout.specs.Net.{Net, links_into, actor_of, action_choice}
 use Rattle.sl_model.specs.declared.message.Message.{Message}
@@ -42,6 +42,6 @@ pub record Fifo (c : ℕ) (h : History) (ms : List Message) : Type 0 where
 abbrev pub AllFifo : Net → Losses → World → Type 0
 AllFifo net lost w = (a c l : ℕ) → slice_get (links_into net a) c ≡ Some l → Fifo c (history w a) (carried net lost w l)
 
-pub record Ran (s : Setup) (lost : Losses) (w : World) : Type 0 where
+pub record IsFifoRun (s : Setup) (lost : Losses) (w : World) : Type 0 where
   pub made : AllMade s w
   pub fifo : AllFifo s.net lost w

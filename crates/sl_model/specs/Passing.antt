@@ -11,7 +11,7 @@ use Rattle.sl_model.specs.Words.{numbers, last_of}
 use Rattle.sl_model.specs.History.{History, World, Losses, history, heard, dump_of, takes, put, on_link}
 use Rattle.sl_model.specs.Setup.{Setup}
 use Rattle.sl_model.specs.World.{sender}
-use Rattle.sl_model.specs.Made.{IsMade, Ran}
+use Rattle.sl_model.specs.Made.{IsMade, IsFifoRun}
 use Rattle.sl_model.specs.Fit.{fits_link}
 use Rattle.sl_model.specs.Turns.{Takes}
 use Rattle.sl_model.specs.Window.{on_way}
@@ -19,13 +19,13 @@ use Rattle.sl_model.specs.Window.{on_way}
 pub record PassesMessages : Type 0 where
   -- what is put on a link is put there, and fits it
   pub by_link : (l : ℕ) (ps : List Put) → Each (λ m. Member (record { link = l; message = m }) ps) (on_link l ps)
-  pub fits : (s : Setup) (lost : Losses) (w : World) (l : ℕ) → Ran s lost w → Each (λ m. fits_link s.net l m ≡ true) (put l (sender s.net w l))
+  pub fits : (s : Setup) (lost : Losses) (w : World) (l : ℕ) → IsFifoRun s lost w → Each (λ m. fits_link s.net l m ≡ true) (put l (sender s.net w l))
   -- what a step takes was put on its link; so was each message that was taken by the link's choice, and each that is on its way
   pub came : (s : Setup) (lost : Losses) (w : World) (a : ℕ) (step : Step) (t : Takes s lost w a step)
       → Member t.took.message (put t.took.link (sender s.net w t.took.link))
-  pub taken : (s : Setup) (lost : Losses) (w : World) (a c l : ℕ) → Ran s lost w → slice_get (links_into s.net a) c ≡ Some l
+  pub taken : (s : Setup) (lost : Losses) (w : World) (a c l : ℕ) → IsFifoRun s lost w → slice_get (links_into s.net a) c ≡ Some l
       → Each (λ m. Member m (put l (sender s.net w l))) (takes c (history w a))
-  pub coming : (s : Setup) (lost : Losses) (w : World) (a c l : ℕ) → Ran s lost w → slice_get (links_into s.net a) c ≡ Some l
+  pub coming : (s : Setup) (lost : Losses) (w : World) (a c l : ℕ) → IsFifoRun s lost w → slice_get (links_into s.net a) c ≡ Some l
       → Each (λ m. Member m (put l (sender s.net w l))) (on_way s.net lost w l)
   -- the last number taken by a choice is the one heard last
   pub last_heard : (f : Message → Option ℕ) (c : ℕ) (h : History) → last_of 0 (numbers f (takes c h)) ≡ heard f c h

@@ -6,7 +6,7 @@
 use Rattle.std.specs.Prelude.{◌*◌, ◌+◌, ◌++◌, ◌-◌, ◌==◌, List, suc, ℕ, Bool, drop, false, length, true, if◌then◌else◌}
 use Rattle.sl_layout.specs.Net.{Net, action_choice, actor_of, choices_of, data_channels, link_of, links_out}
 use Rattle.sl_parts.specs.Parts.{below}
-use Rattle.sl_layout.specs.Serving.{Served, served}
+use Rattle.sl_layout.specs.Serving.{ServedUnit, served}
 use Rattle.sl_layout.specs.declared.actor.ActorId.{ActorId}
 use Rattle.sl_layout.specs.declared.actor.ActorId.TheVariants.{Control, Observer, Host as OfHost, Unit as OfUnit}
 use Rattle.sl_layout.specs.declared.actor.Side.{Side}
@@ -70,7 +70,7 @@ abbrev pub channels : Net → ℕ → List ℕ
 channels net u = data_channels net u ++ choices_of net u Init
 
 -- a poll that a control plane owes
-abbrev pub again_credit : Net → ℕ → History → Served → ℕ
+abbrev pub again_credit : Net → ℕ → History → ServedUnit → ℕ
 again_credit net a h v = if is_again (action_choice net a) v h then 3 else 0
 
 -- a frame: its inject, and what it costs on the link of its host

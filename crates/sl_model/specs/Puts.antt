@@ -11,7 +11,7 @@ use Rattle.sl_layout.specs.declared.actor.ActorId.TheVariants.{Observer, Control
 use Rattle.sl_layout.specs.declared.actor.Sort.TheVariants.{FromHost, ToHost, Cable, Crossbar, Init, Notice, Dump, Begin, Done}
 use Rattle.sl_net.specs.declared.input.Packet.{Packet}
 use Rattle.sl_layout.specs.Net.{Net, same_actor, ingress, egress, actor_of, link_of, links_out, action_choice, unit_place}
-use Rattle.sl_layout.specs.Serving.{Served, served}
+use Rattle.sl_layout.specs.Serving.{ServedUnit, served}
 use Rattle.sl_model.specs.declared.message.Message.{Message}
 use Rattle.sl_model.specs.declared.message.Message.TheVariants.{Host as HostMsg, Data, Probe as ProbeMsg, Init as InitMsg, Poll as PollMsg, Notice as NoticeMsg, Dump as DumpMsg, Begin as BeginMsg, Done as DoneMsg}
 use Rattle.sl_model.specs.declared.message.Put.{Put}
@@ -85,11 +85,11 @@ unit_puts net u i h c l m = side_puts net u i i.side (id_after m h) l m ++ (noti
 -- Control planes.
 
 -- a poll to the unit, where none is outstanding
-abbrev pub poll_puts : Served → History → List Put
+abbrev pub poll_puts : ServedUnit → History → List Put
 poll_puts v h = if is_outstanding v h then [] else send PollMsg v.poll ∷ []
 
 -- a Done, then a poll where a notice or a sweep came again
-abbrev pub dump_answer : Net → ℕ → History → ℕ → Served → List Put
+abbrev pub dump_answer : Net → ℕ → History → ℕ → ServedUnit → List Put
 dump_answer net a h n v = send_all (DoneMsg (unit_place net v.unit) n) (links_out net a Done) ++ (if is_again (action_choice net a) v h then send PollMsg v.poll ∷ [] else [])
 
 abbrev pub control_puts : Net → ℕ → History → ℕ → Message → List Put

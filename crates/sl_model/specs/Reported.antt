@@ -8,7 +8,7 @@ use Rattle.sl_model.specs.Words.{numbers}
 use Rattle.sl_model.specs.History.{World, Losses, history, heard, dump_of, done_of, takes, put}
 use Rattle.sl_model.specs.Setup.{Setup}
 use Rattle.sl_model.specs.Knowledge.{observer, known, dumped}
-use Rattle.sl_model.specs.Made.{Ran}
+use Rattle.sl_model.specs.Made.{IsFifoRun}
 
 -- r is how the unit u reports
 pub record IsReported (net : Net) (w : World) (u : ℕ) (r : Reports net u) : Type 0 where
@@ -22,4 +22,4 @@ pub record IsReported (net : Net) (w : World) (u : ℕ) (r : Reports net u) : Ty
 
 -- so are all units, in each world that is a run
 abbrev pub AreReported : Setup → Type 0
-AreReported s = (lost : Losses) (w : World) (u : ℕ) (i : UnitId) (r : Reports s.net u) → Ran s lost w → actor_of s.net u ≡ OfUnit i → IsReported s.net w u r
+AreReported s = (lost : Losses) (w : World) (u : ℕ) (i : UnitId) (r : Reports s.net u) → IsFifoRun s lost w → actor_of s.net u ≡ OfUnit i → IsReported s.net w u r

@@ -16,7 +16,7 @@ use Rattle.sl_model.specs.Findings.{ingress_units}
 use Rattle.sl_model.specs.Knowledge.{issued, can_issue, can_resend}
 use Rattle.sl_model.specs.Puts.{begin_all, action}
 use Rattle.sl_model.specs.World.{Entry, start, next_step, turn, run, world, front, floor_for, IsLegalFrom, kept_from}
-use Rattle.sl_model.specs.Made.{Took, Acted, Ran}
+use Rattle.sl_model.specs.Made.{Took, Acted, IsFifoRun}
 use Rattle.sl_model.specs.Fit.{fits_link}
 
 pub record GrowsAt (w v : World) (a : ℕ) (step : Step) : Type 0 where
@@ -58,7 +58,7 @@ pub record TakesTurns : Type 0 where
   -- it takes a message, one that fits its link, or acts
   pub view : (s : Setup) (lost : Losses) (w : World) (e : Entry) (step : Step) → next_step s lost w e ≡ Some step
       → Takes s lost w e.0 step ⊎ Acts s w e.0 step
-  pub fits : (s : Setup) (lost : Losses) (w : World) (a : ℕ) (step : Step) → Ran s lost w → (t : Takes s lost w a step)
+  pub fits : (s : Setup) (lost : Losses) (w : World) (a : ℕ) (step : Step) → IsFifoRun s lost w → (t : Takes s lost w a step)
       → fits_link s.net t.took.link t.took.message ≡ true
   -- what it puts fits its links
   pub puts : (s : Setup) (a : ℕ) (h : History) (step : Step) → Took s a h step ⊎ Acted s a h step → Each (λ p. fits_link s.net p.link p.message ≡ true) step.puts
@@ -73,8 +73,8 @@ pub record TakesTurns : Type 0 where
   pub uncounted : (c : ℕ) (step : Step) (h : History) → (step.choice ≡ c → ⊥) → taken c (step ∷ h) ≡ taken c h
   pub at_most : (c : ℕ) (h : History) → taken c h ≤ length h
   -- each world that a schedule leads to is a run, with no more steps of an actor than there are entries
-  pub ran : (s : Setup) (lost : Losses) (es : List Entry) → Ran s lost (world s lost es)
-  pub goes_on : (s : Setup) (lost : Losses) (w : World) (e : Entry) → Ran s lost w → Ran s lost (turn s lost w e)
+  pub ran : (s : Setup) (lost : Losses) (es : List Entry) → IsFifoRun s lost (world s lost es)
+  pub goes_on : (s : Setup) (lost : Losses) (w : World) (e : Entry) → IsFifoRun s lost w → IsFifoRun s lost (turn s lost w e)
   pub few : (s : Setup) (lost : Losses) (es : List Entry) (a : ℕ) → length (history (world s lost es) a) ≤ length es
   -- nor of all actors, those of the ingress units among them
   pub all_few : (s : Setup) (lost : Losses) (es : List Entry) → steps_in (world s lost es) ≤ length es

@@ -13,7 +13,7 @@ ghost use Rattle.sl_model.specs.Knowledge.{observer, told_of, issued, upto_of, f
 ghost use Rattle.sl_model.specs.World.{Entry, IsLossTable, world, sender};
 ghost use Rattle.sl_model.specs.Losses.{losses};
 ghost use Rattle.sl_net.specs.Input.{Input};
-ghost use Rattle.sl_model.specs.Made.{Ran};
+ghost use Rattle.sl_model.specs.Made.{IsFifoRun};
 ghost use Rattle.sl_model.specs.Cut.{cuts};
 ghost use Rattle.sl_model.specs.Matching.{IsDataChannel, IsConsistentCut};
 ghost use Rattle.sl_model.specs.Fit.{fits_link, is_stamped};
@@ -28,7 +28,7 @@ use sl_net::nets_are_wired;
 /// Each world that a schedule reaches is a run: each step is made from the history before it, and
 /// links are first in, first out.
 pub fn worlds_are_runs()
-    ensures { (s : Setup) (lost : Losses) (es : List Entry) → Ran s lost (world s lost es) }
+    ensures { (s : Setup) (lost : Losses) (es : List Entry) → IsFifoRun s lost (world s lost es) }
 {}
 
 /// Each message fits the sort of the link that it is put on.

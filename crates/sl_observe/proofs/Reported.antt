@@ -12,7 +12,7 @@ use Rattle.sl_observe.specs.Observer.{UnitState, ObserverState, new_unit, unit_a
 use Rattle.sl_observe.specs.Turns.{Reports, IsReported}
 use Rattle.sl_observe.proofs.Runs.{units_stay}
 
--- the report has this row for this number
+-- the Done has this row for this number
 abbrev Has : Report → ℕ → Saved → Type 0
 Has d k r = (i : ℕ) × (slice_get d.rows i ≡ Some (k, r))
 

@@ -1,7 +1,7 @@
 -- Trusted text for nodes, in part.
 -- The observer: what it stands for, and what its turns do. It issues snapshots by number, and collects what the units saved for each
 -- (Yaseen, Sonchack and Liu 2018).
---     observer_take     it takes a report on a unit
+--     observer_take     it takes a Done on a unit
 --     observer_act      it issues the next snapshot, or begins the last one again
 --     register_floor    the number up to which it has collected all units
 --     first_state       before its first turn
@@ -18,8 +18,8 @@ use Rattle.sl_wire.specs.declared.message.Msg.TheVariants.{Begin, Done as DoneMs
 use Rattle.sl_route.specs.Least.{least}
 use Rattle.sl_observe.specs.declared.unit.Seen.{Seen}
 
--- A unit: its device, which is also the choice by which reports on it come; how many data channels it has; the id, last-seen numbers and floor
--- of the last report on it; and the rows that came for it, of which that of the number k stands at the place k - 1.
+-- A unit: its device, which is also the choice by which Dones on it come; how many data channels it has; the id, last-seen numbers and floor
+-- of the last Done on it; and the rows that came for it, of which that of the number k stands at the place k - 1.
 pub record UnitState : Type 0 where
   pub device : ℕ
   pub channels : ℕ
@@ -46,7 +46,7 @@ new_unit device channels = record { device = device; channels = channels; id = 0
 abbrev pub unit_at : List UnitState → ℕ → UnitState
 unit_at us place = slice_index_or us place (new_unit 0 0)
 
--- what the last report said
+-- what the last Done said
 abbrev pub seen_of : UnitState → Seen
 seen_of u = record { id = u.id; last = u.last; floor = u.floor }
 
@@ -75,11 +75,11 @@ is_next ring u d = nat_le (length d.rows) ring && is_after (length u.rows) d.row
 abbrev pub told : Done → UnitState → UnitState
 told d u = record { device = u.device; channels = u.channels; id = d.id; last = d.last; floor = d.floor; rows = u.rows ++ map (λ r. r.1) d.rows }
 
--- a report that doesn't come from the unit's device, or whose rows aren't the next, changes nothing
+-- a Done that doesn't come from the unit's device, or whose rows aren't the next, changes nothing
 abbrev pub after_done : ℕ → ℕ → Done → UnitState → UnitState
 after_done ring link d u = if (u.device == link) && is_next ring u d then told d u else u
 
--- nor does a report on a place where no unit is
+-- nor does a Done on a place where no unit is
 abbrev pub units_after : ℕ → ℕ → Done → List UnitState → List UnitState
 units_after ring link d us = slice_set us d.unit (after_done ring link d (unit_at us d.unit))
 

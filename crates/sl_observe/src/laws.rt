@@ -31,7 +31,7 @@ pub fn rows_stay()
         → saved_of (unit_at (after observer_rules s ts).state.units unit) k ≡ Some row }
 {}
 
-/// A row that is collected was so before, or a report on its unit was taken that has it for its
+/// A row that is collected was so before, or a Done on its unit was taken that has it for its
 /// number.
 pub fn rows_come_in_reports()
     ensures { (s : ObserverState) (ts : List (Turn Msg)) (unit k : ℕ) (row : Saved)

@@ -113,7 +113,7 @@ impl Observer {
         self.resent
     }
 
-    /// What a unit saved for a number, or none where no report with the row of that number was
+    /// What a unit saved for a number, or none where no Done with the row of that number was
     /// taken. The unit is a place among the units.
     pub fn saved(&self, unit: u32, k: u64) -> Option<&Saved>
         requires { unit < length self.now.state.units }
@@ -123,7 +123,7 @@ impl Observer {
         unit.saved(k)
     }
 
-    /// What the last report on a unit said, zeros before the first. The unit is a place among the
+    /// What the last Done on a unit said, zeros before the first. The unit is a place among the
     /// units.
     pub fn seen(&self, unit: u32) -> Seen
         requires { unit < length self.now.state.units }

@@ -13,7 +13,7 @@ use std::marker::Model;
 /// find room aren't copied.
 const MANY: usize = 1024;
 
-/// What the last report on a unit said; zeros before the first.
+/// What the last Done on a unit said; zeros before the first.
 #[derive(Clone, Copy, Debug, PartialEq, Eq)]
 pub struct Seen {
     /// The unit's id.
@@ -25,7 +25,7 @@ pub struct Seen {
     pub floor: u64,
 }
 
-/// A unit, with what the last report on it said and the rows that came for it in order, from the
+/// A unit, with what the last Done on it said and the rows that came for it in order, from the
 /// row of the number 1.
 #[derive(Drop)]
 pub struct Collected {
@@ -55,7 +55,7 @@ impl Model for Collected {
 }
 
 impl Seen {
-    /// What is known of a unit before the first report on it.
+    /// What is known of a unit before the first Done on it.
     fn nothing() -> Seen
         ensures id { result.id ≡ 0 }
         ensures last { result.last ≡ replicate 8 0 }
@@ -96,7 +96,7 @@ fn append(rows: &mut Vec<Saved>, more: &[(u64, Saved)])
 impl Collected {
     ghost use Rattle.sl_observe.specs.Observer.{new_unit, seen_of, saved_of, is_next, after_done};
 
-    /// A unit of a device with so many data channels, before the first report on it.
+    /// A unit of a device with so many data channels, before the first Done on it.
     pub fn new(alloc: Global, device: u32, channels: usize) -> Collected
         ensures { result.state ≡ new_unit device channels }
     {
@@ -115,7 +115,7 @@ impl Collected {
         self.device
     }
 
-    /// What the last report on it said.
+    /// What the last Done on it said.
     pub fn seen(&self) -> Seen
         ensures { result ≡ seen_of self.now.state }
     {
@@ -150,8 +150,8 @@ impl Collected {
         self.rows.reserve_exact(ring.max(wanted))
     }
 
-    /// Whether the rows of a report are the unit's next ones, at most as many as a ring holds. Which
-    /// number the report says that the unit has reached isn't asked.
+    /// Whether the rows of a Done are the unit's next ones, at most as many as a ring holds. Which
+    /// number the Done says that the unit has reached isn't asked.
     fn is_next(&self, ring: u16, done: &Done) -> bool
         ensures { result ≡ is_next ring self.now.state done.now }
     {
@@ -159,7 +159,7 @@ impl Collected {
         rows.len() <= ring as usize && is_after(self.rows.len() as u64, rows)
     }
 
-    /// Takes a report that came from a device.
+    /// Takes a Done that came from a device.
     pub fn hear(&mut self, ring: u16, link: u32, done: &Done)
         requires { self.old.state.device ≡ link → ring ≤ self.old.room }
         ensures state { self.new.state ≡ after_done ring link done.now self.old.state }

@@ -14,7 +14,7 @@ use sl_net::Net;
 use sl_wire::Done;
 use std::alloc::{AllocError, Global};
 
-/// The units of a net, before the first report.
+/// The units of a net, before the first Done.
 #[tactic(auto, using(crate::proofs::UnitLists::units_few))]
 pub fn list_units(alloc: Global, net: &Net) -> Result<Vec<Collected>, AllocError>
     ensures { IfOk result
@@ -124,7 +124,7 @@ fn prepare_all(
     Ok(())
 }
 
-/// Takes the room that a report from a device may need: a ring of rows for each of its units.
+/// Takes the room that a Done from a device may need: a ring of rows for each of its units.
 pub fn prepare(
     units: &mut Vec<Collected>,
     shorts: &mut Vec<Option<usize>>,
@@ -177,7 +177,7 @@ fn floor_at(units: &[Collected], place: usize) -> u64
     unit.seen().floor
 }
 
-/// Takes a report that came from a device, keeps the floors of the units, and notes which unit of
+/// Takes a Done that came from a device, keeps the floors of the units, and notes which unit of
 /// the device may lack room from then on.
 pub fn hear(
     units: &mut Vec<Collected>,

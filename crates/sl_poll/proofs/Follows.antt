@@ -29,7 +29,7 @@ use Rattle.sl_model.specs.Fit.{fits}
 use Rattle.sl_model.specs.Frame.{packet_of}
 use Rattle.sl_model.specs.History.{World, history, taken, takes, put, on_link, without_lost}
 use Rattle.sl_model.specs.Losses.{loss_after, losses}
-use Rattle.sl_model.specs.Made.{Ran}
+use Rattle.sl_model.specs.Made.{IsFifoRun}
 use Rattle.sl_model.specs.Matching.{is_data}
 use Rattle.sl_model.specs.Puts.{send_all, action}
 use Rattle.sl_model.specs.Setup.{Setup, setup_of, frames_of}
@@ -57,7 +57,7 @@ pub record FeedIs (s : Setup) (w : World) (a : ℕ) (feed : Feed) : Type 0 where
   pub sent : (h : ℕ) → actor_of s.net a ≡ OfHost h → feed.sent ≡ taken (action_choice s.net a) (history w a)
 
 pub record Follows (i : Input) (w : World) (putters : Putters) (lanes : List Lane) (feeds : List Feed) : Type 0 where
-  pub ran : Ran (setup_of i) (losses i) w
+  pub ran : IsFifoRun (setup_of i) (losses i) w
   pub sized : length w ≡ length i.net.actors
   pub lanes_each : length lanes ≡ length i.net.links
   pub feeds_each : length feeds ≡ length i.net.actors
@@ -185,11 +185,11 @@ module _ (i : Input) (wired : IsWired i.net) (turns : TakesTurns) (answer : Answ
 
   -- Lanes after the take.
 
-  held : (f : Ran (setup_of i) (losses i) w) (l : ℕ) → l < length i.net.links → took-in w l ≤ length (carried i.net (losses i) w l)
+  held : (f : IsFifoRun (setup_of i) (losses i) w) (l : ℕ) → l < length i.net.links → took-in w l ≤ length (carried i.net (losses i) w l)
   held f l low = let x = f.fifo (link_of i.net l).to (choice_of i.net l) l (wired.ways.taken l low) in
       omega (arith, ap length x.split, x.count, length-append (takes (choice_of i.net l) (history w (link_of i.net l).to)) x.rest)
 
-  half-same : (f : Ran (setup_of i) (losses i) w) (l : ℕ) (lane : Lane) → l < length i.net.links → LaneIs i w putters l lane → took-in v l ≡ took-in w l → Half l lane
+  half-same : (f : IsFifoRun (setup_of i) (losses i) w) (l : ℕ) (lane : Lane) → l < length i.net.links → LaneIs i w putters l lane → took-in v l ≡ took-in w l → Half l lane
   half-same f l lane low x q = record {
     size = x.size;
     queue = x.queue ∙ ap (λ k. drop k (marks (putters l) (carried i.net (losses i) w l))) (sym q);

@@ -19,14 +19,14 @@ use Rattle.sl_model.specs.Puts.{puts_of, action, send, send_all, crossbar_to, on
 use Rattle.sl_model.specs.World.{Entry, start, carried, front, taking, acting, floor_for, step_by, next_step, after, turn, run}
 use Rattle.sl_model.specs.Turns.{GrowsAt}
 use Rattle.sl_model.proofs.Worlds.Turns.{grows-after, next-within, taken-this, taken-other}
-use Rattle.sl_model.proofs.Worlds.Ran.{carried-more}
+use Rattle.sl_model.proofs.Worlds.FifoRuns.{carried-more}
 use Rattle.sl_layout.specs.declared.actor.ActorId.TheVariants.{Observer, Control, Unit as OfUnit, Host as OfHost}
 use Rattle.sl_layout.specs.declared.actor.Side.{Side}
 use Rattle.sl_layout.specs.declared.actor.Side.TheVariants.{Ingress, Egress}
 use Rattle.sl_layout.specs.declared.actor.UnitId.{UnitId}
 use Rattle.sl_layout.specs.declared.actor.Sort.{Sort}
 use Rattle.sl_layout.specs.declared.actor.Sort.TheVariants.{FromHost, ToHost, Cable, Crossbar, Init, Poll, Notice, Dump, Begin, Done}
-use Rattle.sl_layout.specs.Serving.{Served, serving, served}
+use Rattle.sl_layout.specs.Serving.{ServedUnit, serving, served}
 use Rattle.sl_net.specs.declared.input.Packet.{Packet}
 use Rattle.sl_net.specs.Ways.{IsOut}
 use Rattle.sl_net.specs.Wired.{unit_receives}
@@ -328,11 +328,11 @@ module _ (net : Net) (o : ℕ) (on : bears (link_of net o).sort ≡ true) where
 
   -- Control planes, whose puts go by other links.
 
-  served-off : (a : ℕ) (f : Served → List Put) → ((v : Served) → (v.poll ≡ o → ⊥) → on_link o (f v) ≡ []) → on_link o (flat_map f (served net a)) ≡ []
-  served-off a f each = all (served net a) (each-map (λ (v : Served). v.poll ≡ o → ⊥) (serving net a) (links_out net a Poll)
+  served-off : (a : ℕ) (f : ServedUnit → List Put) → ((v : ServedUnit) → (v.poll ≡ o → ⊥) → on_link o (f v) ≡ []) → on_link o (flat_map f (served net a)) ≡ []
+  served-off a f each = all (served net a) (each-map (λ (v : ServedUnit). v.poll ≡ o → ⊥) (serving net a) (links_out net a Poll)
       (each-imp (IsOut net a Poll) (λ l. l ≡ o → ⊥) (links_out net a Poll) (λ l x e. other-sort (link_of net o).sort Poll on refl (ap (λ k. (link_of net k).sort) (sym e) ∙ x.sort)) (each-out net a Poll)))
     where
-      all : (vs : List Served) → Each (λ (v : Served). v.poll ≡ o → ⊥) vs → on_link o (flat_map f vs) ≡ []
+      all : (vs : List ServedUnit) → Each (λ (v : ServedUnit). v.poll ≡ o → ⊥) vs → on_link o (flat_map f vs) ≡ []
       all [] e = refl
       all (v ∷ vs) e = both-off (f v) (flat_map f vs) (each v e.0) (all vs e.1)
 

@@ -22,7 +22,7 @@ use Rattle.sl_parts.specs.Lists.{Each}
 use Rattle.sl_model.specs.History.{History, World, Losses, history, done_of, taken, takes, put, on_link, without_lost}
 use Rattle.sl_model.specs.Setup.{Setup}
 use Rattle.sl_model.specs.World.{IsLossTable, carried}
-use Rattle.sl_model.specs.Made.{Took, Acted, IsMade, Fifo, Ran}
+use Rattle.sl_model.specs.Made.{Took, Acted, IsMade, Fifo, IsFifoRun}
 use Rattle.sl_model.specs.Fit.{fits, fits_link}
 use Rattle.sl_model.specs.Window.{on_way}
 use Rattle.sl_model.specs.Turns.{GrowsAt, TakesTurns}
@@ -184,12 +184,12 @@ link-out-is net a l sound p from = let w = wire-at net l p in let once = sound.o
 -- The scene.
 
 -- the links of a scene that stands for the world w, seen by internal words
-pub lines-of : {S : Type 0} (s : Setup) → HasWays s.net → (lost : Losses) (sizes : Sizes) (Stands : World → ℕ → S → Type 0) (w : World) (v : Scene S Msg) → Ran s lost w → IsImage s lost sizes Stands w v
+pub lines-of : {S : Type 0} (s : Setup) → HasWays s.net → (lost : Losses) (sizes : Sizes) (Stands : World → ℕ → S → Type 0) (w : World) (v : Scene S Msg) → IsFifoRun s lost w → IsImage s lost sizes Stands w v
     → LinesAre s.net sizes (history w) lost (told_at s.net w) (taken_at s.net w) (put_at s.net w) v.lines
 lines-of s ways lost sizes Stands w v x image l p = let i = image.lines l p in let k = ways.taken l p in
     record { within = taken-within s.net lost w l (x.fifo (link_of s.net l).to (choice_of s.net l) l k); queue = i.queue; loss = i.loss; count = i.count }
 
-pub lines-grown : PassesMessages → (s : Setup) (lost : Losses) (sizes : Sizes) (w v : World) (a : ℕ) (step : Step) (lines : List (Line Msg)) → AreReported s → IsWired s.net → Ran s lost w → GrowsAt w v a step
+pub lines-grown : PassesMessages → (s : Setup) (lost : Losses) (sizes : Sizes) (w v : World) (a : ℕ) (step : Step) (lines : List (Line Msg)) → AreReported s → IsWired s.net → IsFifoRun s lost w → GrowsAt w v a step
     → LinesAre s.net sizes (history w) lost (told_at s.net w) (taken_at s.net w) (put_at s.net w) lines → LinesAre s.net sizes (history v) lost (told_at s.net w) (taken_at s.net w) (put_at s.net w) lines
 lines-grown passing s lost sizes w v a step lines reported z x g all l p = let i = all l p in record {
   within = i.within;
@@ -220,7 +220,7 @@ module _ {S : Type 0} (s : Setup) (lost : Losses) (sizes : Sizes) (Stands : Worl
     pub sound : IsSound (plan_of s.net)
     pub table : IsLossTable s.net lost
     pub turns : TakesTurns
-    pub ran : Ran s lost w
+    pub ran : IsFifoRun s lost w
     pub few : (b : ℕ) → length (history w b) < 2 ^ 40
     pub within : a < length s.net.actors
     pub grows : GrowsAt w v a step

@@ -10,7 +10,7 @@ use Rattle.sl_layout.specs.declared.actor.ActorId.TheVariants.{Observer, Control
 use Rattle.sl_layout.specs.declared.actor.Sort.{Sort}
 use Rattle.sl_layout.specs.declared.actor.Sort.TheVariants.{Init, Poll, Dump, Done}
 use Rattle.sl_layout.specs.Net.{Net, actor_of, link_of, links_out, choice_of, action_choice, units, unit_place, place_in, links_into}
-use Rattle.sl_layout.specs.Serving.{Served, serving, served, choice_from}
+use Rattle.sl_layout.specs.Serving.{ServedUnit, serving, served, choice_from}
 use Rattle.sl_net.specs.Wired.{Reports, IsWired, sends}
 use Rattle.sl_model.specs.declared.message.Message.{Message}
 use Rattle.sl_model.specs.declared.message.Message.TheVariants.{Init as InitMsg, Poll as PollMsg, Notice as NoticeMsg, Dump as DumpMsg, Begin as BeginMsg, Done as DoneMsg}
@@ -23,7 +23,7 @@ use Rattle.sl_model.specs.History.{History, World, Losses, history, dump_of, don
 use Rattle.sl_model.specs.Setup.{Setup}
 use Rattle.sl_model.specs.Knowledge.{is_outstanding, is_again, is_swept, observer, dumped, known}
 use Rattle.sl_model.specs.Puts.{send, send_all, poll_puts, dump_answer, control_puts, puts_of, guarded, action}
-use Rattle.sl_model.specs.Made.{Took, Acted, IsMade, Ran}
+use Rattle.sl_model.specs.Made.{Took, Acted, IsMade, IsFifoRun}
 use Rattle.sl_model.specs.Fit.{fits, fits_link}
 use Rattle.sl_model.specs.Window.{on_way}
 use Rattle.sl_model.specs.Passing.{PassesMessages}
@@ -101,7 +101,7 @@ control-of net a h c (BeginMsg k) z = each-send net a (InitMsg k) (links_out net
 control-of net a h c NoticeMsg z = each-flat (PutOf net a) (λ v. if c == v.notice then poll_puts v h else []) (served net a)
     (each-of (λ v. Each (PutOf net a) (if c == v.notice then poll_puts v h else [])) (served net a) (λ v m. by_bool v (c == v.notice)))
   where
-    by_bool : (v : Served) (b : Bool) → Each (PutOf net a) (if b then poll_puts v h else [])
+    by_bool : (v : ServedUnit) (b : Bool) → Each (PutOf net a) (if b then poll_puts v h else [])
     by_bool v true = poll-silent net a v.poll (is_outstanding v h)
     by_bool v false = tt
 control-of net a h c (DumpMsg n) z = answers-of net a c n h z
@@ -179,7 +179,7 @@ unit-at net u m = let f = found-at 0 u (units net) m in let e : unit_place net u
 pub done-link : (s : Setup) (l a place : ℕ) (t : TellsOf s.net a place) (r : Reports s.net t.unit) → l < length s.net.links → (link_of s.net l).from ≡ a → (link_of s.net l).sort ≡ Done → l ≡ r.done
 done-link s l a place t r p f k = r.one_done l (record { is_link = p; from = f ∙ sym (t.by r); sort = k })
 
-dones-there : PassesMessages → (s : Setup) → HasWays s.net → (lost : Losses) (w : World) (a place : ℕ) → AreReported s → Ran s lost w → (t : TellsOf s.net a place) (r : Reports s.net t.unit)
+dones-there : PassesMessages → (s : Setup) → HasWays s.net → (lost : Losses) (w : World) (a place : ℕ) → AreReported s → IsFifoRun s lost w → (t : TellsOf s.net a place) (r : Reports s.net t.unit)
     → Each (λ m. (n : ℕ) → done_of place m ≡ Some n → n ≤ length (history w (slice_index (units s.net) place))) (put r.done (history w a))
 dones-there passing s ways lost w a place reported x t r = let u = t.unit in let c = choice_of s.net r.dump in let from = (link_of s.net r.dump).from in
     let sent : Each (λ m. (n : ℕ) → dump_of m ≡ Some n → n ≤ length (history w u)) (put r.dump (history w from)) =
@@ -199,7 +199,7 @@ dones-there passing s ways lost w a place reported x t r = let u = t.unit in let
 
 -- All messages.
 
-pub puts-there : PassesMessages → (s : Setup) (lost : Losses) (w : World) (l : ℕ) → AreReported s → IsWired s.net → Ran s lost w → l < length s.net.links → Each (IsThere s.net (history w) (link_of s.net l).from) (put l (history w (link_of s.net l).from))
+pub puts-there : PassesMessages → (s : Setup) (lost : Losses) (w : World) (l : ℕ) → AreReported s → IsWired s.net → IsFifoRun s lost w → l < length s.net.links → Each (IsThere s.net (history w) (link_of s.net l).from) (put l (history w (link_of s.net l).from))
 puts-there passing s lost w l reported z x p = each-of (IsThere s.net (history w) (link_of s.net l).from) (put l (history w (link_of s.net l).from)) there
   where
     fit : (m : Message) → Member m (put l (history w (link_of s.net l).from)) → fits (link_of s.net l).sort m ≡ true
@@ -223,13 +223,13 @@ puts-there passing s lost w l reported z x p = each-of (IsThere s.net (history w
     there : (m : Message) → Member m (put l (history w (link_of s.net l).from)) → IsThere s.net (history w) (link_of s.net l).from m
     there m k = record { dump = dump m k; done = done m k }
 
-pub way-there : PassesMessages → (s : Setup) (lost : Losses) (w : World) (l : ℕ) → AreReported s → IsWired s.net → Ran s lost w → l < length s.net.links → Each (IsThere s.net (history w) (link_of s.net l).from) (on_way s.net lost w l)
+pub way-there : PassesMessages → (s : Setup) (lost : Losses) (w : World) (l : ℕ) → AreReported s → IsWired s.net → IsFifoRun s lost w → l < length s.net.links → Each (IsThere s.net (history w) (link_of s.net l).from) (on_way s.net lost w l)
 way-there passing s lost w l reported z x p = let a = (link_of s.net l).from in
     each-imp (λ m. Member m (put l (history w a))) (IsThere s.net (history w) a) (on_way s.net lost w l)
     (λ m k. each-at (IsThere s.net (history w) a) m (put l (history w a)) (puts-there passing s lost w l reported z x p) k)
     (passing.coming s lost w (link_of s.net l).to (choice_of s.net l) l x (z.ways.taken l p))
 
-pub told-there : PassesMessages → (s : Setup) (lost : Losses) (w : World) (l : ℕ) → AreReported s → IsWired s.net → Ran s lost w → l < length s.net.links → Told s.net (history w) (told_by (choice_of s.net l) (history w (link_of s.net l).to))
+pub told-there : PassesMessages → (s : Setup) (lost : Losses) (w : World) (l : ℕ) → AreReported s → IsWired s.net → IsFifoRun s lost w → l < length s.net.links → Told s.net (history w) (told_by (choice_of s.net l) (history w (link_of s.net l).to))
 told-there passing s lost w l reported z x p = let a = (link_of s.net l).from in let b = (link_of s.net l).to in let c = choice_of s.net l in
     subst (Told s.net (history w)) (sym (heard-told c (history w b)))
     (told-all s.net (history w) a untold (takes c (history w b)) (λ place. omega arith)
@@ -299,7 +299,7 @@ does-put {S} Stands net sizes us a h ps o g = put-by-any net sizes us a h ps (g 
 
 -- Dones.
 
-pub step-dones : TakesTurns → PassesMessages → (s : Setup) (lost : Losses) (w : World) (a d c : ℕ) (step : Step) → AreReported s → IsWired s.net → Ran s lost w → actor_of s.net a ≡ Control d → next_step s lost w (a, c) ≡ Some step
+pub step-dones : TakesTurns → PassesMessages → (s : Setup) (lost : Losses) (w : World) (a d c : ℕ) (step : Step) → AreReported s → IsWired s.net → IsFifoRun s lost w → actor_of s.net a ≡ Control d → next_step s lost w (a, c) ≡ Some step
     → Each (λ p. (place n : ℕ) → p.message ≡ DoneMsg place n → told_at s.net (history w) a place ≡ told_on p.link (history w a) place) step.puts
 step-dones turns passing s lost w a d c step reported z x q next = each-of (λ p. (place n : ℕ) → p.message ≡ DoneMsg place n → told_at s.net (history w) a place ≡ told_on p.link (history w a) place) step.puts by_put
   where
@@ -329,7 +329,7 @@ step-dones turns passing s lost w a d c step reported z x q next = each-of (λ p
         ∙ ap (λ j. told_on j (history w a) (unit_place s.net t.unit)) (sym link)
         ∙ ap (told_on p.link (history w a)) (sym t.at)
 
-pub told-known : TakesTurns → PassesMessages → (s : Setup) (lost : Losses) (w : World) (c l : ℕ) (m : Message) (step : Step) → AreReported s → IsWired s.net → Ran s lost w → next_step s lost w (0, c) ≡ Some step → slice_get (links_into s.net 0) c ≡ Some l
+pub told-known : TakesTurns → PassesMessages → (s : Setup) (lost : Losses) (w : World) (c l : ℕ) (m : Message) (step : Step) → AreReported s → IsWired s.net → IsFifoRun s lost w → next_step s lost w (0, c) ≡ Some step → slice_get (links_into s.net 0) c ≡ Some l
     → step.taken ≡ Some m → (place n : ℕ) → m ≡ DoneMsg place n → told_by c (history w 0) place ≡ known place (observer w)
 told-known turns passing s lost w c l m step reported z x next into took place n e =
     let b = (link_of s.net l).from in let low = (z.ways.into 0 c l into).is_link in

@@ -15,7 +15,7 @@ use Rattle.sl_model.specs.Words.{listed, numbers, last_of}
 use Rattle.sl_model.specs.History.{History, World, Losses, history, dump_of, done_of, takes, put}
 use Rattle.sl_model.specs.Setup.{Setup}
 use Rattle.sl_model.specs.Knowledge.{observer, dumped, known}
-use Rattle.sl_model.specs.Made.{Ran}
+use Rattle.sl_model.specs.Made.{IsFifoRun}
 use Rattle.sl_model.specs.Passing.{PassesMessages}
 use Rattle.sl_model.specs.Reported.{AreReported}
 use Rattle.sl_simulation.specs.Messages.{AreSent}
@@ -52,6 +52,6 @@ pub told-is-dumped : PassesMessages → (s : Setup) (w : World) (u : ℕ) (r : R
 told-is-dumped passing s w u r dones = told-last untold (unit_place s.net u) (put r.done (history w r.control)) ∙ ap (last_of 0) dones
     ∙ passing.last_heard dump_of (choice_of s.net r.dump) (history w r.control)
 
-pub told-is-known : (s : Setup) (lost : Losses) (w : World) (u : ℕ) (i : UnitId) (r : Reports s.net u) → AreReported s → Ran s lost w → actor_of s.net u ≡ OfUnit i
+pub told-is-known : (s : Setup) (lost : Losses) (w : World) (u : ℕ) (i : UnitId) (r : Reports s.net u) → AreReported s → IsFifoRun s lost w → actor_of s.net u ≡ OfUnit i
     → told_by (choice_of s.net r.done) (observer w) (unit_place s.net u) ≡ known (unit_place s.net u) (observer w)
 told-is-known s lost w u i r reported x q = sym (reported lost w u i r x q).told

@@ -13,7 +13,7 @@ use Rattle.sl_layout.specs.declared.actor.Sort.{Sort}
 use Rattle.sl_layout.specs.declared.actor.Sort.TheVariants.{FromHost, ToHost, Cable, Crossbar, Init, Poll, Notice, Dump, Begin, Done}
 use Rattle.sl_net.specs.declared.input.Packet.{Packet}
 use Rattle.sl_layout.specs.Net.{Net, same_actor, same_sort, sort_number, egress, actor_of, link_of, links_from, link_numbers, links_out, links_into, choice_of, action_choice, unit_place}
-use Rattle.sl_layout.specs.Serving.{Served, serving, served, choice_from}
+use Rattle.sl_layout.specs.Serving.{ServedUnit, serving, served, choice_from}
 use Rattle.sl_net.specs.Wired.{Reports, IsWired}
 use Rattle.sl_route.specs.Route.{next_port}
 use Rattle.sl_model.specs.declared.message.Message.{Message}
@@ -173,7 +173,7 @@ unit-spread net u i h c l m = let xs = side_puts net u i i.side (id_after m h) l
 
 -- Control planes.
 
-flat-links : (f : Served → List Put) (g : ℕ → Served) (ls : List ℕ) → map link_in_put (flat_map f (map g ls)) ≡ flat_map (λ l. map link_in_put (f (g l))) ls
+flat-links : (f : ServedUnit → List Put) (g : ℕ → ServedUnit) (ls : List ℕ) → map link_in_put (flat_map f (map g ls)) ≡ flat_map (λ l. map link_in_put (f (g l))) ls
 flat-links f g [] = refl
 flat-links f g (l ∷ ls) = append-links (f (g l)) (flat_map f (map g ls)) ∙ ap (λ r. map link_in_put (f (g l)) ++ r) (flat-links f g ls)
 
@@ -186,7 +186,7 @@ polls-spread : (net : Net) (a l : ℕ) (h : History) → IsOut net a Poll l → 
 polls-spread net a l h o = at-most net a l (is_outstanding (serving net a l) h) PollMsg o
 
 -- of each unit that it serves, by the links of polls, where no two of these share a link
-each-served : (net : Net) (a : ℕ) (f : Served → List Put) → ((l : ℕ) → IsOut net a Poll l → IsSpread net a (f (serving net a l)))
+each-served : (net : Net) (a : ℕ) (f : ServedUnit → List Put) → ((l : ℕ) → IsOut net a Poll l → IsSpread net a (f (serving net a l)))
     → ((l k x : ℕ) → IsOut net a Poll l → IsOut net a Poll k → Member x (map link_in_put (f (serving net a l))) → Member x (map link_in_put (f (serving net a k))) → l ≡ k)
     → IsSpread net a (flat_map f (served net a))
 each-served net a f spread apart = let ls = links_out net a Poll in let g = λ (l : ℕ). map link_in_put (f (serving net a l)) in

@@ -12,7 +12,7 @@ use Rattle.sl_layout.specs.declared.actor.ActorId.TheVariants.{Observer, Control
 use Rattle.sl_layout.specs.declared.actor.Sort.{Sort}
 use Rattle.sl_layout.specs.declared.actor.Sort.TheVariants.{FromHost, ToHost, Cable, Crossbar, Init, Poll, Notice, Dump, Begin, Done}
 use Rattle.sl_layout.specs.Net.{Net, actor_of, link_of, link_numbers, links_out, action_choice, unit_place, link_at, choices_of, choice_of, same_sort, units, hosts, data_channels}
-use Rattle.sl_layout.specs.Serving.{Served, served}
+use Rattle.sl_layout.specs.Serving.{ServedUnit, served}
 use Rattle.sl_net.specs.declared.input.Packet.{Packet}
 use Rattle.sl_route.specs.Route.{next_port}
 use Rattle.sl_model.specs.declared.message.Message.{Message}
@@ -212,17 +212,17 @@ module _ (net : Net) where
     each_if true ps h = h
     each_if false ps h = tt
 
-    poll_aside : (v : Served) (h : History) → Each (λ p. is_aside p.message ≡ true) (poll_puts v h)
+    poll_aside : (v : ServedUnit) (h : History) → Each (λ p. is_aside p.message ≡ true) (poll_puts v h)
     poll_aside v h = go (is_outstanding v h)
       where
         go : (b : Bool) → Each (λ p. is_aside p.message ≡ true) (if b then [] else send PollMsg v.poll ∷ [])
         go true = tt
         go false = (refl, tt)
 
-    each_served : (f : Served → List Put) (vs : List Served) → ((v : Served) → Each (λ p. is_aside p.message ≡ true) (f v)) → Each (λ p. is_aside p.message ≡ true) (flat_map f vs)
+    each_served : (f : ServedUnit → List Put) (vs : List ServedUnit) → ((v : ServedUnit) → Each (λ p. is_aside p.message ≡ true) (f v)) → Each (λ p. is_aside p.message ≡ true) (flat_map f vs)
     each_served f vs h = each-flat (λ p. is_aside p.message ≡ true) f vs (each-of (λ v. Each (λ p. is_aside p.message ≡ true) (f v)) vs (λ v m. h v))
 
-    answer_aside : (a n : ℕ) (h : History) (v : Served) → Each (λ p. is_aside p.message ≡ true) (dump_answer net a h n v)
+    answer_aside : (a n : ℕ) (h : History) (v : ServedUnit) → Each (λ p. is_aside p.message ≡ true) (dump_answer net a h n v)
     answer_aside a n h v = each-append (λ p. is_aside p.message ≡ true) (send_all (DoneMsg (unit_place net v.unit) n) (links_out net a Done)) (if is_again (action_choice net a) v h then send PollMsg v.poll ∷ [] else [])
         (each-map (λ p. is_aside p.message ≡ true) (send (DoneMsg (unit_place net v.unit) n)) (links_out net a Done) (each-of (λ x. true ≡ true) (links_out net a Done) (λ x m. refl)))
         (each_if (is_again (action_choice net a) v h) (send PollMsg v.poll ∷ []) (refl, tt))

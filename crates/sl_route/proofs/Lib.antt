@@ -3,6 +3,6 @@ pub mod First
 pub mod Finding
 pub mod Graphs
 pub mod Toward
-pub mod Reading
+pub mod KeptWays
 pub mod Shortest
 pub mod Onward

@@ -8,7 +8,7 @@ use Rattle.sl_layout.specs.declared.actor.Sort.{Sort}
 use Rattle.sl_layout.specs.declared.actor.Sort.TheVariants.{Notice, Dump, Begin, Init, Poll, Done}
 use Rattle.sl_net.specs.Wired.{IsWired, receives}
 use Rattle.sl_layout.specs.Net.{Net, actor_of, link_of, links_into, choice_of, place_in, units, unit_place, links_out, action_choice}
-use Rattle.sl_layout.specs.Serving.{serving, Served, served}
+use Rattle.sl_layout.specs.Serving.{serving, ServedUnit, served}
 use Rattle.sl_parts.specs.Lists.{Member, Each}
 use Rattle.sl_net.specs.Ways.{IsOut}
 use Rattle.sl_control.specs.Wires.{control_of, unit_wires, unheard, control_wires, first_control}
@@ -33,7 +33,7 @@ use Rattle.sl_model.specs.Turns.{TakesTurns}
 use Rattle.sl_simulation.specs.Messages.{AreSent}
 use Rattle.sl_simulation.specs.ControlImage.{known_of, IsControlOf, told_at, known_by, GrowsBy}
 use Rattle.sl_model.specs.Setup.{Setup}
-use Rattle.sl_model.specs.Made.{Ran}
+use Rattle.sl_model.specs.Made.{IsFifoRun}
 use Rattle.sl_model.specs.Reported.{AreReported}
 use Rattle.sl_simulation.proofs.ControlUnits.{seen, unheard-is, still, asked-is, dumped-is}
 use Rattle.sl_simulation.proofs.ControlTells.{Tells, answered-is, done-is, taken-is, sent-each, flat-map, sent-if, sent-polls, sent-answer}
@@ -105,10 +105,10 @@ notice-sort _ f = absurd cc
 pub starts : TakesTurns → (net : Net) (a : ℕ) (sizes : Sizes) → IsControlOf net sizes (history (start net)) a (first_control net a sizes)
 starts turns net a sizes = record { wires = refl; units = each (served net a) }
   where
-    one : (v : Served) → unheard (unit_wires net v) ≡ known_of net (history (start net)) a v
+    one : (v : ServedUnit) → unheard (unit_wires net v) ≡ known_of net (history (start net)) a v
     one v = sym (unheard-is net (action_choice net a) v) ∙ sym (λ i. seen net (action_choice net a) v (turns.starts net a i) (turns.starts net v.unit i))
 
-    each : (vs : List Served) → map (λ v. unheard (unit_wires net v)) vs ≡ map (known_of net (history (start net)) a) vs
+    each : (vs : List ServedUnit) → map (λ v. unheard (unit_wires net v)) vs ≡ map (known_of net (history (start net)) a) vs
     each [] = refl
     each (v ∷ vs) = λ i. one v i ∷ each vs i
 
@@ -118,11 +118,11 @@ pub each-unmap : {A B : Type 0} (P : B → Type 0) (f : A → B) (xs : List A) �
 each-unmap P f [] h = tt
 each-unmap P f (x ∷ xs) h = (h.0, each-unmap P f xs h.1)
 
-pub units-are : (f : Known → Known) (g i : Served → Known) (vs : ℕ → Served) (ls : List ℕ) → Each (λ l. f (g (vs l)) ≡ i (vs l)) ls → map f (map g (map vs ls)) ≡ map i (map vs ls)
+pub units-are : (f : Known → Known) (g i : ServedUnit → Known) (vs : ℕ → ServedUnit) (ls : List ℕ) → Each (λ l. f (g (vs l)) ≡ i (vs l)) ls → map f (map g (map vs ls)) ≡ map i (map vs ls)
 units-are f g i vs [] h = refl
 units-are f g i vs (l ∷ ls) h = let x = h.0 in let y = units-are f g i vs ls h.1 in λ j. x j ∷ y j
 
-pub same-units : (g i : Served → Known) (vs : ℕ → Served) (ls : List ℕ) → Each (λ l. g (vs l) ≡ i (vs l)) ls → map g (map vs ls) ≡ map i (map vs ls)
+pub same-units : (g i : ServedUnit → Known) (vs : ℕ → ServedUnit) (ls : List ℕ) → Each (λ l. g (vs l) ≡ i (vs l)) ls → map g (map vs ls) ≡ map i (map vs ls)
 same-units g i vs [] h = refl
 same-units g i vs (l ∷ ls) h = let x = h.0 in let y = same-units g i vs ls h.1 in λ j. x j ∷ y j
 
@@ -188,7 +188,7 @@ notice-one net us ws a d l k step z q t m b i o e p = by_test (eqb_tells step.ch
         ∙ sym (still net (action_choice net a) (serving net a l) step (us a) g no-dumps (asking ∙ x.0) (puts ∙ ap (λ b. on_link l (if b then poll_puts (serving net a l) (us a) else [])) x.0))
         ∙ after-is net us ws a d l step q v t
 
-pub notice-sent : (net : Net) (sizes : Sizes) (us ws : ℕ → History) (a c : ℕ) (vs : List Served)
+pub notice-sent : (net : Net) (sizes : Sizes) (us ws : ℕ → History) (a c : ℕ) (vs : List ServedUnit)
     → AreSent net sizes ws a (told_at net us a) (flat_map (λ v. if c == v.notice then poll_puts v (us a) else []) vs) (flat_map (ask_puts (Some c)) (map (known_of net us a) vs))
 notice-sent net sizes us ws a c vs = subst (AreSent net sizes ws a (told_at net us a) (flat_map (λ v. if c == v.notice then poll_puts v (us a) else []) vs)) (sym (flat-map (ask_puts (Some c)) (known_of net us a) vs))
     (sent-each net sizes ws a (told_at net us a) (λ v. if c == v.notice then poll_puts v (us a) else []) (λ v. ask_puts (Some c) (known_of net us a v)) vs
@@ -206,7 +206,7 @@ sweep-one net us ws a d l step z q t m b i c e p = let v = served-at net a l z m
     (ap (on_link l) p ∙ own-link net a l (λ v. poll_puts v (us a)) m (λ x ne. polls-else (serving net a x) (us a) l ne)) b)
     ∙ after-is net us ws a d l step q v t
 
-pub sweep-sent : (net : Net) (sizes : Sizes) (us ws : ℕ → History) (a : ℕ) (vs : List Served)
+pub sweep-sent : (net : Net) (sizes : Sizes) (us ws : ℕ → History) (a : ℕ) (vs : List ServedUnit)
     → AreSent net sizes ws a (told_at net us a) (flat_map (λ v. poll_puts v (us a)) vs) (flat_map (ask_puts None) (map (known_of net us a) vs))
 sweep-sent net sizes us ws a vs = subst (AreSent net sizes ws a (told_at net us a) (flat_map (λ v. poll_puts v (us a)) vs)) (sym (flat-map (ask_puts None) (known_of net us a) vs))
     (sent-each net sizes ws a (told_at net us a) (λ v. poll_puts v (us a)) (λ v. ask_puts None (known_of net us a v)) vs
@@ -268,7 +268,7 @@ answer-one net sizes us ws a c e l n step d z q t m f = by_test (eqb_tells c (se
     v : IsServed net a l
     v = served-at net a l z m
 
-    s : Served
+    s : ServedUnit
     s = serving net a l
 
     r : Known
@@ -289,7 +289,7 @@ answer-one net sizes us ws a c e l n step d z q t m f = by_test (eqb_tells c (se
         (subst (λ y. AreSent net sizes ws a (told_at net us a) [] (cond y (answer_by (control_wires net a sizes).done (numbers_told sizes.bits d r) d.view r) [])) (sym b) tt)
 
 -- what is known of a unit are steps that it has made
-known-steps : (s : Setup) (lost : Losses) (w : World) (a l : ℕ) → AreReported s → Ran s lost w → IsServed s.net a l → dumped (serving s.net a l).dump (history w a) ≤ length (history w (link_of s.net l).to)
+known-steps : (s : Setup) (lost : Losses) (w : World) (a l : ℕ) → AreReported s → IsFifoRun s lost w → IsServed s.net a l → dumped (serving s.net a l).dump (history w a) ≤ length (history w (link_of s.net l).to)
 known-steps s lost w a l reported r v = subst (λ c. dumped c (history w a) ≤ length (history w (link_of s.net l).to)) (sym v.dump)
     (subst (λ b. dumped (choice_of s.net v.reports.dump) (history w b) ≤ length (history w (link_of s.net l).to)) (sym v.control)
     (reported lost w (link_of s.net l).to v.unit v.reports r v.is_unit).dumped_at_most)

@@ -7,7 +7,7 @@ use Rattle.std.proofs.lemmas.List.{length-map}
 use Rattle.std.proofs.lemmas.Nat.{mod_below, pow_pos}
 use Rattle.sl_layout.specs.declared.actor.Sort.TheVariants.{Dump as DumpSort, Done, Init}
 use Rattle.sl_layout.specs.Net.{Net, links_out, action_choice, units, unit_place, data_channels, choices_of}
-use Rattle.sl_layout.specs.Serving.{Served, choice_from}
+use Rattle.sl_layout.specs.Serving.{ServedUnit, choice_from}
 use Rattle.sl_layout.specs.Wires.{out_of}
 use Rattle.sl_saves.specs.declared.entry.View.{View}
 use Rattle.sl_wire.specs.declared.message.Msg.TheVariants as wire
@@ -35,7 +35,7 @@ use Rattle.sl_wire.specs.declared.message.Dump.{Dump}
 use Rattle.sl_wire.specs.Reach.{reached}
 use Rattle.sl_wire.specs.Wids.{is_wid, has_room, unwrapped_each}
 use Rattle.sl_control.specs.Rows.{span, seen_on, is_sized, is_readable, row as control_row}
-use Rattle.sl_control.proofs.Reading.{readable-live}
+use Rattle.sl_control.proofs.ReadableSpans.{readable-live}
 use Rattle.sl_model.specs.Calls.{calls}
 use Rattle.sl_model.specs.Rows.{row}
 use Rattle.sl_model.specs.Brought.{IsRaised}
@@ -70,21 +70,21 @@ sent-inits net sizes us a told k (l ∷ ls) = ((refl, refl), sent-inits net size
 
 -- Polls.
 
-sent-poll : (net : Net) (sizes : Sizes) (us : ℕ → History) (a : ℕ) (told : ℕ → ℕ) (v : Served) (b : Bool) → AreSent net sizes us a told (if b then [] else send PollMsg v.poll ∷ []) (if b then [] else (out_of net v.poll, poll) ∷ [])
+sent-poll : (net : Net) (sizes : Sizes) (us : ℕ → History) (a : ℕ) (told : ℕ → ℕ) (v : ServedUnit) (b : Bool) → AreSent net sizes us a told (if b then [] else send PollMsg v.poll ∷ []) (if b then [] else (out_of net v.poll, poll) ∷ [])
 sent-poll net sizes us a told v true = tt
 sent-poll net sizes us a told v false = ((refl, refl), tt)
 
-sent-again : (net : Net) (sizes : Sizes) (us : ℕ → History) (a : ℕ) (told : ℕ → ℕ) (v : Served) (b : Bool) → AreSent net sizes us a told (if b then send PollMsg v.poll ∷ [] else []) (if b then (out_of net v.poll, poll) ∷ [] else [])
+sent-again : (net : Net) (sizes : Sizes) (us : ℕ → History) (a : ℕ) (told : ℕ → ℕ) (v : ServedUnit) (b : Bool) → AreSent net sizes us a told (if b then send PollMsg v.poll ∷ [] else []) (if b then (out_of net v.poll, poll) ∷ [] else [])
 sent-again net sizes us a told v true = ((refl, refl), tt)
 sent-again net sizes us a told v false = tt
 
 -- us before the step, ws after it
-pub sent-polls : (net : Net) (sizes : Sizes) (us ws : ℕ → History) (a : ℕ) (told : ℕ → ℕ) (v : Served) → AreSent net sizes ws a told (poll_puts v (us a)) (poll_by (known_of net us a v))
+pub sent-polls : (net : Net) (sizes : Sizes) (us ws : ℕ → History) (a : ℕ) (told : ℕ → ℕ) (v : ServedUnit) → AreSent net sizes ws a told (poll_puts v (us a)) (poll_by (known_of net us a v))
 sent-polls net sizes us ws a told v = sent-poll net sizes ws a told v (is_outstanding v (us a))
 
 -- An answer: a Done, then a poll where one was asked for again.
 
-pub sent-answer : (net : Net) (sizes : Sizes) (us ws : ℕ → History) (a k n : ℕ) (v : Served) (x : Numbers) (view : View) → links_out net a Done ≡ k ∷ [] → slice_index (units net) (unit_place net v.unit) ≡ v.unit → v.dump ≡ choice_from net a v.unit DumpSort → ws v.unit ≡ us v.unit
+pub sent-answer : (net : Net) (sizes : Sizes) (us ws : ℕ → History) (a k n : ℕ) (v : ServedUnit) (x : Numbers) (view : View) → links_out net a Done ≡ k ∷ [] → slice_index (units net) (unit_place net v.unit) ≡ v.unit → v.dump ≡ choice_from net a v.unit DumpSort → ws v.unit ≡ us v.unit
     → IsDoneOf sizes.credits net v.unit (told_of us v (us a)) (first n (us v.unit)) (done_of x view (known_of net us a v)) → AreSent net sizes ws a (told_at net us a) (dump_answer net a (us a) n v) (answer_by (control_wires net a sizes).done x view (known_of net us a v))
 sent-answer net sizes us ws a k n v x view e at c w o =
     subst (λ ls. AreSent net sizes ws a (told_at net us a) (send_all (DoneMsg (unit_place net v.unit) n) ls ++ again) ((slice_index_or (map (out_of net) ls) 0 0, wire.Done (done_of x view (known_of net us a v))) ∷ more)) (sym e)
@@ -179,7 +179,7 @@ pub record Raised (net : Net) (bits u : ℕ) (before g : History) : Type 0 where
   pub inits : Each (λ c. IsRaised window (last c before) (last c g)) (choices_of net u Init)
 
 -- Of a unit of which the history `before` was told, the dump tells the history g.
-pub record Tells (net : Net) (sizes : Sizes) (v : Served) (before g : History) (d : Dump) : Type 0 where
+pub record Tells (net : Net) (sizes : Sizes) (v : ServedUnit) (before g : History) (d : Dump) : Type 0 where
   pub dump : IsDumpOf net sizes v.unit g d
   pub unwraps : Unwraps
   pub few : length (data_channels net v.unit) ≤ 8
@@ -194,7 +194,7 @@ pub record Tells (net : Net) (sizes : Sizes) (v : Served) (before g : History) (
 
 -- What is unwrapped are the numbers of the unit.
 
-pub numbers-are : (net : Net) (sizes : Sizes) (v : Served) (before g : History) (d : Dump) (waits again : Bool) → Unwraps → IsDumpOf net sizes v.unit g d → Raised net sizes.bits v.unit before g
+pub numbers-are : (net : Net) (sizes : Sizes) (v : ServedUnit) (before g : History) (d : Dump) (waits again : Bool) → Unwraps → IsDumpOf net sizes v.unit g d → Raised net sizes.bits v.unit before g
     → numbers_told sizes.bits d (known_by net v before waits again) ≡ numbers_after net v.unit g
 numbers-are net sizes v before g d waits again u o r =
     let n = ap (λ (w : Wid). unwrapped sizes.bits (id before) w.raw) o.id ∙ raised-unwraps u sizes.bits r.window (id before) (id g) r.apart r.id in
@@ -204,7 +204,7 @@ numbers-are net sizes v before g d waits again u o r =
     ∙ each-unwraps u sizes.bits r.window 8 8 r.apart (λ c. last c before) (λ c. last c g) (data_channels net v.unit) r.lasts in
     λ i. record { id = n i; cpu = c i; last = l i }
 
-has-ids : (net : Net) (sizes : Sizes) (v : Served) (before g : History) (d : Dump) → Tells net sizes v before g d → has_wids sizes.bits d ≡ true
+has-ids : (net : Net) (sizes : Sizes) (v : ServedUnit) (before g : History) (d : Dump) → Tells net sizes v before g d → has_wids sizes.bits d ≡ true
 has-ids net sizes v before g d t = and_from _ _ (ap (is_wid sizes.bits) t.dump.id ∙ is-wid sizes.bits (id g))
     (and_from _ _ (ap (is_wid sizes.bits) t.dump.cpu ∙ is-wid sizes.bits (cpu_last net v.unit g)) (ap (list_all (is_wid sizes.bits)) t.dump.last ∙ all-wids sizes.bits (eight (lasts net v.unit g))))
 
@@ -223,7 +223,7 @@ one-small : (top : ℕ) (f : ℕ → ℕ) → ((c : ℕ) → f c ≤ top) → (o
 one-small top f s None = omega arith
 one-small top f s (Some c) = s c
 
-has-rooms : (net : Net) (sizes : Sizes) (v : Served) (before g : History) (d : Dump) (waits again : Bool) → Tells net sizes v before g d → has_rooms sizes.bits (known_by net v before waits again) ≡ true
+has-rooms : (net : Net) (sizes : Sizes) (v : ServedUnit) (before g : History) (d : Dump) (waits again : Bool) → Tells net sizes v before g d → has_rooms sizes.bits (known_by net v before waits again) ≡ true
 has-rooms net sizes v before g d waits again t = and_from _ _ (small-room sizes.bits (id before) (id before) t.room (omega arith))
     (and_from _ _ (small-room sizes.bits (id before) (cpu_last net v.unit before) t.room (one-small (id before) (λ c. last c before) t.small (slice_get (choices_of net v.unit Init) 0)))
     (each-room sizes.bits (id before) 8 8 t.room (λ c. last c before) t.small (data_channels net v.unit)))
@@ -240,7 +240,7 @@ reached-is : (net : Net) (u : ℕ) (g : History) → length (data_channels net u
 reached-is net u g few = ap (λ n. fold min (id g) (take n (eight (lasts net u g)))) (sym (length-map (data_channels net u) (λ c. last c g)))
     ∙ ap (fold min (id g)) (fits-eight (lasts net u g) (few-lasts net u g few)).1
 
-pub answered-is : (net : Net) (sizes : Sizes) (v : Served) (before g : History) (d : Dump) (waits again : Bool) → Tells net sizes v before g d
+pub answered-is : (net : Net) (sizes : Sizes) (v : ServedUnit) (before g : History) (d : Dump) (waits again : Bool) → Tells net sizes v before g d
     → answered (numbers_told sizes.bits d (known_by net v before waits again)) (known_by net v before waits again) ≡ known_by net v g again false
 answered-is net sizes v before g d waits again t = ap (λ n. answered n (known_by net v before waits again)) (numbers-are net sizes v before g d waits again t.unwraps t.dump t.raised)
     ∙ (let l = last-is net v.unit g t.few in let u = ap (max (upto_of net v.unit before)) (reached-is net v.unit g t.few) ∙ max-is (upto_of net v.unit before) (upto_of net v.unit g) t.rises in
@@ -249,7 +249,7 @@ answered-is net sizes v before g d waits again t = ap (λ n. answered n (known_b
     max-is : (a b : ℕ) → a ≤ b → max a b ≡ b
     max-is a b p = omega (arith, p)
 
-pub done-is : (net : Net) (sizes : Sizes) (v : Served) (before g : History) (d : Dump) (waits again : Bool) → Tells net sizes v before g d
+pub done-is : (net : Net) (sizes : Sizes) (v : ServedUnit) (before g : History) (d : Dump) (waits again : Bool) → Tells net sizes v before g d
     → IsDoneOf sizes.credits net v.unit before g (done_of (numbers_told sizes.bits d (known_by net v before waits again)) d.view (known_by net v before waits again))
 done-is net sizes v before g d waits again t = subst (λ n. IsDoneOf sizes.credits net v.unit before g (done_of n d.view (known_by net v before waits again))) (sym (numbers-are net sizes v before g d waits again t.unwraps t.dump t.raised))
     (let u = reached-is net v.unit g t.few in record {
@@ -262,17 +262,17 @@ done-is net sizes v before g d waits again t = subst (λ n. IsDoneOf sizes.credi
           (λ k l m. ap (λ y. (k, y)) (t.reads k l (omega (arith, l, m))));
     })
 
-sized : (net : Net) (sizes : Sizes) (v : Served) (g : History) (d : Dump) → IsDumpOf net sizes v.unit g d → is_sized sizes.ring d.view ≡ true
+sized : (net : Net) (sizes : Sizes) (v : ServedUnit) (g : History) (d : Dump) → IsDumpOf net sizes v.unit g d → is_sized sizes.ring d.view ≡ true
 sized net sizes v g d x = let n = mod_below (number (calls (data_channels net v.unit) g)) (length d.view.slots) (let s = x.shown.some in omega (arith, s)) in
     and_from _ _ (lt-ltb d.view.at (length d.view.slots) (subst (λ a. a < length d.view.slots) (sym x.shown.at) n)) (eq-eqb (length d.view.slots) sizes.ring x.size)
 
-read-is : (net : Net) (sizes : Sizes) (v : Served) (before g : History) (d : Dump) (waits again : Bool) → Tells net sizes v before g d → waits ≡ true
+read-is : (net : Net) (sizes : Sizes) (v : ServedUnit) (before g : History) (d : Dump) (waits again : Bool) → Tells net sizes v before g d → waits ≡ true
     → is_read sizes.ring (numbers_after net v.unit g) d.view (known_by net v before waits again) ≡ true
 read-is net sizes v before g d waits again t w = and_from _ _ w (and_from _ _ (sized net sizes v g d t.dump)
     (ap (λ n. list_all (is_readable d.view (id g)) (span (upto_of net v.unit before) n)) (reached-is net v.unit g t.few)
     ∙ all-above (is_readable d.view (id g)) (upto_of net v.unit before) (upto_of net v.unit g - upto_of net v.unit before)
     (λ k l m. readable-live d.view (id g) k (let x = t.near k l in let y = t.dump.size in omega (arith, x, y)) (t.live k l (omega (arith, l, m))))))
 
-pub taken-is : (net : Net) (sizes : Sizes) (v : Served) (before g : History) (d : Dump) (waits again : Bool) → Tells net sizes v before g d → waits ≡ true → is_taken (lengths sizes) d (known_by net v before waits again) ≡ true
+pub taken-is : (net : Net) (sizes : Sizes) (v : ServedUnit) (before g : History) (d : Dump) (waits again : Bool) → Tells net sizes v before g d → waits ≡ true → is_taken (lengths sizes) d (known_by net v before waits again) ≡ true
 taken-is net sizes v before g d waits again t w = and_from _ _ (has-ids net sizes v before g d t) (and_from _ _ (has-rooms net sizes v before g d waits again t)
     (ap (λ n. is_read sizes.ring n d.view (known_by net v before waits again)) (numbers-are net sizes v before g d waits again t.unwraps t.dump t.raised) ∙ read-is net sizes v before g d waits again t w))

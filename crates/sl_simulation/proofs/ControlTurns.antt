@@ -12,7 +12,7 @@ use Rattle.sl_ids.specs.Ids.{most_bits, modulus}
 use Rattle.sl_layout.specs.declared.actor.ActorId.TheVariants.{Control}
 use Rattle.sl_layout.specs.declared.actor.Sort.TheVariants.{Init, Poll, Notice, Dump, Begin}
 use Rattle.sl_layout.specs.Net.{Net, nobody, actor_of, link_of, link_at, links_into, links_out, action_choice, data_channels}
-use Rattle.sl_layout.specs.Serving.{Served, serving, served}
+use Rattle.sl_layout.specs.Serving.{ServedUnit, serving, served}
 use Rattle.sl_net.specs.Wired.{IsWired, receives}
 use Rattle.sl_saves.specs.declared.entry.View.{View}
 use Rattle.sl_saves.specs.Views.{IsShown, IsLive, held_saved, read}
@@ -104,7 +104,7 @@ take-dump net sizes us ws a c n step d z q t b f e p = record {
       (λ l m. answer-one net sizes us ws a step.choice c l n step d z q t m (f l m)))));
 }
   where
-    answer : Served → List Put
+    answer : ServedUnit → List Put
     answer v = if step.choice == v.dump then dump_answer net a (us a) n v else []
 
     out : Known → List (ℕ × Msg)
@@ -112,7 +112,7 @@ take-dump net sizes us ws a c n step d z q t b f e p = record {
 
 -- The sweep.
 
-swept-is : (net : Net) (us : ℕ → History) (a : ℕ) (vs : List Served) → is_swept_by (map (known_of net us a) vs) ≡ list_all (λ v. is_outstanding v (us a) && is_again (action_choice net a) v (us a)) vs
+swept-is : (net : Net) (us : ℕ → History) (a : ℕ) (vs : List ServedUnit) → is_swept_by (map (known_of net us a) vs) ≡ list_all (λ v. is_outstanding v (us a) && is_again (action_choice net a) v (us a)) vs
 swept-is net us a [] = refl
 swept-is net us a (v ∷ vs) = ap (λ b. (is_outstanding v (us a) && is_again (action_choice net a) v (us a)) && b) (swept-is net us a vs)
 

@@ -5,7 +5,7 @@ use Rattle.std.specs.List.{fold}
 use Rattle.std.proofs.lemmas.Bool.{lt-ltb, le-ltb, ltb-true, cases_Bool, ne_eqb}
 use Rattle.sl_layout.specs.declared.actor.Sort.TheVariants.{Init}
 use Rattle.sl_layout.specs.Net.{Net, choices_of, data_channels}
-use Rattle.sl_layout.specs.Serving.{Served}
+use Rattle.sl_layout.specs.Serving.{ServedUnit}
 use Rattle.sl_control.specs.declared.known.Known.{Known}
 use Rattle.sl_control.specs.Control.{asked}
 use Rattle.sl_control.specs.Wires.{unit_wires, unheard}
@@ -22,7 +22,7 @@ use Rattle.sl_model.specs.Polls.{IsAsked}
 use Rattle.sl_simulation.specs.ControlImage.{known_by}
 
 -- what is known of a unit with the history g after the history h of its control plane
-abbrev pub seen : Net → ℕ → Served → History → History → Known
+abbrev pub seen : Net → ℕ → ServedUnit → History → History → Known
 seen net sweep v h g = known_by net v (first (dumped v.dump h) g) (is_outstanding v h) (is_again sweep v h)
 
 -- At first nothing is known.
@@ -51,7 +51,7 @@ no-cpu : (o : Option ℕ) → unwrap_or (option_map (λ c. last c []) o) 0 ≡ 0
 no-cpu None = refl
 no-cpu (Some c) = refl
 
-pub unheard-is : (net : Net) (sweep : ℕ) (v : Served) → seen net sweep v [] [] ≡ unheard (unit_wires net v)
+pub unheard-is : (net : Net) (sweep : ℕ) (v : ServedUnit) → seen net sweep v [] [] ≡ unheard (unit_wires net v)
 unheard-is net sweep v = λ i. record {
   wires = unit_wires net v;
   id = 0;
@@ -80,7 +80,7 @@ on-some l (p ∷ ps) = by_bool (p.link == l) (on-some l ps)
 polls : (l : ℕ) (s : Step) (h : History) (ms : List Message) → on_link l s.puts ≡ ms → length (put l (s ∷ h)) ≡ length (put l h) + length ms
 polls l s h ms q = ap (λ ns. length (put l h ++ ns)) q ∙ length-append (put l h) ms
 
-again-by : (sweep : ℕ) (v : Served) (s : Step) (h : History) (ms : List Message) → on_link v.poll s.puts ≡ ms
+again-by : (sweep : ℕ) (v : ServedUnit) (s : Step) (h : History) (ms : List Message) → on_link v.poll s.puts ≡ ms
     → is_again sweep v (s ∷ h) ≡ (if some ms then false else asks sweep v s.choice s.taken || is_again sweep v h)
 again-by sweep v s h ms q = ap (λ b. if b then false else asks sweep v s.choice s.taken || is_again sweep v h) (on-some v.poll s.puts ∙ ap some q)
 
@@ -92,7 +92,7 @@ dumped-same c s h ne = ap (λ b. if b then unwrap_or (option_and_then dump_of s.
 
 -- Nothing of this unit.
 
-pub still : (net : Net) (sweep : ℕ) (v : Served) (s : Step) (h g : History) → (s.choice ≡ v.dump → ⊥) → asks sweep v s.choice s.taken ≡ false → on_link v.poll s.puts ≡ [] → seen net sweep v (s ∷ h) g ≡ seen net sweep v h g
+pub still : (net : Net) (sweep : ℕ) (v : ServedUnit) (s : Step) (h g : History) → (s.choice ≡ v.dump → ⊥) → asks sweep v s.choice s.taken ≡ false → on_link v.poll s.puts ≡ [] → seen net sweep v (s ∷ h) g ≡ seen net sweep v h g
 still net sweep v s h g d n p =
     let t : taken v.dump (s ∷ h) ≡ taken v.dump h = taken-same v.dump s h d in
     let l : length (put v.poll (s ∷ h)) ≡ length (put v.poll h) = ap (λ ms. length (put v.poll h ++ ms)) p ∙ ap length (append-nil (put v.poll h)) in
@@ -105,7 +105,7 @@ still net sweep v s h g d n p =
 poll-there : (l : ℕ) → on_link l (send PollMsg l ∷ []) ≡ PollMsg ∷ []
 poll-there l = ap (λ b. cond b (PollMsg ∷ []) []) (eq-eqb l l refl)
 
-pub asked-is : (net : Net) (sweep : ℕ) (v : Served) (s : Step) (h g : History) → (s.choice ≡ v.dump → ⊥) → asks sweep v s.choice s.taken ≡ true → on_link v.poll s.puts ≡ on_link v.poll (poll_puts v h) → IsAsked v h
+pub asked-is : (net : Net) (sweep : ℕ) (v : ServedUnit) (s : Step) (h g : History) → (s.choice ≡ v.dump → ⊥) → asks sweep v s.choice s.taken ≡ true → on_link v.poll s.puts ≡ on_link v.poll (poll_puts v h) → IsAsked v h
     → seen net sweep v (s ∷ h) g ≡ asked (seen net sweep v h g)
 asked-is net sweep v s h g d n p b = by_waits (cases_Bool (is_outstanding v h))
   where
@@ -133,10 +133,10 @@ asked-is net sweep v s h g d n p b = by_waits (cases_Bool (is_outstanding v h))
 
 -- A dump of this unit.
 
-abbrev pub polled : Bool → Served → List Put
+abbrev pub polled : Bool → ServedUnit → List Put
 polled b v = if b then send PollMsg v.poll ∷ [] else []
 
-pub dumped-is : (net : Net) (sweep : ℕ) (v : Served) (s : Step) (h g : History) (n : ℕ) → s.choice ≡ v.dump → s.taken ≡ Some (DumpMsg n) → on_link v.poll s.puts ≡ on_link v.poll (polled (is_again sweep v h) v) → is_outstanding v h ≡ true → IsAsked v h
+pub dumped-is : (net : Net) (sweep : ℕ) (v : ServedUnit) (s : Step) (h g : History) (n : ℕ) → s.choice ≡ v.dump → s.taken ≡ Some (DumpMsg n) → on_link v.poll s.puts ≡ on_link v.poll (polled (is_again sweep v h) v) → is_outstanding v h ≡ true → IsAsked v h
     → seen net sweep v (s ∷ h) g ≡ known_by net v (first n g) (is_again sweep v h) false
 dumped-is net sweep v s h g n d m p o b = by_again (cases_Bool (is_again sweep v h))
   where

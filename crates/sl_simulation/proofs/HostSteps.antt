@@ -20,7 +20,7 @@ use Rattle.sl_model.specs.declared.message.Message.TheVariants.{Host as HostMsg}
 use Rattle.sl_model.specs.declared.message.Step.{Step}
 use Rattle.sl_model.specs.Fit.{fits, fits_link}
 use Rattle.sl_model.specs.History.{World, Losses, history, taken}
-use Rattle.sl_model.specs.Made.{Ran}
+use Rattle.sl_model.specs.Made.{IsFifoRun}
 use Rattle.sl_model.specs.Puts.{send_all, action, puts_of}
 use Rattle.sl_model.specs.Setup.{Setup, frames_of}
 use Rattle.sl_model.specs.World.{Entry, next_step, step_by, acting, turn, world}
@@ -45,7 +45,7 @@ frame-fits : (m : Message) → fits ToHost m ≡ true → (b : List ℕ) × (m �
 frame-fits (HostMsg b) q = (b, refl)
 frame-fits _ q = absurd cc
 
-comes-frame : TakesTurns → (s : Setup) (lost : Losses) (w : World) (a i : ℕ) (step : Step) → IsWired s.net → Ran s lost w → actor_of s.net a ≡ OfHost i → (t : Takes s lost w a step) → (b : List ℕ) × (t.took.message ≡ HostMsg b)
+comes-frame : TakesTurns → (s : Setup) (lost : Losses) (w : World) (a i : ℕ) (step : Step) → IsWired s.net → IsFifoRun s lost w → actor_of s.net a ≡ OfHost i → (t : Takes s lost w a step) → (b : List ℕ) × (t.took.message ≡ HostMsg b)
 comes-frame turns s lost w a i step z r q t = frame-fits t.took.message (ap (λ k. fits k t.took.message) (sym sort) ∙ fit)
   where
     into : IsInto s.net a t.took.link

@@ -33,7 +33,7 @@ use Rattle.sl_model.specs.declared.message.Message.{Message}
 use Rattle.sl_model.specs.declared.message.Message.TheVariants.{Host, Data, Probe, Init, Poll, Notice, Dump as DumpMsg, Begin, Done as DoneMsg}
 use Rattle.sl_model.specs.declared.message.Step.{Step}
 use Rattle.sl_model.specs.Puts.{puts_of}
-use Rattle.sl_model.specs.Made.{Ran}
+use Rattle.sl_model.specs.Made.{IsFifoRun}
 use Rattle.sl_model.specs.Brought.{IsBrought}
 use Rattle.sl_simulation.specs.Simulates.{Simulates}
 use Rattle.sl_simulation.specs.Messages.{IsDoneOf, IsMessage, AreSent}
@@ -111,7 +111,7 @@ done-elsewhere place unit n ne = by_tells (eqb_tells place unit)
     by_tells (inr q) = ap (λ b. if b then Some n else None) q.0
 
 -- a Done of a unit comes by the choice of its device, or tells what is known already
-by-device : (s : Setup) (lost : Losses) (w v : World) (step : Step) (u n : ℕ) (i : UnitId) → AreReported s → (z : IsWired s.net) → Ran s lost w → Ran s lost v → GrowsAt w v 0 step → actor_of s.net u ≡ OfUnit i
+by-device : (s : Setup) (lost : Losses) (w v : World) (step : Step) (u n : ℕ) (i : UnitId) → AreReported s → (z : IsWired s.net) → IsFifoRun s lost w → IsFifoRun s lost v → GrowsAt w v 0 step → actor_of s.net u ≡ OfUnit i
     → step.taken ≡ Some (DoneMsg (unit_place s.net u) n) → (known (unit_place s.net u) (observer v) ≡ n) × ((device_of (actor_of s.net u) ≡ step.choice) ⊎ (known (unit_place s.net u) (observer w) ≡ n))
 by-device s lost w v step u n i reported z r k g q e = (now, by_tells (eqb_tells step.choice (choice_of s.net (z.reports u i q).done)))
   where

@@ -37,7 +37,7 @@ use Rattle.sl_parts.specs.Lists.{Each}
 use Rattle.sl_parts.proofs.Lists.{each-from_all}
 use Rattle.sl_net.specs.Wired.{IsWired}
 use Rattle.sl_unit.specs.declared.registers.Channel.{Channel}
-use Rattle.sl_unit.specs.declared.registers.Reading.{Reading}
+use Rattle.sl_unit.specs.declared.registers.RelativeStamp.{RelativeStamp}
 use Rattle.sl_unit.specs.Registers.{Registers, last_on, read_on, rise, age, is_near}
 use Rattle.sl_unit.specs.Made.{port_of, version_on, version_of, exits_of, entrance_by, entrances_of}
 use Rattle.sl_model.specs.History.{History, id, last}
@@ -218,7 +218,7 @@ ReadsFrames = (bits : ℕ) (bytes : List ℕ) (v : ℕ) (h : Header) (p : Packet
 
 -- Stamps.
 
-abbrev pub reading : ℕ → ℕ → ℕ → ℕ → Reading
+abbrev pub reading : ℕ → ℕ → ℕ → ℕ → RelativeStamp
 reading bits l i k = record { stamp = wid bits k; ahead = k - l; lead = i - l }
 
 pub reads : Distances → (bits window c k : ℕ) (h : History) (ch : Channel) (r : Registers) → window < modulus bits → IsTakeable window c h k → last_on ch r ≡ wid bits (last c h) → r.id ≡ wid bits (id h)

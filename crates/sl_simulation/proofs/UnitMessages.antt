@@ -25,7 +25,7 @@ use Rattle.sl_wire.specs.Sizes.{Sizes, sizes_of}
 use Rattle.sl_wire.specs.Frames.{carried_header, probe_header, plain_header, no_packet}
 use Rattle.sl_wire.specs.Carried.{framed}
 use Rattle.sl_ids.specs.Wids.{wid}
-use Rattle.sl_unit.specs.declared.registers.Reading.{Reading}
+use Rattle.sl_unit.specs.declared.registers.RelativeStamp.{RelativeStamp}
 use Rattle.sl_unit.specs.Wires.{Wires, port_to}
 use Rattle.sl_unit.specs.Registers.{Registers, more, is_near, dump_of, after_stamp, after_data, counted as counted_by}
 use Rattle.sl_layout.specs.Devices.{device_of}
@@ -127,7 +127,7 @@ pub record Ends (net : Net) (table : Snapshot) (u : ℕ) (i : UnitId) (us : ℕ 
   pub sent : AreSent net (sizes_of table) us u told ps after.puts
 
 -- its notice
-pub noticed : Links → (net : Net) (sizes : Sizes) (us : ℕ → History) (told : ℕ → ℕ) (u before k : ℕ) (s : UnitState) (x : Reading) → s.wires.exits ≡ exits_of net u → before ≤ k → x.ahead ≡ k - before
+pub noticed : Links → (net : Net) (sizes : Sizes) (us : ℕ → History) (told : ℕ → ℕ) (u before k : ℕ) (s : UnitState) (x : RelativeStamp) → s.wires.exits ≡ exits_of net u → before ≤ k → x.ahead ≡ k - before
     → AreSent net sizes us u told (notice_puts net u before (Some k)) (notices s x)
 noticed links net sizes us told u before k s x e low q = subst (λ t. AreSent net sizes us u told (notice_puts net u before (Some k)) (if t then [] else send s.wires (All NoticeSort) wire.Notice)) (same (cases_lt before k))
     (sent-unless net sizes us u told (before == k) (send_all NoticeMsg (links_out net u NoticeSort)) (send s.wires (All NoticeSort) wire.Notice) (sort-sent links net sizes us u told NoticeMsg wire.Notice NoticeSort s.wires e refl))
@@ -137,7 +137,7 @@ noticed links net sizes us told u before k s x e low q = subst (λ t. AreSent ne
     same (inr p) = eq-eqb before k (omega (arith, low, p)) ∙ sym (eq-eqb x.ahead 0 (omega (arith, q, p)))
 
 -- a is what the machine makes of the stamp, ps the puts without the notice
-pub stamped-ends : Links → (net : Net) (table : Snapshot) (u : ℕ) (i : UnitId) (us : ℕ → History) (told : ℕ → ℕ) (h : History) (ps : List Put) (before k : ℕ) (s : UnitState) (x : Reading) (a : After Registers Msg)
+pub stamped-ends : Links → (net : Net) (table : Snapshot) (u : ℕ) (i : UnitId) (us : ℕ → History) (told : ℕ → ℕ) (h : History) (ps : List Put) (before k : ℕ) (s : UnitState) (x : RelativeStamp) (a : After Registers Msg)
     → s.wires.exits ≡ exits_of net u → before ≤ k → x.ahead ≡ k - before → is_near s.window x ≡ true
     → IsUnitOf net table u i h (record s { registers = a.state }) → AreSent net (sizes_of table) us u told ps a.puts
     → Ends net table u i us told h (ps ++ (notice_puts net u before (Some k) ++ [])) (stamped s x a)
@@ -171,7 +171,7 @@ abbrev pub state_at : Net → Snapshot → ℕ → ℕ → Side → History → 
 state_at net table u d side h saved = record { wires = wires_at net u d side table; window = table.window; credits = table.credits; registers = regs_at net table.width u d side h saved }
 
 -- how the unit reads the stamp k of the choice c
-abbrev pub reading_at : Snapshot → ℕ → ℕ → History → Reading
+abbrev pub reading_at : Snapshot → ℕ → ℕ → History → RelativeStamp
 reading_at table c k h = reading table.width (last c h) (id h) k
 
 -- an adoption is by no more than a ring has slots

@@ -28,7 +28,7 @@ use Rattle.sl_saves.proofs.Rings.{length-credited, ring-adopt, ring-credit}
 use Rattle.sl_ids.specs.declared.wid.Wid.{Wid}
 use Rattle.sl_wire.specs.Sizes.{Sizes}
 use Rattle.sl_unit.specs.declared.registers.Channel.TheVariants.{Cpu, Upstream}
-use Rattle.sl_unit.specs.declared.registers.Reading.{Reading}
+use Rattle.sl_unit.specs.declared.registers.RelativeStamp.{RelativeStamp}
 use Rattle.sl_unit.specs.Registers.{Registers, rise, age, more, adopted, credited, seen, counted, after_stamp, after_data}
 use Rattle.sl_model.specs.declared.message.Message.TheVariants.{Data, Probe as ProbeMsg, Init as InitMsg}
 use Rattle.sl_model.specs.declared.message.Put.{Put}
@@ -216,7 +216,7 @@ module _ (net : Net) (sizes : Sizes) (u l k : ℕ) (h : History) (b e n : ℕ) (
   abbrev now : Registers
   now = regs net sizes.bits u h b e n saved
 
-  abbrev read : Reading
+  abbrev read : RelativeStamp
   read = reading sizes.bits l (id h) k
 
   abbrev adopting : Registers

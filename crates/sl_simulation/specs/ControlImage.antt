@@ -12,7 +12,7 @@ use Rattle.sl_ids.specs.Ids.{modulus}
 use Rattle.sl_machine.specs.Machine.{After}
 use Rattle.sl_layout.specs.declared.actor.Sort.TheVariants.{Dump}
 use Rattle.sl_layout.specs.Net.{Net, units, action_choice}
-use Rattle.sl_layout.specs.Serving.{Served, choice_from, served}
+use Rattle.sl_layout.specs.Serving.{ServedUnit, choice_from, served}
 use Rattle.sl_wire.specs.declared.message.Msg.{Msg}
 use Rattle.sl_wire.specs.Sizes.{Sizes}
 use Rattle.sl_control.specs.declared.known.Known.{Known}
@@ -31,7 +31,7 @@ use Rattle.sl_simulation.specs.Messages.{eight}
 use Rattle.sl_simulation.specs.Simulates.{Simulates, ActSimulates}
 
 -- what is known of a unit of which the history g was told
-abbrev pub known_by : Net → Served → History → Bool → Bool → Known
+abbrev pub known_by : Net → ServedUnit → History → Bool → Bool → Known
 known_by net v g waits again = record {
   wires = unit_wires net v;
   id = id g;
@@ -42,7 +42,7 @@ known_by net v g waits again = record {
   again = again;
 }
 
-abbrev pub known_of : Net → (ℕ → History) → ℕ → Served → Known
+abbrev pub known_of : Net → (ℕ → History) → ℕ → ServedUnit → Known
 known_of net us a v = known_by net v (told_of us v (us a)) (is_outstanding v (us a)) (is_again (action_choice net a) v (us a))
 
 pub record IsControlOf (net : Net) (sizes : Sizes) (us : ℕ → History) (a : ℕ) (m : ControlState) : Type 0 where
@@ -65,7 +65,7 @@ pub record GrowsBy (us ws : ℕ → History) (a : ℕ) (step : Step) : Type 0 wh
 
 -- a dump of the unit that tells its first n steps: a poll is outstanding, what it tells lies within the window above what is known, and the
 -- known id leaves room for a wrapped one
-pub record IsAwaited (net : Net) (sizes : Sizes) (window : ℕ) (us : ℕ → History) (a n : ℕ) (v : Served) : Type 0 where
+pub record IsAwaited (net : Net) (sizes : Sizes) (window : ℕ) (us : ℕ → History) (a n : ℕ) (v : ServedUnit) : Type 0 where
   pub waits : is_outstanding v (us a) ≡ true
   pub brought : IsBrought net window v.unit (us v.unit) (dumped v.dump (us a)) n
   pub room : id (first (dumped v.dump (us a)) (us v.unit)) + modulus sizes.bits < 2 ^ 64

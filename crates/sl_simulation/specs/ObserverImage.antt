@@ -85,7 +85,7 @@ account_of x = record { id = x.id; last = take x.channels x.last; floor = x.floo
 abbrev pub seen_by : Net → World → ℕ → Seen
 seen_by net w u = record { id = id (collected net w u); last = eight (lasts net u (collected net w u)); floor = unit_floor net w u }
 
--- the rows are those of the unit's next numbers, at most as many as a ring holds, and the last of them is the number that the report says
+-- the rows are those of the unit's next numbers, at most as many as a ring holds, and the last of them is the number that the Done says
 -- the unit and its data channels have reached
 pub record IsNextReport (ring : ℕ) (x : UnitState) (d : Done) : Type 0 where
   pub next : is_next ring x d ≡ true

@@ -22,7 +22,7 @@ use Rattle.sl_unit.specs.declared.wires.Entrance.TheVariants.{Host, Cable, Cross
 use Rattle.sl_unit.specs.declared.wires.Way.{Way}
 use Rattle.sl_unit.specs.declared.wires.Way.TheVariants.{All, Toward}
 use Rattle.sl_unit.specs.declared.registers.Channel.TheVariants.{Cpu, Upstream}
-use Rattle.sl_unit.specs.declared.registers.Reading.{Reading}
+use Rattle.sl_unit.specs.declared.registers.RelativeStamp.{RelativeStamp}
 use Rattle.sl_unit.specs.Wires.{Wires, is_out, no_exit, port_to}
 use Rattle.sl_unit.specs.Registers.{Registers, more, counted, is_near, after_stamp, after_data, dump_of}
 use Rattle.sl_unit.specs.Step.{UnitState, send, data_frame, probe_frame, onward, routed, passed, probed, initiated, absorbed, stamped, read, plain_packet, from_host, of_host, by_cable, by_crossbar, by_init, of_frame, take_at}
@@ -126,7 +126,7 @@ probed_fit : (w : Wires) (own : Bool) (r : Registers) → IsFit w (probed w own 
 probed_fit w true r = way_fits w (All sort.Cable) (probe_frame w r) refl
 probed_fit w false r = none_fit w
 
-stamped_fits : (s : UnitState) (x : Reading) (a : After Registers Msg) → IsFit s.wires a.puts → is_fitting (length s.wires.exits) (stamped s x a).puts ≡ true
+stamped_fits : (s : UnitState) (x : RelativeStamp) (a : After Registers Msg) → IsFit s.wires a.puts → is_fitting (length s.wires.exits) (stamped s x a).puts ≡ true
 stamped_fits s x a h = by_bools (is_near s.window x) (x.ahead == 0)
   where
     puts_by : Bool → Bool → After UnitState Msg

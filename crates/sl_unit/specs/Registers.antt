@@ -11,7 +11,7 @@ use Rattle.sl_wire.specs.Wids.{no_wid}
 use Rattle.sl_wire.specs.declared.message.Dump.{Dump}
 use Rattle.sl_unit.specs.declared.registers.Channel.{Channel}
 use Rattle.sl_unit.specs.declared.registers.Channel.TheVariants.{Cpu, Upstream}
-use Rattle.sl_unit.specs.declared.registers.Reading.{Reading}
+use Rattle.sl_unit.specs.declared.registers.RelativeStamp.{RelativeStamp}
 
 -- the id; the last-seen ids of its control plane and of its data channels in order, eight with 0 past them; what it counted; what it
 -- dropped; what it saved
@@ -49,27 +49,27 @@ last_on Cpu r = r.cpu
 last_on (Upstream i) r = slice_index_or r.last i no_wid
 
 -- a stamp is read relative to the last-seen id of its channel: how far it lies above that one, and how far the unit's id does
-abbrev pub read_on : ℕ → Channel → Wid → Registers → Reading
+abbrev pub read_on : ℕ → Channel → Wid → Registers → RelativeStamp
 read_on bits channel stamp r =
     record { stamp = stamp; ahead = distance bits (last_on channel r).raw stamp.raw; lead = distance bits (last_on channel r).raw r.id.raw }
 
 -- by how much a stamp is newer than the id, and by how much it is older
-abbrev pub rise : Reading → ℕ
+abbrev pub rise : RelativeStamp → ℕ
 rise x = x.ahead - x.lead
 
-abbrev pub age : Reading → ℕ
+abbrev pub age : RelativeStamp → ℕ
 age x = x.lead - x.ahead
 
 -- it lies at most the window above the last one on its channel, and at most the window from the id
-abbrev pub is_near : ℕ → Reading → Bool
+abbrev pub is_near : ℕ → RelativeStamp → Bool
 is_near window x = nat_le x.ahead window && (nat_le (rise x) window && nat_le (age x) window)
 
 -- a newer stamp becomes the id, and the counters are saved for it; the ids between are skipped
-abbrev pub adopted : Reading → Registers → Registers
+abbrev pub adopted : RelativeStamp → Registers → Registers
 adopted x r = if nat_lt 0 (rise x) then record r { id = x.stamp; saved = view_adopted (rise x) r.packets r.bytes r.saved } else r
 
 -- a data packet with an older stamp was in flight, and is credited to n saved numbers at most, from the id down
-abbrev pub credited : ℕ → ℕ → Reading → ℕ → Registers → Registers
+abbrev pub credited : ℕ → ℕ → RelativeStamp → ℕ → Registers → Registers
 credited n channel x bytes r =
     if nat_lt 0 (age x) then record r { saved = view_credited n (record { channel = channel; age = age x; bytes = bytes }) r.saved } else r
 
@@ -81,13 +81,13 @@ abbrev pub counted : ℕ → Registers → Registers
 counted bytes r = record r { packets = more r.packets 1; bytes = more r.bytes bytes }
 
 -- after a stamp without data, after a data packet of so many bytes, and after a data packet
-abbrev pub after_stamp : Channel → Reading → Registers → Registers
+abbrev pub after_stamp : Channel → RelativeStamp → Registers → Registers
 after_stamp channel x r = seen channel x.stamp (adopted x r)
 
-abbrev pub after_bytes : ℕ → ℕ → Reading → ℕ → Registers → Registers
+abbrev pub after_bytes : ℕ → ℕ → RelativeStamp → ℕ → Registers → Registers
 after_bytes n channel x bytes r = counted bytes (seen (Upstream channel) x.stamp (credited n channel x bytes (adopted x r)))
 
-abbrev pub after_data : ℕ → ℕ → Reading → Packet → Registers → Registers
+abbrev pub after_data : ℕ → ℕ → RelativeStamp → Packet → Registers → Registers
 after_data n channel x p r = after_bytes n channel x p.len r
 
 abbrev pub dump_of : Registers → Dump

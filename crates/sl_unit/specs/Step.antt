@@ -22,7 +22,7 @@ use Rattle.sl_unit.specs.declared.wires.Way.{Way}
 use Rattle.sl_unit.specs.declared.wires.Way.TheVariants.{All, Toward}
 use Rattle.sl_unit.specs.declared.registers.Channel.{Channel}
 use Rattle.sl_unit.specs.declared.registers.Channel.TheVariants.{Cpu, Upstream}
-use Rattle.sl_unit.specs.declared.registers.Reading.{Reading}
+use Rattle.sl_unit.specs.declared.registers.RelativeStamp.{RelativeStamp}
 use Rattle.sl_unit.specs.Wires.{Wires, entrance_at, outs, port_to}
 use Rattle.sl_unit.specs.Registers.{Registers, more, read_on, is_near, counted, after_stamp, after_data, dump_of}
 
@@ -92,14 +92,14 @@ abbrev pub ignored : UnitState → After UnitState Msg
 ignored s = record { state = s; puts = [] }
 
 -- a notice where the last-seen id changes
-abbrev pub notices : UnitState → Reading → List (ℕ × Msg)
+abbrev pub notices : UnitState → RelativeStamp → List (ℕ × Msg)
 notices s x = if x.ahead == 0 then [] else send s.wires (All NoticeSort) Notice
 
 -- a stamped message, where `a` has the registers after it and its further way
-abbrev pub stamped : UnitState → Reading → After Registers Msg → After UnitState Msg
+abbrev pub stamped : UnitState → RelativeStamp → After Registers Msg → After UnitState Msg
 stamped s x a = if is_near s.window x then record { state = record s { registers = a.state }; puts = a.puts ++ notices s x } else ignored s
 
-abbrev pub read : UnitState → Channel → Wid → Reading
+abbrev pub read : UnitState → Channel → Wid → RelativeStamp
 read s channel stamp = read_on s.wires.bits channel stamp s.registers
 
 -- a frame from the host: a plain one is a data packet without a stamp
@@ -112,10 +112,10 @@ of_host s (Some bytes) = from_host s (plain_packet s.wires.bits bytes)
 of_host s None = ignored s
 
 -- a data packet or a probe from the cable
-abbrev pub cable_data : UnitState → ℕ → Packet → Reading → After UnitState Msg
+abbrev pub cable_data : UnitState → ℕ → Packet → RelativeStamp → After UnitState Msg
 cable_data s i p x = stamped s x (routed s.wires p (after_data s.credits i x p s.registers))
 
-abbrev pub cable_probe : UnitState → ℕ → Reading → After UnitState Msg
+abbrev pub cable_probe : UnitState → ℕ → RelativeStamp → After UnitState Msg
 cable_probe s i x = stamped s x (absorbed (after_stamp (Upstream i) x s.registers))
 
 abbrev pub by_cable : ℕ → UnitState → Kind → Wid → Packet → After UnitState Msg
@@ -124,10 +124,10 @@ by_cable i s Probe stamp p = cable_probe s i (read s (Upstream i) stamp)
 by_cable i s _ stamp p = ignored s
 
 -- a data packet or a probe from an ingress unit
-abbrev pub crossbar_data : UnitState → ℕ → Packet → Reading → After UnitState Msg
+abbrev pub crossbar_data : UnitState → ℕ → Packet → RelativeStamp → After UnitState Msg
 crossbar_data s i p x = stamped s x (passed s.wires p (after_data s.credits i x p s.registers))
 
-abbrev pub crossbar_probe : UnitState → ℕ → Bool → Reading → After UnitState Msg
+abbrev pub crossbar_probe : UnitState → ℕ → Bool → RelativeStamp → After UnitState Msg
 crossbar_probe s i own x = stamped s x (probed s.wires own (after_stamp (Upstream i) x s.registers))
 
 abbrev pub by_crossbar : ℕ → Bool → UnitState → Kind → Wid → Packet → After UnitState Msg
@@ -136,7 +136,7 @@ by_crossbar i own s Probe stamp p = crossbar_probe s i own (read s (Upstream i) 
 by_crossbar i own s _ stamp p = ignored s
 
 -- an initiation
-abbrev pub initiation : UnitState → Reading → After UnitState Msg
+abbrev pub initiation : UnitState → RelativeStamp → After UnitState Msg
 initiation s x = stamped s x (initiated s.wires (after_stamp Cpu x s.registers))
 
 abbrev pub by_init : UnitState → Kind → Wid → Packet → After UnitState Msg

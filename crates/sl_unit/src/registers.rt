@@ -24,7 +24,7 @@ pub enum Channel {
 
 /// A stamp, read relative to the last-seen id of the channel by which it came.
 #[derive(Clone, Copy)]
-pub struct Reading {
+pub struct RelativeStamp {
     /// The stamp.
     pub stamp: Wid,
     /// How far it lies above the last-seen id.
@@ -33,7 +33,7 @@ pub struct Reading {
     pub lead: u16,
 }
 
-impl Reading {
+impl RelativeStamp {
     /// By how much the stamp is newer than the id.
     fn rise(self) -> u16
         ensures { result ≡ rise self }
@@ -140,12 +140,12 @@ impl Registers {
     }
 
     /// Reads a stamp that came on a channel.
-    pub fn read(&self, width: Width, channel: Channel, stamp: Wid) -> Reading
+    pub fn read(&self, width: Width, channel: Channel, stamp: Wid) -> RelativeStamp
         requires { IsChannel channel }
         ensures { result ≡ read_on width.bits channel stamp (registers_of self.now) }
     {
         let last = self.last_on(channel);
-        Reading {
+        RelativeStamp {
             stamp,
             ahead: distance_between(width, last, stamp),
             lead: distance_between(width, last, self.id),
@@ -153,7 +153,7 @@ impl Registers {
     }
 
     /// Adopts a newer stamp, and saves the counters for it.
-    fn adopt(&mut self, reading: Reading)
+    fn adopt(&mut self, reading: RelativeStamp)
         requires near { rise reading ≤ self.old.window }
         ensures registers { registers_of self.new ≡ adopted reading (registers_of self.old) }
         ensures window { self.new.window ≡ self.old.window }
@@ -167,7 +167,7 @@ impl Registers {
     }
 
     /// Credits a data packet whose stamp is older than the id.
-    fn credit(&mut self, channel: u32, reading: Reading, bytes: u16)
+    fn credit(&mut self, channel: u32, reading: RelativeStamp, bytes: u16)
         requires channel { channel < 8 }
         requires near { age reading ≤ self.old.window }
         ensures registers { registers_of self.new
@@ -205,7 +205,7 @@ impl Registers {
     }
 
     /// Takes the stamp of a probe or an initiation.
-    pub fn take_stamp(&mut self, channel: Channel, reading: Reading)
+    pub fn take_stamp(&mut self, channel: Channel, reading: RelativeStamp)
         requires channel { IsChannel channel }
         requires near { rise reading ≤ self.old.window }
         ensures registers { registers_of self.new ≡ after_stamp channel reading
@@ -219,7 +219,7 @@ impl Registers {
 
     /// Takes the stamp of a data packet of so many bytes, and counts the packet.
     #[inline(always)]
-    pub fn take_data(&mut self, channel: u32, reading: Reading, bytes: u16)
+    pub fn take_data(&mut self, channel: u32, reading: RelativeStamp, bytes: u16)
         requires channel { channel < 8 }
         requires above { rise reading ≤ self.old.window }
         requires below { age reading ≤ self.old.window }

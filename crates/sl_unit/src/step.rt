@@ -12,7 +12,7 @@ ghost use Rattle.sl_unit.specs.Room.{registers_of, credits_of, state_of, HasDump
 ghost use Rattle.sl_unit.specs.Notes.{message_of};
 
 use crate::puts::{Note, put_dumps, put_on};
-use crate::registers::{Channel, Reading, Registers};
+use crate::registers::{Channel, Registers, RelativeStamp};
 use crate::wires::{Entrance, Way, Wires};
 use sl_ids::{Wid, Width};
 use sl_machine::Outputs;
@@ -198,7 +198,7 @@ fn take_cable_data(
     wires: &Wires,
     registers: &mut Registers,
     place: u32,
-    reading: Reading,
+    reading: RelativeStamp,
     packet: Packet,
     out: &mut Outputs<Msg>,
 )
@@ -224,7 +224,7 @@ fn take_cable_probe(
     wires: &Wires,
     registers: &mut Registers,
     place: u32,
-    reading: Reading,
+    reading: RelativeStamp,
     out: &mut Outputs<Msg>,
 )
     requires empty { out.old.items ≡ [] }
@@ -298,7 +298,7 @@ fn take_crossbar_data(
     wires: &Wires,
     registers: &mut Registers,
     place: u32,
-    reading: Reading,
+    reading: RelativeStamp,
     packet: &Packet,
     out: &mut Outputs<Msg>,
 )
@@ -339,7 +339,7 @@ fn take_crossbar_probe(
     registers: &mut Registers,
     place: u32,
     own: bool,
-    reading: Reading,
+    reading: RelativeStamp,
     out: &mut Outputs<Msg>,
 )
     requires empty { out.old.items ≡ [] }
@@ -427,7 +427,7 @@ fn initiate(wires: &Wires, registers: &Registers, out: &mut Outputs<Msg>)
 fn take_initiation(
     wires: &Wires,
     registers: &mut Registers,
-    reading: Reading,
+    reading: RelativeStamp,
     out: &mut Outputs<Msg>,
 )
     requires empty { out.old.items ≡ [] }

@@ -8,7 +8,7 @@ use Rattle.std.specs.List.{range_with_len}
 use Rattle.sl_parts.specs.Lists.{Each, Member}
 use Rattle.sl_layout.specs.declared.actor.Sort.TheVariants.{Poll}
 use Rattle.sl_layout.specs.Net.{Net, link_of, links_out, unit_place}
-use Rattle.sl_layout.specs.Serving.{Served, serving, served}
+use Rattle.sl_layout.specs.Serving.{ServedUnit, serving, served}
 use Rattle.sl_net.specs.Wired.{IsWired}
 use Rattle.sl_model.specs.History.{History}
 use Rattle.sl_model.specs.Knowledge.{upto_of, told_of}
@@ -24,7 +24,7 @@ value-above f m k h = let size = length-map-range_with_len f 1 m in
     ap (λ b. cond b None (slice_get (map f (range_with_len 1 m)) (k - 1))) (ne_eqb k 0 (λ e. omega (arith, e, h)))
     ∙ slice_get_past (map f (range_with_len 1 m)) (k - 1) (omega (arith, h, size))
 
-no-entry : (net : Net) (us : ℕ → History) (a place k : ℕ) (vs : List Served) → Each (λ v. unit_place net v.unit ≡ place → ⊥) vs
+no-entry : (net : Net) (us : ℕ → History) (a place k : ℕ) (vs : List ServedUnit) → Each (λ v. unit_place net v.unit ≡ place → ⊥) vs
     → value_in (map (kept_told net us a) vs) place k ≡ None
 no-entry net us a place k [] h = refl
 no-entry net us a place k (v ∷ vs) h =

@@ -13,7 +13,7 @@ use Rattle.sl_parts.specs.Lists.{Each, Member}
 use Rattle.sl_parts.proofs.Lists.{distinct-filter, distinct-from, distinct-map, Distinct, each-map}
 use Rattle.sl_layout.specs.declared.actor.Sort.TheVariants.{Poll as PollSort}
 use Rattle.sl_layout.specs.Net.{Net, link_of, link_numbers, links_from, links_out, same_sort, unit_place}
-use Rattle.sl_layout.specs.Serving.{Served, serving, served}
+use Rattle.sl_layout.specs.Serving.{ServedUnit, serving, served}
 use Rattle.sl_net.specs.Wired.{IsWired}
 use Rattle.sl_wire.specs.declared.message.Dump.{Dump as UnitDump}
 use Rattle.sl_wire.specs.declared.message.Done.{Done as Report}
@@ -217,7 +217,7 @@ turns-hold ws j s (t ∷ ts) h = turns-hold ws j (after_turn value_rules s t).st
 
 -- The first state.
 
-first-aligned : (net : Net) (vs : List Served) → AreAligned (map (λ v. no_values (unit_place net v.unit)) vs) (map (λ v. unheard (unit_wires net v)) vs)
+first-aligned : (net : Net) (vs : List ServedUnit) → AreAligned (map (λ v. no_values (unit_place net v.unit)) vs) (map (λ v. unheard (unit_wires net v)) vs)
 first-aligned net [] = tt
 first-aligned net (v ∷ vs) = (refl, refl, first-aligned net vs)
 
@@ -242,7 +242,7 @@ first-joined net a z = record {
     whole : map (λ (w : UnitWires). w.place) (first_wires net a) ≡ map place (links_out net a PollSort)
     whole = map-map (λ (w : UnitWires). w.place) (λ (r : Known). r.wires) (map (λ v. unheard (unit_wires net v)) (served net a))
         ∙ map-map (λ (r : Known). r.wires.place) (λ v. unheard (unit_wires net v)) (served net a)
-        ∙ map-map (λ (v : Served). unit_place net v.unit) (serving net a) (links_out net a PollSort)
+        ∙ map-map (λ (v : ServedUnit). unit_place net v.unit) (serving net a) (links_out net a PollSort)
 
     one : (l k : ℕ) → Member l (links_out net a PollSort) → Member k (links_out net a PollSort) → place l ≡ place k → l ≡ k
     one l k m n e = let x = joined net a l z m in let y = joined net a k z n in one-link net a l k x y (z.ways.one_unit (link_of net k).to (link_of net l).to y.id y.unit e)
@@ -313,9 +313,9 @@ served-exactly net a sizes ts unit z =
     ∙ map-map (λ (w : UnitWires). w.place) (λ (r : Known). r.wires) (map (λ v. unheard (unit_wires net v)) (served net a)) ∙ map-map (λ (r : Known). r.wires.place) (λ v. unheard (unit_wires net v)) (served net a) in
     let h = there-in unit rs in (
       (λ e. unmap (served net a) (subst (Each (λ p. p ≡ unit → ⊥)) at (h.0 e))),
-      (λ e. h.1 (subst (Each (λ p. p ≡ unit → ⊥)) (sym at) (each-map (λ p. p ≡ unit → ⊥) (λ (v : Served). unit_place net v.unit) (served net a) e))),
+      (λ e. h.1 (subst (Each (λ p. p ≡ unit → ⊥)) (sym at) (each-map (λ p. p ≡ unit → ⊥) (λ (v : ServedUnit). unit_place net v.unit) (served net a) e))),
     )
   where
-    unmap : (vs : List Served) → Each (λ p. p ≡ unit → ⊥) (map (λ v. unit_place net v.unit) vs) → Each (λ v. unit_place net v.unit ≡ unit → ⊥) vs
+    unmap : (vs : List ServedUnit) → Each (λ p. p ≡ unit → ⊥) (map (λ v. unit_place net v.unit) vs) → Each (λ v. unit_place net v.unit ≡ unit → ⊥) vs
     unmap [] h = tt
     unmap (v ∷ vs) h = (h.0, unmap vs h.1)

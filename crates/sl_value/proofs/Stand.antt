@@ -8,7 +8,7 @@ use Rattle.sl_parts.specs.Parts.{below}
 use Rattle.sl_layout.specs.declared.actor.ActorId.{ActorId}
 use Rattle.sl_layout.specs.declared.actor.ActorId.TheVariants.{Observer, Control, Unit as OfUnit, Host as OfHost}
 use Rattle.sl_layout.specs.Net.{Net, actor_of, unit_place}
-use Rattle.sl_layout.specs.Serving.{Served, served}
+use Rattle.sl_layout.specs.Serving.{ServedUnit, served}
 use Rattle.sl_net.specs.Input.{Input}
 use Rattle.sl_unit.specs.Made.{IsRanged}
 use Rattle.sl_wire.specs.declared.message.Msg.{Msg}
@@ -42,7 +42,7 @@ none-told : (net : Net) (u : ℕ) (g : History) → g ≡ [] → values_told net
 none-told net u [] e = let z : upto_of net u [] ≡ 0 = omega (arith, upto-id net u []) in ap (λ n. map (λ k. counted k []) (range_with_len 1 n)) z
 none-told net u (s ∷ g) e = absurd (cc)
 
-start-kept : TakesTurns → (net : Net) (a : ℕ) (vs : List Served) → map (λ v. no_values (unit_place net v.unit)) vs ≡ map (kept_told net (history (start net)) a) vs
+start-kept : TakesTurns → (net : Net) (a : ℕ) (vs : List ServedUnit) → map (λ v. no_values (unit_place net v.unit)) vs ≡ map (kept_told net (history (start net)) a) vs
 start-kept turns net a [] = refl
 start-kept turns net a (v ∷ vs) =
     let x = none-told net v.unit (told_of (history (start net)) v (history (start net) a)) (first-none (dumped v.dump (history (start net) a)) (history (start net) v.unit) (turns.starts net v.unit)) in

@@ -10,7 +10,7 @@ use Rattle.sl_layout.specs.declared.actor.ActorId.TheVariants.{Control, Unit as 
 use Rattle.sl_layout.specs.declared.actor.UnitId.{UnitId}
 use Rattle.sl_layout.specs.declared.actor.Sort.TheVariants.{Poll, Dump}
 use Rattle.sl_layout.specs.Net.{Net, actor_of, link_of, links_into, links_out, choice_of, unit_place, data_channels}
-use Rattle.sl_layout.specs.Serving.{Served, choice_from, serving, served}
+use Rattle.sl_layout.specs.Serving.{ServedUnit, choice_from, serving, served}
 use Rattle.sl_net.specs.Wired.{IsWired, Reports}
 use Rattle.sl_net.specs.Ways.{IsOut}
 use Rattle.sl_saves.specs.declared.entry.View.{View}
@@ -51,7 +51,7 @@ changed-map j g h f [] e = refl
 changed-map j g h f (x ∷ xs) e = let y = e x (inl refl) in let z = changed-map j g h f xs (λ w m. e w (inr m)) in λ i. y i ∷ z i
 
 -- each of those that a control plane serves, by the poll links to them
-pub each-served : (P : Served → Type 0) (net : Net) (a : ℕ) → ((l : ℕ) → Member l (links_out net a Poll) → P (serving net a l)) → Each P (served net a)
+pub each-served : (P : ServedUnit → Type 0) (net : Net) (a : ℕ) → ((l : ℕ) → Member l (links_out net a Poll) → P (serving net a l)) → Each P (served net a)
 each-served P net a f = each-map P (serving net a) (links_out net a Poll) (each-of (λ l. P (serving net a l)) (links_out net a Poll) f)
 
 each-same : {A B C : Type 0} (j : C → C) (g h : B → C) (f : A → B) (xs : List A) → map j (map g (map f xs)) ≡ map h (map f xs) → Each (λ x. j (g (f x)) ≡ h (f x)) xs
@@ -117,7 +117,7 @@ pub record IsReport (sizes : Lengths) (c : ℕ) (d : UnitDump) (g : ℕ → Know
   pub taken : takes_dump sizes c d (g place) ≡ true
   pub is : found ≡ Some (done_of (numbers_told sizes.bits d (g place)) d.view (g place))
 
-find-done : (sizes : Lengths) (out c : ℕ) (d : UnitDump) (h : Served → Known) (f : ℕ → Served) (ks : List ℕ)
+find-done : (sizes : Lengths) (out c : ℕ) (d : UnitDump) (h : ServedUnit → Known) (f : ℕ → ServedUnit) (ks : List ℕ)
     → IsReport sizes c d (λ k. h (f k)) ks (first_done (flat_map (dump_puts sizes out c d) (map h (map f ks))))
     ⊎ ((first_done (flat_map (dump_puts sizes out c d) (map h (map f ks))) ≡ None) × Each (λ k. takes_dump sizes c d (h (f k)) ≡ false) ks)
 find-done sizes out c d h f [] = inr (refl, tt)
@@ -172,9 +172,9 @@ module _ (net : Net) (sizes : Sizes) (us ws : ℕ → History) (a d l n : ℕ) (
       let dumps : IsDumpOf net sizes (link_of net k).to (first n (us (link_of net k).to)) dump =
       subst (λ u. IsDumpOf net sizes u (first n (us u)) dump) (dump-from net a k step.choice l j into e) of in record {
         now = ap (dumped (serving net a k).dump) same ∙ heard-here dump_of (serving net a k).dump n step (us a) e (ap (option_and_then dump_of) taken);
-        brings = each-at (λ (v : Served). step.choice ≡ v.dump → IsBrought net window v.unit (us v.unit) (dumped v.dump (us a)) n) (serving net a k) (served net a) brought here e;
+        brings = each-at (λ (v : ServedUnit). step.choice ≡ v.dump → IsBrought net window v.unit (us v.unit) (dumped v.dump (us a)) n) (serving net a k) (served net a) brought here e;
         dumps = dumps;
-        numbers = each-at (λ (v : Served). step.choice ≡ v.dump → IsDumpOf net sizes v.unit (first n (us v.unit)) dump → numbers_told sizes.bits dump (known_of net us a v) ≡ numbers_after net v.unit (first n (us v.unit)))
+        numbers = each-at (λ (v : ServedUnit). step.choice ≡ v.dump → IsDumpOf net sizes v.unit (first n (us v.unit)) dump → numbers_told sizes.bits dump (known_of net us a v) ≡ numbers_after net v.unit (first n (us v.unit)))
             (serving net a k) (served net a) unwraps here e dumps;
       }
 

@@ -7,7 +7,7 @@ use Rattle.std.specs.Prelude.{◌≡◌, ℕ, ◌<◌, ◌≤◌, List, map, Opt
 use Rattle.std.specs.List.{range_with_len}
 use Rattle.sl_parts.specs.Lists.{Each}
 use Rattle.sl_layout.specs.Net.{Net, unit_place}
-use Rattle.sl_layout.specs.Serving.{Served, served}
+use Rattle.sl_layout.specs.Serving.{ServedUnit, served}
 use Rattle.sl_net.specs.declared.input.Snapshot.{Snapshot}
 use Rattle.sl_model.specs.History.{History, World, history}
 use Rattle.sl_model.specs.Setup.{Setup}
@@ -22,7 +22,7 @@ use Rattle.sl_value.specs.Nodes.{ValueNodeState, plain}
 abbrev pub values_told : Net → ℕ → History → List Whole
 values_told net u g = map (λ k. counted k g) (range_with_len 1 (upto_of net u g))
 
-abbrev pub kept_told : Net → (ℕ → History) → ℕ → Served → UnitValues
+abbrev pub kept_told : Net → (ℕ → History) → ℕ → ServedUnit → UnitValues
 kept_told net us a v = record { unit = unit_place net v.unit; values = values_told net v.unit (told_of us v (us a)) }
 
 abbrev pub AreKept : Net → (ℕ → History) → ℕ → List UnitValues → Type 0

@@ -60,7 +60,7 @@ pub struct Dump {
     pub view: View,
 }
 
-/// A message between actors. Ids on links and in dumps are wrapped; a Begin and a report have whole
+/// A message between actors. Ids on links and in dumps are wrapped; a Begin and a Done have whole
 /// numbers.
 #[derive(Debug, Drop)]
 pub enum Msg {
@@ -77,7 +77,7 @@ pub enum Msg {
     Dump(Boxed<Dump>),
     /// The begin of a snapshot, from the observer to a control plane.
     Begin(u64),
-    /// A report on a unit, from its control plane to the observer.
+    /// A Done on a unit, from its control plane to the observer.
     Done(Boxed<Done>),
 }
 

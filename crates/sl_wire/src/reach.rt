@@ -1,4 +1,4 @@
-// The number that a unit has reached, by what a dump or a report says.
+// The number that a unit has reached, by what a dump or a Done says.
 ghost use Rattle.std.specs.Prelude.{◌≡◌, ◌≤◌, min};
 ghost use Rattle.std.specs.List.{fold};
 ghost use Rattle.sl_wire.specs.Reach.{reached};

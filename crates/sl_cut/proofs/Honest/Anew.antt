@@ -6,7 +6,7 @@ use Rattle.std.specs.Prelude.{true, false, ◌⊎◌, ◌||◌, ◌==◌, cond, 
 use Rattle.std.proofs.lemmas.Bool.Decides.{eqb_tells}
 use Rattle.std.proofs.lemmas.List.{length-map}
 use Rattle.sl_layout.specs.Net.{Net, link_of, link_at, unit_place}
-use Rattle.sl_layout.specs.Serving.{Served}
+use Rattle.sl_layout.specs.Serving.{ServedUnit}
 use Rattle.sl_model.specs.declared.message.Message.{Message}
 use Rattle.sl_model.specs.declared.message.Message.TheVariants.{Dump as DumpMsg, Done as DoneMsg}
 use Rattle.sl_model.specs.declared.message.Put.{Put}
@@ -62,7 +62,7 @@ old-anew tell net l k (Some (DumpMsg n)) = refl
 old-anew tell net l k (Some (DoneMsg place n)) = refl
 old-anew tell net l k (Some _) = refl
 
-asks-anew : (tell : Telling) (net : Net) (l sweep : ℕ) (v : Served) (c : ℕ) (o : Option Message) → asks sweep v c (option_map (anew tell net l) o) ≡ asks sweep v c o
+asks-anew : (tell : Telling) (net : Net) (l sweep : ℕ) (v : ServedUnit) (c : ℕ) (o : Option Message) → asks sweep v c (option_map (anew tell net l) o) ≡ asks sweep v c o
 asks-anew tell net l sweep v c None = refl
 asks-anew tell net l sweep v c (Some (DumpMsg n)) = refl
 asks-anew tell net l sweep v c (Some (DoneMsg place n)) = refl

@@ -22,7 +22,7 @@ use Rattle.sl_model.specs.declared.message.Message.TheVariants.{Host as HostMsg,
 use Rattle.sl_model.specs.History.{History, World, Losses, history, id, last, first, taken, takes, put, on_link}
 use Rattle.sl_model.specs.Setup.{Setup}
 use Rattle.sl_model.specs.Knowledge.{observer, known, floor_of, unit_floor, floor}
-use Rattle.sl_model.specs.Made.{IsMade, Ran, Took, Acted}
+use Rattle.sl_model.specs.Made.{IsMade, IsFifoRun, Took, Acted}
 use Rattle.sl_model.specs.Fit.{fits, fits_link}
 use Rattle.sl_model.specs.Passing.{PassesMessages}
 use Rattle.sl_model.specs.Reported.{AreReported}
@@ -64,7 +64,7 @@ abbrev pub told_in : Setup → World → ℕ → History → History
 told_in s z a h = told_anew (tell_in s.net z) s.net a h
 
 pub record IsAt (s : Setup) (lost : Losses) (z w v : World) : Type 0 where
-  pub ran : Ran s lost w
+  pub ran : IsFifoRun s lost w
   pub same : (a : ℕ) → history v a ≡ told_in s z a (history w a)
   pub grows : (a n : ℕ) → n ≤ length (history w a) → first n (history z a) ≡ first n (history w a)
   pub size : length w ≡ length s.net.actors
@@ -108,7 +108,7 @@ good-received ToHost (HostMsg b) f t e = absurd (t refl)
 good-received _ (HostMsg b) f t e = absurd cc
 good-received sort _ f t e = refl
 
-good-takes : (s : Setup) (lost : Losses) (w : World) (a c l : ℕ) → Laws s lost → Ran s lost w → (receives (actor_of s.net a) FromHost ≡ true → ⊥) → (receives (actor_of s.net a) ToHost ≡ true → ⊥)
+good-takes : (s : Setup) (lost : Losses) (w : World) (a c l : ℕ) → Laws s lost → IsFifoRun s lost w → (receives (actor_of s.net a) FromHost ≡ true → ⊥) → (receives (actor_of s.net a) ToHost ≡ true → ⊥)
     → slice_get (links_into s.net a) c ≡ Some l → Each IsGood (takes c (history w a))
 good-takes s lost w a c l laws r f t k =
     let into = laws.wired.ways.into a c l k in
@@ -118,11 +118,11 @@ good-takes s lost w a c l laws r f t k =
     (each-at (λ m. fits_link s.net l m ≡ true) m (put l (sender s.net w l)) (laws.passes.fits s lost w l r) x))
     (laws.passes.taken s lost w a c l r k)
 
-pub observer-quiet : (s : Setup) (lost : Losses) (w : World) (a : ℕ) → Laws s lost → Ran s lost w → actor_of s.net a ≡ Observer → honest (history w a) ≡ history w a
+pub observer-quiet : (s : Setup) (lost : Losses) (w : World) (a : ℕ) → Laws s lost → IsFifoRun s lost w → actor_of s.net a ≡ Observer → honest (history w a) ≡ history w a
 observer-quiet s lost w a laws r q = quiet s a (history w a) (λ i e. let x = sym q ∙ e in cc) (r.made a)
     (λ c l k. good-takes s lost w a c l laws r (λ e. let x = ap (λ y. receives y FromHost) (sym q) ∙ e in cc) (λ e. let x = ap (λ y. receives y ToHost) (sym q) ∙ e in cc) k)
 
-pub control-quiet : (s : Setup) (lost : Losses) (w : World) (a d : ℕ) → Laws s lost → Ran s lost w → actor_of s.net a ≡ Control d → honest (history w a) ≡ history w a
+pub control-quiet : (s : Setup) (lost : Losses) (w : World) (a d : ℕ) → Laws s lost → IsFifoRun s lost w → actor_of s.net a ≡ Control d → honest (history w a) ≡ history w a
 control-quiet s lost w a d laws r q = quiet s a (history w a) (λ i e. let x = sym q ∙ e in cc) (r.made a)
     (λ c l k. good-takes s lost w a c l laws r (λ e. let x = ap (λ y. receives y FromHost) (sym q) ∙ e in cc) (λ e. let x = ap (λ y. receives y ToHost) (sym q) ∙ e in cc) k)
 

@@ -10,7 +10,7 @@ use Rattle.sl_layout.specs.declared.actor.Side.{Side}
 use Rattle.sl_layout.specs.declared.actor.Side.TheVariants.{Ingress, Egress}
 use Rattle.sl_layout.specs.declared.actor.Sort.TheVariants.{FromHost, Init, Dump, Begin, Done, Poll}
 use Rattle.sl_layout.specs.Net.{Net, actor_of, links_out, action_choice, unit_place, link_of, links_into, choice_of}
-use Rattle.sl_layout.specs.Serving.{Served, served, serving}
+use Rattle.sl_layout.specs.Serving.{ServedUnit, served, serving}
 use Rattle.sl_net.specs.declared.input.Packet.{Packet}
 use Rattle.sl_parts.specs.Lists.{Each}
 use Rattle.sl_parts.proofs.Lists.{each-append, each-imp, each-flat, each-of, each-map}
@@ -63,10 +63,10 @@ fair-dump : (net : Net) (u n : ℕ) (m : Message) → Each IsFair (dump_puts net
 fair-dump net u n PollMsg = fair-all (DumpMsg n) refl (links_out net u Dump)
 fair-dump net u n _ = tt
 
-fair-answer : (net : Net) (a : ℕ) (h : History) (n : ℕ) (v : Served) → Each IsFair (dump_answer net a h n v)
+fair-answer : (net : Net) (a : ℕ) (h : History) (n : ℕ) (v : ServedUnit) → Each IsFair (dump_answer net a h n v)
 fair-answer net a h n v = each-append IsFair _ _ (fair-all (DoneMsg (unit_place net v.unit) n) refl (links_out net a Done)) (fair-if (is_again (action_choice net a) v h) (send PollMsg v.poll ∷ []) [] (refl, tt) tt)
 
-fair-each : (f : Served → List Put) → ((v : Served) → Each IsFair (f v)) → (vs : List Served) → Each IsFair (flat_map f vs)
+fair-each : (f : ServedUnit → List Put) → ((v : ServedUnit) → Each IsFair (f v)) → (vs : List ServedUnit) → Each IsFair (flat_map f vs)
 fair-each f e vs = each-flat IsFair f vs (each-of (λ v. Each IsFair (f v)) vs (λ v m. e v))
 
 fair-control : (net : Net) (a : ℕ) (h : History) (c : ℕ) (m : Message) → Each IsFair (control_puts net a h c m)
@@ -280,7 +280,7 @@ dump-wire net a d c l wired q k = each-map (λ v. c ≡ v.dump → (link_of net 
         let one : l ≡ r.dump = cc in
         ap (λ x. (link_of net x).from) one ∙ r.dump_out.from
 
-flat-same : (f : Put → Put) (x y : Served → List Put) (vs : List Served) → Each (λ v. x v ≡ map f (y v)) vs → flat_map x vs ≡ map f (flat_map y vs)
+flat-same : (f : Put → Put) (x y : ServedUnit → List Put) (vs : List ServedUnit) → Each (λ v. x v ≡ map f (y v)) vs → flat_map x vs ≡ map f (flat_map y vs)
 flat-same f x y [] e = refl
 flat-same f x y (v ∷ vs) e = (λ i. e.0 i ++ flat-same f x y vs e.1 i) ∙ sym (map-append f (y v) (flat_map y vs))
 
@@ -288,11 +288,11 @@ dones-sent : (tell : Telling) (net : Net) (place n : ℕ) (ls : List ℕ) → se
 dones-sent tell net place n [] = refl
 dones-sent tell net place n (l ∷ ls) = ap (λ ps. send (DoneMsg place (tell place n)) l ∷ ps) (dones-sent tell net place n ls)
 
-poll-anew : (tell : Telling) (net : Net) (a : ℕ) (h : History) (v : Served) → poll_puts v (map (anew_step tell net a) h) ≡ map (anew_put tell net) (poll_puts v h)
+poll-anew : (tell : Telling) (net : Net) (a : ℕ) (h : History) (v : ServedUnit) → poll_puts v (map (anew_step tell net a) h) ≡ map (anew_put tell net) (poll_puts v h)
 poll-anew tell net a h v = ap (λ b. if b then [] else send PollMsg v.poll ∷ []) (outstanding-kept (anew_step tell net a) (keeps-anew tell net a) v h)
     ∙ sym (flow-anew tell net (poll_puts v h) (flow-poll v h))
 
-answer-anew : (tell : Telling) (net : Net) (a : ℕ) (h : History) (n : ℕ) (v : Served)
+answer-anew : (tell : Telling) (net : Net) (a : ℕ) (h : History) (n : ℕ) (v : ServedUnit)
     → dump_answer net a (map (anew_step tell net a) h) (tell (unit_place net v.unit) n) v ≡ map (anew_put tell net) (dump_answer net a h n v)
 answer-anew tell net a h n v =
     let dones = send_all (DoneMsg (unit_place net v.unit) n) (links_out net a Done) in
@@ -307,7 +307,7 @@ pub control-anew : (tell : Telling) (net : Net) (a d : ℕ) (h : History) (c l :
 control-anew tell net a d h c l (BeginMsg k) wired q e = sym (flow-anew tell net _ (flow-all (InitMsg k) tt (links_out net a Init)))
 control-anew tell net a d h c l NoticeMsg wired q e = flat-same (anew_put tell net) _ _ (served net a) (each-of _ (served net a) (λ v m. by_bool v (c == v.notice)))
   where
-    by_bool : (v : Served) (b : Bool) → (if b then poll_puts v (map (anew_step tell net a) h) else []) ≡ map (anew_put tell net) (if b then poll_puts v h else [])
+    by_bool : (v : ServedUnit) (b : Bool) → (if b then poll_puts v (map (anew_step tell net a) h) else []) ≡ map (anew_put tell net) (if b then poll_puts v h else [])
     by_bool v true = poll-anew tell net a h v
     by_bool v false = refl
 control-anew tell net a d h c l (DumpMsg n) wired q e = flat-same (anew_put tell net) _ _ (served net a)
@@ -316,7 +316,7 @@ control-anew tell net a d h c l (DumpMsg n) wired q e = flat-same (anew_put tell
     k : ℕ
     k = tell (unit_place net (link_of net l).from) n
 
-    by_tells : (v : Served) → (c ≡ v.dump → (link_of net l).from ≡ v.unit) → ((nat_eq c v.dump ≡ true) × (c ≡ v.dump)) ⊎ ((nat_eq c v.dump ≡ false) × (c ≡ v.dump → ⊥))
+    by_tells : (v : ServedUnit) → (c ≡ v.dump → (link_of net l).from ≡ v.unit) → ((nat_eq c v.dump ≡ true) × (c ≡ v.dump)) ⊎ ((nat_eq c v.dump ≡ false) × (c ≡ v.dump → ⊥))
         → (if c == v.dump then dump_answer net a (map (anew_step tell net a) h) k v else []) ≡ map (anew_put tell net) (if c == v.dump then dump_answer net a h n v else [])
     by_tells v f (inl x) = ap (λ b. if b then dump_answer net a (map (anew_step tell net a) h) k v else []) x.0
         ∙ ap (λ u. dump_answer net a (map (anew_step tell net a) h) (tell (unit_place net u) n) v) (f x.1) ∙ answer-anew tell net a h n v

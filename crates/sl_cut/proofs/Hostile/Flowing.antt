@@ -7,7 +7,7 @@ use Rattle.sl_layout.specs.declared.actor.Side.{Side}
 use Rattle.sl_layout.specs.declared.actor.Side.TheVariants.{Ingress, Egress}
 use Rattle.sl_layout.specs.declared.actor.Sort.TheVariants.{ToHost, Cable, Crossbar, Notice}
 use Rattle.sl_layout.specs.Net.{Net, links_out}
-use Rattle.sl_layout.specs.Serving.{Served}
+use Rattle.sl_layout.specs.Serving.{ServedUnit}
 use Rattle.sl_net.specs.declared.input.Packet.{Packet}
 use Rattle.sl_route.specs.Route.{next_port}
 use Rattle.sl_parts.specs.Lists.{Each}
@@ -68,5 +68,5 @@ pub flow-notice : (net : Net) (u before : ℕ) (o : Option ℕ) → AreFlowing (
 flow-notice net u before None = tt
 flow-notice net u before (Some s) = flow-if (before == s) [] _ tt (flow-all NoticeMsg tt (links_out net u Notice))
 
-pub flow-poll : (v : Served) (h : History) → AreFlowing (poll_puts v h)
+pub flow-poll : (v : ServedUnit) (h : History) → AreFlowing (poll_puts v h)
 flow-poll v h = flow-if (is_outstanding v h) [] (send PollMsg v.poll ∷ []) tt (tt, tt)

@@ -16,7 +16,7 @@ use Rattle.sl_model.specs.Knowledge.{puts_on, asks}
 use Rattle.sl_model.specs.Setup.{Setup, frames_of}
 use Rattle.sl_model.specs.Verdict.{is_old_data}
 use Rattle.sl_model.specs.Cut.{data_count, data_bytes}
-use Rattle.sl_layout.specs.Serving.{Served}
+use Rattle.sl_layout.specs.Serving.{ServedUnit}
 use Rattle.sl_cut.specs.Hostile.{blank, blank_message, blank_put}
 
 abbrev pub blank_raw : RawPart → RawPart
@@ -83,7 +83,7 @@ old-blank k None = refl
 old-blank k (Some (HostMsg b)) = refl
 old-blank k (Some _) = refl
 
-pub asks-blank : (sweep : ℕ) (v : Served) (c : ℕ) (o : Option Message) → asks sweep v c (option_map blank_message o) ≡ asks sweep v c o
+pub asks-blank : (sweep : ℕ) (v : ServedUnit) (c : ℕ) (o : Option Message) → asks sweep v c (option_map blank_message o) ≡ asks sweep v c o
 asks-blank sweep v c None = refl
 asks-blank sweep v c (Some (HostMsg b)) = refl
 asks-blank sweep v c (Some _) = refl

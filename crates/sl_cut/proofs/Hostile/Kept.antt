@@ -7,7 +7,7 @@ use Rattle.std.proofs.lemmas.List.{length-map}
 use Rattle.sl_parts.specs.Parts.{Parts}
 use Rattle.sl_layout.specs.declared.actor.Sort.TheVariants.{Init}
 use Rattle.sl_layout.specs.Net.{Net, choices_of, action_choice, data_channels}
-use Rattle.sl_layout.specs.Serving.{Served, served}
+use Rattle.sl_layout.specs.Serving.{ServedUnit, served}
 use Rattle.sl_route.specs.Least.{least}
 use Rattle.sl_model.specs.declared.message.Step.{Step}
 use Rattle.sl_model.specs.declared.verdict.Lag.TheVariants.{Id}
@@ -25,7 +25,7 @@ pub record Keeps (g : Step → Step) : Type 0 where
   pub counted : (s : Step) → counted (g s) ≡ counted s
   pub bad : (s : Step) → is_bad (g s).taken ≡ is_bad s.taken
   pub old : (k : ℕ) (s : Step) → is_old_data k (g s).taken ≡ is_old_data k s.taken
-  pub asks : (sweep : ℕ) (v : Served) (c : ℕ) (s : Step) → asks sweep v c (g s).taken ≡ asks sweep v c s.taken
+  pub asks : (sweep : ℕ) (v : ServedUnit) (c : ℕ) (s : Step) → asks sweep v c (g s).taken ≡ asks sweep v c s.taken
   pub count : (l : ℕ) (s : Step) → length (on_link l (g s).puts) ≡ length (on_link l s.puts)
   pub puts_on : (l : ℕ) (s : Step) → puts_on l (g s).puts ≡ puts_on l s.puts
 
@@ -90,10 +90,10 @@ upto-kept g k net u h = λ i. fold min (id-kept g k h i) (map (λ c. last-kept g
 pub floor-kept : (g : Step → Step) → Keeps g → (net : Net) (u : ℕ) (h : History) → floor_of net u (map g h) ≡ floor_of net u h
 floor-kept g k net u h = λ i. fold min (upto-kept g k net u h i) (map (λ c. last-kept g k c h i) (choices_of net u Init))
 
-pub outstanding-kept : (g : Step → Step) → Keeps g → (v : Served) (h : History) → is_outstanding v (map g h) ≡ is_outstanding v h
+pub outstanding-kept : (g : Step → Step) → Keeps g → (v : ServedUnit) (h : History) → is_outstanding v (map g h) ≡ is_outstanding v h
 outstanding-kept g k v h = λ i. nat_lt (taken-kept g k v.dump h i) (count-kept g k v.poll h i)
 
-pub again-kept : (g : Step → Step) → Keeps g → (sweep : ℕ) (v : Served) (h : History) → is_again sweep v (map g h) ≡ is_again sweep v h
+pub again-kept : (g : Step → Step) → Keeps g → (sweep : ℕ) (v : ServedUnit) (h : History) → is_again sweep v (map g h) ≡ is_again sweep v h
 again-kept g k sweep v [] = refl
 again-kept g k sweep v (s ∷ h) = (λ i. if k.puts_on v.poll s i then false else asks sweep v (k.choice s i) (g s).taken || again-kept g k sweep v h i)
     ∙ ap (λ b. if puts_on v.poll s.puts then false else b || is_again sweep v h) (k.asks sweep v s.choice s)

@@ -10,7 +10,7 @@ use Rattle.sl_layout.specs.declared.actor.Side.{Side}
 use Rattle.sl_layout.specs.declared.actor.Side.TheVariants.{Ingress, Egress}
 use Rattle.sl_layout.specs.declared.actor.Sort.TheVariants.{FromHost, Init, Dump, Begin, Done}
 use Rattle.sl_layout.specs.Net.{Net, links_out, action_choice, unit_place}
-use Rattle.sl_layout.specs.Serving.{Served, served}
+use Rattle.sl_layout.specs.Serving.{ServedUnit, served}
 use Rattle.sl_model.specs.declared.message.Message.{Message}
 use Rattle.sl_model.specs.declared.message.Message.TheVariants.{Host as HostMsg, Init as InitMsg, Poll as PollMsg, Notice as NoticeMsg, Dump as DumpMsg, Begin as BeginMsg, Done as DoneMsg}
 use Rattle.sl_model.specs.declared.message.Put.{Put}
@@ -39,7 +39,7 @@ clean-if : (b : Bool) (ps qs : List Put) → IsClean ps → IsClean qs → IsCle
 clean-if true ps qs e f = e
 clean-if false ps qs e f = f
 
-clean-each : (f : Served → List Put) → ((v : Served) → IsClean (f v)) → (vs : List Served) → IsClean (flat_map f vs)
+clean-each : (f : ServedUnit → List Put) → ((v : ServedUnit) → IsClean (f v)) → (vs : List ServedUnit) → IsClean (flat_map f vs)
 clean-each f e [] = refl
 clean-each f e (v ∷ vs) = clean-append (f v) (flat_map f vs) (e v) (clean-each f e vs)
 
@@ -87,7 +87,7 @@ unit-blank net u i h c l m =
 
 -- Control planes.
 
-answer-clean : (net : Net) (a : ℕ) (h : History) (n : ℕ) (v : Served) → IsClean (dump_answer net a h n v)
+answer-clean : (net : Net) (a : ℕ) (h : History) (n : ℕ) (v : ServedUnit) → IsClean (dump_answer net a h n v)
 answer-clean net a h n v = clean-append _ _ (clean-all (DoneMsg (unit_place net v.unit) n) refl (links_out net a Done))
     (clean-if (is_again (action_choice net a) v h) (send PollMsg v.poll ∷ []) [] refl refl)
 
@@ -97,10 +97,10 @@ control-clean net a h c NoticeMsg = clean-each _ (λ v. clean-if (c == v.notice)
 control-clean net a h c (DumpMsg n) = clean-each _ (λ v. clean-if (c == v.dump) _ [] (answer-clean net a h n v) refl) (served net a)
 control-clean net a h c _ = refl
 
-poll-blank : (v : Served) (h : History) → poll_puts v (blank_history h) ≡ poll_puts v h
+poll-blank : (v : ServedUnit) (h : History) → poll_puts v (blank_history h) ≡ poll_puts v h
 poll-blank v h = ap (λ b. if b then [] else send PollMsg v.poll ∷ []) (outstanding-kept blank_step blank-keeps v h)
 
-answer-blank : (net : Net) (a : ℕ) (h : History) (n : ℕ) (v : Served) → dump_answer net a (blank_history h) n v ≡ dump_answer net a h n v
+answer-blank : (net : Net) (a : ℕ) (h : History) (n : ℕ) (v : ServedUnit) → dump_answer net a (blank_history h) n v ≡ dump_answer net a h n v
 answer-blank net a h n v = ap (λ b. send_all (DoneMsg (unit_place net v.unit) n) (links_out net a Done) ++ (if b then send PollMsg v.poll ∷ [] else []))
     (again-kept blank_step blank-keeps (action_choice net a) v h)
 

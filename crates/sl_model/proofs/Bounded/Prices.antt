@@ -34,7 +34,7 @@ use Rattle.sl_parts.specs.Lists.{Each, Member}
 use Rattle.sl_parts.proofs.Lists.{each-passes, each-imp, member-of-map, Distinct}
 use Rattle.sl_model.specs.declared.message.Message.TheVariants.{Begin as BeginMsg, Data, Done as DoneMsg, Dump as DumpMsg, Host as HostMsg, Init as InitMsg, Notice as NoticeMsg, Poll as PollMsg, Probe as ProbeMsg}
 use Rattle.sl_model.specs.Fare.{enter_fare, frame_to, frame_fare, frame_in, frame_side, leave_fare, onward_fare, packet_to, packet_fare, packet_side}
-use Rattle.sl_layout.specs.Serving.{Served, choice_from, served, serving}
+use Rattle.sl_layout.specs.Serving.{ServedUnit, choice_from, served, serving}
 use Rattle.sl_layout.specs.declared.actor.Sort.{Sort}
 use Rattle.sl_model.proofs.Worlds.Stamps.{out-of, distinct-out}
 
@@ -249,7 +249,7 @@ pub record IsPriced (net : Net) : Type 0 where
   pub cable_in : (l : ℕ) → (link_of net l).sort ≡ Cable → goes_on net l ≡ false
   pub one_notice : (u : ℕ) (i : UnitId) → actor_of net u ≡ OfUnit i → length (links_out net u Notice) ≤ 1
   pub one_dump : (u : ℕ) (i : UnitId) → actor_of net u ≡ OfUnit i → length (links_out net u Dump) ≤ 1
-  pub one_done : (a : ℕ) (v : Served) → Member v (served net a) → length (links_out net a Done) ≤ 1
+  pub one_done : (a : ℕ) (v : ServedUnit) → Member v (served net a) → length (links_out net a Done) ≤ 1
   pub notice_once : (a c : ℕ) → weigh (λ v. if c == v.notice then 3 else 0) (served net a) ≤ 3
   pub dump_once : (a c : ℕ) → weigh (λ v. if c == v.dump then 1 else 0) (served net a) ≤ 1
   pub carries : (u k l : ℕ) (i : UnitId) (m : Message) → actor_of net u ≡ OfUnit i → (link_of net l).to ≡ u → is_load m ≡ true → suc (puts_weight (price net) (side_puts net u i i.side k l m)) ≤ price net l m
@@ -324,7 +324,7 @@ priced net w = record {
   carries = carries net w;
 }
   where
-    of_served : (a : ℕ) (v : Served) → ((l : ℕ) × Member l (links_out net a Poll) × (v ≡ serving net a l)) → length (links_out net a Done) ≤ 1
+    of_served : (a : ℕ) (v : ServedUnit) → ((l : ℕ) × Member l (links_out net a Poll) × (v ≡ serving net a l)) → length (links_out net a Done) ≤ 1
     of_served a v x = let m = serves net a x.0 w (out-of net a Poll x.0 x.1) in omega (arith, ap length (sym (ap (λ b. links_out net b Done) m.control) ∙ m.reports.dones))
 
     by_notice : (a l k : ℕ) → IsOut net a Poll l → IsOut net a Poll k → (serving net a l).notice ≡ (serving net a k).notice → l ≡ k

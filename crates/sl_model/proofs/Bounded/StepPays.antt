@@ -30,10 +30,10 @@ use Rattle.sl_net.specs.Ways.{IsOut, HasWays}
 use Rattle.sl_model.proofs.Finishing.NetWiring.{Wiring}
 use Rattle.sl_model.proofs.Finishing.Phase.{loudness, no-action, side-quiet, takes-fit}
 use Rattle.sl_model.proofs.Bounded.Prices.{Pays, sends-weigh, IsPriced, frame-pays, packet-pays, once}
-use Rattle.sl_model.proofs.Worlds.ReachedWorlds.{ActsBy, Reached, StepOf, TakesBy, ran-reached, step-cases}
+use Rattle.sl_model.proofs.Worlds.ReachedWorlds.{ActsBy, Reached, StepOf, TakesBy, fifo-run-reached, step-cases}
 use Rattle.sl_model.proofs.Lists.Weighed.{weigh-append, weigh-below, weigh-falls}
 use Rattle.sl_model.proofs.Bounded.Flights.{puts_weight}
-use Rattle.sl_layout.specs.Serving.{Served, served}
+use Rattle.sl_layout.specs.Serving.{ServedUnit, served}
 use Rattle.sl_model.specs.Knowledge.{asks, is_again, is_outstanding, is_swept, puts_on}
 use Rattle.sl_model.proofs.Cuts.Bounds.{within}
 use Rattle.sl_model.proofs.Finishing.Idle.{none-past}
@@ -185,7 +185,7 @@ unit-pays s lost g p w r u i a c step n rises = by_case (step-cases s lost w u c
 
     by_case : TakesBy s lost w u c step ⊎ ActsBy s w u c step → Pays s lost w u c step 0
     by_case (inr t) = absurd (no-action s w u i c step a t)
-    by_case (inl t) = let l = t.link in let m = t.message in let x = g.wired.ways.into u c l t.at in let fit = takes-fit s lost w u c step (ran-reached s lost w r) t in
+    by_case (inl t) = let l = t.link in let m = t.message in let x = g.wired.ways.into u c l t.at in let fit = takes-fit s lost w u c step (fifo-run-reached s lost w r) t in
         let k = id_after m h in
         let rc : unit_receives i.side (link_of s.net l).sort ≡ true = subst (λ y. receives y (link_of s.net l).sort ≡ true) (ap (actor_of s.net) x.to ∙ a) (g.wired.receiver l x.is_link) in
         let way = way-pays s.net g.wired.ways p u k l (suc (length h)) i m a x.to fit (λ j e. no-begins i.side (link_of s.net l).sort j (ap (fits (link_of s.net l).sort) (sym e) ∙ fit) rc) in
@@ -209,7 +209,7 @@ unit-pays s lost g p w r u i a c step n rises = by_case (step-cases s lost w u c
 puts-append : (net : Net) (xs ys : List Put) → puts_weight (price net) (xs ++ ys) ≡ puts_weight (price net) xs + puts_weight (price net) ys
 puts-append net xs ys = weigh-append (λ p. price net p.link p.message) xs ys
 
-flat-pays : (net : Net) (new old more : Served → ℕ) (g : Served → List Put) (vs : List Served) → Each (λ v. new v + puts_weight (price net) (g v) ≤ old v + more v) vs
+flat-pays : (net : Net) (new old more : ServedUnit → ℕ) (g : ServedUnit → List Put) (vs : List ServedUnit) → Each (λ v. new v + puts_weight (price net) (g v) ≤ old v + more v) vs
     → weigh new vs + puts_weight (price net) (flat_map g vs) ≤ weigh old vs + weigh more vs
 flat-pays net new old more g [] h = omega arith
 flat-pays net new old more g (v ∷ vs) h = omega (arith, h.0, flat-pays net new old more g vs h.1, puts-append net (g v) (flat_map g vs))
@@ -226,7 +226,7 @@ or-true : (b : Bool) → (b || true) ≡ true
 or-true true = refl
 or-true false = refl
 
-on-flat : (l : ℕ) (g : Served → List Put) (vs : List Served) (v : Served) → Member v vs → puts_on l (g v) ≡ true → puts_on l (flat_map g vs) ≡ true
+on-flat : (l : ℕ) (g : ServedUnit → List Put) (vs : List ServedUnit) (v : ServedUnit) → Member v vs → puts_on l (g v) ≡ true → puts_on l (flat_map g vs) ≡ true
 on-flat l g [] v m q = absurd m
 on-flat l g (x ∷ vs) v (inl e) q = on-append l (g x) (flat_map g vs) ∙ ap (λ b. b || puts_on l (flat_map g vs)) (ap (λ y. puts_on l (g y)) (sym e) ∙ q)
 on-flat l g (x ∷ vs) v (inr m) q = on-append l (g x) (flat_map g vs) ∙ ap (λ b. puts_on l (g x) || b) (on-flat l g vs v m q) ∙ or-true (puts_on l (g x))
@@ -236,7 +236,7 @@ on-flat l g (x ∷ vs) v (inr m) q = on-append l (g x) (flat_map g vs) ∙ ap (�
 abbrev three_if : Bool → ℕ
 three_if b = if b then 3 else 0
 
-after-poll : (sweep : ℕ) (v : Served) (step : Step) (h : History) → puts_on v.poll step.puts ≡ true → three_if (is_again sweep v (step ∷ h)) ≡ 0
+after-poll : (sweep : ℕ) (v : ServedUnit) (step : Step) (h : History) → puts_on v.poll step.puts ≡ true → three_if (is_again sweep v (step ∷ h)) ≡ 0
 after-poll sweep v step h q = ap (λ b. three_if (if b then false else asks sweep v step.choice step.taken || is_again sweep v h)) q
 
 after-any : (b : Bool) → (if b then 3 else 0) ≤ 3
@@ -244,24 +244,24 @@ after-any true = omega arith
 after-any false = omega arith
 
 -- as before, where it asked for no poll
-after-other : (sweep : ℕ) (v : Served) (step : Step) (h : History) → asks sweep v step.choice step.taken ≡ false → (if is_again sweep v (step ∷ h) then 3 else 0) ≤ (if is_again sweep v h then 3 else 0)
+after-other : (sweep : ℕ) (v : ServedUnit) (step : Step) (h : History) → asks sweep v step.choice step.taken ≡ false → (if is_again sweep v (step ∷ h) then 3 else 0) ≤ (if is_again sweep v h then 3 else 0)
 after-other sweep v step h q = subst (λ a. (if (if puts_on v.poll step.puts then false else a || is_again sweep v h) then 3 else 0) ≤ (if is_again sweep v h then 3 else 0)) (sym q) (by_puts (puts_on v.poll step.puts))
   where
     by_puts : (b : Bool) → (if (if b then false else is_again sweep v h) then 3 else 0) ≤ (if is_again sweep v h then 3 else 0)
     by_puts true = omega arith
     by_puts false = omega arith
 
-poll-on : (v : Served) (h : History) → is_outstanding v h ≡ false → puts_on v.poll (poll_puts v h) ≡ true
+poll-on : (v : ServedUnit) (h : History) → is_outstanding v h ≡ false → puts_on v.poll (poll_puts v h) ≡ true
 poll-on v h o = ap (λ b. puts_on v.poll (if b then [] else send PollMsg v.poll ∷ [])) o ∙ ap (λ b. b || false) (eq-eqb v.poll v.poll refl)
 
-poll-weight : (net : Net) (v : Served) (h : History) → is_outstanding v h ≡ false → puts_weight (price net) (poll_puts v h) ≡ 3
+poll-weight : (net : Net) (v : ServedUnit) (h : History) → is_outstanding v h ≡ false → puts_weight (price net) (poll_puts v h) ≡ 3
 poll-weight net v h o = ap (λ b. puts_weight (price net) (if b then [] else send PollMsg v.poll ∷ [])) o
 
-poll-none : (net : Net) (v : Served) (h : History) → is_outstanding v h ≡ true → puts_weight (price net) (poll_puts v h) ≡ 0
+poll-none : (net : Net) (v : ServedUnit) (h : History) → is_outstanding v h ≡ true → puts_weight (price net) (poll_puts v h) ≡ 0
 poll-none net v h o = ap (λ b. puts_weight (price net) (if b then [] else send PollMsg v.poll ∷ [])) o
 
 -- a poll, or the duty of one, costs three
-poll-pays : (net : Net) (sweep : ℕ) (v : Served) (step : Step) (h : History) → (is_outstanding v h ≡ false → puts_on v.poll step.puts ≡ true)
+poll-pays : (net : Net) (sweep : ℕ) (v : ServedUnit) (step : Step) (h : History) → (is_outstanding v h ≡ false → puts_on v.poll step.puts ≡ true)
     → (if is_again sweep v (step ∷ h) then 3 else 0) + puts_weight (price net) (poll_puts v h) ≤ (if is_again sweep v h then 3 else 0) + 3
 poll-pays net sweep v step h on = by_bool (is_outstanding v h) refl
   where
@@ -274,7 +274,7 @@ ones net u n [] = refl
 ones net u n (l ∷ ls) = omega (arith, ones net u n ls)
 
 -- an answer costs one beside the duty that it does
-answer-pays : (net : Net) (a n : ℕ) (v : Served) (step : Step) (h : History) → length (links_out net a Done) ≤ 1 → asks (action_choice net a) v step.choice step.taken ≡ false
+answer-pays : (net : Net) (a n : ℕ) (v : ServedUnit) (step : Step) (h : History) → length (links_out net a Done) ≤ 1 → asks (action_choice net a) v step.choice step.taken ≡ false
     → (is_again (action_choice net a) v h ≡ true → puts_on v.poll step.puts ≡ true)
     → (if is_again (action_choice net a) v (step ∷ h) then 3 else 0) + puts_weight (price net) (dump_answer net a h n v) ≤ (if is_again (action_choice net a) v h then 3 else 0) + 1
 answer-pays net a n v step h one q on = omega (arith, split, sends-weigh (price net) (DoneMsg (unit_place net v.unit) n) (links_out net a Done), ones net (unit_place net v.unit) n (links_out net a Done), one, by_again (is_again (action_choice net a) v h) refl)
@@ -293,7 +293,7 @@ answer-pays net a n v step h one q on = omega (arith, split, sends-weigh (price 
 -- Takes.
 
 -- what a control plane owes to a unit, after a take that asks for no poll
-calm : (net : Net) (a c : ℕ) (m : Message) (h : History) → ((v : Served) → asks (action_choice net a) v c (Some m) ≡ false) → (ps : List Put)
+calm : (net : Net) (a c : ℕ) (m : Message) (h : History) → ((v : ServedUnit) → asks (action_choice net a) v c (Some m) ≡ false) → (ps : List Put)
     → weigh (again_credit net a (taking c m ps ∷ h)) (served net a) ≤ weigh (again_credit net a h) (served net a)
 calm net a c m h q ps = weigh-below (again_credit net a (taking c m ps ∷ h)) (again_credit net a h) (served net a)
     (each-of (λ v. again_credit net a (taking c m ps ∷ h) v ≤ again_credit net a h v) (served net a) (λ v k. after-other (action_choice net a) v (taking c m ps) h (q v)))
@@ -310,7 +310,7 @@ notice-take net a c h once = omega (
     ps : List Put
     ps = control_puts net a h c NoticeMsg
 
-    one : (v : Served) → Member v (served net a) → again_credit net a (taking c NoticeMsg ps ∷ h) v + puts_weight (price net) (if c == v.notice then poll_puts v h else []) ≤ again_credit net a h v + (if c == v.notice then 3 else 0)
+    one : (v : ServedUnit) → Member v (served net a) → again_credit net a (taking c NoticeMsg ps ∷ h) v + puts_weight (price net) (if c == v.notice then poll_puts v h else []) ≤ again_credit net a h v + (if c == v.notice then 3 else 0)
     one v i = by_bool (c == v.notice) refl
       where
         by_bool : (b : Bool) → (c == v.notice) ≡ b → again_credit net a (taking c NoticeMsg ps ∷ h) v + puts_weight (price net) (if b then poll_puts v h else []) ≤ again_credit net a h v + (if b then 3 else 0)
@@ -318,7 +318,7 @@ notice-take net a c h once = omega (
             (λ o. on-flat v.poll (λ v. if c == v.notice then poll_puts v h else []) (served net a) v i (ap (λ b. puts_on v.poll (if b then poll_puts v h else [])) e ∙ poll-on v h o))
         by_bool false e = omega (arith, after-other (action_choice net a) v (taking c NoticeMsg ps) h e)
 
-dump-take : (net : Net) (a c n : ℕ) (h : History) → weigh (λ v. if c == v.dump then 1 else 0) (served net a) ≤ 1 → ((v : Served) → Member v (served net a) → length (links_out net a Done) ≤ 1)
+dump-take : (net : Net) (a c n : ℕ) (h : History) → weigh (λ v. if c == v.dump then 1 else 0) (served net a) ≤ 1 → ((v : ServedUnit) → Member v (served net a) → length (links_out net a Done) ≤ 1)
     → suc (weigh (again_credit net a (taking c (DumpMsg n) (control_puts net a h c (DumpMsg n)) ∷ h)) (served net a) + puts_weight (price net) (control_puts net a h c (DumpMsg n))) ≤ weigh (again_credit net a h) (served net a) + 2
 dump-take net a c n h once done = omega (
   arith,
@@ -330,13 +330,13 @@ dump-take net a c n h once done = omega (
     ps : List Put
     ps = control_puts net a h c (DumpMsg n)
 
-    answer-on : (v : Served) → is_again (action_choice net a) v h ≡ true → puts_on v.poll (dump_answer net a h n v) ≡ true
+    answer-on : (v : ServedUnit) → is_again (action_choice net a) v h ≡ true → puts_on v.poll (dump_answer net a h n v) ≡ true
     answer-on v e = on-append v.poll (send_all (DoneMsg (unit_place net v.unit) n) (links_out net a Done)) (if is_again (action_choice net a) v h then send PollMsg v.poll ∷ [] else [])
         ∙ ap (λ b. puts_on v.poll (send_all (DoneMsg (unit_place net v.unit) n) (links_out net a Done)) || puts_on v.poll (if b then send PollMsg v.poll ∷ [] else [])) e
         ∙ ap (λ b. puts_on v.poll (send_all (DoneMsg (unit_place net v.unit) n) (links_out net a Done)) || (b || false)) (eq-eqb v.poll v.poll refl)
         ∙ or-true (puts_on v.poll (send_all (DoneMsg (unit_place net v.unit) n) (links_out net a Done)))
 
-    one : (v : Served) → Member v (served net a) → again_credit net a (taking c (DumpMsg n) ps ∷ h) v + puts_weight (price net) (if c == v.dump then dump_answer net a h n v else []) ≤ again_credit net a h v + (if c == v.dump then 1 else 0)
+    one : (v : ServedUnit) → Member v (served net a) → again_credit net a (taking c (DumpMsg n) ps ∷ h) v + puts_weight (price net) (if c == v.dump then dump_answer net a h n v else []) ≤ again_credit net a h v + (if c == v.dump then 1 else 0)
     one v i = by_bool (c == v.dump) refl
       where
         by_bool : (b : Bool) → (c == v.dump) ≡ b → again_credit net a (taking c (DumpMsg n) ps ∷ h) v + puts_weight (price net) (if b then dump_answer net a h n v else []) ≤ again_credit net a h v + (if b then 1 else 0)
@@ -383,7 +383,7 @@ sweep-pays net a c h = let ps = flat_map (λ v. poll_puts v h) (served net a) in
           (λ v k. poll-pays net (action_choice net a) v (acting c ps) h (λ o. on-flat v.poll (λ v. poll_puts v h) (served net a) v k (poll-on v h o)))),
     )
   where
-    threes : (vs : List Served) → weigh (λ v. 3) vs ≡ 3 * length vs
+    threes : (vs : List ServedUnit) → weigh (λ v. 3) vs ≡ 3 * length vs
     threes [] = refl
     threes (v ∷ vs) = omega (arith, threes vs)
 

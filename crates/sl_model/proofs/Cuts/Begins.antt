@@ -16,7 +16,7 @@ use Rattle.sl_model.specs.Words.{Rises, listed, numbers}
 use Rattle.sl_model.specs.History.{History, World, Losses, history, stamp_of, begin_of, dump_of, heard, last, takes, put, done_of, on_link}
 use Rattle.sl_model.specs.Setup.{Setup}
 use Rattle.sl_model.specs.Knowledge.{observer, issued, can_issue, can_resend, dumped, known, is_outstanding, is_again}
-use Rattle.sl_model.specs.Made.{Took, Acted, IsMade, Ran}
+use Rattle.sl_model.specs.Made.{Took, Acted, IsMade, IsFifoRun}
 use Rattle.sl_model.specs.Fit.{fits, fits_link, is_stamped}
 use Rattle.sl_model.specs.Window.{begun}
 use Rattle.sl_model.specs.Turns.{Begins}
@@ -25,7 +25,7 @@ use Rattle.sl_model.proofs.Worlds.Numbers.{Says, Grows, Ordered, ordered, put-ri
 use Rattle.sl_model.proofs.Worlds.Stamps.{PutBy, control-said, observer-acts, begin-said, action-said, taken-fits, unit-link, says-itself, acted-by, took-by, each-on-link, each-taken, put-fits, unit-dumps}
 use Rattle.std.proofs.lemmas.Bool.Decides.{eqb_tells}
 use Rattle.sl_model.specs.declared.message.Put.{Put}
-use Rattle.sl_layout.specs.Serving.{Served, served}
+use Rattle.sl_layout.specs.Serving.{ServedUnit, served}
 use Rattle.sl_model.specs.Puts.{control_puts, send, send_all, poll_puts, dump_answer}
 
 abbrev pub TakesFit : Setup → ℕ → History → Type 0
@@ -33,7 +33,7 @@ TakesFit s a h = (c l : ℕ) → slice_get (links_into s.net a) c ≡ Some l →
 
 -- What was taken.
 
-pub fit-taken : (s : Setup) (lost : Losses) (w : World) (a : ℕ) → Ran s lost w → TakesFit s a (history w a)
+pub fit-taken : (s : Setup) (lost : Losses) (w : World) (a : ℕ) → IsFifoRun s lost w → TakesFit s a (history w a)
 fit-taken s lost w a r c l k = taken-fits s lost w a c l r k
 
 pub fit-before : (s : Setup) (a : ℕ) (step : Step) (h : History) → TakesFit s a (step ∷ h) → TakesFit s a h
@@ -83,7 +83,7 @@ observer-begins s (step ∷ h) q m = let k = issued s.net (step ∷ h) in
     (taken-falls (action_choice s.net 0) step h, each-imp (PutBy s.net k 0) (λ p. Says k (begin_of p.message)) step.puts (λ p b. b.said.begin) (observer-step s h step q m.0), observer-begins s h q m.1)
 
 -- The Begin numbers heard never fall, and these, then those not yet taken, end at most at K.
-pub begin-link : (s : Setup) (lost : Losses) (w : World) (a c l : ℕ) → IsWired s.net → (r : Ran s lost w) (k : slice_get (links_into s.net a) c ≡ Some l) → (link_of s.net l).from ≡ 0
+pub begin-link : (s : Setup) (lost : Losses) (w : World) (a c l : ℕ) → IsWired s.net → (r : IsFifoRun s lost w) (k : slice_get (links_into s.net a) c ≡ Some l) → (link_of s.net l).from ≡ 0
     → Ordered begin_of c (history w a) (r.fifo a c l k).rest (issued s.net (observer w))
 begin-link s lost w a c l n r k q = let h = history w (link_of s.net l).from in
     ordered begin_of (lost l) c (history w a) (put l h) (issued s.net (observer w))
@@ -114,18 +114,18 @@ control-stamps s a d (step ∷ h) n q m f g = let p = control-step s a d h step 
     (g.0, each-imp (PutBy s.net (begun (step ∷ h)) p.0) (λ p. Says (begun (step ∷ h)) (stamp_of p.message)) step.puts (λ p b. b.said.stamp) p.1, control-stamps s a d h n q m.1 (fit-before s a step h f) g.1)
 
 -- The last Begin number of a control never falls.
-pub begun-falls : (s : Setup) (lost : Losses) (w : World) (a d : ℕ) → IsWired s.net → Ran s lost w → actor_of s.net a ≡ Control d → NeverFalls begun (history w a)
+pub begun-falls : (s : Setup) (lost : Losses) (w : World) (a d : ℕ) → IsWired s.net → IsFifoRun s lost w → actor_of s.net a ≡ Control d → NeverFalls begun (history w a)
 begun-falls s lost w a d n r q = let b = n.begins a d q in (begin-link s lost w a 0 b.0 n r b.1 (n.begin_from b.0 (n.ways.into a 0 b.0 b.1).is_link b.2)).climbs
 
 -- On a link from a control: the stamps heard never fall, and these, then the stamps not yet taken, end at most at its last Begin number.
-pub init-link : (s : Setup) (lost : Losses) (w : World) (a c l d : ℕ) → IsWired s.net → (r : Ran s lost w) (k : slice_get (links_into s.net a) c ≡ Some l) → actor_of s.net (link_of s.net l).from ≡ Control d
+pub init-link : (s : Setup) (lost : Losses) (w : World) (a c l d : ℕ) → IsWired s.net → (r : IsFifoRun s lost w) (k : slice_get (links_into s.net a) c ≡ Some l) → actor_of s.net (link_of s.net l).from ≡ Control d
     → Ordered stamp_of c (history w a) (r.fifo a c l k).rest (begun (history w (link_of s.net l).from))
 init-link s lost w a c l d n r k q = let b = (link_of s.net l).from in let h = history w b in
     ordered stamp_of (lost l) c (history w a) (put l h) (begun h)
     (put-rises stamp_of begun l h (control-stamps s b d h n q (r.made b) (fit-taken s lost w b r) (begun-falls s lost w b d n r q))) (r.fifo a c l k)
 
 -- The last stamp of a channel never falls.
-pub last-never-falls : (s : Setup) (lost : Losses) (w : World) (a c l : ℕ) → IsWired s.net → Ran s lost w → slice_get (links_into s.net a) c ≡ Some l → IsTrue (is_stamped (link_of s.net l).sort) → NeverFalls (last c) (history w a)
+pub last-never-falls : (s : Setup) (lost : Losses) (w : World) (a c l : ℕ) → IsWired s.net → IsFifoRun s lost w → slice_get (links_into s.net a) c ≡ Some l → IsTrue (is_stamped (link_of s.net l).sort) → NeverFalls (last c) (history w a)
 last-never-falls s lost w a c l n r k i = by_sort (link_of s.net l).sort refl i
   where
     p : l < length s.net.links
@@ -147,7 +147,7 @@ last-never-falls s lost w a c l n r k i = by_sort (link_of s.net l).sort refl i
 --     Knows s lost w u r p     these never fall, nor what is on its way between them
 
 -- The dumps on their way end at most at the unit's own steps.
-pub dump-link : (s : Setup) (lost : Losses) (w : World) (a c l u : ℕ) (i : UnitId) (r : Ran s lost w) (k : slice_get (links_into s.net a) c ≡ Some l) → (link_of s.net l).from ≡ u → actor_of s.net u ≡ OfUnit i
+pub dump-link : (s : Setup) (lost : Losses) (w : World) (a c l u : ℕ) (i : UnitId) (r : IsFifoRun s lost w) (k : slice_get (links_into s.net a) c ≡ Some l) → (link_of s.net l).from ≡ u → actor_of s.net u ≡ OfUnit i
     → Ordered dump_of c (history w a) (r.fifo a c l k).rest (length (history w u))
 dump-link s lost w a c l u i r k q j = let h = history w (link_of s.net l).from in
     subst (λ b. Ordered dump_of c (history w a) (r.fifo a c l k).rest (length (history w b))) q
@@ -162,14 +162,14 @@ each-send : (P : Message → Type 0) (m : Message) (ls : List ℕ) → P m → E
 each-send P m [] h = tt
 each-send P m (l ∷ ls) h = (h, each-send P m ls h)
 
-poll-done : (place j : ℕ) (v : Served) (h : History) → Each (SaysOf place j) (poll_puts v h)
+poll-done : (place j : ℕ) (v : ServedUnit) (h : History) → Each (SaysOf place j) (poll_puts v h)
 poll-done place j v h = by_bool (is_outstanding v h)
   where
     by_bool : (b : Bool) → Each (SaysOf place j) (if b then [] else send PollMsg v.poll ∷ [])
     by_bool true = tt
     by_bool false = (inl refl, tt)
 
-answer-done : (net : Net) (a : ℕ) (h : History) (n place j : ℕ) (v : Served) → (unit_place net v.unit ≡ place → n ≡ j) → Each (SaysOf place j) (dump_answer net a h n v)
+answer-done : (net : Net) (a : ℕ) (h : History) (n place j : ℕ) (v : ServedUnit) → (unit_place net v.unit ≡ place → n ≡ j) → Each (SaysOf place j) (dump_answer net a h n v)
 answer-done net a h n place j v k = each-append (SaysOf place j) (send_all (DoneMsg (unit_place net v.unit) n) (links_out net a Done)) (if is_again (action_choice net a) v h then send PollMsg v.poll ∷ [] else [])
     (each-send (λ m. Says j (done_of place m)) (DoneMsg (unit_place net v.unit) n) (links_out net a Done) (by_tells (eqb_tells place (unit_place net v.unit)))) (by_bool (is_again (action_choice net a) v h))
   where
@@ -188,14 +188,14 @@ control-done net a h c (BeginMsg k) place j f = each-send (λ m. Says j (done_of
 control-done net a h c NoticeMsg place j f = each-flat (SaysOf place j) (λ v. if c == v.notice then poll_puts v h else []) (served net a)
     (each-of (λ v. Each (SaysOf place j) (if c == v.notice then poll_puts v h else [])) (served net a) (λ v m. by_bool v (c == v.notice)))
   where
-    by_bool : (v : Served) (b : Bool) → Each (SaysOf place j) (if b then poll_puts v h else [])
+    by_bool : (v : ServedUnit) (b : Bool) → Each (SaysOf place j) (if b then poll_puts v h else [])
     by_bool v true = poll-done place j v h
     by_bool v false = tt
 control-done net a h c (DumpMsg n) place j f = each-flat (SaysOf place j) (λ v. if c == v.dump then dump_answer net a h n v else []) (served net a)
     (each-imp (λ v. c ≡ v.dump → unit_place net v.unit ≡ place → n ≡ j) (λ v. Each (SaysOf place j) (if c == v.dump then dump_answer net a h n v else [])) (served net a)
     (λ v g. by_tells v g (eqb_tells c v.dump)) (f n refl))
   where
-    by_tells : (v : Served) → (c ≡ v.dump → unit_place net v.unit ≡ place → n ≡ j) → ((nat_eq c v.dump ≡ true) × (c ≡ v.dump)) ⊎ ((nat_eq c v.dump ≡ false) × (c ≡ v.dump → ⊥))
+    by_tells : (v : ServedUnit) → (c ≡ v.dump → unit_place net v.unit ≡ place → n ≡ j) → ((nat_eq c v.dump ≡ true) × (c ≡ v.dump)) ⊎ ((nat_eq c v.dump ≡ false) × (c ≡ v.dump → ⊥))
         → Each (SaysOf place j) (if c == v.dump then dump_answer net a h n v else [])
     by_tells v g (inl q) = subst (λ b. Each (SaysOf place j) (if b then dump_answer net a h n v else [])) (sym q.0) (answer-done net a h n place j v (g q.1))
     by_tells v g (inr q) = subst (λ b. Each (SaysOf place j) (if b then dump_answer net a h n v else [])) (sym q.0) tt
@@ -245,7 +245,7 @@ done-fits _ place (DoneMsg v k) f ne = absurd cc
 done-fits t place _ f ne = refl
 
 -- By any other choice the observer takes nothing of it.
-none-else : (s : Setup) (lost : Losses) (w : World) (u c l : ℕ) (i : UnitId) → IsWired s.net → Ran s lost w → actor_of s.net u ≡ OfUnit i → (p : Reports s.net u) → slice_get (links_into s.net 0) c ≡ Some l → (l ≡ p.done → ⊥)
+none-else : (s : Setup) (lost : Losses) (w : World) (u c l : ℕ) (i : UnitId) → IsWired s.net → IsFifoRun s lost w → actor_of s.net u ≡ OfUnit i → (p : Reports s.net u) → slice_get (links_into s.net 0) c ≡ Some l → (l ≡ p.done → ⊥)
     → Each (λ m. done_of (unit_place s.net u) m ≡ None) (takes c (history w 0))
 none-else s lost w u c l i n r z p k ne = each-taken (λ m. done_of (unit_place s.net u) m ≡ None) (lost l) c (history w 0) (put l (history w (link_of s.net l).from)) (by_sort (link_of s.net l).sort refl) (r.fifo 0 c l k)
   where
@@ -285,13 +285,13 @@ dumps-into net u p = p.dump_taken
 pub dones-into : (net : Net) (u : ℕ) (p : Reports net u) → slice_get (links_into net 0) (choice_of net p.done) ≡ Some p.done
 dones-into net u p = p.done_taken
 
-pub record Knows (s : Setup) (lost : Losses) (w : World) (u : ℕ) (r : Ran s lost w) (p : Reports s.net u) : Type 0 where
+pub record Knows (s : Setup) (lost : Losses) (w : World) (u : ℕ) (r : IsFifoRun s lost w) (p : Reports s.net u) : Type 0 where
   pub told : known (unit_place s.net u) (observer w) ≡ heard (done_of (unit_place s.net u)) (choice_of s.net p.done) (observer w)
   pub dones : Ordered (done_of (unit_place s.net u)) (choice_of s.net p.done) (observer w) (r.fifo 0 (choice_of s.net p.done) p.done (dones-into s.net u p)).rest (dumped (choice_of s.net p.dump) (history w p.control))
   pub dumps : Ordered dump_of (choice_of s.net p.dump) (history w p.control) (r.fifo p.control (choice_of s.net p.dump) p.dump (dumps-into s.net u p)).rest (length (history w u))
   pub at_most : known (unit_place s.net u) (observer w) ≤ length (history w u)
 
-pub knows : (s : Setup) (lost : Losses) (w : World) (u : ℕ) (i : UnitId) → IsWired s.net → (r : Ran s lost w) (p : Reports s.net u) → actor_of s.net u ≡ OfUnit i → Knows s lost w u r p
+pub knows : (s : Setup) (lost : Losses) (w : World) (u : ℕ) (i : UnitId) → IsWired s.net → (r : IsFifoRun s lost w) (p : Reports s.net u) → actor_of s.net u ≡ OfUnit i → Knows s lost w u r p
 knows s lost w u i n r p q = record {
   told = k;
   dones = d;

@@ -21,12 +21,12 @@ use Rattle.sl_model.specs.History.{History, World, Losses, history, done_of, id,
 use Rattle.sl_model.specs.Setup.{Setup}
 use Rattle.sl_model.specs.Knowledge.{observer, known, issued, upto_of, floor_of, unit_floor, floor, can_issue, can_resend}
 use Rattle.sl_model.specs.World.{Entry, start, turn, run, floor_for, carried}
-use Rattle.sl_model.specs.Made.{Ran, Took, Acted, IsMade}
+use Rattle.sl_model.specs.Made.{IsFifoRun, Took, Acted, IsMade}
 use Rattle.sl_model.specs.Fit.{is_stamped}
 use Rattle.sl_net.specs.Ways.{IsChoice}
 use Rattle.sl_model.specs.Turns.{GrowsAt, Extends, Takes, Acts, Begins}
 use Rattle.sl_model.proofs.Worlds.Turns.{kept_by_run, Steps, turn-cases, taken-step, taken-falls, taken-other, start-empty}
-use Rattle.sl_model.proofs.Worlds.Ran.{next-view, ran, ran-turn, made-of}
+use Rattle.sl_model.proofs.Worlds.FifoRuns.{next-view, fifo-run, fifo-run-turn, made-of}
 use Rattle.sl_model.proofs.Worlds.Numbers.{never-falls, first-grown, grown-le, NeverFalls, Says}
 use Rattle.sl_model.proofs.Worlds.Stamps.{observer-acts, id-falls, acted-by, PutBy, control-said, action-said, unit-step, each-on-link, each-lost, each-taken, says-itself, took-by}
 use Rattle.sl_model.proofs.Cuts.Begins.{last-never-falls, knows, each-last, observer-step}
@@ -51,18 +51,18 @@ falls-least g cs (s ∷ h) n e = (
 
 -- The floor of any actor's history never falls as it grows.
 
-pub choice-falls : (s : Setup) (lost : Losses) (w : World) (a : ℕ) (t : Sort) → IsWired s.net → Ran s lost w → IsTrue (is_stamped t) → Each (λ c. NeverFalls (last c) (history w a)) (choices_of s.net a t)
+pub choice-falls : (s : Setup) (lost : Losses) (w : World) (a : ℕ) (t : Sort) → IsWired s.net → IsFifoRun s lost w → IsTrue (is_stamped t) → Each (λ c. NeverFalls (last c) (history w a)) (choices_of s.net a t)
 choice-falls s lost w a t n r i = each-imp (IsChoice s.net a t) (λ c. NeverFalls (last c) (history w a)) (choices_of s.net a t)
     (λ c p. last-never-falls s lost w a c (link_at s.net a c) n r p.into (subst (λ x. IsTrue (is_stamped x)) (sym p.sort) i)) (n.ways.choices a t)
 
-pub channels-fall : (s : Setup) (lost : Losses) (w : World) (a : ℕ) → IsWired s.net → Ran s lost w → Each (λ c. NeverFalls (last c) (history w a)) (data_channels s.net a)
+pub channels-fall : (s : Setup) (lost : Losses) (w : World) (a : ℕ) → IsWired s.net → IsFifoRun s lost w → Each (λ c. NeverFalls (last c) (history w a)) (data_channels s.net a)
 channels-fall s lost w a n r =
     each-append (λ c. NeverFalls (last c) (history w a)) (choices_of s.net a Cable) (choices_of s.net a Crossbar) (choice-falls s lost w a Cable n r refl) (choice-falls s lost w a Crossbar n r refl)
 
-pub upto-falls : (s : Setup) (lost : Losses) (w : World) (a : ℕ) → IsWired s.net → Ran s lost w → NeverFalls (upto_of s.net a) (history w a)
+pub upto-falls : (s : Setup) (lost : Losses) (w : World) (a : ℕ) → IsWired s.net → IsFifoRun s lost w → NeverFalls (upto_of s.net a) (history w a)
 upto-falls s lost w a n r = falls-least id (data_channels s.net a) (history w a) (id-falls (history w a)) (channels-fall s lost w a n r)
 
-pub floor-of-falls : (s : Setup) (lost : Losses) (w : World) (a : ℕ) → IsWired s.net → Ran s lost w → NeverFalls (floor_of s.net a) (history w a)
+pub floor-of-falls : (s : Setup) (lost : Losses) (w : World) (a : ℕ) → IsWired s.net → IsFifoRun s lost w → NeverFalls (floor_of s.net a) (history w a)
 floor-of-falls s lost w a n r = falls-least (upto_of s.net a) (choices_of s.net a Init) (history w a) (upto-falls s lost w a n r) (choice-falls s lost w a Init n r refl)
 
 -- F never falls.
@@ -74,7 +74,7 @@ extends-grown w v a step u g = by_actor (eqb_tells u a)
     by_actor (inl q) = subst (Extends w v) (sym q.1) (record { steps = λ n p. ap (first n) g.same ∙ first-grown n step (history w a) p })
     by_actor (inr q) = record { steps = λ n p. ap (first n) (g.other u q.1) }
 
-unit-floor-le : (s : Setup) (lost : Losses) (w v : World) (u : ℕ) (i : UnitId) → IsWired s.net → Ran s lost w → Ran s lost v → actor_of s.net u ≡ OfUnit i → Extends w v u → known (unit_place s.net u) (observer w) ≤ known (unit_place s.net u) (observer v)
+unit-floor-le : (s : Setup) (lost : Losses) (w v : World) (u : ℕ) (i : UnitId) → IsWired s.net → IsFifoRun s lost w → IsFifoRun s lost v → actor_of s.net u ≡ OfUnit i → Extends w v u → known (unit_place s.net u) (observer w) ≤ known (unit_place s.net u) (observer v)
     → unit_floor s.net w u ≤ unit_floor s.net v u
 unit-floor-le s lost w v u i n r t q e k = let m = known (unit_place s.net u) (observer w) in
     let p : m ≤ length (history w u) = (knows s lost w u i n r (n.reports u i q) q).at_most in
@@ -95,7 +95,7 @@ each-unit net = each-imp (λ u. is_unit (actor_of net u) ≡ true) (λ u. (i : U
     of_actor (OfUnit i) p = (i, refl)
     of_actor _ p = absurd cc
 
-pub floor-le : (s : Setup) (lost : Losses) (w v : World) → IsWired s.net → Ran s lost w → Ran s lost v → ((u : ℕ) → Extends w v u) → ((u : ℕ) (i : UnitId) → actor_of s.net u ≡ OfUnit i → known (unit_place s.net u) (observer w) ≤ known (unit_place s.net u) (observer v))
+pub floor-le : (s : Setup) (lost : Losses) (w v : World) → IsWired s.net → IsFifoRun s lost w → IsFifoRun s lost v → ((u : ℕ) → Extends w v u) → ((u : ℕ) (i : UnitId) → actor_of s.net u ≡ OfUnit i → known (unit_place s.net u) (observer w) ≤ known (unit_place s.net u) (observer v))
     → issued s.net (observer w) ≤ issued s.net (observer v) → floor s.net w ≤ floor s.net v
 floor-le s lost w v n r t e k j = least-none (unit_floor s.net w) (unit_floor s.net v) (units s.net) (issued s.net (observer w)) (issued s.net (observer v)) j
     (each-imp (λ u. (i : UnitId) × (actor_of s.net u ≡ OfUnit i)) (λ u. unit_floor s.net w u ≤ unit_floor s.net v u) (units s.net)
@@ -105,7 +105,7 @@ pub taken-never-falls : (c : ℕ) (h : History) → NeverFalls (taken c) h
 taken-never-falls c [] = tt
 taken-never-falls c (step ∷ h) = (taken-falls c step h, taken-never-falls c h)
 
-pub known-le : (s : Setup) (lost : Losses) (w v : World) (a : ℕ) (step : Step) (u : ℕ) (i : UnitId) → IsWired s.net → Ran s lost w → Ran s lost v → GrowsAt w v a step → actor_of s.net u ≡ OfUnit i
+pub known-le : (s : Setup) (lost : Losses) (w v : World) (a : ℕ) (step : Step) (u : ℕ) (i : UnitId) → IsWired s.net → IsFifoRun s lost w → IsFifoRun s lost v → GrowsAt w v a step → actor_of s.net u ≡ OfUnit i
     → known (unit_place s.net u) (observer w) ≤ known (unit_place s.net u) (observer v)
 known-le s lost w v a step u i n r t g q = let p = n.reports u i q in
     let x = (knows s lost w u i n r p q).told in
@@ -114,20 +114,20 @@ known-le s lost w v a step u i n r t g q = let p = n.reports u i q in
     grown-le (heard (done_of (unit_place s.net u)) (choice_of s.net p.done)) w v a step 0 g (knows s lost v u i n t p q).dones.climbs in
     omega (arith, x, y, z)
 
-pub floor-step : (s : Setup) (lost : Losses) (w v : World) (a : ℕ) (step : Step) → IsWired s.net → Ran s lost w → Ran s lost v → GrowsAt w v a step → floor s.net w ≤ floor s.net v
+pub floor-step : (s : Setup) (lost : Losses) (w v : World) (a : ℕ) (step : Step) → IsWired s.net → IsFifoRun s lost w → IsFifoRun s lost v → GrowsAt w v a step → floor s.net w ≤ floor s.net v
 floor-step s lost w v a step n r t g = floor-le s lost w v n r t (λ u. extends-grown w v a step u g) (λ u i q. known-le s lost w v a step u i n r t g q)
     (grown-le (issued s.net) w v a step 0 g (taken-never-falls (action_choice s.net 0) (observer v)))
 
-pub floor-turn : (s : Setup) (lost : Losses) (w : World) (e : Entry) → IsWired s.net → Ran s lost w → floor s.net w ≤ floor s.net (turn s lost w e)
+pub floor-turn : (s : Setup) (lost : Losses) (w : World) (e : Entry) → IsWired s.net → IsFifoRun s lost w → floor s.net w ≤ floor s.net (turn s lost w e)
 floor-turn s lost w e n r = by_cases (turn-cases s lost w e)
   where
     by_cases : (turn s lost w e ≡ w) ⊎ Steps s lost w e (turn s lost w e) → floor s.net w ≤ floor s.net (turn s lost w e)
     by_cases (inl q) = subst (λ v. floor s.net w ≤ floor s.net v) (sym q) (omega arith)
-    by_cases (inr t) = floor-step s lost w (turn s lost w e) e.0 t.step n r (ran-turn s lost w e r) t.grows
+    by_cases (inr t) = floor-step s lost w (turn s lost w e) e.0 t.step n r (fifo-run-turn s lost w e r) t.grows
 
-pub floor-run : (s : Setup) (lost : Losses) (w : World) (es : List Entry) → IsWired s.net → Ran s lost w → floor s.net w ≤ floor s.net (run s lost w es)
+pub floor-run : (s : Setup) (lost : Losses) (w : World) (es : List Entry) → IsWired s.net → IsFifoRun s lost w → floor s.net w ≤ floor s.net (run s lost w es)
 floor-run s lost w [] n r = omega arith
-floor-run s lost w (e ∷ es) n r = omega (arith, floor-turn s lost w e n r, floor-run s lost (turn s lost w e) es n (ran-turn s lost w e r))
+floor-run s lost w (e ∷ es) n r = omega (arith, floor-turn s lost w e n r, floor-run s lost (turn s lost w e) es n (fifo-run-turn s lost w e r))
 
 -- K never falls.
 
@@ -145,7 +145,7 @@ issued-run s lost w (e ∷ es) = omega (arith, issued-turn s lost w e, issued-ru
 -- K is at most F + W.
 
 pub record IsWithin (s : Setup) (lost : Losses) (w : World) : Type 0 where
-  pub ran : Ran s lost w
+  pub fifo-run : IsFifoRun s lost w
   pub within : issued s.net (observer w) ≤ floor s.net w + s.window
 
 -- a step of the observer
@@ -165,7 +165,7 @@ within-zero s lost w step q (inr x) h = let f : x.acted.floor ≡ floor s.net w 
             omega (arith, f, g, taken-step (action_choice s.net 0) step (observer w))
         by_kind (inr z) = let e : issued s.net (step ∷ observer w) ≡ issued s.net (observer w) = taken-other (action_choice s.net 0) step (observer w) (λ c. omega (arith, z.0, c)) in omega (arith, e, h)
 
-within-step : (s : Setup) (lost : Losses) (w v : World) (e : Entry) → IsWired s.net → Ran s lost w → Ran s lost v → Steps s lost w e v → issued s.net (observer w) ≤ floor s.net w + s.window → issued s.net (observer v) ≤ floor s.net v + s.window
+within-step : (s : Setup) (lost : Losses) (w v : World) (e : Entry) → IsWired s.net → IsFifoRun s lost w → IsFifoRun s lost v → Steps s lost w e v → issued s.net (observer w) ≤ floor s.net w + s.window → issued s.net (observer v) ≤ floor s.net v + s.window
 within-step s lost w v e n r t x h = let f : floor s.net w ≤ floor s.net v = floor-step s lost w v e.0 x.step n r t x.grows in
     let k : issued s.net (observer v) ≤ floor s.net w + s.window = by_actor (eqb_tells 0 e.0) in omega (arith, f, k)
   where
@@ -175,15 +175,15 @@ within-step s lost w v e n r t x h = let f : floor s.net w ≤ floor s.net v = f
     by_actor (inr q) = subst (λ h. issued s.net h ≤ floor s.net w + s.window) (sym (x.grows.other 0 q.1)) h
 
 within-turn : (s : Setup) (lost : Losses) (w : World) (e : Entry) → IsWired s.net → IsWithin s lost w → IsWithin s lost (turn s lost w e)
-within-turn s lost w e n h = record { ran = ran-turn s lost w e h.ran; within = by_cases (turn-cases s lost w e) }
+within-turn s lost w e n h = record { fifo-run = fifo-run-turn s lost w e h.ran; within = by_cases (turn-cases s lost w e) }
   where
     by_cases : (turn s lost w e ≡ w) ⊎ Steps s lost w e (turn s lost w e) → issued s.net (observer (turn s lost w e)) ≤ floor s.net (turn s lost w e) + s.window
     by_cases (inl q) = subst (λ v. issued s.net (observer v) ≤ floor s.net v + s.window) (sym q) h.within
-    by_cases (inr t) = within-step s lost w (turn s lost w e) e n h.ran (ran-turn s lost w e h.ran) t h.within
+    by_cases (inr t) = within-step s lost w (turn s lost w e) e n h.ran (fifo-run-turn s lost w e h.ran) t h.within
 
 pub within : (s : Setup) (lost : Losses) (es : List Entry) → IsWired s.net → IsWithin s lost (run s lost (start s.net) es)
 within s lost es n = kept_by_run s lost (IsWithin s lost) (λ w e. within-turn s lost w e n) (start s.net) es
-    (record { ran = ran s lost []; within = let z : issued s.net (observer (start s.net)) ≡ 0 = ap (issued s.net) (start-empty s.net 0) in omega (arith, z) })
+    (record { fifo-run = fifo-run s lost []; within = let z : issued s.net (observer (start s.net)) ≡ 0 = ap (issued s.net) (start-empty s.net 0) in omega (arith, z) })
 
 -- What a unit's first steps are stays so in every longer world.
 
@@ -245,10 +245,10 @@ id-below s a k (step ∷ h) m e = let i : id h ≤ k = id-below s a k h m.1 (λ 
     of_step (inl t) = subst (λ o. unwrap_or (option_and_then stamp_of o) 0 ≤ k) (sym t.taken) (each-last (IsBelow k) step h t.message t.taken (e step.choice t.link t.into)).stamp
     of_step (inr t) = subst (λ o. unwrap_or (option_and_then stamp_of o) 0 ≤ k) (sym t.taken) (omega arith)
 
-taken-below : (s : Setup) (lost : Losses) (w : World) (a c l : ℕ) → Ran s lost w → AllBelow s.net w → slice_get (links_into s.net a) c ≡ Some l → Each (IsBelow (issued s.net (observer w))) (takes c (history w a))
+taken-below : (s : Setup) (lost : Losses) (w : World) (a c l : ℕ) → IsFifoRun s lost w → AllBelow s.net w → slice_get (links_into s.net a) c ≡ Some l → Each (IsBelow (issued s.net (observer w))) (takes c (history w a))
 taken-below s lost w a c l r b q = each-taken (IsBelow (issued s.net (observer w))) (lost l) c (history w a) (put l (history w (link_of s.net l).from)) (b l) (r.fifo a c l q)
 
-pub ids-below : (s : Setup) (lost : Losses) (w : World) (a : ℕ) → Ran s lost w → AllBelow s.net w → id (history w a) ≤ issued s.net (observer w)
+pub ids-below : (s : Setup) (lost : Losses) (w : World) (a : ℕ) → IsFifoRun s lost w → AllBelow s.net w → id (history w a) ≤ issued s.net (observer w)
 ids-below s lost w a r b = id-below s a (issued s.net (observer w)) (history w a) (r.made a) (λ c l q. taken-below s lost w a c l r b q)
 
 -- Steps.
@@ -263,7 +263,7 @@ found-below : (s : Setup) (lost : Losses) (w : World) (a : ℕ) (step : Step) �
 found-below s lost w a step b t = each-get (IsBelow (issued s.net (observer w))) (carried s.net lost w t.took.link) (taken step.choice (history w a)) t.took.message
     (each-lost (IsBelow (issued s.net (observer w))) (lost t.took.link) 0 (put t.took.link (history w (link_of s.net t.took.link).from)) (b t.took.link)) t.found
 
-step-below : (s : Setup) (lost : Losses) (w : World) (a : ℕ) (step : Step) (k : ℕ) → IsWired s.net → Ran s lost w → AllBelow s.net w → issued s.net (observer w) ≤ k
+step-below : (s : Setup) (lost : Losses) (w : World) (a : ℕ) (step : Step) (k : ℕ) → IsWired s.net → IsFifoRun s lost w → AllBelow s.net w → issued s.net (observer w) ≤ k
     → (actor_of s.net a ≡ Observer → (a ≡ 0) × (issued s.net (step ∷ observer w) ≡ k)) → Takes s lost w a step ⊎ Acts s w a step → Each (λ p. IsBelow k p.message) step.puts
 step-below s lost w a step k n r b i o t = by_kind (actor_of s.net a) refl t
   where
@@ -289,7 +289,7 @@ step-below s lost w a step k n r b i o t = by_kind (actor_of s.net a) refl t
     by_kind (OfHost d) q (inl z) = subst (Each (λ p. IsBelow k p.message)) (sym (puts (OfHost d) q z)) tt
     by_kind (OfHost d) q (inr z) = acts (OfHost d) q (λ e. cc) z
 
-below-step : (s : Setup) (lost : Losses) (w v : World) (e : Entry) → IsWired s.net → Ran s lost w → Steps s lost w e v → AllBelow s.net w → AllBelow s.net v
+below-step : (s : Setup) (lost : Losses) (w v : World) (e : Entry) → IsWired s.net → IsFifoRun s lost w → Steps s lost w e v → AllBelow s.net w → AllBelow s.net v
 below-step s lost w v e n r t b l = by_actor (eqb_tells (link_of s.net l).from e.0)
   where
     more : issued s.net (observer w) ≤ issued s.net (observer v)
@@ -311,11 +311,11 @@ below-step s lost w v e n r t b l = by_actor (eqb_tells (link_of s.net l).from e
 
 -- what holds in each world of a net that is wired
 pub record RanBelow (s : Setup) (lost : Losses) (w : World) : Type 0 where
-  pub ran : Ran s lost w
+  pub fifo-run : IsFifoRun s lost w
   pub below : AllBelow s.net w
 
 below-turn : (s : Setup) (lost : Losses) (w : World) (e : Entry) → IsWired s.net → RanBelow s lost w → RanBelow s lost (turn s lost w e)
-below-turn s lost w e n h = record { ran = ran-turn s lost w e h.ran; below = by_cases (turn-cases s lost w e) }
+below-turn s lost w e n h = record { fifo-run = fifo-run-turn s lost w e h.ran; below = by_cases (turn-cases s lost w e) }
   where
     by_cases : (turn s lost w e ≡ w) ⊎ Steps s lost w e (turn s lost w e) → AllBelow s.net (turn s lost w e)
     by_cases (inl q) = subst (AllBelow s.net) (sym q) h.below
@@ -323,4 +323,4 @@ below-turn s lost w e n h = record { ran = ran-turn s lost w e h.ran; below = by
 
 pub all-below : (s : Setup) (lost : Losses) (es : List Entry) → IsWired s.net → RanBelow s lost (run s lost (start s.net) es)
 all-below s lost es n = kept_by_run s lost (RanBelow s lost) (λ w e. below-turn s lost w e n) (start s.net) es
-    (record { ran = ran s lost []; below = λ l. subst (λ h. Each (IsBelow (issued s.net (observer (start s.net)))) (put l h)) (sym (start-empty s.net (link_of s.net l).from)) tt })
+    (record { fifo-run = fifo-run s lost []; below = λ l. subst (λ h. Each (IsBelow (issued s.net (observer (start s.net)))) (put l h)) (sym (start-empty s.net (link_of s.net l).from)) tt })

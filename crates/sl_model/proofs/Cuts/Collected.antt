@@ -18,7 +18,7 @@ use Rattle.sl_model.specs.History.{History, World, Losses, history, stamp_of, be
 use Rattle.sl_model.specs.Setup.{Setup}
 use Rattle.sl_model.specs.Knowledge.{observer, told_of, dumped, known, issued, upto_of, floor_of, unit_floor, floor}
 use Rattle.sl_model.specs.World.{Entry, world, sender, receiver, carried, run}
-use Rattle.sl_model.specs.Made.{Fifo, Ran, Took, Acted, IsMade}
+use Rattle.sl_model.specs.Made.{Fifo, IsFifoRun, Took, Acted, IsMade}
 use Rattle.sl_model.specs.Matching.{IsDataChannel}
 use Rattle.sl_model.specs.Fit.{is_stamped, stamp, fits, fits_link}
 use Rattle.sl_model.specs.Window.{on_way, begun, known_counts, after_steps, IsFollowed, KnowsInOrder, StampsRise, IsBelow, IsInWindow, IsNear}
@@ -42,7 +42,7 @@ use Rattle.sl_model.specs.Counting.{packets, bytes}
 use Rattle.sl_model.specs.Late.{is_old, late}
 use Rattle.sl_model.specs.Collected.{IsKept}
 use Rattle.sl_model.proofs.Worlds.Turns.{kept_by_run}
-use Rattle.sl_model.proofs.Worlds.Ran.{ran-turn}
+use Rattle.sl_model.proofs.Worlds.FifoRuns.{fifo-run-turn}
 use Rattle.sl_parts.specs.Parts.{below}
 
 -- What is on its way.
@@ -108,7 +108,7 @@ floor-id net u h = omega (arith, least-start (map (λ c. last c h) (choices_of n
 pub floor-unit : (net : Net) → HasWays net → (w : World) (u : ℕ) (i : UnitId) → actor_of net u ≡ OfUnit i → floor net w ≤ unit_floor net w u
 floor-unit net ways w u i q = of-unit net ways u i (λ u. floor net w ≤ unit_floor net w u) (each-least (unit_floor net w) (units net) (issued net (observer w)) None) q
 
-pub floor-now : (s : Setup) (lost : Losses) (w : World) (u : ℕ) (i : UnitId) → IsWired s.net → Ran s lost w → actor_of s.net u ≡ OfUnit i → floor s.net w ≤ floor_of s.net u (history w u)
+pub floor-now : (s : Setup) (lost : Losses) (w : World) (u : ℕ) (i : UnitId) → IsWired s.net → IsFifoRun s lost w → actor_of s.net u ≡ OfUnit i → floor s.net w ≤ floor_of s.net u (history w u)
 floor-now s lost w u i n r q = let x : floor s.net w ≤ unit_floor s.net w u = floor-unit s.net n.ways w u i q in
     let y : unit_floor s.net w u ≤ floor_of s.net u (history w u) = falls-first (floor_of s.net u) (known (unit_place s.net u) (observer w)) (history w u) (floor-of-falls s lost w u n r) in omega (arith, x, y)
 
@@ -118,7 +118,7 @@ rises-map : (f : ℕ → ℕ) → ((n m : ℕ) → n ≤ m → f n ≤ f m) → 
 rises-map f m a [] b r = m a b r
 rises-map f m a (x ∷ xs) b r = (m a x r.0, rises-map f m x xs b r.1)
 
-counts-rise : (s : Setup) (lost : Losses) (w : World) (u : ℕ) (i : UnitId) → IsWired s.net → Ran s lost w → actor_of s.net u ≡ OfUnit i → (p : Reports s.net u) → Rises 0 (known_counts s.net lost w u p) (length (history w u))
+counts-rise : (s : Setup) (lost : Losses) (w : World) (u : ℕ) (i : UnitId) → IsWired s.net → IsFifoRun s lost w → actor_of s.net u ≡ OfUnit i → (p : Reports s.net u) → Rises 0 (known_counts s.net lost w u p) (length (history w u))
 counts-rise s lost w u i n r q p = of_knows (knows s lost w u i n r p q)
   where
     of_knows : Knows s lost w u r p → Rises 0 (known_counts s.net lost w u p) (length (history w u))
@@ -144,7 +144,7 @@ followed s lost w u p g c f low = (
       (rises-map (after_steps g w u) (λ a b j. never-falls g a b (history w u) f j) (known (unit_place s.net u) (observer w)) _ (length (history w u)) c.1),
 )
 
-known-in-order : (s : Setup) (lost : Losses) (w : World) (u : ℕ) (i : UnitId) → IsWired s.net → Ran s lost w → actor_of s.net u ≡ OfUnit i → (p : Reports s.net u) → KnowsInOrder s.net lost w u p
+known-in-order : (s : Setup) (lost : Losses) (w : World) (u : ℕ) (i : UnitId) → IsWired s.net → IsFifoRun s lost w → actor_of s.net u ≡ OfUnit i → (p : Reports s.net u) → KnowsInOrder s.net lost w u p
 known-in-order s lost w u i n r q p = let c = counts-rise s lost w u i n r q p in
     let low : floor s.net w ≤ unit_floor s.net w u = floor-unit s.net n.ways w u i q in
     record {
@@ -157,17 +157,17 @@ known-in-order s lost w u i n r q p = let c = counts-rise s lost w u i n r q p i
 
 -- Links.
 
-pub data-stamps : (s : Setup) (lost : Losses) (w : World) (l : ℕ) → IsWired s.net → Ran s lost w → IsDataChannel s.net l → StampsRise s.net lost w l (id (sender s.net w l))
+pub data-stamps : (s : Setup) (lost : Losses) (w : World) (l : ℕ) → IsWired s.net → IsFifoRun s lost w → IsDataChannel s.net l → StampsRise s.net lost w l (id (sender s.net w l))
 data-stamps s lost w l n r d = let k = n.ways.taken l d.link in let x = n.data_from l d.link (data-sort (link_of s.net l).sort d.data_sort) in
     subst (λ ms. Rises (last (choice_of s.net l) (receiver s.net w l)) (numbers stamp_of ms) (id (sender s.net w l))) (sym (on-way-is s.net lost w (link_of s.net l).to (choice_of s.net l) l k (r.fifo (link_of s.net l).to (choice_of s.net l) l k)))
     (unit-link s lost w (link_of s.net l).to (choice_of s.net l) l x.0 r k x.1).rises
 
-init-stamps : (s : Setup) (lost : Losses) (w : World) (l : ℕ) → IsWired s.net → Ran s lost w → l < length s.net.links → (link_of s.net l).sort ≡ Init → StampsRise s.net lost w l (begun (sender s.net w l))
+init-stamps : (s : Setup) (lost : Losses) (w : World) (l : ℕ) → IsWired s.net → IsFifoRun s lost w → l < length s.net.links → (link_of s.net l).sort ≡ Init → StampsRise s.net lost w l (begun (sender s.net w l))
 init-stamps s lost w l n r p q = let k = n.ways.taken l p in let x = n.init_from l p q in
     subst (λ ms. Rises (last (choice_of s.net l) (receiver s.net w l)) (numbers stamp_of ms) (begun (sender s.net w l))) (sym (on-way-is s.net lost w (link_of s.net l).to (choice_of s.net l) l k (r.fifo (link_of s.net l).to (choice_of s.net l) l k)))
     (init-link s lost w (link_of s.net l).to (choice_of s.net l) l x.0 n r k x.1).rises
 
-begins-rise : (s : Setup) (lost : Losses) (w : World) (l : ℕ) → IsWired s.net → Ran s lost w → l < length s.net.links → (link_of s.net l).sort ≡ Begin
+begins-rise : (s : Setup) (lost : Losses) (w : World) (l : ℕ) → IsWired s.net → IsFifoRun s lost w → l < length s.net.links → (link_of s.net l).sort ≡ Begin
     → Rises (begun (receiver s.net w l)) (numbers begin_of (on_way s.net lost w l)) (issued s.net (observer w))
 begins-rise s lost w l n r p q = let k = n.ways.taken l p in
     subst (λ ms. Rises (begun (receiver s.net w l)) (numbers begin_of ms) (issued s.net (observer w))) (sym (on-way-is s.net lost w (link_of s.net l).to (choice_of s.net l) l k (r.fifo (link_of s.net l).to (choice_of s.net l) l k)))
@@ -179,7 +179,7 @@ begins-rise s lost w l n r p q = let k = n.ways.taken l p in
 pub in-window : (s : Setup) (lost : Losses) (es : List Entry) → IsWired s.net → IsInWindow s lost (world s lost es)
 in-window s lost es n = of_bounds (all-below s lost es n).ran (all-below s lost es n).below
   where
-    of_bounds : Ran s lost (world s lost es) → AllBelow s.net (world s lost es) → IsInWindow s lost (world s lost es)
+    of_bounds : IsFifoRun s lost (world s lost es) → AllBelow s.net (world s lost es) → IsInWindow s lost (world s lost es)
     of_bounds r b = record {
       knowledge = λ u i q p. known-in-order s lost (world s lost es) u i n r q p;
       data_stamps = λ l d. data-stamps s lost (world s lost es) l n r d;
@@ -191,7 +191,7 @@ in-window s lost es n = of_bounds (all-below s lost es n).ran (all-below s lost 
     }
 
 -- A unit's id lies at most W above each of its last-seen numbers, and so does each stamp on its way there.
-pub near : (s : Setup) (lost : Losses) (w : World) (u l : ℕ) (i : UnitId) → IsWired s.net → Ran s lost w → IsInWindow s lost w → actor_of s.net u ≡ OfUnit i → l < length s.net.links → (link_of s.net l).to ≡ u → IsTrue (is_stamped (link_of s.net l).sort) → IsNear s lost w u l
+pub near : (s : Setup) (lost : Losses) (w : World) (u l : ℕ) (i : UnitId) → IsWired s.net → IsFifoRun s lost w → IsInWindow s lost w → actor_of s.net u ≡ OfUnit i → l < length s.net.links → (link_of s.net l).to ≡ u → IsTrue (is_stamped (link_of s.net l).sort) → IsNear s lost w u l
 near s lost w u l i n r x q p to t = record {
   id_near = omega (arith, x.ids u, low);
   stamps_near = each-imp (IsBelow (issued s.net (observer w))) (λ m. stamp m ≤ last (choice_of s.net l) (history w u) + s.window) (on_way s.net lost w l) (λ m b. omega (arith, b.stamp, low))
@@ -207,7 +207,7 @@ near s lost w u l i n r x q p to t = record {
 
 -- What a control plane has not collected of a unit lies near the unit's id.
 
-floor-told : (s : Setup) (lost : Losses) (w : World) (u : ℕ) (i : UnitId) → IsWired s.net → Ran s lost w → actor_of s.net u ≡ OfUnit i → (p : Reports s.net u)
+floor-told : (s : Setup) (lost : Losses) (w : World) (u : ℕ) (i : UnitId) → IsWired s.net → IsFifoRun s lost w → actor_of s.net u ≡ OfUnit i → (p : Reports s.net u)
     → floor s.net w ≤ upto_of s.net u (first (dumped (choice_of s.net p.dump) (history w p.control)) (history w u))
 floor-told s lost w u i n r q p = of_knows (knows s lost w u i n r p q)
   where
@@ -221,7 +221,7 @@ floor-told s lost w u i n r q p = of_knows (knows s lost w u i n r p q)
         never-falls (upto_of s.net u) (known (unit_place s.net u) (observer w)) (dumped (choice_of s.net p.dump) (history w p.control)) (history w u) (upto-falls s lost w u n r) c in
         omega (arith, a, b, d)
 
-pub uncollected-near : (s : Setup) (lost : Losses) (w : World) (a ring : ℕ) → s.window ≤ ring → IsWired s.net → Ran s lost w → IsInWindow s lost w
+pub uncollected-near : (s : Setup) (lost : Losses) (w : World) (a ring : ℕ) → s.window ≤ ring → IsWired s.net → IsFifoRun s lost w → IsInWindow s lost w
     → Each (λ v. (k : ℕ) → upto_of s.net v.unit (told_of (history w) v (history w a)) < k → id (history w v.unit) < k + ring) (served s.net a)
 uncollected-near s lost w a ring wide n r x = each-map (λ v. (k : ℕ) → upto_of s.net v.unit (told_of (history w) v (history w a)) < k → id (history w v.unit) < k + ring) (serving s.net a) (links_out s.net a Poll)
     (each-imp (IsOut s.net a Poll) (λ l. (k : ℕ) → upto_of s.net (link_of s.net l).to (told_of (history w) (serving s.net a l) (history w a)) < k → id (history w (link_of s.net l).to) < k + ring) (links_out s.net a Poll)
@@ -406,14 +406,14 @@ kept-from s credits a k n (step ∷ h) m f d q = by_cases (cases_lt (length h) n
     by_cases (inr p) ih = subst (λ g. IsKept credits s.net a k g (step ∷ h)) (sym (past p)) (kept-step s credits a k step (first n h) h f d m.0 (ih (subst (λ g. lag s.net k a g ≡ None) (past p) q)))
 
 -- Once nothing of a unit lags behind k, what its history tells of k stays.
-pub kept : (s : Setup) (lost : Losses) (w : World) (credits u k n : ℕ) → IsWired s.net → Ran s lost w → lag s.net k u (first n (history w u)) ≡ None → IsKept credits s.net u k (first n (history w u)) (history w u)
+pub kept : (s : Setup) (lost : Losses) (w : World) (credits u k n : ℕ) → IsWired s.net → IsFifoRun s lost w → lag s.net k u (first n (history w u)) ≡ None → IsKept credits s.net u k (first n (history w u)) (history w u)
 kept s lost w credits u k n t r q = kept-from s credits u k n (history w u) (r.made u) (fit-taken s lost w u r) (λ c l i d. last-never-falls s lost w u c l t r i (sort-stamped (link_of s.net l).sort d)) q
 
 -- ... in every longer schedule
-pub kept-ahead : (s : Setup) (lost : Losses) (w : World) (es : List Entry) (credits u k n : ℕ) → IsWired s.net → Ran s lost w → n ≤ length (history w u) → lag s.net k u (first n (history w u)) ≡ None
+pub kept-ahead : (s : Setup) (lost : Losses) (w : World) (es : List Entry) (credits u k n : ℕ) → IsWired s.net → IsFifoRun s lost w → n ≤ length (history w u) → lag s.net k u (first n (history w u)) ≡ None
     → IsKept credits s.net u k (first n (history w u)) (history (run s lost w es) u)
 kept-ahead s lost w es credits u k n t r p q = let e : first n (history (run s lost w es) u) ≡ first n (history w u) = (extends-run s lost w es u).steps n p in
-    subst (λ g. IsKept credits s.net u k g (history (run s lost w es) u)) e (kept s lost (run s lost w es) credits u k n t (kept_by_run s lost (Ran s lost) (ran-turn s lost) w es r) (subst (λ g. lag s.net k u g ≡ None) (sym e) q))
+    subst (λ g. IsKept credits s.net u k g (history (run s lost w es) u)) e (kept s lost (run s lost w es) credits u k n t (kept_by_run s lost (IsFifoRun s lost) (fifo-run-turn s lost) w es r) (subst (λ g. lag s.net k u g ≡ None) (sym e) q))
 
 pub distinct-channels : (net : Net) (u : ℕ) → Distinct (data_channels net u)
 distinct-channels net u = distinct-append (choices_of net u Cable) (choices_of net u Crossbar) (once Cable) (once Crossbar)

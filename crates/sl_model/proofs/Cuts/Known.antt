@@ -16,7 +16,7 @@ use Rattle.sl_model.specs.History.{History, World, Losses, history, id, last, st
 use Rattle.sl_model.specs.Setup.{Setup}
 use Rattle.sl_model.specs.Knowledge.{observer, known, issued, collected, upto_of, floor_of, unit_floor, floor}
 use Rattle.sl_model.specs.World.{Entry, run}
-use Rattle.sl_model.specs.Made.{Ran, Took, Acted, IsMade}
+use Rattle.sl_model.specs.Made.{IsFifoRun, Took, Acted, IsMade}
 use Rattle.sl_model.specs.Verdict.{cause, lag, judged, issued_verdict, floor_holder, verdict, first_cause, skipped_to, miscredits, lag_at, holds_floor, place_or_zero}
 use Rattle.sl_model.specs.End.{IsFinished, IsSpent, is_collected, KnowsAll}
 use Rattle.sl_model.specs.Collected.{IsKept, known_verdict}
@@ -60,12 +60,12 @@ pub all-reached : (net : Net) (w : World) (k : ℕ) → k ≤ floor net w → Ea
 all-reached net w k p = each-imp (λ u. floor net w ≤ unit_floor net w u) (λ u. lag net k u (collected net w u) ≡ None) (units net)
     (λ u q. lag-of net k u (collected net w u) (floor-reached net u k (collected net w u) (omega (arith, q, p)))) (each-least (unit_floor net w) (units net) (issued net (observer w)) None)
 
-pub all-kept : (s : Setup) (lost : Losses) (w : World) (k : ℕ) → IsWired s.net → Ran s lost w → k ≤ floor s.net w → Each (λ u. IsKept s.credits s.net u k (collected s.net w u) (history w u)) (units s.net)
+pub all-kept : (s : Setup) (lost : Losses) (w : World) (k : ℕ) → IsWired s.net → IsFifoRun s lost w → k ≤ floor s.net w → Each (λ u. IsKept s.credits s.net u k (collected s.net w u) (history w u)) (units s.net)
 all-kept s lost w k t r p = each-imp (λ u. lag s.net k u (collected s.net w u) ≡ None) (λ u. IsKept s.credits s.net u k (collected s.net w u) (history w u)) (units s.net)
     (λ u q. kept s lost w s.credits u k (known (unit_place s.net u) (observer w)) t r q) (all-reached s.net w k p)
 
 -- F is at most K.
-pub floor-up : (s : Setup) (lost : Losses) (w : World) → Ran s lost w → AllBelow s.net w → floor s.net w ≤ issued s.net (observer w)
+pub floor-up : (s : Setup) (lost : Losses) (w : World) → IsFifoRun s lost w → AllBelow s.net w → floor s.net w ≤ issued s.net (observer w)
 floor-up s lost w r b = of_units (units s.net) (each-least (unit_floor s.net w) (units s.net) (issued s.net (observer w)) None)
   where
     of_units : (us : List ℕ) → Each (λ u. unwrap_or (least_in None (map (unit_floor s.net w) us)) (issued s.net (observer w)) ≤ unit_floor s.net w u) us → unwrap_or (least_in None (map (unit_floor s.net w) us)) (issued s.net (observer w)) ≤ issued s.net (observer w)
@@ -82,18 +82,18 @@ verdict-by n net w k p = ap (λ b. if b then issued_verdict n net w k else NotIs
 no-lag-now : (s : Setup) (w : World) (k : ℕ) → Each (λ u. IsKept s.credits s.net u k (collected s.net w u) (history w u)) (units s.net) → first_told (λ u. lag s.net k u (history w u)) (units s.net) ≡ None
 no-lag-now s w k e = none-first 0 (λ u. lag s.net k u (history w u)) (units s.net) (each-imp (λ u. IsKept s.credits s.net u k (collected s.net w u) (history w u)) (λ u. lag s.net k u (history w u) ≡ None) (units s.net) (λ u i. i.reached) e)
 
-pub known-verdict-is : (s : Setup) (lost : Losses) (w : World) (k : ℕ) → IsWired s.net → Ran s lost w → k ≤ floor s.net w → known_verdict s.credits s.net w k ≡ issued_verdict s.credits s.net w k
+pub known-verdict-is : (s : Setup) (lost : Losses) (w : World) (k : ℕ) → IsWired s.net → IsFifoRun s lost w → k ≤ floor s.net w → known_verdict s.credits s.net w k ≡ issued_verdict s.credits s.net w k
 known-verdict-is s lost w k t r p = let e = all-kept s lost w k t r p in
     ap (λ o. judged o (first_told (λ u. cause s.credits k (collected s.net w u)) (units s.net))) (none-first 0 (λ u. lag s.net k u (collected s.net w u)) (units s.net) (all-reached s.net w k p) ∙ sym (no-lag-now s w k e))
     ∙ ap (judged (first_told (λ u. lag s.net k u (history w u)) (units s.net))) (first-same 0 (λ u. cause s.credits k (collected s.net w u)) (λ u. cause s.credits k (history w u)) (units s.net)
     (each-imp (λ u. IsKept s.credits s.net u k (collected s.net w u) (history w u)) (λ u. cause s.credits k (collected s.net w u) ≡ cause s.credits k (history w u)) (units s.net) (λ u i. sym i.cause) e))
 
-pub known-verdict-now : (s : Setup) (lost : Losses) (w : World) (k : ℕ) → IsWired s.net → Ran s lost w → AllBelow s.net w → k ≤ floor s.net w → known_verdict s.credits s.net w k ≡ verdict s.credits s.net w k
+pub known-verdict-now : (s : Setup) (lost : Losses) (w : World) (k : ℕ) → IsWired s.net → IsFifoRun s lost w → AllBelow s.net w → k ≤ floor s.net w → known_verdict s.credits s.net w k ≡ verdict s.credits s.net w k
 known-verdict-now s lost w k t r b p = known-verdict-is s lost w k t r p ∙ sym (verdict-by s.credits s.net w k (let f : floor s.net w ≤ issued s.net (observer w) = floor-up s lost w r b in omega (arith, f, p)))
 
 -- ... and of every longer schedule.
 
-pub verdict-stays : (s : Setup) (lost : Losses) (w : World) (es : List Entry) (k : ℕ) → IsWired s.net → Ran s lost w → AllBelow s.net w → k ≤ floor s.net w → verdict s.credits s.net (run s lost w es) k ≡ verdict s.credits s.net w k
+pub verdict-stays : (s : Setup) (lost : Losses) (w : World) (es : List Entry) (k : ℕ) → IsWired s.net → IsFifoRun s lost w → AllBelow s.net w → k ≤ floor s.net w → verdict s.credits s.net (run s lost w es) k ≡ verdict s.credits s.net w k
 verdict-stays s lost w es k t r b p = let v = run s lost w es in
     let f : floor s.net w ≤ issued s.net (observer w) = floor-up s lost w r b in
     let i : issued s.net (observer w) ≤ issued s.net (observer v) = issued-run s lost w es in
@@ -120,7 +120,7 @@ all-known n net w k e = let whole = each-imp (λ u. known (unit_place net u) (ob
     (each-imp (λ u. collected net w u ≡ history w u) (λ u. cause n k (collected net w u) ≡ cause n k (history w u)) (units net) (λ u q. ap (cause n k) q) whole))
 
 -- In a finished world the verdict on each number that was issued is that from what the observer knows.
-pub finished-verdict : (s : Setup) (lost : Losses) (w : World) (k : ℕ) → IsWired s.net → Ran s lost w → IsFinished s lost w → k ≤ issued s.net (observer w) → known_verdict s.credits s.net w k ≡ verdict s.credits s.net w k
+pub finished-verdict : (s : Setup) (lost : Losses) (w : World) (k : ℕ) → IsWired s.net → IsFifoRun s lost w → IsFinished s lost w → k ≤ issued s.net (observer w) → known_verdict s.credits s.net w k ≡ verdict s.credits s.net w k
 finished-verdict s lost w k t r f p = by_end f.ended ∙ sym (verdict-by s.credits s.net w k p)
   where
     by_end : (is_collected s w ≡ true) ⊎ IsSpent s w → known_verdict s.credits s.net w k ≡ issued_verdict s.credits s.net w k
@@ -207,18 +207,18 @@ no-cause n k h e = let p = of_parts (skipped_to k h) (least (miscredits n k h)) 
     of_parts None None e = (refl, refl)
 
 -- what is told of a number without a cause is the row of the world
-pub value-is : (s : Setup) (lost : Losses) (w : World) (k u : ℕ) → IsWired s.net → Ran s lost w → 1 ≤ s.credits → cause s.credits k (history w u) ≡ None → value_row (Some (row s.credits (data_channels s.net u) k (history w u))) ≡ world_row s.net lost w k u
+pub value-is : (s : Setup) (lost : Losses) (w : World) (k u : ℕ) → IsWired s.net → IsFifoRun s lost w → 1 ≤ s.credits → cause s.credits k (history w u) ≡ None → value_row (Some (row s.credits (data_channels s.net u) k (history w u))) ≡ world_row s.net lost w k u
 value-is s lost w k u n r some e = let p = no-cause s.credits k (history w u) e in let t = totals-are s lost w s.credits k u n r some p.0 p.1 in
     ap (λ o. value_row (Some (told s.credits (data_channels s.net u) k (history w u) o))) e ∙ (λ i. record { packets = (value k (history w u)).packets; bytes = (value k (history w u)).bytes; inflight = t i })
 
-unit-row : (s : Setup) (lost : Losses) (w : World) (k u : ℕ) → IsWired s.net → Ran s lost w → 1 ≤ s.credits → 1 ≤ k → lag s.net k u (collected s.net w u) ≡ None → cause s.credits k (collected s.net w u) ≡ None
+unit-row : (s : Setup) (lost : Losses) (w : World) (k u : ℕ) → IsWired s.net → IsFifoRun s lost w → 1 ≤ s.credits → 1 ≤ k → lag s.net k u (collected s.net w u) ≡ None → cause s.credits k (collected s.net w u) ≡ None
     → value_row (row_of k (account s.credits s.net u (collected s.net w u))) ≡ world_row s.net lost w k u
 unit-row s lost w k u n r some one q e = let cs = data_channels s.net u in let h = history w u in
     let same : row s.credits cs k h ≡ row s.credits cs k (collected s.net w u) = row-kept s lost w s.credits cs u k (known (unit_place s.net u) (observer w)) n r q in
     ap value_row (row-found s.credits s.net k u (collected s.net w u) one (reached-of s.net k u (collected s.net w u) q) ∙ ap (λ r. Some r) (sym same))
     ∙ value-is s lost w k u n r some (sym (cause-row s.credits cs k h) ∙ ap cause_in same ∙ cause-row s.credits cs k (collected s.net w u) ∙ e)
 
-rows-are : (s : Setup) (lost : Losses) (w : World) (k : ℕ) → IsWired s.net → Ran s lost w → 1 ≤ s.credits → 1 ≤ k → known_verdict s.credits s.net w k ≡ Consistent
+rows-are : (s : Setup) (lost : Losses) (w : World) (k : ℕ) → IsWired s.net → IsFifoRun s lost w → 1 ≤ s.credits → 1 ≤ k → known_verdict s.credits s.net w k ≡ Consistent
     → map (λ a. value_row (row_of k a)) (accounts s.credits s.net w) ≡ map (world_row s.net lost w k) (units s.net)
 rows-are s lost w k n r some one q = of_clear (clear (first_told (λ u. lag s.net k u (collected s.net w u)) (units s.net)) (first_told (λ u. cause s.credits k (collected s.net w u)) (units s.net)) q)
   where
@@ -230,7 +230,7 @@ rows-are s lost w k n r some one q = of_clear (clear (first_told (λ u. lag s.ne
         (λ u a b. unit-row s lost w k u n r some one a b)
         (first-none 0 (λ u. lag s.net k u (collected s.net w u)) (units s.net) c.0) (first-none 0 (λ u. cause s.credits k (collected s.net w u)) (units s.net) c.1))
 
-rows-for : (s : Setup) (lost : Losses) (w : World) (k : ℕ) (v : Verdict) → IsWired s.net → Ran s lost w → 1 ≤ s.credits → 1 ≤ k → known_verdict s.credits s.net w k ≡ v → rows_by (accounts s.credits s.net w) k v ≡ rows_for s.net lost w k v
+rows-for : (s : Setup) (lost : Losses) (w : World) (k : ℕ) (v : Verdict) → IsWired s.net → IsFifoRun s lost w → 1 ≤ s.credits → 1 ≤ k → known_verdict s.credits s.net w k ≡ v → rows_by (accounts s.credits s.net w) k v ≡ rows_for s.net lost w k v
 rows-for s lost w k Consistent n r some one q = rows-are s lost w k n r some one q
 rows-for s lost w k (Inconsistent u c) n r some one q = refl
 rows-for s lost w k (Pending u l) n r some one q = refl
@@ -274,7 +274,7 @@ verdict-is n net w k one e = by_place (cases_lt (issued net (observer w)) k)
         NotIssued (place_or_zero (first_told (holds (floor_by (issued net (observer w)) (accounts n net w))) (accounts n net w))) (floor_by (issued net (observer w)) (accounts n net w))) (le-leb k (issued net (observer w)) p)
         ∙ judged-is n net w k one ∙ e p
 
-rows-by : (s : Setup) (lost : Losses) (w : World) (k : ℕ) → IsWired s.net → Ran s lost w → 1 ≤ s.credits → 1 ≤ k → (k ≤ issued s.net (observer w) → known_verdict s.credits s.net w k ≡ verdict s.credits s.net w k)
+rows-by : (s : Setup) (lost : Losses) (w : World) (k : ℕ) → IsWired s.net → IsFifoRun s lost w → 1 ≤ s.credits → 1 ≤ k → (k ≤ issued s.net (observer w) → known_verdict s.credits s.net w k ≡ verdict s.credits s.net w k)
     → rows_by (accounts s.credits s.net w) k (verdict s.credits s.net w k) ≡ rows_for s.net lost w k (verdict s.credits s.net w k)
 rows-by s lost w k n r some one e = by_place (cases_lt (issued s.net (observer w)) k)
   where
@@ -282,7 +282,7 @@ rows-by s lost w k n r some one e = by_place (cases_lt (issued s.net (observer w
     by_place (inl p) = subst (λ v. rows_by (accounts s.credits s.net w) k v ≡ rows_for s.net lost w k v) (sym (unissued s.credits s.net w k p)) refl
     by_place (inr p) = rows-for s lost w k (verdict s.credits s.net w k) n r some one (e p)
 
-pub finding-is : (s : Setup) (lost : Losses) (w : World) (k : ℕ) → IsWired s.net → Ran s lost w → 1 ≤ s.credits → 1 ≤ k → (k ≤ issued s.net (observer w) → known_verdict s.credits s.net w k ≡ verdict s.credits s.net w k)
+pub finding-is : (s : Setup) (lost : Losses) (w : World) (k : ℕ) → IsWired s.net → IsFifoRun s lost w → 1 ≤ s.credits → 1 ≤ k → (k ≤ issued s.net (observer w) → known_verdict s.credits s.net w k ≡ verdict s.credits s.net w k)
     → finding_by (issued s.net (observer w)) (accounts s.credits s.net w) k ≡ finding s.credits s.net lost w k
 finding-is s lost w k n r some one e = let v = verdict-is s.credits s.net w k one e in
     ap (λ v. record { k = k; verdict = v; rows = rows_by (accounts s.credits s.net w) k v }) v ∙ ap (λ r. record { k = k; verdict = verdict s.credits s.net w k; rows = r }) (rows-by s lost w k n r some one e)
@@ -356,7 +356,7 @@ own-by s u (step ∷ h) d l m f n = own-step (slice_get (choices_of s.net u Init
     of_stamp (inl t) j e = sole (choices_of s.net u Init) step.choice (by-init s u step h j d f t (sym (ap (option_and_then stamp_of) t.taken) ∙ e)) l
     of_stamp (inr t) j e = absurd (let z : None ≡ Some j = sym (ap (option_and_then stamp_of) t.taken) ∙ e in cc)
 
-pub own-last : (s : Setup) (lost : Losses) (w : World) (u : ℕ) (i : UnitId) → IsWired s.net → Ran s lost w → actor_of s.net u ≡ OfUnit i → data_channels s.net u ≡ [] → cpu_last s.net u (history w u) ≡ id (history w u)
+pub own-last : (s : Setup) (lost : Losses) (w : World) (u : ℕ) (i : UnitId) → IsWired s.net → IsFifoRun s lost w → actor_of s.net u ≡ OfUnit i → data_channels s.net u ≡ [] → cpu_last s.net u (history w u) ≡ id (history w u)
 own-last s lost w u i n r q d = own-by s u (history w u) d (n.one_init u i q) (r.made u) (fit-taken s lost w u r)
     (λ c e. got (choices_of s.net u Init) c (choice-falls s lost w u Init n r refl) e)
   where
@@ -366,7 +366,7 @@ own-last s lost w u i n r q d = own-by s u (history w u) d (n.one_init u i q) (r
 
 -- Lags.
 
-pub seen-reached : (s : Setup) (lost : Losses) (w : World) (u k : ℕ) (i : UnitId) → IsWired s.net → Ran s lost w → actor_of s.net u ≡ OfUnit i → Each (λ m. k ≤ m) (last_seen s.net u (history w u)) → Reached s.net k u (history w u)
+pub seen-reached : (s : Setup) (lost : Losses) (w : World) (u k : ℕ) (i : UnitId) → IsWired s.net → IsFifoRun s lost w → actor_of s.net u ≡ OfUnit i → Each (λ m. k ≤ m) (last_seen s.net u (history w u)) → Reached s.net k u (history w u)
 seen-reached s lost w u k i n r q e = by_channels (data_channels s.net u) refl e
   where
     by_channels : (cs : List ℕ) → data_channels s.net u ≡ cs → Each (λ m. k ≤ m) (or_else (map (λ c. last c (history w u)) cs) (cpu_last s.net u (history w u))) → Reached s.net k u (history w u)
@@ -377,14 +377,14 @@ seen-reached s lost w u k i n r q e = by_channels (data_channels s.net u) refl e
         each-unmap [] e = tt
         each-unmap (c ∷ cs) e = (e.0, each-unmap cs e.1)
 
-pub reached-seen : (s : Setup) (lost : Losses) (w : World) (u k : ℕ) (i : UnitId) → IsWired s.net → Ran s lost w → actor_of s.net u ≡ OfUnit i → Reached s.net k u (history w u) → Each (λ m. k ≤ m) (last_seen s.net u (history w u))
+pub reached-seen : (s : Setup) (lost : Losses) (w : World) (u k : ℕ) (i : UnitId) → IsWired s.net → IsFifoRun s lost w → actor_of s.net u ≡ OfUnit i → Reached s.net k u (history w u) → Each (λ m. k ≤ m) (last_seen s.net u (history w u))
 reached-seen s lost w u k i n r q e = by_channels (data_channels s.net u) refl e.lasts
   where
     by_channels : (cs : List ℕ) → data_channels s.net u ≡ cs → Each (λ c. k ≤ last c (history w u)) cs → Each (λ m. k ≤ m) (or_else (map (λ c. last c (history w u)) cs) (cpu_last s.net u (history w u)))
     by_channels [] d l = let own : cpu_last s.net u (history w u) ≡ id (history w u) = own-last s lost w u i n r q d in let p = e.id_at in (omega (arith, own, p), tt)
     by_channels (c ∷ cs) d l = each-map (λ m. k ≤ m) (λ c. last c (history w u)) (c ∷ cs) l
 
-pub lag-seen : (s : Setup) (lost : Losses) (w : World) (u k : ℕ) (i : UnitId) → IsWired s.net → Ran s lost w → actor_of s.net u ≡ OfUnit i → lag s.net k u (history w u) ≡ None ↔ Each (λ m. k ≤ m) (last_seen s.net u (history w u))
+pub lag-seen : (s : Setup) (lost : Losses) (w : World) (u k : ℕ) (i : UnitId) → IsWired s.net → IsFifoRun s lost w → actor_of s.net u ≡ OfUnit i → lag s.net k u (history w u) ≡ None ↔ Each (λ m. k ≤ m) (last_seen s.net u (history w u))
 lag-seen s lost w u k i n r q = (
   (λ e. reached-seen s lost w u k i n r q (reached-of s.net k u (history w u) e)),
   (λ e. lag-of s.net k u (history w u) (seen-reached s lost w u k i n r q e)),
@@ -393,7 +393,7 @@ lag-seen s lost w u k i n r q = (
 -- Verdicts.
 
 -- an issued snapshot is consistent exactly where each unit is whole in it
-module _ (s : Setup) (lost : Losses) (w : World) (k : ℕ) (n : IsWired s.net) (r : Ran s lost w) where
+module _ (s : Setup) (lost : Losses) (w : World) (k : ℕ) (n : IsWired s.net) (r : IsFifoRun s lost w) where
   only-whole : issued_verdict s.credits s.net w k ≡ Consistent → Each (λ u. IsClean s.credits s.net u k (history w u)) (units s.net)
   only-whole e = let z = clear (first_told (λ u. lag s.net k u (history w u)) (units s.net)) (first_told (λ u. cause s.credits k (history w u)) (units s.net)) e in
       each-both-of (λ u. (i : UnitId) × (actor_of s.net u ≡ OfUnit i)) (λ u. (lag s.net k u (history w u) ≡ None) × (cause s.credits k (history w u) ≡ None)) (λ u. IsClean s.credits s.net u k (history w u)) (units s.net)

@@ -12,7 +12,7 @@ use Rattle.sl_parts.proofs.Lists.{each-append, each-imp, each-front}
 use Rattle.sl_model.specs.Words.{listed, weigh}
 use Rattle.sl_model.specs.History.{History, stamp_of, id, first, taken, takes, put, on_link, without_lost, World, Losses, history, carried_by}
 use Rattle.sl_model.specs.Setup.{Setup}
-use Rattle.sl_model.specs.Made.{IsMade, Ran, Fifo}
+use Rattle.sl_model.specs.Made.{IsMade, IsFifoRun, Fifo}
 use Rattle.sl_model.specs.Cut.{cut, before, outside, cuts, crossing, data_count, data_bytes}
 use Rattle.sl_model.specs.Fit.{is_stamped, stamp}
 use Rattle.sl_model.proofs.Worlds.Numbers.{Says, first-grown}
@@ -23,7 +23,7 @@ use Rattle.sl_net.specs.Wired.{IsWired}
 use Rattle.sl_model.specs.World.{Entry, carried, world, sender, receiver, taken_by}
 use Rattle.sl_model.specs.Matching.{is_data, IsDataChannel, IsConsistentCut}
 use Rattle.sl_model.specs.Late.{is_old, IsLateData}
-use Rattle.sl_model.proofs.Worlds.Ran.{ran}
+use Rattle.sl_model.proofs.Worlds.FifoRuns.{fifo-run}
 
 abbrev pub AllOld : ℕ → List Message → Type 0
 AllOld k ms = Each (λ m. stamp m < k) ms
@@ -235,7 +235,7 @@ data-stamped Crossbar d = refl
 data-stamped _ d = absurd cc
 
 -- on a data channel what the sender's first cut(k) steps sent has stamps below k, and the rest has none
-pub sent-split : (s : Setup) (lost : Losses) (w : World) (k l : ℕ) → IsWired s.net → Ran s lost w → IsDataChannel s.net l
+pub sent-split : (s : Setup) (lost : Losses) (w : World) (k l : ℕ) → IsWired s.net → IsFifoRun s lost w → IsDataChannel s.net l
     → SplitsAt k (carried_by lost l (before k (sender s.net w l))) (carried s.net lost w l)
 sent-split s lost w k l n r d = let f = n.data_from l d.link (data-sort (link_of s.net l).sort d.data_sort) in
     lost-split k (lost l) (put l (before k (sender s.net w l))) (put l (sender s.net w l))
@@ -246,7 +246,7 @@ pub count-before : (c k : ℕ) (h : History) → length (takes c h) ≡ taken c 
 count-before c k h q = subst (λ g. length (takes c g) ≡ taken c g) (before-first k h) (count-first c (cut k h) h q)
 
 -- Of each link the receiver's first cut(k) steps took at most what the sender's first cut(k) steps sent.
-pub cut-link : (s : Setup) (lost : Losses) (w : World) (k l : ℕ) → IsWired s.net → Ran s lost w → IsDataChannel s.net l
+pub cut-link : (s : Setup) (lost : Losses) (w : World) (k l : ℕ) → IsWired s.net → IsFifoRun s lost w → IsDataChannel s.net l
     → taken_by s.net l (before k (receiver s.net w l)) ≤ length (carried_by lost l (before k (sender s.net w l)))
 cut-link s lost w k l n r d = of_parts (r.fifo (link_of s.net l).to (choice_of s.net l) l (n.ways.taken l d.link)) (sent-split s lost w k l n r d)
   where
@@ -260,7 +260,7 @@ cut-link s lost w k l n r d = of_parts (r.fifo (link_of s.net l).to (choice_of s
         let z : length (takes c (before k h)) ≡ taken c (before k h) = count-before c k h f.count in omega (arith, b, z)
 
 -- The prefixes before the id reaches k are a consistent cut, in each world that is a run.
-pub cut-consistent : (s : Setup) (lost : Losses) (w : World) (k : ℕ) → IsWired s.net → Ran s lost w → IsConsistentCut s.net lost w (cuts w k)
+pub cut-consistent : (s : Setup) (lost : Losses) (w : World) (k : ℕ) → IsWired s.net → IsFifoRun s lost w → IsConsistentCut s.net lost w (cuts w k)
 cut-consistent s lost w k n r l i d t = let x = link_of s.net l in
     let e : first (cut k (history w x.to)) (history w x.to) ≡ before k (history w x.to) = before-first k (history w x.to) in
     let p : i < taken_by s.net l (before k (history w x.to)) = subst (λ h. i < taken_by s.net l h) e t in
@@ -268,10 +268,10 @@ cut-consistent s lost w k n r l i d t = let x = link_of s.net l in
     subst (λ h. i < length (carried_by lost l h)) (sym (before-first k (history w x.from))) (omega (arith, p, q))
 
 pub always-consistent : (s : Setup) (lost : Losses) (es : List Entry) (k : ℕ) → IsWired s.net → IsConsistentCut s.net lost (world s lost es) (cuts (world s lost es) k)
-always-consistent s lost es k n = cut-consistent s lost (world s lost es) k n (ran s lost es)
+always-consistent s lost es k n = cut-consistent s lost (world s lost es) k n (fifo-run s lost es)
 
 -- The messages that cross the cut are the old ones that the receiver took outside its cut.
-pub crossing-is : (s : Setup) (lost : Losses) (w : World) (k l : ℕ) → IsWired s.net → Ran s lost w → IsDataChannel s.net l
+pub crossing-is : (s : Setup) (lost : Losses) (w : World) (k l : ℕ) → IsWired s.net → IsFifoRun s lost w → IsDataChannel s.net l
     → crossing s.net lost w k l ≡ filter (is_old k) (takes (choice_of s.net l) (outside k (receiver s.net w l)))
 crossing-is s lost w k l n r d = of_parts (r.fifo (link_of s.net l).to (choice_of s.net l) l (n.ways.taken l d.link)) (sent-split s lost w k l n r d)
   where
@@ -285,5 +285,5 @@ crossing-is s lost w k l n r d = of_parts (r.fifo (link_of s.net l).to (choice_o
         ∙ ap (λ ms. drop (length (takes c (before k h))) (filter (is_old k) ms)) (takes-split c k h)
         ∙ past-old k (takes c (before k h)) (takes c (outside k h)) (takes-before c k h)
 
-pub value-is-late : (s : Setup) (lost : Losses) (w : World) (k l : ℕ) → IsWired s.net → Ran s lost w → IsDataChannel s.net l → IsLateData s.net lost w k l
+pub value-is-late : (s : Setup) (lost : Losses) (w : World) (k l : ℕ) → IsWired s.net → IsFifoRun s lost w → IsDataChannel s.net l → IsLateData s.net lost w k l
 value-is-late s lost w k l n r d = let e = crossing-is s lost w k l n r d in record { packets = ap (weigh data_count) e; bytes = ap (weigh data_bytes) e }

@@ -21,15 +21,15 @@ use Rattle.sl_model.specs.declared.message.Message.TheVariants.{Host as HostMsg,
 use Rattle.sl_model.specs.declared.message.Put.{Put}
 use Rattle.sl_model.specs.declared.message.Step.{Step}
 use Rattle.sl_model.proofs.Finishing.NetWiring.{Wiring}
-use Rattle.sl_model.proofs.Worlds.ReachedWorlds.{ActsBy, Reached, StepOf, TakesBy, counted-below, ran-reached, step-cases}
+use Rattle.sl_model.proofs.Worlds.ReachedWorlds.{ActsBy, Reached, StepOf, TakesBy, counted-below, fifo-run-reached, step-cases}
 use Rattle.std.proofs.lemmas.Bool.Decides.{eqb_tells}
-use Rattle.sl_layout.specs.Serving.{Served, choice_from, served, serving}
+use Rattle.sl_layout.specs.Serving.{ServedUnit, choice_from, served, serving}
 use Rattle.sl_net.specs.Wired.{IsWired, Reports}
 use Rattle.sl_layout.specs.Wiring.{kind_of}
 use Rattle.sl_layout.specs.declared.actor.LinkKind.TheVariants.{Reliable}
 use Rattle.sl_layout.specs.declared.actor.Sort.{Sort}
 use Rattle.sl_layout.specs.declared.actor.UnitId.{UnitId}
-use Rattle.sl_model.specs.Made.{Acted, IsMade, Ran, Took}
+use Rattle.sl_model.specs.Made.{Acted, IsMade, IsFifoRun, Took}
 use Rattle.sl_model.specs.Words.{listed}
 use Rattle.sl_model.specs.declared.message.Message.{Message}
 use Rattle.sl_net.specs.Ways.{IsOut, HasWays}
@@ -158,7 +158,7 @@ settled-by-pass s lost g w r k = record { taken_all = all_taken; sent_all = all_
         let i : IsIdle s lost w (a, c) = idle (a, c) (link-in-pass s.net a c (g.to_actor l h) (slice_get_within (links_into s.net a) c l f)) in
         let n = next-of s lost w a c (actor_of s.net a) (there s.net a (g.to_actor l h)) ∙ ap (λ o. step_by s lost w a c o (actor_of s.net a)) f in
         let e : front s.net lost w a c l ≡ None = none-of-idle (λ m. taking c m (puts_of s a (actor_of s.net a) (history w a) c l m)) (front s.net lost w a c l) (subst (λ o. is_some o ≡ false) n i) in
-        let x = (ran-reached s lost w r).fifo a c l f in
+        let x = (fifo-run-reached s lost w r).fifo a c l f in
         omega (arith, none-past (carried s.net lost w l) (taken c (history w a)) e, x.count, ap length x.split, length-append (takes c (history w a)) x.rest)
 
     all_sent : AllSent s w
@@ -224,7 +224,7 @@ empty-rest : {A : Type 0} (xs rest : List A) → length (xs ++ rest) ≡ length 
 empty-rest xs [] h = refl
 empty-rest xs (y ∷ ys) h = absurd (let k = length-append xs (y ∷ ys) in omega (arith, h, k))
 
-pub took-all : (s : Setup) → HasWays s.net → (lost : Losses) (w : World) (a c l : ℕ) → Ran s lost w → AllTaken s.net lost w → IsLossTable s.net lost → slice_get (links_into s.net a) c ≡ Some l → kind_of (link_of s.net l).sort ≡ Reliable
+pub took-all : (s : Setup) → HasWays s.net → (lost : Losses) (w : World) (a c l : ℕ) → IsFifoRun s lost w → AllTaken s.net lost w → IsLossTable s.net lost → slice_get (links_into s.net a) c ≡ Some l → kind_of (link_of s.net l).sort ≡ Reliable
     → takes c (history w a) ≡ put l (sender s.net w l)
 took-all s ways lost w a c l r h t k n = let i = ways.into a c l k in let f = r.fifo a c l k in
     let m : taken c (history w a) ≡ length (carried s.net lost w l) = ap (λ d. taken d (history w a)) (sym (ways.choice a c l k)) ∙ ap (λ b. taken (choice_of s.net l) (history w b)) (sym i.to) ∙ h l i.is_link in
@@ -297,7 +297,7 @@ answer-put s u i r step h q (inr t) p = absurd (cc (t.taken, p))
 -- Control planes: a dump of the unit is answered by a Done of it.
 
 -- the unit, as its control plane serves it
-abbrev pub served_as : (net : Net) (u : ℕ) → Reports net u → Served
+abbrev pub served_as : (net : Net) (u : ℕ) → Reports net u → ServedUnit
 served_as net u r = serving net r.control r.poll
 
 pub served-member : (net : Net) (u : ℕ) (r : Reports net u) → Member (served_as net u r) (served net r.control)
@@ -313,7 +313,7 @@ done-answer net u n c h r q = put-member p r.done (control_puts net r.control h 
     (member-left p (send_all (DoneMsg (unit_place net v.unit) n) (links_out net r.control Done)) (if is_again (action_choice net r.control) v h then send PollMsg v.poll ∷ [] else [])
     (subst (λ ls. Member p (send_all (DoneMsg (unit_place net v.unit) n) ls)) (sym r.dones) (inl (ap (λ x. send (DoneMsg (unit_place net x) n) r.done) (sym r.poll_to))))))) refl
   where
-    v : Served
+    v : ServedUnit
     v = served_as net u r
 
     p : Put
@@ -346,7 +346,7 @@ newest-dump : (s : Setup) (u : ℕ) (i : UnitId) (r : Reports s.net u) (h : Hist
 newest-dump s u i r [] q m p = absurd cc
 newest-dump s u i r (step ∷ h) q m p = member-right (DumpMsg (suc (length h))) (put r.dump h) (on_link r.dump step.puts) (answer-put s u i r step h q m.0 (poll-taken step.taken p))
 
-pub knows-polled : (s : Setup) (lost : Losses) (w : World) (u : ℕ) (i : UnitId) → IsWired s.net → IsLossTable s.net lost → Ran s lost w → AllTaken s.net lost w → actor_of s.net u ≡ OfUnit i → polled_now (history w u) ≡ true
+pub knows-polled : (s : Setup) (lost : Losses) (w : World) (u : ℕ) (i : UnitId) → IsWired s.net → IsLossTable s.net lost → IsFifoRun s lost w → AllTaken s.net lost w → actor_of s.net u ≡ OfUnit i → polled_now (history w u) ≡ true
     → known (unit_place s.net u) (observer w) ≡ length (history w u)
 knows-polled s lost w u i g t r h q p = omega (arith, k.at_most, known_at_least)
   where

@@ -5,7 +5,7 @@ use Rattle.std.specs.Prelude.{◌&&◌, Bool, false, flat_map, nat_eq, option_ma
 use Rattle.std.proofs.lemmas.Bool.Decides.{eqb_tells}
 use Rattle.sl_layout.specs.Net.{Net, action_choice, actor_of, choice_of, links_into, link_numbers, link_of, links_out, nobody, unit_place}
 use Rattle.sl_parts.specs.Parts.{below}
-use Rattle.sl_layout.specs.Serving.{Served, served}
+use Rattle.sl_layout.specs.Serving.{ServedUnit, served}
 use Rattle.sl_net.specs.Wired.{Reports, receives, unit_receives}
 use Rattle.sl_layout.specs.Wiring.{kind_of}
 use Rattle.sl_layout.specs.declared.actor.ActorId.{ActorId}
@@ -16,7 +16,7 @@ use Rattle.sl_model.specs.End.{AllTaken, AllSent}
 use Rattle.sl_model.specs.Fit.{fits, fits_link}
 use Rattle.sl_model.specs.History.{History, Losses, World, history, on_link, put, taken, takes, last, stamp_of}
 use Rattle.sl_model.specs.Knowledge.{is_again, is_outstanding, is_swept, issued, observer}
-use Rattle.sl_model.specs.Made.{Acted, IsMade, Ran, Took}
+use Rattle.sl_model.specs.Made.{Acted, IsMade, IsFifoRun, Took}
 use Rattle.sl_model.specs.Puts.{guarded, poll_puts, send, action, control_puts, dump_answer, dump_puts, id_after, notice_puts, puts_of, send_all, side_puts, unit_puts}
 use Rattle.sl_model.specs.Schedule.{sweep_of, sweeps}
 use Rattle.sl_model.specs.Setup.{Setup, frames_of}
@@ -31,7 +31,7 @@ use Rattle.sl_model.proofs.Worlds.Stamps.{taken-fits, each-lost, put-fits, guard
 use Rattle.sl_model.proofs.Worlds.Turns.{Steps, taken-other, taken-this, turn-cases}
 use Rattle.sl_model.proofs.Finishing.Idle.{own-step, there, all-counted, answer-put, member-some, put-member, served-dump, served-member, served_as, get-past, none-past, got-member, is_poll, polled_now}
 use Rattle.sl_model.proofs.Finishing.NetWiring.{in-net, Wiring}
-use Rattle.sl_model.proofs.Worlds.ReachedWorlds.{Reached, put-grows, ran-reached, reached-turn, step-grows, ActsBy, StepOf, TakesBy, choice-of-step, history-keeps, step-cases, step-within, taken-grows}
+use Rattle.sl_model.proofs.Worlds.ReachedWorlds.{Reached, put-grows, fifo-run-reached, reached-turn, step-grows, ActsBy, StepOf, TakesBy, choice-of-step, history-keeps, step-cases, step-within, taken-grows}
 use Rattle.std.proofs.lemmas.Option.{get_or_from_slice_get, slice_get_within}
 use Rattle.sl_layout.specs.declared.actor.Side.{Side}
 use Rattle.sl_layout.specs.declared.actor.Side.TheVariants.{Egress, Ingress}
@@ -61,7 +61,7 @@ poll-of (DoneMsg v n) h = absurd cc
 pub poll-at : (net : Net) (u : ℕ) (r : Reports net u) → slice_get (links_into net u) (choice_of net r.poll) ≡ Some r.poll
 poll-at net u r = r.poll_taken
 
-pub polls-only : (s : Setup) (lost : Losses) (w : World) (u : ℕ) (r : Reports s.net u) → Ran s lost w → Each (λ m. m ≡ PollMsg) (takes (choice_of s.net r.poll) (history w u))
+pub polls-only : (s : Setup) (lost : Losses) (w : World) (u : ℕ) (r : Reports s.net u) → IsFifoRun s lost w → Each (λ m. m ≡ PollMsg) (takes (choice_of s.net r.poll) (history w u))
 polls-only s lost w u r x = each-imp (λ m. fits_link s.net r.poll m ≡ true) (λ m. m ≡ PollMsg) (takes (choice_of s.net r.poll) (history w u)) (λ m f. poll-of m (ap (λ t. fits t m) (sym r.poll_sort) ∙ f))
     (taken-fits s lost w u (choice_of s.net r.poll) r.poll x (poll-at s.net u r))
 
@@ -91,7 +91,7 @@ dumps-taken : (s : Setup) (lost : Losses) (w : World) (u : ℕ) (r : Reports s.n
 dumps-taken s lost w u r t h = let d = r.dump_out in
     ap (λ a. taken (choice_of s.net r.dump) (history w a)) (sym r.dump_to) ∙ all-counted s lost w r.dump h t d.is_link (ap kind_of d.sort) ∙ ap (λ a. length (put r.dump (history w a))) d.from
 
-pub none-outstanding : (s : Setup) (lost : Losses) (w : World) (u : ℕ) (i : UnitId) (r : Reports s.net u) → IsLossTable s.net lost → Ran s lost w → AllTaken s.net lost w → actor_of s.net u ≡ OfUnit i
+pub none-outstanding : (s : Setup) (lost : Losses) (w : World) (u : ℕ) (i : UnitId) (r : Reports s.net u) → IsLossTable s.net lost → IsFifoRun s lost w → AllTaken s.net lost w → actor_of s.net u ≡ OfUnit i
     → is_outstanding (served_as s.net u r) (history w r.control) ≡ false
 none-outstanding s lost w u i r t x h q = let v = served_as s.net u r in
     let e : taken v.dump (history w r.control) ≡ taken (choice_of s.net r.dump) (history w r.control) = ap (λ d. taken d (history w r.control)) (sym (served-dump s.net u r)) in
@@ -100,7 +100,7 @@ none-outstanding s lost w u i r t x h q = let v = served_as s.net u r in
 
 -- A sweep puts a poll to each unit to which none is outstanding.
 
-not-all : (p : Served → Bool) (vs : List Served) (v : Served) → Member v vs → p v ≡ false → list_all p vs ≡ false
+not-all : (p : ServedUnit → Bool) (vs : List ServedUnit) (v : ServedUnit) → Member v vs → p v ≡ false → list_all p vs ≡ false
 not-all p [] v m q = absurd m
 not-all p (x ∷ vs) v (inl e) q = ap (λ b. b && list_all p vs) (ap p (sym e) ∙ q)
 not-all p (x ∷ vs) v (inr m) q = ap (λ b. p x && b) (not-all p vs v m q) ∙ and_false (p x)
@@ -109,7 +109,7 @@ not-all p (x ∷ vs) v (inr m) q = ap (λ b. p x && b) (not-all p vs v m q) ∙ 
     and_false true = refl
     and_false false = refl
 
-polls-it : (h : History) (vs : List Served) (v : Served) → Member v vs → is_outstanding v h ≡ false → 1 ≤ length (on_link v.poll (flat_map (λ v. poll_puts v h) vs))
+polls-it : (h : History) (vs : List ServedUnit) (v : ServedUnit) → Member v vs → is_outstanding v h ≡ false → 1 ≤ length (on_link v.poll (flat_map (λ v. poll_puts v h) vs))
 polls-it h vs v m q = member-some PollMsg (on_link v.poll (flat_map (λ v. poll_puts v h) vs)) (put-member (send PollMsg v.poll) v.poll (flat_map (λ v. poll_puts v h) vs)
     (member-flat (λ v. poll_puts v h) v (send PollMsg v.poll) vs m (subst (λ b. Member (send PollMsg v.poll) (if b then [] else send PollMsg v.poll ∷ [])) (sym q) (inl refl))) refl)
 
@@ -183,7 +183,7 @@ in-sweeps net c d q = let h = in-net net c (Control d) q (λ e. cc) in
 pub one-more-poll : (s : Setup) (lost : Losses) (w : World) (u : ℕ) (i : UnitId) (r : Reports s.net u) → IsLossTable s.net lost → Reached s lost w → AllTaken s.net lost w → actor_of s.net u ≡ OfUnit i
     → (es : List Entry) → AllTaken s.net lost (run s lost (run s lost w (sweeps s.net)) es) → (history (run s lost (run s lost w (sweeps s.net)) es) u ≡ history w u → ⊥)
 one-more-poll s lost w u i r t x h q es h' same = let v = run s lost w (sweeps s.net) in let z = run s lost v es in
-    let k : IsPolled s.net u r w v = sweeps-poll s lost u r w (none-outstanding s lost w u i r t (ran-reached s lost w x) h q) (sweeps s.net) (sweeps-own s.net r.control) (in-sweeps s.net r.control r.device r.is_control) w x (inl refl) in
+    let k : IsPolled s.net u r w v = sweeps-poll s lost u r w (none-outstanding s lost w u i r t (fifo-run-reached s lost w x) h q) (sweeps s.net) (sweeps-own s.net r.control) (in-sweeps s.net r.control r.device r.is_control) w x (inl refl) in
     omega (arith, k, put-grows s lost r.control r.poll v es, polls-taken s lost w u r t h, polls-taken s lost z u r t h', ap (taken (choice_of s.net r.poll)) same)
 
 -- From a settled world on, while no number is issued or issued again, nothing goes round but polls, notices, dumps and Dones.
@@ -247,10 +247,10 @@ pub quiet-if : (b : Bool) (xs ys : List Put) → Each IsQuiet xs → Each IsQuie
 quiet-if true xs ys h k = h
 quiet-if false xs ys h k = k
 
-polls-quiet : (hs : History) (v : Served) → Each IsQuiet (poll_puts v hs)
+polls-quiet : (hs : History) (v : ServedUnit) → Each IsQuiet (poll_puts v hs)
 polls-quiet hs v = quiet-if (is_outstanding v hs) [] (send PollMsg v.poll ∷ []) tt (refl, tt)
 
-each-served : (f : Served → List Put) (vs : List Served) → ((v : Served) → Each IsQuiet (f v)) → Each IsQuiet (flat_map f vs)
+each-served : (f : ServedUnit → List Put) (vs : List ServedUnit) → ((v : ServedUnit) → Each IsQuiet (f v)) → Each IsQuiet (flat_map f vs)
 each-served f vs h = each-flat IsQuiet f vs (each-of (λ v. Each IsQuiet (f v)) vs (λ v m. h v))
 
 control-quiet : (net : Net) (a : ℕ) (hs : History) (c : ℕ) (m : Message) → loudness m ≡ 0 → Each IsQuiet (control_puts net a hs c m)
@@ -312,7 +312,7 @@ quiet-poll Egress Done (DoneMsg v n) h f g = absurd cc
 quiet-poll side _ (DoneMsg v n) h f g = absurd cc
 
 -- what a step takes fits its link
-pub takes-fit : (s : Setup) (lost : Losses) (w : World) (a c : ℕ) (step : Step) → Ran s lost w → (t : TakesBy s lost w a c step) → fits_link s.net t.link t.message ≡ true
+pub takes-fit : (s : Setup) (lost : Losses) (w : World) (a c : ℕ) (step : Step) → IsFifoRun s lost w → (t : TakesBy s lost w a c step) → fits_link s.net t.link t.message ≡ true
 takes-fit s lost w a c step r t = let b = (link_of s.net t.link).from in
     each-at (λ m. fits_link s.net t.link m ≡ true) t.message (carried s.net lost w t.link) (each-lost (λ m. fits_link s.net t.link m ≡ true) (lost t.link) 0 (put t.link (history w b)) (put-fits s b t.link (history w b) (r.made b)))
     (got-member (carried s.net lost w t.link) (taken c (history w a)) t.message t.in_front)
@@ -360,7 +360,7 @@ polled-step s lost g w1 w v e r t z u i q k = history-keeps s lost u (λ h. (h �
         by_case (inr x) = absurd (no-action s w u i c step q x)
         by_case (inl x) = let l = g.wired.ways.into u c x.link x.at in
             let rc : unit_receives i.side (link_of s.net x.link).sort ≡ true = subst (λ a. receives a (link_of s.net x.link).sort ≡ true) (ap (actor_of s.net) l.to ∙ q) (g.wired.receiver x.link l.is_link) in
-            let o = quiet-poll i.side (link_of s.net x.link).sort x.message (taken-quiet s g.wired.ways lost w u c step z x) (takes-fit s lost w u c step (ran-reached s lost w r) x) rc in
+            let o = quiet-poll i.side (link_of s.net x.link).sort x.message (taken-quiet s g.wired.ways lost w u c step z x) (takes-fit s lost w u c step (fifo-run-reached s lost w r) x) rc in
             inr (ap (λ y. is_poll y.taken) x.is ∙ o)
 
 -- a step of a pass or a sweep puts quiet messages, or issues a number

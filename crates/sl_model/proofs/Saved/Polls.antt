@@ -12,7 +12,7 @@ use Rattle.sl_layout.specs.declared.actor.Sort.{Sort}
 use Rattle.sl_layout.specs.declared.actor.Sort.TheVariants.{ToHost, Cable, Crossbar, Init, Poll, Notice, Dump, Done}
 use Rattle.sl_net.specs.declared.input.Packet.{Packet}
 use Rattle.sl_layout.specs.Net.{Net, actor_of, link_of, links_into, links_out, choice_of, action_choice, unit_place}
-use Rattle.sl_layout.specs.Serving.{Served, serving, served, choice_from}
+use Rattle.sl_layout.specs.Serving.{ServedUnit, serving, served, choice_from}
 use Rattle.sl_net.specs.Wired.{Reports, IsWired}
 use Rattle.sl_model.specs.declared.message.Message.{Message}
 use Rattle.sl_model.specs.declared.message.Message.TheVariants.{Host as HostMsg, Data, Probe as ProbeMsg, Init as InitMsg, Poll as PollMsg, Notice as NoticeMsg, Dump as DumpMsg, Begin as BeginMsg, Done as DoneMsg}
@@ -28,7 +28,7 @@ use Rattle.sl_route.specs.Route.{next_port}
 use Rattle.sl_model.specs.Knowledge.{is_outstanding, is_again, is_swept, observer}
 use Rattle.sl_model.specs.Puts.{send, send_all, crossbar_to, onward, route, route_frame, ingress_puts, is_own_port, egress_puts, side_puts, notice_puts, dump_puts, id_after, unit_puts, poll_puts, dump_answer, control_puts, guarded, action}
 use Rattle.sl_model.specs.World.{IsLossTable, carried}
-use Rattle.sl_model.specs.Made.{Took, Acted, IsMade, Ran}
+use Rattle.sl_model.specs.Made.{Took, Acted, IsMade, IsFifoRun}
 use Rattle.sl_model.specs.Fit.{fits, fits_link}
 use Rattle.sl_net.specs.Ways.{IsOut}
 use Rattle.sl_model.proofs.Worlds.Numbers.{numbers-append}
@@ -88,17 +88,17 @@ own {X = X} F z app f l (x ∷ xs) d (inl q) off = app (f x) (flat_map f xs) ∙
 own F z app f l (x ∷ xs) d (inr m) off = app (f x) (flat_map f xs) ∙ ap (λ r. r ++ F (flat_map f xs)) (off x (inl refl) (λ e. d.0 (subst (λ w. Member w xs) (sym e) m)))
     ∙ own F z app f l xs d.1 m (λ y k. off y (inr k))
 
-flat-map-one : (g : Served → List Put) (f : ℕ → Served) (ls : List ℕ) → flat_map g (map f ls) ≡ flat_map (λ l. g (f l)) ls
+flat-map-one : (g : ServedUnit → List Put) (f : ℕ → ServedUnit) (ls : List ℕ) → flat_map g (map f ls) ≡ flat_map (λ l. g (f l)) ls
 flat-map-one g f [] = refl
 flat-map-one g f (l ∷ ls) = ap (λ r. g (f l) ++ r) (flat-map-one g f ls)
 
-pub own-link : (net : Net) (a l : ℕ) (g : Served → List Put) → Member l (links_out net a Poll) → ((x : ℕ) → (x ≡ l → ⊥) → on_link l (g (serving net a x)) ≡ []) → on_link l (flat_map g (served net a)) ≡ on_link l (g (serving net a l))
+pub own-link : (net : Net) (a l : ℕ) (g : ServedUnit → List Put) → Member l (links_out net a Poll) → ((x : ℕ) → (x ≡ l → ⊥) → on_link l (g (serving net a x)) ≡ []) → on_link l (flat_map g (served net a)) ≡ on_link l (g (serving net a l))
 own-link net a l g m off = ap (on_link l) (flat-map-one g (serving net a) (links_out net a Poll))
     ∙ own (on_link l) refl (on-append l) (λ x. g (serving net a x)) l (links_out net a Poll) (distinct-out net a Poll) m (λ x k ne. off x ne)
 
 -- One poll at a time.
 
-pub polls-else : (v : Served) (h : History) (l : ℕ) → (v.poll ≡ l → ⊥) → on_link l (poll_puts v h) ≡ []
+pub polls-else : (v : ServedUnit) (h : History) (l : ℕ) → (v.poll ≡ l → ⊥) → on_link l (poll_puts v h) ≡ []
 polls-else v h l ne = by_bool (is_outstanding v h)
   where
     by_bool : (b : Bool) → on_link l (if b then [] else send PollMsg v.poll ∷ []) ≡ []
@@ -114,17 +114,17 @@ again-one true l = let e = ap length (on-one l PollMsg) in omega (arith, e)
 again-one false l = omega arith
 
 -- at most one where none is outstanding
-abbrev PollsOnce : Served → History → ℕ → Type 0
+abbrev PollsOnce : ServedUnit → History → ℕ → Type 0
 PollsOnce v h n = n ≤ (if is_outstanding v h then 0 else 1)
 
-polls-once : (v : Served) (h : History) → PollsOnce v h (length (on_link v.poll (poll_puts v h)))
+polls-once : (v : ServedUnit) (h : History) → PollsOnce v h (length (on_link v.poll (poll_puts v h)))
 polls-once v h = by_bool (is_outstanding v h)
   where
     by_bool : (b : Bool) → length (on_link v.poll (if b then [] else send PollMsg v.poll ∷ [])) ≤ (if b then 0 else 1)
     by_bool true = omega arith
     by_bool false = let e = ap length (on-one v.poll PollMsg) in omega (arith, e)
 
-once-if : (v : Served) (h : History) (b : Bool) → PollsOnce v h (length (on_link v.poll (if b then poll_puts v h else [])))
+once-if : (v : ServedUnit) (h : History) (b : Bool) → PollsOnce v h (length (on_link v.poll (if b then poll_puts v h else [])))
 once-if v h true = polls-once v h
 once-if v h false = omega arith
 
@@ -133,13 +133,13 @@ if-off true l ps e = e
 if-off false l ps e = refl
 
 -- at most one more where a dump came
-abbrev OnceMore : Served → Step → History → Type 0
+abbrev OnceMore : ServedUnit → Step → History → Type 0
 OnceMore v step h = PollsOnce v h (length (on_link v.poll step.puts)) ⊎ ((step.choice ≡ v.dump) × (length (on_link v.poll step.puts) ≤ 1))
 
 poll-sort : (net : Net) (a l : ℕ) → Member l (links_out net a Poll) → (link_of net l).sort ≡ Poll
 poll-sort net a l m = (out-of net a Poll l m).sort
 
-pub answer-on : (net : Net) (a l n : ℕ) (h : History) (v : Served) → Member l (links_out net a Poll) → on_link l (dump_answer net a h n v) ≡ on_link l (if is_again (action_choice net a) v h then send PollMsg v.poll ∷ [] else [])
+pub answer-on : (net : Net) (a l n : ℕ) (h : History) (v : ServedUnit) → Member l (links_out net a Poll) → on_link l (dump_answer net a h n v) ≡ on_link l (if is_again (action_choice net a) v h then send PollMsg v.poll ∷ [] else [])
 answer-on net a l n h v m = on-append l (send_all (DoneMsg (unit_place net v.unit) n) (links_out net a Done)) (if is_again (action_choice net a) v h then send PollMsg v.poll ∷ [] else [])
     ∙ ap (λ ms. ms ++ on_link l (if is_again (action_choice net a) v h then send PollMsg v.poll ∷ [] else [])) (send-off net a l Done (DoneMsg (unit_place net v.unit) n) (λ e. let x = sym (poll-sort net a l m) ∙ e in cc))
 
@@ -186,7 +186,7 @@ one-poll : (s : Setup) (a d l : ℕ) (h : History) → actor_of s.net a ≡ Cont
 one-poll s a d l [] q m k = omega arith
 one-poll s a d l (step ∷ h) q m k = by_step (one-poll s a d l h q m k.1) (asked-step s a d l step h q m k.0)
   where
-    v : Served
+    v : ServedUnit
     v = serving s.net a l
 
     more : length (put l (step ∷ h)) ≡ length (put l h) + length (on_link l step.puts)
@@ -320,22 +320,22 @@ lost-le lost n (m ∷ ms) = by_bool (lost (suc n)) (lost-le lost (suc n) ms)
     by_bool true e = omega (arith, e)
     by_bool false e = omega (arith, e)
 
-taken-le : (s : Setup) (lost : Losses) (w : World) (a c l : ℕ) → Ran s lost w → slice_get (links_into s.net a) c ≡ Some l → taken c (history w a) ≤ length (put l (history w (link_of s.net l).from))
+taken-le : (s : Setup) (lost : Losses) (w : World) (a c l : ℕ) → IsFifoRun s lost w → slice_get (links_into s.net a) c ≡ Some l → taken c (history w a) ≤ length (put l (history w (link_of s.net l).from))
 taken-le s lost w a c l r k = let f = r.fifo a c l k in let e = ap length f.split in let n = length-append (takes c (history w a)) f.rest in let d = f.count in
     omega (arith, e, n, d, lost-le (lost l) 0 (put l (history w (link_of s.net l).from)))
 
 -- Dumps taken, dumps put, polls taken, polls put.
 
-dumps-le : (s : Setup) (lost : Losses) (w : World) (u : ℕ) (i : UnitId) (r : Reports s.net u) → Ran s lost w → actor_of s.net u ≡ OfUnit i → length (put r.dump (history w u)) ≤ length (put r.poll (history w r.control))
+dumps-le : (s : Setup) (lost : Losses) (w : World) (u : ℕ) (i : UnitId) (r : Reports s.net u) → IsFifoRun s lost w → actor_of s.net u ≡ OfUnit i → length (put r.dump (history w u)) ≤ length (put r.poll (history w r.control))
 dumps-le s lost w u i r x q = let a = unit-dumps s u i r (history w u) q (x.made u) (fit-taken s lost w u x) in
     let b = taken-le s lost w u (choice_of s.net r.poll) r.poll x r.poll_taken in let e = ap (λ a. length (put r.poll (history w a))) r.poll_from in omega (arith, a, b, e)
 
-control-le : (s : Setup) (lost : Losses) (w : World) (u : ℕ) (i : UnitId) (r : Reports s.net u) → Ran s lost w → actor_of s.net u ≡ OfUnit i → taken (choice_of s.net r.dump) (history w r.control) ≤ length (put r.poll (history w r.control))
+control-le : (s : Setup) (lost : Losses) (w : World) (u : ℕ) (i : UnitId) (r : Reports s.net u) → IsFifoRun s lost w → actor_of s.net u ≡ OfUnit i → taken (choice_of s.net r.dump) (history w r.control) ≤ length (put r.poll (history w r.control))
 control-le s lost w u i r x q = let a = taken-le s lost w r.control (choice_of s.net r.dump) r.dump x (dumps-into s.net u r) in
     let e = ap (λ a. length (put r.dump (history w a))) r.dump_out.from in omega (arith, a, e, dumps-le s lost w u i r x q)
 
 -- a dump on its way was asked for
-control-lt : (s : Setup) (lost : Losses) (w : World) (u : ℕ) (i : UnitId) (r : Reports s.net u) (m : Message) → Ran s lost w → actor_of s.net u ≡ OfUnit i
+control-lt : (s : Setup) (lost : Losses) (w : World) (u : ℕ) (i : UnitId) (r : Reports s.net u) (m : Message) → IsFifoRun s lost w → actor_of s.net u ≡ OfUnit i
     → slice_get (carried s.net lost w r.dump) (taken (choice_of s.net r.dump) (history w r.control)) ≡ Some m → taken (choice_of s.net r.dump) (history w r.control) < length (put r.poll (history w r.control))
 control-lt s lost w u i r m x q g = let a = slice_get_within (carried s.net lost w r.dump) (taken (choice_of s.net r.dump) (history w r.control)) m g in
     let b = lost-le (lost r.dump) 0 (put r.dump (history w (link_of s.net r.dump).from)) in
@@ -359,7 +359,7 @@ is-served net a l n o = of_unit (n.poll_to l o.is_link o.sort)
     of_unit : ((i : UnitId) × (actor_of net (link_of net l).to ≡ OfUnit i)) → IsServed net a l
     of_unit i = of_reports i.0 i.1 (n.reports (link_of net l).to i.0 i.1)
 
-asked-now : (s : Setup) (lost : Losses) (w : World) (a d l : ℕ) → IsWired s.net → Ran s lost w → actor_of s.net a ≡ Control d → IsOut s.net a Poll l → IsAsked (serving s.net a l) (history w a)
+asked-now : (s : Setup) (lost : Losses) (w : World) (a d l : ℕ) → IsWired s.net → IsFifoRun s lost w → actor_of s.net a ≡ Control d → IsOut s.net a Poll l → IsAsked (serving s.net a l) (history w a)
 asked-now s lost w a d l n x q o = of_served (is-served s.net a l n o)
   where
     of_served : IsServed s.net a l → IsAsked (serving s.net a l) (history w a)
@@ -371,13 +371,13 @@ asked-now s lost w a d l n x q o = of_served (is-served s.net a l n o)
       one = one-poll s a d l (history w a) q (n.ways.listed a Poll l o) (x.made a);
     }
 
-pub all-asked : (s : Setup) (lost : Losses) (w : World) (a d : ℕ) → IsWired s.net → Ran s lost w → actor_of s.net a ≡ Control d → Each (λ v. IsAsked v (history w a)) (served s.net a)
+pub all-asked : (s : Setup) (lost : Losses) (w : World) (a d : ℕ) → IsWired s.net → IsFifoRun s lost w → actor_of s.net a ≡ Control d → Each (λ v. IsAsked v (history w a)) (served s.net a)
 all-asked s lost w a d n x q = each-map (λ v. IsAsked v (history w a)) (serving s.net a) (links_out s.net a Poll)
     (each-imp (IsOut s.net a Poll) (λ l. IsAsked (serving s.net a l) (history w a)) (links_out s.net a Poll) (λ l o. asked-now s lost w a d l n x q o) (n.ways.outs a Poll))
 
 -- What a control plane takes next by a choice of dumps was asked for.
 
-asked-next : (s : Setup) (lost : Losses) (w : World) (a l : ℕ) (step : Step) → Ran s lost w → IsServed s.net a l → Takes s lost w a step ⊎ Acts s w a step → step.choice ≡ (serving s.net a l).dump → is_outstanding (serving s.net a l) (history w a) ≡ true
+asked-next : (s : Setup) (lost : Losses) (w : World) (a l : ℕ) (step : Step) → IsFifoRun s lost w → IsServed s.net a l → Takes s lost w a step ⊎ Acts s w a step → step.choice ≡ (serving s.net a l).dump → is_outstanding (serving s.net a l) (history w a) ≡ true
 asked-next s lost w a l step x v t c = lt-ltb (taken (serving s.net a l).dump (history w a)) (length (put l (history w a)))
     (subst (λ b. taken (serving s.net a l).dump (history w b) < length (put l (history w b))) (sym v.control)
     (subst (λ d. taken d (history w v.reports.control) < length (put l (history w v.reports.control))) (sym v.dump)
@@ -399,7 +399,7 @@ asked-next s lost w a l step x v t c = lt-ltb (taken (serving s.net a l).dump (h
         of_some : {x y : ℕ} → Some x ≡ Some y → x ≡ y
         of_some e = cc
 
-pub next-asked : (s : Setup) (lost : Losses) (w : World) (a : ℕ) (step : Step) → IsWired s.net → Ran s lost w → Takes s lost w a step ⊎ Acts s w a step → Each (λ v. step.choice ≡ v.dump → is_outstanding v (history w a) ≡ true) (served s.net a)
+pub next-asked : (s : Setup) (lost : Losses) (w : World) (a : ℕ) (step : Step) → IsWired s.net → IsFifoRun s lost w → Takes s lost w a step ⊎ Acts s w a step → Each (λ v. step.choice ≡ v.dump → is_outstanding v (history w a) ≡ true) (served s.net a)
 next-asked s lost w a step n x t = each-map (λ v. step.choice ≡ v.dump → is_outstanding v (history w a) ≡ true) (serving s.net a) (links_out s.net a Poll)
     (each-imp (IsOut s.net a Poll) (λ l. step.choice ≡ (serving s.net a l).dump → is_outstanding (serving s.net a l) (history w a) ≡ true) (links_out s.net a Poll)
     (λ l o. asked-next s lost w a l step x (is-served s.net a l n o) t) (n.ways.outs a Poll))
@@ -423,11 +423,11 @@ dones-none place l (p ∷ ps) e = by_bool (p.link == l) (dones-none place l ps e
 no-done : (place l : ℕ) (m : Message) (ls : List ℕ) → done_of place m ≡ None → dones place l (send_all m ls) ≡ []
 no-done place l m ls h = dones-none place l (send_all m ls) (each-map (λ p. done_of place p.message ≡ None) (send m) ls (each-of (λ k. done_of place m ≡ None) ls (λ k x. h)))
 
-no-dones : (place l : ℕ) (f : Served → List Put) (vs : List Served) → ((v : Served) → dones place l (f v) ≡ []) → dones place l (flat_map f vs) ≡ []
+no-dones : (place l : ℕ) (f : ServedUnit → List Put) (vs : List ServedUnit) → ((v : ServedUnit) → dones place l (f v) ≡ []) → dones place l (flat_map f vs) ≡ []
 no-dones place l f [] h = refl
 no-dones place l f (v ∷ vs) h = dones-append place l (f v) (flat_map f vs) ∙ ap (λ r. r ++ dones place l (flat_map f vs)) (h v) ∙ no-dones place l f vs h
 
-polls-none : (place l : ℕ) (v : Served) (h : History) → dones place l (poll_puts v h) ≡ []
+polls-none : (place l : ℕ) (v : ServedUnit) (h : History) → dones place l (poll_puts v h) ≡ []
 polls-none place l v h = by_bool (is_outstanding v h)
   where
     by_bool : (b : Bool) → dones place l (if b then [] else send PollMsg v.poll ∷ []) ≡ []
@@ -439,7 +439,7 @@ again-none place l true k = dones-none place l (send PollMsg k ∷ []) (refl, tt
 again-none place l false k = refl
 
 -- an answer tells of its own unit alone
-answer-dones : (net : Net) (a n place l : ℕ) (h : History) (v : Served) → dones place l (dump_answer net a h n v) ≡ dones place l (send_all (DoneMsg (unit_place net v.unit) n) (links_out net a Done))
+answer-dones : (net : Net) (a n place l : ℕ) (h : History) (v : ServedUnit) → dones place l (dump_answer net a h n v) ≡ dones place l (send_all (DoneMsg (unit_place net v.unit) n) (links_out net a Done))
 answer-dones net a n place l h v = dones-append place l (send_all (DoneMsg (unit_place net v.unit) n) (links_out net a Done)) (if is_again (action_choice net a) v h then send PollMsg v.poll ∷ [] else [])
     ∙ ap (λ r. dones place l (send_all (DoneMsg (unit_place net v.unit) n) (links_out net a Done)) ++ r) (again-none place l (is_again (action_choice net a) v h) v.poll) ∙ append-nil (dones place l (send_all (DoneMsg (unit_place net v.unit) n) (links_out net a Done)))
 
@@ -524,7 +524,7 @@ pub lost-none : (lost : ℕ → Bool) (n : ℕ) (ms : List Message) → ((k : �
 lost-none lost n [] h = refl
 lost-none lost n (m ∷ ms) h = ap (λ b. if b then without_lost lost (suc n) ms else m ∷ without_lost lost (suc n) ms) (h (suc n)) ∙ ap (λ r. m ∷ r) (lost-none lost (suc n) ms h)
 
-pub dones-taken : (s : Setup) (lost : Losses) (w : World) (u : ℕ) (i : UnitId) (r : Reports s.net u) → Ran s lost w → IsLossTable s.net lost → actor_of s.net u ≡ OfUnit i
+pub dones-taken : (s : Setup) (lost : Losses) (w : World) (u : ℕ) (i : UnitId) (r : Reports s.net u) → IsFifoRun s lost w → IsLossTable s.net lost → actor_of s.net u ≡ OfUnit i
     → numbers (done_of (unit_place s.net u)) (takes (choice_of s.net r.done) (observer w) ++ on_way s.net lost w r.done) ≡ numbers dump_of (takes (choice_of s.net r.dump) (history w r.control))
 dones-taken s lost w u i r x t q = let o = r.done_out in
     ap (λ ms. numbers (done_of (unit_place s.net u)) (takes (choice_of s.net r.done) (observer w) ++ ms)) (on-way-is s.net lost w 0 (choice_of s.net r.done) r.done (dones-into s.net u r) (x.fifo 0 (choice_of s.net r.done) r.done (dones-into s.net u r)))

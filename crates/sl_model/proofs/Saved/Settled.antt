@@ -29,10 +29,10 @@ use Rattle.sl_net.specs.declared.input.Packet.{Packet}
 use Rattle.sl_net.specs.Wired.{IsWired}
 use Rattle.sl_model.specs.Setup.{Setup}
 use Rattle.sl_model.specs.World.{Entry, run, receiver}
-use Rattle.sl_model.specs.Made.{Took, Acted, IsMade, Ran}
+use Rattle.sl_model.specs.Made.{Took, Acted, IsMade, IsFifoRun}
 use Rattle.sl_model.specs.Fit.{fits_link}
 use Rattle.sl_model.proofs.Worlds.Turns.{kept_by_run}
-use Rattle.sl_model.proofs.Worlds.Ran.{ran-turn}
+use Rattle.sl_model.proofs.Worlds.FifoRuns.{fifo-run-turn}
 use Rattle.sl_model.proofs.Worlds.Numbers.{never-falls, NeverFalls}
 use Rattle.sl_model.proofs.Worlds.Stamps.{id-falls}
 use Rattle.sl_model.proofs.Cuts.Begins.{TakesFit, fit-taken, fit-before, fit-last, last-never-falls, heard-this}
@@ -250,7 +250,7 @@ all-placed s n a k (step ∷ h) m f = by_bool (is_among k (take n (adopted (step
 abbrev ChannelsRise : Setup → ℕ → History → Type 0
 ChannelsRise s a h = (c l : ℕ) → slice_get (links_into s.net a) c ≡ Some l → IsData s.net l → NeverFalls (last c) h
 
-channels-rise : (s : Setup) (lost : Losses) (w : World) (a : ℕ) → IsWired s.net → Ran s lost w → ChannelsRise s a (history w a)
+channels-rise : (s : Setup) (lost : Losses) (w : World) (a : ℕ) → IsWired s.net → IsFifoRun s lost w → ChannelsRise s a (history w a)
 channels-rise s lost w a n r c l k q = last-never-falls s lost w a c l n r k (sort-stamped (link_of s.net l).sort q)
 
 -- what comes after k was reached is no data with a stamp below k
@@ -295,15 +295,15 @@ settled-from s n cs a k m (step ∷ h) i f d q = by_cases (cases_lt (length h) m
     by_cases (inl p) ih = subst (λ g. IsSettled s.net n cs a k g (step ∷ h)) (sym (whole p)) (record { reached = subst (Reached s.net k a) (whole p) q; same = refl })
     by_cases (inr p) ih = subst (λ g. IsSettled s.net n cs a k g (step ∷ h)) (sym (past p)) (settled-step s n cs a k step (first m h) h f d i.0 (ih (subst (Reached s.net k a) (past p) q)))
 
-settled : (s : Setup) (lost : Losses) (w : World) (n : ℕ) (cs : List ℕ) (u k m : ℕ) → IsWired s.net → Ran s lost w → Reached s.net k u (first m (history w u)) → IsSettled s.net n cs u k (first m (history w u)) (history w u)
+settled : (s : Setup) (lost : Losses) (w : World) (n : ℕ) (cs : List ℕ) (u k m : ℕ) → IsWired s.net → IsFifoRun s lost w → Reached s.net k u (first m (history w u)) → IsSettled s.net n cs u k (first m (history w u)) (history w u)
 settled s lost w n cs u k m t r q = settled-from s n cs u k m (history w u) (r.made u) (fit-taken s lost w u r) (channels-rise s lost w u t r) q
 
 -- Once nothing of a unit lags behind k, the row of k stays.
-pub row-kept : (s : Setup) (lost : Losses) (w : World) (credits : ℕ) (cs : List ℕ) (u k n : ℕ) → IsWired s.net → Ran s lost w → lag s.net k u (first n (history w u)) ≡ None → row credits cs k (history w u) ≡ row credits cs k (first n (history w u))
+pub row-kept : (s : Setup) (lost : Losses) (w : World) (credits : ℕ) (cs : List ℕ) (u k n : ℕ) → IsWired s.net → IsFifoRun s lost w → lag s.net k u (first n (history w u)) ≡ None → row credits cs k (history w u) ≡ row credits cs k (first n (history w u))
 row-kept s lost w credits cs u k n t r q = (settled s lost w credits cs u k n t r (reached-of s.net k u (first n (history w u)) q)).same
 
 -- ... after more of the unit's steps
-pub row-later : (s : Setup) (lost : Losses) (w : World) (credits : ℕ) (cs : List ℕ) (u k n m : ℕ) → IsWired s.net → Ran s lost w → n ≤ m → lag s.net k u (first n (history w u)) ≡ None
+pub row-later : (s : Setup) (lost : Losses) (w : World) (credits : ℕ) (cs : List ℕ) (u k n m : ℕ) → IsWired s.net → IsFifoRun s lost w → n ≤ m → lag s.net k u (first n (history w u)) ≡ None
     → row credits cs k (first m (history w u)) ≡ row credits cs k (first n (history w u))
 row-later s lost w credits cs u k n m t r p q = of_reached (reached-of s.net k u (first n (history w u)) q)
   where
@@ -316,10 +316,10 @@ row-later s lost w credits cs u k n m t r p q = of_reached (reached-of s.net k u
     })).same) ∙ (settled s lost w credits cs u k n t r x).same
 
 -- ... in every longer schedule
-pub row-ahead : (s : Setup) (lost : Losses) (w : World) (es : List Entry) (credits : ℕ) (cs : List ℕ) (u k n : ℕ) → IsWired s.net → Ran s lost w → n ≤ length (history w u) → lag s.net k u (first n (history w u)) ≡ None
+pub row-ahead : (s : Setup) (lost : Losses) (w : World) (es : List Entry) (credits : ℕ) (cs : List ℕ) (u k n : ℕ) → IsWired s.net → IsFifoRun s lost w → n ≤ length (history w u) → lag s.net k u (first n (history w u)) ≡ None
     → row credits cs k (history (run s lost w es) u) ≡ row credits cs k (first n (history w u))
 row-ahead s lost w es credits cs u k n t r p q = let e : first n (history (run s lost w es) u) ≡ first n (history w u) = (extends-run s lost w es u).steps n p in
-    row-kept s lost (run s lost w es) credits cs u k n t (kept_by_run s lost (Ran s lost) (ran-turn s lost) w es r) (subst (λ g. lag s.net k u g ≡ None) (sym e) q) ∙ ap (row credits cs k) e
+    row-kept s lost (run s lost w es) credits cs u k n t (kept_by_run s lost (IsFifoRun s lost) (fifo-run-turn s lost) w es r) (subst (λ g. lag s.net k u g ≡ None) (sym e) q) ∙ ap (row credits cs k) e
 
 -- The totals of a unit's row are the values of its data channels.
 
@@ -358,7 +358,7 @@ pub data-is : (t : Sort) → (t ≡ Cable) ⊎ (t ≡ Crossbar) → IsTrue (is_d
 data-is t (inl q) = subst (λ t. IsTrue (is_data t)) (sym q) refl
 data-is t (inr q) = subst (λ t. IsTrue (is_data t)) (sym q) refl
 
-value-late : (s : Setup) (lost : Losses) (w : World) (k u c : ℕ) → IsWired s.net → Ran s lost w → IsChannel s.net u c → channel_value s.net lost w k (link_at s.net u c) ≡ late_total k c (history w u)
+value-late : (s : Setup) (lost : Losses) (w : World) (k u c : ℕ) → IsWired s.net → IsFifoRun s lost w → IsChannel s.net u c → channel_value s.net lost w k (link_at s.net u c) ≡ late_total k c (history w u)
 value-late s lost w k u c n r i = let at : link_at s.net u c ≡ i.link = get_or_from_slice_get (links_into s.net u) c i.link 0 i.into in
     ap (channel_value s.net lost w k) at ∙ of_late (value-is-late s lost w k i.link n r (record { link = (n.ways.into u c i.link i.into).is_link; data_sort = data-is (link_of s.net i.link).sort i.data_sort }))
     ∙ (λ j. late_total k (n.ways.choice u c i.link i.into j) (history w ((n.ways.into u c i.link i.into).to j)))
@@ -366,7 +366,7 @@ value-late s lost w k u c n r i = let at : link_at s.net u c ≡ i.link = get_or
     of_late : IsLateData s.net lost w k i.link → channel_value s.net lost w k i.link ≡ late_total k (choice_of s.net i.link) (receiver s.net w i.link)
     of_late x = let p = x.packets in let b = x.bytes in λ j. record { packets = p j; bytes = b j }
 
-pub totals-are : (s : Setup) (lost : Losses) (w : World) (credits k u : ℕ) → IsWired s.net → Ran s lost w → 1 ≤ credits → skipped_to k (history w u) ≡ None → miscredits credits k (history w u) ≡ []
+pub totals-are : (s : Setup) (lost : Losses) (w : World) (credits k u : ℕ) → IsWired s.net → IsFifoRun s lost w → 1 ≤ credits → skipped_to k (history w u) ≡ None → miscredits credits k (history w u) ≡ []
     → totals (credits_at credits (data_channels s.net u) k (history w u)) ≡ eight_totals (map (channel_value s.net lost w k) (channel_links s.net u))
 totals-are s lost w credits k u n r one v q = let cs = data_channels s.net u in let xs = credits_at credits cs k (history w u) in
     sym (eight-are cs xs (distinct-channels s.net u) (all-placed s credits u k (history w u) (r.made u) (fit-taken s lost w u r)))

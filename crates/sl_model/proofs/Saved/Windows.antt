@@ -21,13 +21,13 @@ use Rattle.sl_model.specs.History.{History, World, Losses, history, stamp_of, st
 use Rattle.sl_model.specs.Setup.{Setup}
 use Rattle.sl_model.specs.Counting.{packets, bytes}
 use Rattle.sl_model.specs.World.{Entry, start, next_step, turn, world, carried, sender, receiver, after}
-use Rattle.sl_model.specs.Made.{Ran}
+use Rattle.sl_model.specs.Made.{IsFifoRun}
 use Rattle.sl_model.specs.Verdict.{is_old_data, adopted, nth_adopted, miscredits}
 use Rattle.sl_model.specs.Fit.{fits, fits_link, is_stamped, stamp}
 use Rattle.sl_model.specs.Window.{on_way, IsInWindow, IsNear, begun}
 use Rattle.sl_net.specs.Ways.{IsInto, HasWays, IsOut}
 use Rattle.sl_model.proofs.Worlds.Turns.{kept_by_run, Steps, turn-cases, run-append, start-empty, grows-after, next-within}
-use Rattle.sl_model.proofs.Worlds.Ran.{next-view, ran, ran-turn}
+use Rattle.sl_model.proofs.Worlds.FifoRuns.{next-view, fifo-run, fifo-run-turn}
 use Rattle.sl_model.proofs.Worlds.Stamps.{each-lost, put-fits, id-falls}
 use Rattle.sl_model.proofs.Cuts.Collected.{in-window, near, on-way-is, least-start, least-each, floor-id, floor-unit, Reached, lag-of, data-fits}
 use Rattle.sl_model.specs.Calls.{credit, credits_in, step_calls, calls}
@@ -92,7 +92,7 @@ record IsNext (s : Setup) (u : ℕ) (step : Step) (h : History) (m : Message) : 
   -- data comes by a data channel
   pub channel : (j : ℕ) (p : Packet) → m ≡ Data j p → Member step.choice (data_channels s.net u)
 
-next-is : (s : Setup) (lost : Losses) (w : World) (u : ℕ) (i : UnitId) (step : Step) → IsWired s.net → Ran s lost w → IsInWindow s lost w → actor_of s.net u ≡ OfUnit i → (t : Takes s lost w u step)
+next-is : (s : Setup) (lost : Losses) (w : World) (u : ℕ) (i : UnitId) (step : Step) → IsWired s.net → IsFifoRun s lost w → IsInWindow s lost w → actor_of s.net u ≡ OfUnit i → (t : Takes s lost w u step)
     → IsNext s u step (history w u) t.took.message
 next-is s lost w u i step n r x q t = record {
   stamp_near = λ j e. let b = (subst (Each (λ m. stamp m ≤ last (choice_of s.net l) h + s.window)) way.1 (near-by j e).stamps_near).0 in let z : stamp t.took.message ≡ j = ap (λ o. unwrap_or o 0) e in omega (arith, b, z, same);
@@ -176,14 +176,14 @@ taken-calls s u step h m few e x = by_place (cases_lt (id h) (id (step ∷ h)))
     by_place (inr p) = subst (λ b. Each (IsWithin s.window) (if b then Adopt (id (step ∷ h) - id h) (packets h) (bytes h) ∷ [] else map Credited (credits_in (data_channels s.net u) (id h) step.choice step.taken)))
         (sym (le-ltb (id h) (id (step ∷ h)) p)) (subst (λ o. Each (IsWithin s.window) (map Credited (credits_in (data_channels s.net u) (id h) step.choice o))) (sym e) (of_message m refl))
 
-next-calls : (s : Setup) (lost : Losses) (w : World) (u : ℕ) (i : UnitId) (step : Step) → IsWired s.net → Ran s lost w → IsInWindow s lost w → length (data_channels s.net u) ≤ 8 → actor_of s.net u ≡ OfUnit i
+next-calls : (s : Setup) (lost : Losses) (w : World) (u : ℕ) (i : UnitId) (step : Step) → IsWired s.net → IsFifoRun s lost w → IsInWindow s lost w → length (data_channels s.net u) ≤ 8 → actor_of s.net u ≡ OfUnit i
     → Takes s lost w u step ⊎ Acts s w u step → Each (IsWithin s.window) (step_calls (data_channels s.net u) (history w u) step)
 next-calls s lost w u i step n r x few q (inl t) = taken-calls s u step (history w u) t.took.message few t.took.taken (next-is s lost w u i step n r x q t)
 next-calls s lost w u i step n r x few q (inr t) = idle-calls s.window (data_channels s.net u) step (history w u) t.acted.taken
 
 pub next-calls-within : (s : Setup) (lost : Losses) (es : List Entry) (e : Entry) (i : UnitId) (step : Step) → IsWired s.net → length (data_channels s.net e.0) ≤ 8 → actor_of s.net e.0 ≡ OfUnit i
     → next_step s lost (world s lost es) e ≡ Some step → Each (IsWithin s.window) (step_calls (data_channels s.net e.0) (history (world s lost es) e.0) step)
-next-calls-within s lost es e i step n few q x = next-calls s lost (world s lost es) e.0 i step n (ran s lost es) (in-window s lost es n) few q (next-view s lost (world s lost es) e step x)
+next-calls-within s lost es e i step n few q x = next-calls s lost (world s lost es) e.0 i step n (fifo-run s lost es) (in-window s lost es n) few q (next-view s lost (world s lost es) e step x)
 
 -- A stamp that comes next lies within the window.
 
@@ -191,7 +191,7 @@ takeable : (s : Setup) (u : ℕ) (step : Step) (h : History) (m : Message) (j : 
 takeable s u step h m j x e = let a = x.order j e in let b = x.stamp_near j e in let c = x.id_near j e in
     record { order = a; ahead = b; above = omega (arith, b, last-id step.choice h); below = omega (arith, a, c); behind = last-id step.choice h; lag = c }
 
-pub next-takeable : (s : Setup) (lost : Losses) (w : World) (u : ℕ) (i : UnitId) (step : Step) (j : ℕ) → IsWired s.net → Ran s lost w → IsInWindow s lost w → actor_of s.net u ≡ OfUnit i → Takes s lost w u step ⊎ Acts s w u step → stamp_taken step ≡ Some j
+pub next-takeable : (s : Setup) (lost : Losses) (w : World) (u : ℕ) (i : UnitId) (step : Step) (j : ℕ) → IsWired s.net → IsFifoRun s lost w → IsInWindow s lost w → actor_of s.net u ≡ OfUnit i → Takes s lost w u step ⊎ Acts s w u step → stamp_taken step ≡ Some j
     → IsTakeable s.window step.choice (history w u) j
 next-takeable s lost w u i step j n r x q (inl t) e = takeable s u step (history w u) t.took.message j (next-is s lost w u i step n r x q t) (ap (option_and_then stamp_of) (sym t.took.taken) ∙ e)
 next-takeable s lost w u i step j n r x q (inr t) e = absurd (let z : None ≡ Some j = ap (option_and_then stamp_of) (sym t.acted.taken) ∙ e in cc)
@@ -206,7 +206,7 @@ record Keeps (s : Setup) (lost : Losses) (u : ℕ) (P : History → Type 0) (w :
 
 -- a step of the unit u in a world of a schedule keeps P
 abbrev KeptByStep : Setup → Losses → ℕ → (History → Type 0) → Type 0
-KeptByStep s lost u P = (w : World) (step : Step) → Ran s lost w → IsInWindow s lost w → Takes s lost w u step ⊎ Acts s w u step → P (history w u) → P (step ∷ history w u)
+KeptByStep s lost u P = (w : World) (step : Step) → IsFifoRun s lost w → IsInWindow s lost w → Takes s lost w u step ⊎ Acts s w u step → P (history w u) → P (step ∷ history w u)
 
 keeps-turn : (s : Setup) (lost : Losses) (u : ℕ) (P : History → Type 0) → IsWired s.net → KeptByStep s lost u P → (w : World) (e : Entry) → Keeps s lost u P w → Keeps s lost u P (turn s lost w e)
 keeps-turn s lost u P n f w e k = record { entries = k.entries ++ e ∷ []; is = run-append s lost (start s.net) k.entries (e ∷ []) ∙ ap (λ v. turn s lost v e) k.is; holds = by_cases (turn-cases s lost w e) }
@@ -214,7 +214,7 @@ keeps-turn s lost u P n f w e k = record { entries = k.entries ++ e ∷ []; is =
     by_actor : (v : World) (t : Steps s lost w e v) → ((nat_eq u e.0 ≡ true) × (u ≡ e.0)) ⊎ ((nat_eq u e.0 ≡ false) × (u ≡ e.0 → ⊥)) → P (history v u)
     by_actor v t (inr x) = subst P (sym (t.grows.other u x.1)) k.holds
     by_actor v t (inl x) = subst P (sym (ap (history v) x.1 ∙ t.grows.same ∙ ap (λ a. t.step ∷ history w a) (sym x.1)))
-        (f w t.step (subst (Ran s lost) k.is (ran s lost k.entries)) (subst (IsInWindow s lost) k.is (in-window s lost k.entries n))
+        (f w t.step (subst (IsFifoRun s lost) k.is (fifo-run s lost k.entries)) (subst (IsInWindow s lost) k.is (in-window s lost k.entries n))
         (subst (λ a. Takes s lost w a t.step ⊎ Acts s w a t.step) (sym x.1) (next-view s lost w e t.step t.next)) k.holds)
 
     by_cases : (turn s lost w e ≡ w) ⊎ Steps s lost w e (turn s lost w e) → P (history (turn s lost w e) u)
@@ -264,14 +264,14 @@ reached-upto net u k h p = record {
 }
 
 -- what was collected is the row of the unit's whole history
-pub row-collected : (s : Setup) (lost : Losses) (w : World) (credits : ℕ) (cs : List ℕ) (u k : ℕ) (i : UnitId) → IsWired s.net → Ran s lost w → actor_of s.net u ≡ OfUnit i → k ≤ upto_of s.net u (collected s.net w u)
+pub row-collected : (s : Setup) (lost : Losses) (w : World) (credits : ℕ) (cs : List ℕ) (u k : ℕ) (i : UnitId) → IsWired s.net → IsFifoRun s lost w → actor_of s.net u ≡ OfUnit i → k ≤ upto_of s.net u (collected s.net w u)
     → row credits cs k (collected s.net w u) ≡ row credits cs k (history w u)
 row-collected s lost w credits cs u k i n r q p = let m = known (unit_place s.net u) (observer w) in let a = (knows s lost w u i n r (n.reports u i q) q).at_most in
     sym (row-later s lost w credits cs u k m (length (history w u)) n r a (lag-of s.net k u (first m (history w u)) (reached-upto s.net u k (first m (history w u)) p)))
     ∙ ap (row credits cs k) (first-all (length (history w u)) (history w u) (omega arith))
 
 -- F is at most what the observer has collected of a unit, and so at most what is known after more steps.
-floor-upto : (s : Setup) (lost : Losses) (w : World) (u m : ℕ) (i : UnitId) → IsWired s.net → Ran s lost w → actor_of s.net u ≡ OfUnit i → known (unit_place s.net u) (observer w) ≤ m → floor s.net w ≤ upto_of s.net u (first m (history w u))
+floor-upto : (s : Setup) (lost : Losses) (w : World) (u m : ℕ) (i : UnitId) → IsWired s.net → IsFifoRun s lost w → actor_of s.net u ≡ OfUnit i → known (unit_place s.net u) (observer w) ≤ m → floor s.net w ≤ upto_of s.net u (first m (history w u))
 floor-upto s lost w u m i n r q p = let k = known (unit_place s.net u) (observer w) in
     let a : floor s.net w ≤ unit_floor s.net w u = floor-unit s.net n.ways w u i q in
     let b : unit_floor s.net w u ≤ upto_of s.net u (first k (history w u)) = least-start (map (λ c. last c (first k (history w u))) (choices_of s.net u Init)) (upto_of s.net u (first k (history w u))) in
@@ -283,7 +283,7 @@ floor-upto s lost w u m i n r q p = let k = known (unit_place s.net u) (observer
 raised : (f : History → ℕ) (window m k top : ℕ) (h : History) → NeverFalls f h → m ≤ k → f (first k h) ≤ top → top ≤ f (first m h) + window → IsRaised window (f (first m h)) (f (first k h))
 raised f window m k top h r o a b = (never-falls f m k h r o, omega (arith, a, b))
 
-brings : (s : Setup) (lost : Losses) (w : World) (u m k : ℕ) (i : UnitId) → IsWired s.net → Ran s lost w → IsInWindow s lost w → actor_of s.net u ≡ OfUnit i → known (unit_place s.net u) (observer w) ≤ m → m ≤ k → k ≤ length (history w u)
+brings : (s : Setup) (lost : Losses) (w : World) (u m k : ℕ) (i : UnitId) → IsWired s.net → IsFifoRun s lost w → IsInWindow s lost w → actor_of s.net u ≡ OfUnit i → known (unit_place s.net u) (observer w) ≤ m → m ≤ k → k ≤ length (history w u)
     → IsBrought s.net s.window u (history w u) m k
 brings s lost w u m k i n r x q p o t = record {
   order = o;
@@ -330,7 +330,7 @@ same-link xs c d q e f = of_some (sym e ∙ ap (slice_get xs) q ∙ f)
 
 -- Dumps.
 
-unit-dump : (s : Setup) (lost : Losses) (w : World) (a u n : ℕ) (i : UnitId) (step : Step) → IsWired s.net → Ran s lost w → IsInWindow s lost w → actor_of s.net u ≡ OfUnit i → (p : Reports s.net u) → a ≡ p.control
+unit-dump : (s : Setup) (lost : Losses) (w : World) (a u n : ℕ) (i : UnitId) (step : Step) → IsWired s.net → IsFifoRun s lost w → IsInWindow s lost w → actor_of s.net u ≡ OfUnit i → (p : Reports s.net u) → a ≡ p.control
     → (t : Takes s lost w a step) → t.took.message ≡ DumpMsg n → step.choice ≡ choice_of s.net p.dump → IsBrought s.net s.window u (history w u) (dumped (choice_of s.net p.dump) (history w a)) n
 unit-dump s lost w a u n i step z r x q p e t m c = of_knows (knows s lost w u i z r p q)
   where
@@ -348,7 +348,7 @@ unit-dump s lost w a u n i step z r x q p e t m c = of_knows (knows s lost w u i
         (brings s lost w u (dumped (choice_of s.net p.dump) (history w p.control)) n i z r x q here up.0 (rises-le n (numbers dump_of way.0) (length (history w u)) up.1))
 
 -- of the unit that a poll link leads to
-served-dump : (s : Setup) (lost : Losses) (w : World) (a n : ℕ) (step : Step) → IsWired s.net → Ran s lost w → IsInWindow s lost w → (t : Takes s lost w a step) → t.took.message ≡ DumpMsg n
+served-dump : (s : Setup) (lost : Losses) (w : World) (a n : ℕ) (step : Step) → IsWired s.net → IsFifoRun s lost w → IsInWindow s lost w → (t : Takes s lost w a step) → t.took.message ≡ DumpMsg n
     → Each (λ v. step.choice ≡ v.dump → IsBrought s.net s.window v.unit (history w v.unit) (dumped v.dump (history w a)) n) (served s.net a)
 served-dump s lost w a n step z r x t m = each-map (λ v. step.choice ≡ v.dump → IsBrought s.net s.window v.unit (history w v.unit) (dumped v.dump (history w a)) n) (serving s.net a) (links_out s.net a Poll)
     (each-imp (IsOut s.net a Poll) (λ l. step.choice ≡ choice_from s.net a (link_of s.net l).to Dump
@@ -365,7 +365,7 @@ served-dump s lost w a n step z r x t m = each-map (λ v. step.choice ≡ v.dump
             let d : choice_from s.net a u Dump ≡ choice_of s.net p.dump = ap (λ b. choice_from s.net b u Dump) e ∙ p.dump_choice in
             subst (λ d. IsBrought s.net s.window u (history w u) (dumped d (history w a)) n) (sym d) (unit-dump s lost w a u n i.0 step z r x i.1 p e t m (c ∙ d))
 
-pub next-dump : (s : Setup) (lost : Losses) (w : World) (a n : ℕ) (step : Step) → IsWired s.net → Ran s lost w → IsInWindow s lost w → Takes s lost w a step ⊎ Acts s w a step → step.taken ≡ Some (DumpMsg n)
+pub next-dump : (s : Setup) (lost : Losses) (w : World) (a n : ℕ) (step : Step) → IsWired s.net → IsFifoRun s lost w → IsInWindow s lost w → Takes s lost w a step ⊎ Acts s w a step → step.taken ≡ Some (DumpMsg n)
     → Each (λ v. step.choice ≡ v.dump → IsBrought s.net s.window v.unit (history w v.unit) (dumped v.dump (history w a)) n) (served s.net a)
 next-dump s lost w a n step z r x (inl t) m = served-dump s lost w a n step z r x t (let e : Some t.took.message ≡ Some (DumpMsg n) = sym t.took.taken ∙ m in cc)
 next-dump s lost w a n step z r x (inr t) m = absurd (let e : None ≡ Some (DumpMsg n) = sym t.acted.taken ∙ m in cc)
@@ -375,7 +375,7 @@ next-dump s lost w a n step z r x (inr t) m = absurd (let e : None ≡ Some (Dum
 pub world-length : (s : Setup) (lost : Losses) (es : List Entry) → length (world s lost es) ≡ length s.net.actors
 world-length s lost es = length-run s lost (start s.net) es ∙ length-map s.net.actors (λ a. [])
 
-done-from-next : (s : Setup) (lost : Losses) (w v : World) (u n : ℕ) (i : UnitId) (step : Step) → IsWired s.net → Ran s lost w → Ran s lost v → IsInWindow s lost w → actor_of s.net u ≡ OfUnit i → GrowsAt w v 0 step
+done-from-next : (s : Setup) (lost : Losses) (w v : World) (u n : ℕ) (i : UnitId) (step : Step) → IsWired s.net → IsFifoRun s lost w → IsFifoRun s lost v → IsInWindow s lost w → actor_of s.net u ≡ OfUnit i → GrowsAt w v 0 step
     → step.taken ≡ Some (DoneMsg (unit_place s.net u) n) → IsBrought s.net s.window u (history w u) (known (unit_place s.net u) (observer w)) n
 done-from-next s lost w v u n i step z r t x q g m = brings s lost w u (known (unit_place s.net u) (observer w)) n i z r x q (omega arith)
     (let a = known-le s lost w v 0 step u i z r t g q in omega (arith, a, now)) (let a = (knows s lost v u i z t (z.reports u i q) q).at_most in let e = ap length same in omega (arith, a, now, e))
@@ -390,5 +390,5 @@ done-from-next s lost w v u n i step z r t x q g m = brings s lost w u (known (u
 pub unit-done : (s : Setup) (lost : Losses) (es : List Entry) (c n : ℕ) (step : Step) → IsWired s.net → next_step s lost (world s lost es) (0, c) ≡ Some step
     → (u : ℕ) (i : UnitId) → actor_of s.net u ≡ OfUnit i → step.taken ≡ Some (DoneMsg (unit_place s.net u) n) → IsBrought s.net s.window u (history (world s lost es) u) (known (unit_place s.net u) (observer (world s lost es))) n
 unit-done s lost es c n step z e u i q m = let w = world s lost es in
-    done-from-next s lost w (after w 0 (Some step)) u n i step z (ran s lost es) (subst (λ o. Ran s lost (after w 0 o)) e (ran-turn s lost w (0, c) (ran s lost es))) (in-window s lost es z) q
+    done-from-next s lost w (after w 0 (Some step)) u n i step z (fifo-run s lost es) (subst (λ o. IsFifoRun s lost (after w 0 o)) e (fifo-run-turn s lost w (0, c) (fifo-run s lost es))) (in-window s lost es z) q
     (grows-after w 0 step (let a = next-within s lost w (0, c) step e in let b = world-length s lost es in omega (arith, a, b))) m

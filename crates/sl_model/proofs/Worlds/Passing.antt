@@ -12,7 +12,7 @@ use Rattle.sl_net.specs.declared.input.Flow.{Flow}
 use Rattle.sl_net.specs.declared.input.Packet.{Packet}
 use Rattle.sl_net.specs.declared.input.RawPart.{RawPart}
 use Rattle.sl_layout.specs.Net.{Net, actor_of, link_of, links_out, action_choice, unit_place, links_into}
-use Rattle.sl_layout.specs.Serving.{Served, served}
+use Rattle.sl_layout.specs.Serving.{ServedUnit, served}
 use Rattle.sl_flow.specs.Flow.{flow_packets, packets_of, packet_in}
 use Rattle.sl_route.specs.Route.{next_port}
 use Rattle.sl_model.specs.declared.message.Message.{Message}
@@ -29,7 +29,7 @@ use Rattle.sl_model.specs.Puts.{send, send_all, crossbar_to, onward, route, rout
 use Rattle.sl_model.specs.World.{Entry, start, turn, world, carried, sender}
 use Rattle.sl_model.specs.Turns.{Takes, Acts, TakesTurns}
 use Rattle.sl_model.proofs.Worlds.Turns.{kept_by_run, Steps, turn-cases, start-empty, run-append, next-within, taken-step, taken-this, taken-other}
-use Rattle.sl_model.proofs.Worlds.Ran.{next-view, ran, ran-turn}
+use Rattle.sl_model.proofs.Worlds.FifoRuns.{next-view, fifo-run, fifo-run-turn}
 use Rattle.sl_model.proofs.Worlds.Stamps.{each-on-link, each-lost, each-taken, put-fits, unit-dumps, PutBy, observer-acts, step-said}
 use Rattle.sl_model.proofs.Saved.Windows.{world-length}
 use Rattle.sl_parts.specs.Parts.{below}
@@ -37,7 +37,7 @@ use Rattle.sl_model.specs.Counting.{counted_in, counted}
 use Rattle.sl_model.specs.Short.{TakesShort, SendsShort, IsShort}
 use Rattle.sl_model.specs.Words.{listed, Rises, numbers}
 use Rattle.sl_model.specs.Fields.{HasFields, FlowHasFields, AreBytes, SendsFields, MessageHasFields}
-use Rattle.sl_model.specs.Made.{IsMade, Ran, Took, Acted}
+use Rattle.sl_model.specs.Made.{IsMade, IsFifoRun, Took, Acted}
 use Rattle.sl_model.specs.Window.{on_way}
 use Rattle.sl_model.specs.Passing.{PassesMessages}
 use Rattle.sl_model.proofs.Worlds.Numbers.{rises-le, put-rises, heard-takes}
@@ -127,14 +127,14 @@ dump-holds : (P : Message → Type 0) (net : Net) (u n : ℕ) (m : Message) → 
 dump-holds P net u n PollMsg c = sends P (DumpMsg n) (links_out net u Dump) (c.dump n)
 dump-holds P net u n _ c = tt
 
-poll-holds : (P : Message → Type 0) (v : Served) (h : History) → IsCarried P → PutsHold P (poll_puts v h)
+poll-holds : (P : Message → Type 0) (v : ServedUnit) (h : History) → IsCarried P → PutsHold P (poll_puts v h)
 poll-holds P v h c = unless P (is_outstanding v h) (send PollMsg v.poll ∷ []) (c.poll, tt)
 
-answer-holds : (P : Message → Type 0) (net : Net) (a : ℕ) (h : History) (n : ℕ) (v : Served) → IsCarried P → PutsHold P (dump_answer net a h n v)
+answer-holds : (P : Message → Type 0) (net : Net) (a : ℕ) (h : History) (n : ℕ) (v : ServedUnit) → IsCarried P → PutsHold P (dump_answer net a h n v)
 answer-holds P net a h n v c = both P (send_all (DoneMsg (unit_place net v.unit) n) (links_out net a Done)) (if is_again (action_choice net a) v h then send PollMsg v.poll ∷ [] else [])
     (sends P (DoneMsg (unit_place net v.unit) n) (links_out net a Done) (c.done (unit_place net v.unit) n)) (when P (is_again (action_choice net a) v h) (send PollMsg v.poll ∷ []) (c.poll, tt))
 
-all-served : (P : Message → Type 0) (f : Served → List Put) (vs : List Served) → ((v : Served) → PutsHold P (f v)) → PutsHold P (flat_map f vs)
+all-served : (P : Message → Type 0) (f : ServedUnit → List Put) (vs : List ServedUnit) → ((v : ServedUnit) → PutsHold P (f v)) → PutsHold P (flat_map f vs)
 all-served P f vs h = each-flat (λ p. P p.message) f vs (each-of (λ v. PutsHold P (f v)) vs (λ v m. h v))
 
 control-holds : (P : Message → Type 0) (net : Net) (a : ℕ) (h : History) (c : ℕ) (m : Message) → IsCarried P → PutsHold P (control_puts net a h c m)
@@ -365,7 +365,7 @@ came : (s : Setup) (lost : Losses) (w : World) (a : ℕ) (step : Step) (t : Take
 came s lost w a step t = let l = t.took.link in let ms = put l (sender s.net w l) in
     each-get (λ m. Member m ms) (carried s.net lost w l) (taken step.choice (history w a)) t.took.message (each-lost (λ m. Member m ms) (lost l) 0 ms (each-itself ms)) t.found
 
-coming : (s : Setup) (lost : Losses) (w : World) (a c l : ℕ) → Ran s lost w → slice_get (links_into s.net a) c ≡ Some l → Each (λ m. Member m (put l (sender s.net w l))) (on_way s.net lost w l)
+coming : (s : Setup) (lost : Losses) (w : World) (a c l : ℕ) → IsFifoRun s lost w → slice_get (links_into s.net a) c ≡ Some l → Each (λ m. Member m (put l (sender s.net w l))) (on_way s.net lost w l)
 coming s lost w a c l r k = let ms = put l (sender s.net w l) in let f = r.fifo a c l k in
     subst (Each (λ m. Member m ms)) (sym (on-way-is s.net lost w a c l k f))
     (each-back (λ m. Member m ms) (takes c (history w a)) f.rest (subst (Each (λ m. Member m ms)) f.split (each-lost (λ m. Member m ms) (lost l) 0 ms (each-itself ms))))
@@ -407,7 +407,7 @@ stays s lost w e a ne = by_cases (turn-cases s lost w e)
     by_cases (inl q) = ap (λ v. history v a) q
     by_cases (inr t) = t.grows.other a ne
 
-took-fits : (s : Setup) (lost : Losses) (w : World) (a : ℕ) (step : Step) → Ran s lost w → (t : Takes s lost w a step) → fits_link s.net t.took.link t.took.message ≡ true
+took-fits : (s : Setup) (lost : Losses) (w : World) (a : ℕ) (step : Step) → IsFifoRun s lost w → (t : Takes s lost w a step) → fits_link s.net t.took.link t.took.message ≡ true
 took-fits s lost w a step r t = let from = (link_of s.net t.took.link).from in
     each-get (λ m. fits_link s.net t.took.link m ≡ true) (carried s.net lost w t.took.link) (taken step.choice (history w a)) t.took.message
     (each-lost (λ m. fits_link s.net t.took.link m ≡ true) (lost t.took.link) 0 (put t.took.link (history w from)) (put-fits s from t.took.link (history w from) (r.made from))) t.found
@@ -442,8 +442,8 @@ takes-turns = record {
   counted = taken-this;
   uncounted = taken-other;
   at_most = few-taken;
-  ran = ran;
-  goes_on = ran-turn;
+  fifo-run = fifo-run;
+  goes_on = fifo-run-turn;
   few = few-steps;
   all_few = λ s lost es. world_size s lost (world s lost es) es refl;
   ingress = ingress_size;

@@ -11,7 +11,7 @@ use Rattle.std.proofs.lemmas.Option.{get_or_from_slice_get}
 use Rattle.sl_layout.specs.Net.{action_choice, actor_of, links_into, nobody}
 use Rattle.sl_layout.specs.declared.actor.ActorId.{ActorId}
 use Rattle.sl_model.specs.History.{History, Losses, World, first, history, on_link, put, taken}
-use Rattle.sl_model.specs.Made.{Ran}
+use Rattle.sl_model.specs.Made.{IsFifoRun}
 use Rattle.sl_model.specs.Puts.{action, puts_of}
 use Rattle.sl_model.specs.Setup.{Setup}
 use Rattle.sl_model.specs.World.{Entry, acting, after, carried, floor_for, front, next_step, run, start, step_by, taking, turn, world}
@@ -19,7 +19,7 @@ use Rattle.sl_model.specs.declared.message.Message.{Message}
 use Rattle.sl_model.specs.declared.message.Put.{Put}
 use Rattle.sl_model.specs.declared.message.Step.{Step}
 use Rattle.sl_model.specs.Turns.{GrowsAt}
-use Rattle.sl_model.proofs.Worlds.Ran.{ran}
+use Rattle.sl_model.proofs.Worlds.FifoRuns.{fifo-run}
 use Rattle.sl_model.proofs.Worlds.Turns.{Steps, grows-after, kept_by_run, next-within, run-append, start-empty, stepped, taken-falls, taken-other, taken-step, turn-cases}
 
 -- a schedule leads to the world
@@ -35,8 +35,8 @@ reached-run s lost w es r = (r.0 ++ es, run-append s lost (start s.net) r.0 es �
 pub reached-turn : (s : Setup) (lost : Losses) (w : World) (e : Entry) → Reached s lost w → Reached s lost (turn s lost w e)
 reached-turn s lost w e r = reached-run s lost w (e ∷ []) r
 
-pub ran-reached : (s : Setup) (lost : Losses) (w : World) → Reached s lost w → Ran s lost w
-ran-reached s lost w r = subst (Ran s lost) r.1 (ran s lost r.0)
+pub fifo-run-reached : (s : Setup) (lost : Losses) (w : World) → Reached s lost w → IsFifoRun s lost w
+fifo-run-reached s lost w r = subst (IsFifoRun s lost) r.1 (fifo-run s lost r.0)
 
 -- what holds at first and is kept by each step holds in each world that is reached
 pub world-law : (s : Setup) (lost : Losses) (P : World → Type 0) → P (start s.net)

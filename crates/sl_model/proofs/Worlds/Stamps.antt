@@ -13,7 +13,7 @@ use Rattle.sl_layout.specs.declared.actor.UnitId.{UnitId}
 use Rattle.sl_layout.specs.declared.actor.Side.{Side}
 use Rattle.sl_layout.specs.declared.actor.Side.TheVariants.{Ingress, Egress}
 use Rattle.sl_layout.specs.Net.{Net, link_of, links_out, actor_of, egress, same_actor, action_choice, unit_place, links_into, links_from, link_numbers, same_sort}
-use Rattle.sl_layout.specs.Serving.{Served, served, serving}
+use Rattle.sl_layout.specs.Serving.{ServedUnit, served, serving}
 use Rattle.sl_parts.specs.Lists.{Each, Member}
 use Rattle.sl_parts.proofs.Lists.{each-append, each-map, each-imp, each-flat, each-filter, each-front, each-at, distinct-filter, distinct-from, Distinct}
 use Rattle.sl_model.specs.History.{History, stamp_of, begin_of, dump_of, done_of, last, taken, World, Losses, history, id, takes, put, on_link, without_lost}
@@ -29,7 +29,7 @@ use Rattle.sl_net.specs.Ways.{IsOut}
 use Rattle.sl_net.proofs.Sorts.{each-out}
 use Rattle.std.proofs.lemmas.Bool.Decides.{eqb_tells}
 use Rattle.sl_model.specs.declared.message.Step.{Step}
-use Rattle.sl_model.specs.Made.{Took, Acted, IsMade, Fifo, Ran}
+use Rattle.sl_model.specs.Made.{Took, Acted, IsMade, Fifo, IsFifoRun}
 
 pub record Said (k n : ℕ) (m : Message) : Type 0 where
   pub stamp : Says k (stamp_of m)
@@ -152,10 +152,10 @@ unit-said net u i h c l m = let k = id_after m h in let n = suc (length h) in le
 pub served-out : (net : Net) (a : ℕ) → Each (λ v. IsOut net a Poll v.poll) (served net a)
 served-out net a = each-map (λ v. IsOut net a Poll v.poll) (serving net a) (links_out net a Poll) (each-out net a Poll)
 
-poll-by : (net : Net) (a k n : ℕ) (v : Served) → IsOut net a Poll v.poll → PutBy net k n (send PollMsg v.poll)
+poll-by : (net : Net) (a k n : ℕ) (v : ServedUnit) → IsOut net a Poll v.poll → PutBy net k n (send PollMsg v.poll)
 poll-by net a k n v o = record { fits = ap (λ i. fits i PollMsg) o.sort; said = said-poll k n }
 
-poll-said : (net : Net) (a k n : ℕ) (v : Served) (h : History) → IsOut net a Poll v.poll → Each (PutBy net k n) (poll_puts v h)
+poll-said : (net : Net) (a k n : ℕ) (v : ServedUnit) (h : History) → IsOut net a Poll v.poll → Each (PutBy net k n) (poll_puts v h)
 poll-said net a k n v h o = by_bool (is_outstanding v h)
   where
     by_bool : (b : Bool) → Each (PutBy net k n) (if b then [] else send PollMsg v.poll ∷ [])
@@ -166,7 +166,7 @@ pub sweep-said : (net : Net) (a k n : ℕ) (h : History) → Each (PutBy net k n
 sweep-said net a k n h = each-flat (PutBy net k n) (λ v. poll_puts v h) (served net a) (each-imp (λ v. IsOut net a Poll v.poll) (λ v. Each (PutBy net k n) (poll_puts v h)) (served net a)
     (λ v o. poll-said net a k n v h o) (served-out net a))
 
-answer-said : (net : Net) (a : ℕ) (h : History) (k n : ℕ) (v : Served) → IsOut net a Poll v.poll → Each (PutBy net k n) (dump_answer net a h n v)
+answer-said : (net : Net) (a : ℕ) (h : History) (k n : ℕ) (v : ServedUnit) → IsOut net a Poll v.poll → Each (PutBy net k n) (dump_answer net a h n v)
 answer-said net a h k n v o = each-append (PutBy net k n) (send_all (DoneMsg (unit_place net v.unit) n) (links_out net a Done)) (if is_again (action_choice net a) v h then send PollMsg v.poll ∷ [] else [])
     (put-out net a Done k n (DoneMsg (unit_place net v.unit) n) refl (said-done k n (unit_place net v.unit))) (by_bool (is_again (action_choice net a) v h))
   where
@@ -180,7 +180,7 @@ control-said net a h c (BeginMsg j) k n (inr q) d = let e : k ≡ j = cc in subs
 control-said net a h c NoticeMsg k n b d = each-flat (PutBy net k n) (λ v. if c == v.notice then poll_puts v h else []) (served net a)
     (each-imp (λ v. IsOut net a Poll v.poll) (λ v. Each (PutBy net k n) (if c == v.notice then poll_puts v h else [])) (served net a) (λ v o. by_bool v o (c == v.notice)) (served-out net a))
   where
-    by_bool : (v : Served) → IsOut net a Poll v.poll → (b : Bool) → Each (PutBy net k n) (if b then poll_puts v h else [])
+    by_bool : (v : ServedUnit) → IsOut net a Poll v.poll → (b : Bool) → Each (PutBy net k n) (if b then poll_puts v h else [])
     by_bool v o true = poll-said net a k n v h o
     by_bool v o false = tt
 control-said net a h c (DumpMsg j) k n b (inl q) = absurd cc
@@ -188,7 +188,7 @@ control-said net a h c (DumpMsg j) k n b (inr q) = let e : n ≡ j = cc in subst
     (each-flat (PutBy net k n) (λ v. if c == v.dump then dump_answer net a h n v else []) (served net a)
     (each-imp (λ v. IsOut net a Poll v.poll) (λ v. Each (PutBy net k n) (if c == v.dump then dump_answer net a h n v else [])) (served net a) (λ v o. by_bool v o (c == v.dump)) (served-out net a)))
   where
-    by_bool : (v : Served) → IsOut net a Poll v.poll → (b : Bool) → Each (PutBy net k n) (if b then dump_answer net a h n v else [])
+    by_bool : (v : ServedUnit) → IsOut net a Poll v.poll → (b : Bool) → Each (PutBy net k n) (if b then dump_answer net a h n v else [])
     by_bool v o true = answer-said net a h k n v o
     by_bool v o false = tt
 control-said net a h c _ k n b d = tt
@@ -300,7 +300,7 @@ put-fits s a l (step ∷ h) m = let d : StepSaid s step = step-said s a h step m
     each-append (λ m. fits_link s.net l m ≡ true) (put l h) (on_link l step.puts) (put-fits s a l h m.1)
     (each-on-link (λ l m. fits_link s.net l m ≡ true) l step.puts (each-imp (PutBy s.net d.number d.count) (λ p. fits_link s.net p.link p.message ≡ true) step.puts (λ p b. b.fits) d.said))
 
-pub taken-fits : (s : Setup) (lost : Losses) (w : World) (a c l : ℕ) → Ran s lost w → slice_get (links_into s.net a) c ≡ Some l → Each (λ m. fits_link s.net l m ≡ true) (takes c (history w a))
+pub taken-fits : (s : Setup) (lost : Losses) (w : World) (a c l : ℕ) → IsFifoRun s lost w → slice_get (links_into s.net a) c ≡ Some l → Each (λ m. fits_link s.net l m ≡ true) (takes c (history w a))
 taken-fits s lost w a c l r k = each-taken (λ m. fits_link s.net l m ≡ true) (lost l) c (history w a) (put l (history w (link_of s.net l).from))
     (put-fits s (link_of s.net l).from l (history w (link_of s.net l).from) (r.made (link_of s.net l).from)) (r.fifo a c l k)
 
@@ -340,7 +340,7 @@ unit-dumps s a i (step ∷ h) q m = (
 )
 
 -- On a link from a unit: the stamps heard never fall, and these, then the stamps not yet taken, end at most at the sender's id.
-pub unit-link : (s : Setup) (lost : Losses) (w : World) (a c l : ℕ) (i : UnitId) (r : Ran s lost w) (k : slice_get (links_into s.net a) c ≡ Some l) → actor_of s.net (link_of s.net l).from ≡ OfUnit i
+pub unit-link : (s : Setup) (lost : Losses) (w : World) (a c l : ℕ) (i : UnitId) (r : IsFifoRun s lost w) (k : slice_get (links_into s.net a) c ≡ Some l) → actor_of s.net (link_of s.net l).from ≡ OfUnit i
     → Ordered stamp_of c (history w a) (r.fifo a c l k).rest (id (history w (link_of s.net l).from))
 unit-link s lost w a c l i r k q = let h = history w (link_of s.net l).from in
     ordered stamp_of (lost l) c (history w a) (put l h) (id h) (put-rises stamp_of id l h (unit-stamps s (link_of s.net l).from i h q (r.made (link_of s.net l).from))) (r.fifo a c l k)

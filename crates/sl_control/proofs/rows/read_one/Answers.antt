@@ -1,5 +1,5 @@
 use Rattle.std.proofs.Common.{is_some, arith}
-use Rattle.sl_control.proofs.Reading.{readable-is}
+use Rattle.sl_control.proofs.ReadableSpans.{readable-is}
 use Rattle.sl_control.proofs.rows.read_one.Goals as goal
 
 pub returns-then-id-k-clause-some : goal.returns-then-id-k-clause-some

@@ -2,7 +2,7 @@ use Rattle.std.proofs.Common.{◌+◌, ◌∷◌, ◌++◌, [], length, map, sym
 use Rattle.std.specs.Prelude.{◌&&◌}
 use Rattle.std.specs.List.{list_all}
 use Rattle.sl_control.specs.Rows.{span, is_readable, row}
-use Rattle.sl_control.proofs.Reading.{span-more, readable-near, near-first}
+use Rattle.sl_control.proofs.ReadableSpans.{span-more, readable-near, near-first}
 use Rattle.sl_control.proofs.rows.read_rows.Goals as goal
 
 pub returns-in-None-clause-readable : goal.returns-in-None-clause-readable

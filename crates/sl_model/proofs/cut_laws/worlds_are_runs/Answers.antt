@@ -1,5 +1,5 @@
 use Rattle.sl_model.proofs.cut_laws.worlds_are_runs.Goals as goal
-use Rattle.sl_model.proofs.Worlds.Ran.{ran}
+use Rattle.sl_model.proofs.Worlds.FifoRuns.{fifo-run}
 
 pub returns : goal.returns
-returns c s lost es = ran s lost es
+returns c s lost es = fifo-run s lost es

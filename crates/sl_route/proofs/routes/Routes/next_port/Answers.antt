@@ -1,7 +1,7 @@
 use Rattle.std.proofs.Common.{ap, sym, ◌∙◌}
 use Rattle.sl_route.specs.Route.{next_port}
 use Rattle.sl_route.specs.Ways.{Ways}
-use Rattle.sl_route.proofs.Reading.{past-hosts, kept-at, no-port, ports-kept}
+use Rattle.sl_route.proofs.KeptWays.{past-hosts, kept-at, no-port, ports-kept}
 use Rattle.sl_route.proofs.routes.Routes.next_port.Goals as goal
 
 pub returns-in_err-ways : goal.returns-in_err-ways

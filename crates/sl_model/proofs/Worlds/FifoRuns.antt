@@ -13,7 +13,7 @@ use Rattle.sl_model.specs.History.{History, World, Losses, history, taken, takes
 use Rattle.sl_model.specs.Setup.{Setup}
 use Rattle.sl_model.specs.Puts.{puts_of, action}
 use Rattle.sl_model.specs.World.{Entry, run, start, next_step, step_by, turn, carried, front, taking, acting, floor_for}
-use Rattle.sl_model.specs.Made.{Took, Acted, IsMade, AllMade, Fifo, AllFifo, Ran}
+use Rattle.sl_model.specs.Made.{Took, Acted, IsMade, AllMade, Fifo, AllFifo, IsFifoRun}
 use Rattle.sl_model.specs.Turns.{GrowsAt, Takes, Acts}
 use Rattle.sl_model.proofs.Worlds.Turns.{kept_by_run, Steps, stepped, turn-cases, taken-other, start-empty}
 
@@ -153,8 +153,8 @@ pub all-fifo : (s : Setup) (lost : Losses) (es : List Entry) → AllFifo s.net l
 all-fifo s lost es = kept_by_run s lost (AllFifo s.net lost) (fifo-turn s lost) (start s.net) es
     (λ a c l k. subst (λ h. Fifo c h (carried s.net lost (start s.net) l)) (sym (start-empty s.net a)) (record { rest = carried s.net lost (start s.net) l; split = refl; count = refl }))
 
-pub ran : (s : Setup) (lost : Losses) (es : List Entry) → Ran s lost (run s lost (start s.net) es)
-ran s lost es = record { made = all-made s lost es; fifo = all-fifo s lost es }
+pub fifo-run : (s : Setup) (lost : Losses) (es : List Entry) → IsFifoRun s lost (run s lost (start s.net) es)
+fifo-run s lost es = record { made = all-made s lost es; fifo = all-fifo s lost es }
 
-pub ran-turn : (s : Setup) (lost : Losses) (w : World) (e : Entry) → Ran s lost w → Ran s lost (turn s lost w e)
-ran-turn s lost w e r = record { made = made-turn s lost w e r.made; fifo = fifo-turn s lost w e r.fifo }
+pub fifo-run-turn : (s : Setup) (lost : Losses) (w : World) (e : Entry) → IsFifoRun s lost w → IsFifoRun s lost (turn s lost w e)
+fifo-run-turn s lost w e r = record { made = made-turn s lost w e r.made; fifo = fifo-turn s lost w e r.fifo }

@@ -262,15 +262,15 @@ units_are net = each-imp (λ u. is_unit (actor_of net u) ≡ true) (λ u. (i : U
     (λ u e. unit_of (actor_of net u) e) (each-passes (λ u. is_unit (actor_of net u)) (below (length net.actors)))
 
 module _ (s : Setup) (lost : Losses) (es : List Entry) (wired : IsWired s.net) (table : IsLossTable s.net lost) (all : AllTaken s.net lost (world s lost es))
-    (ran : IsFifoRun s lost (world s lost es)) (reported : AreReported s) (passes : PassesMessages) (told : Told) where
+    (fifo_run : IsFifoRun s lost (world s lost es)) (reported : AreReported s) (passes : PassesMessages) (told : Told) where
   fitting : (u : ℕ) → TookFitting s.net u (history (world s lost es) u)
   fitting u c l k = each-member (λ m. fits_link s.net l m ≡ true) (put l (sender s.net (world s lost es) l)) (takes c (history (world s lost es) u))
-      (passes.fits s lost (world s lost es) l ran) (passes.taken s lost (world s lost es) u c l ran k)
+      (passes.fits s lost (world s lost es) l fifo_run) (passes.taken s lost (world s lost es) u c l fifo_run k)
 
   -- all dumps that a unit put were taken
   dumps_taken : (u : ℕ) (r : Reports s.net u) → takes (choice_of s.net r.dump) (history (world s lost es) r.control) ≡ put r.dump (history (world s lost es) u)
   dumps_taken u r =
-      let f = ran.fifo r.control (choice_of s.net r.dump) r.dump r.dump_taken in
+      let f = fifo_run.fifo r.control (choice_of s.net r.dump) r.dump r.dump_taken in
       let n : taken (choice_of s.net r.dump) (history (world s lost es) r.control) ≡ length (carried s.net lost (world s lost es) r.dump) =
       ap (λ a. taken (choice_of s.net r.dump) (history (world s lost es) a)) (sym r.dump_to) ∙ all r.dump r.dump_out.is_link in
       let none = no_rest (takes (choice_of s.net r.dump) (history (world s lost es) r.control)) f.rest _ (n ∙ ap length f.split) f.count in
@@ -286,13 +286,13 @@ module _ (s : Setup) (lost : Losses) (es : List Entry) (wired : IsWired s.net) (
   known_is u i q =
       let r = wired.reports u i q in
       let c = choice_of s.net r.done in
-      let heard_is = (reported lost (world s lost es) u i r ran q).told in
+      let heard_is = (reported lost (world s lost es) u i r fifo_run q).told in
       let last_is = passes.last_heard (done_of (unit_place s.net u)) c (observer (world s lost es)) in
       let took : takes c (observer (world s lost es)) ≡ takes c (observer (world s lost es)) ++ on_way s.net lost (world s lost es) r.done =
       sym (append-nil (takes c (observer (world s lost es)))) ∙ ap (λ (x : List Message). takes c (observer (world s lost es)) ++ x) (sym (nothing_comes u r)) in
       heard_is ∙ sym last_is ∙ ap (λ (x : List Message). last_of 0 (numbers (done_of (unit_place s.net u)) x)) took ∙ ap (last_of 0) (told s lost es u i r table q)
       ∙ ap (λ (x : List Message). last_of 0 (numbers dump_of x)) (dumps_taken u r)
-      ∙ dumps_tell s u i r (history (world s lost es) u) q (ran.made u) (fitting u)
+      ∙ dumps_tell s u i r (history (world s lost es) u) q (fifo_run.made u) (fitting u)
 
   pub knows_where_polled : all_polled s.net (world s lost es) ≡ true → KnowsAll s.net (world s lost es)
   knows_where_polled h = each-both-of (λ u. (i : UnitId) × (actor_of s.net u ≡ OfUnit i)) (λ u. is_polled s.net u (newest (history (world s lost es) u)) ≡ true)

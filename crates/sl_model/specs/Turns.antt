@@ -73,7 +73,7 @@ pub record TakesTurns : Type 0 where
   pub uncounted : (c : ℕ) (step : Step) (h : History) → (step.choice ≡ c → ⊥) → taken c (step ∷ h) ≡ taken c h
   pub at_most : (c : ℕ) (h : History) → taken c h ≤ length h
   -- each world that a schedule leads to is a run, with no more steps of an actor than there are entries
-  pub ran : (s : Setup) (lost : Losses) (es : List Entry) → IsFifoRun s lost (world s lost es)
+  pub fifo_run : (s : Setup) (lost : Losses) (es : List Entry) → IsFifoRun s lost (world s lost es)
   pub goes_on : (s : Setup) (lost : Losses) (w : World) (e : Entry) → IsFifoRun s lost w → IsFifoRun s lost (turn s lost w e)
   pub few : (s : Setup) (lost : Losses) (es : List Entry) (a : ℕ) → length (history (world s lost es) a) ≤ length es
   -- nor of all actors, those of the ingress units among them

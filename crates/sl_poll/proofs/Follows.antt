@@ -57,7 +57,7 @@ pub record FeedIs (s : Setup) (w : World) (a : ℕ) (feed : Feed) : Type 0 where
   pub sent : (h : ℕ) → actor_of s.net a ≡ OfHost h → feed.sent ≡ taken (action_choice s.net a) (history w a)
 
 pub record Follows (i : Input) (w : World) (putters : Putters) (lanes : List Lane) (feeds : List Feed) : Type 0 where
-  pub ran : IsFifoRun (setup_of i) (losses i) w
+  pub fifo_run : IsFifoRun (setup_of i) (losses i) w
   pub sized : length w ≡ length i.net.actors
   pub lanes_each : length lanes ≡ length i.net.links
   pub feeds_each : length feeds ≡ length i.net.actors
@@ -241,7 +241,7 @@ module _ (i : Input) (wired : IsWired i.net) (turns : TakesTurns) (answer : Answ
     found = ap (slice_get (carried i.net (losses i) w k)) (sym place ∙ ap (λ c. taken c (history w e.0)) (sym chosen)) ∙ t.found
 
     fit : fits sort m ≡ true
-    fit = turns.fits (setup_of i) (losses i) w e.0 step f.ran t
+    fit = turns.fits (setup_of i) (losses i) w e.0 step f.fifo_run t
 
     receiver : (j : UnitId) → actor_of i.net e.0 ≡ OfUnit j → unit_receives j.side sort ≡ true
     receiver j q = sym (ap (λ x. receives x sort) (ap (actor_of i.net) to ∙ q)) ∙ wired.receiver k low
@@ -291,7 +291,7 @@ module _ (i : Input) (wired : IsWired i.net) (turns : TakesTurns) (answer : Answ
             subst (Half l) (sym lane-is) (half-next l link (lane_at lanes l) (f.lane l link b) x)
         by_move (inr x) =
             let ne : k ≡ l → ⊥ = λ q. (let y : None ≡ Some step = sym (x.idle (into ∙ ap Some q)) ∙ next in absurd cc) in
-            subst (Half l) (sym (other ne (bears sort))) (half-same f.ran l (lane_at lanes l) link (f.lane l link b) x.same)
+            subst (Half l) (sym (other ne (bears sort))) (half-same f.fifo_run l (lane_at lanes l) link (f.lane l link b) x.same)
 
     take-feed : (a : ℕ) → a < length i.net.actors → FeedIs (setup_of i) v a (feed_at feeds a)
     take-feed a h = record { frames = (f.feed a h).frames; sent = λ g q. (f.feed a h).sent g q ∙ by_tells (eqb_tells a e.0) }
@@ -307,7 +307,7 @@ module _ (i : Input) (wired : IsWired i.net) (turns : TakesTurns) (answer : Answ
     take-follows : AreFew (send_by i.net n e.0 sends (rest_of lanes k (bears sort))) → length (send_by i.net n e.0 sends (rest_of lanes k (bears sort))) ≡ length i.net.links
         → Follows i v (putters_after i.net (losses i) w v n putters) (send_by i.net n e.0 sends (rest_of lanes k (bears sort))) feeds
     take-follows few each = record {
-      ran = turns.goes_on (setup_of i) (losses i) w e f.ran;
+      fifo_run = turns.goes_on (setup_of i) (losses i) w e f.fifo_run;
       sized = sized-turn (setup_of i) (losses i) w e f.sized;
       lanes_each = each;
       feeds_each = f.feeds_each;
@@ -382,7 +382,7 @@ module _ (i : Input) (wired : IsWired i.net) (turns : TakesTurns) (answer : Answ
       where
         by_move : Next (setup_of i) (losses i) l link w e ⊎ Other (setup_of i) (losses i) l link w e → Half l (lane_at lanes l)
         by_move (inl y) = let both : None ≡ Some l = sym past ∙ y.into in absurd cc
-        by_move (inr y) = half-same f.ran l (lane_at lanes l) link (f.lane l link b) y.same
+        by_move (inr y) = half-same f.fifo_run l (lane_at lanes l) link (f.lane l link b) y.same
 
     host-acts : (h : ℕ) (j : ℕ) (ps : List Put) → action (setup_of i) x.acted.floor e.0 (OfHost h) (history w e.0) j ≡ Some ps
         → (j ≡ 0) × ((bytes : List ℕ) × (slice_get (frames_of (setup_of i) h) (taken ac (history w e.0)) ≡ Some bytes))
@@ -418,7 +418,7 @@ module _ (i : Input) (wired : IsWired i.net) (turns : TakesTurns) (answer : Answ
     act-follows : AreFew (send_by i.net n e.0 injects lanes) → length (send_by i.net n e.0 injects lanes) ≡ length i.net.links
         → Follows i v (putters_after i.net (losses i) w v n putters) (send_by i.net n e.0 injects lanes) after-feeds
     act-follows few each = record {
-      ran = turns.goes_on (setup_of i) (losses i) w e f.ran;
+      fifo_run = turns.goes_on (setup_of i) (losses i) w e f.fifo_run;
       sized = sized-turn (setup_of i) (losses i) w e f.sized;
       lanes_each = each;
       feeds_each = length-set feeds e.0 (after_next feed) ∙ f.feeds_each;

@@ -44,7 +44,7 @@ first-feed turns s a = record { frames = refl; sent = λ h q. sym (ap (taken (ac
 
 pub first-follows : (i : Input) → TakesTurns → Follows i (start i.net) no_putters (map (first_lane i) (below (length i.net.links))) (map (first_feed (setup_of i)) (below (length i.net.actors)))
 first-follows i turns = record {
-  ran = turns.ran (setup_of i) (losses i) [];
+  fifo_run = turns.fifo_run (setup_of i) (losses i) [];
   sized = sized-start (setup_of i);
   lanes_each = length-map-range_with_len (first_lane i) 0 (length i.net.links);
   feeds_each = length-map-range_with_len (first_feed (setup_of i)) 0 (length i.net.actors);

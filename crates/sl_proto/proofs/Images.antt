@@ -220,7 +220,7 @@ module _ {S : Type 0} (s : Setup) (lost : Losses) (sizes : Sizes) (Stands : Worl
     pub sound : IsSound (plan_of s.net)
     pub table : IsLossTable s.net lost
     pub turns : TakesTurns
-    pub ran : IsFifoRun s lost w
+    pub fifo_run : IsFifoRun s lost w
     pub few : (b : ℕ) → length (history w b) < 2 ^ 40
     pub within : a < length s.net.actors
     pub grows : GrowsAt w v a step
@@ -237,7 +237,7 @@ module _ {S : Type 0} (s : Setup) (lost : Losses) (sizes : Sizes) (Stands : Worl
           → told_on p.link (history w a) place ≡ told_last lost (told_at s.net v) (taken_at s.net v) (λ l. put l (history w a)) p.link place
       of_put p b f place k e = let l = p.link in let sort : (link_of s.net l).sort ≡ Done = done-sort (link_of s.net l).sort place k (ap (fits (link_of s.net l).sort) (sym e) ∙ b) in
           let none : (j : ℕ) → lost l j ≡ false = λ j. t.table l j (ap kind_of sort) in
-          let end = told-end s.net lost w l (t.ran.fifo (link_of s.net l).to (choice_of s.net l) l (t.wired.ways.taken l f.0)) none in
+          let end = told-end s.net lost w l (t.fifo_run.fifo (link_of s.net l).to (choice_of s.net l) l (t.wired.ways.taken l f.0)) none in
           let here : put_at s.net w l ≡ put l (history w a) = ap (λ b. put l (history w b)) f.1 in
           (λ i. tell_all untold (sym here i) place) ∙ (λ i. end i place) ∙ (λ i. sym (same l f.0) i place) ∙ (λ i. tell_all (told_at s.net v l) (drop (taken_at s.net v l) (without_lost (lost l) 0 (here i))) place)
 
@@ -267,7 +267,7 @@ module _ {S : Type 0} (s : Setup) (lost : Losses) (sizes : Sizes) (Stands : Worl
 
       -- each link of the actor has room to count
       room : (l : ℕ) → length (put_at s.net w l) + length (on_link l step.puts) < 2 ^ 64
-      room l = let one = one-each l step.puts spread.apart in let small = put-small s (link_of s.net l).from l (history w (link_of s.net l).from) t.wired (t.ran.made (link_of s.net l).from) in let few = t.few (link_of s.net l).from in omega (arith, one, small, few)
+      room l = let one = one-each l step.puts spread.apart in let small = put-small s (link_of s.net l).from l (history w (link_of s.net l).from) t.wired (t.fifo_run.made (link_of s.net l).from) in let few = t.few (link_of s.net l).from in omega (arith, one, small, few)
 
       delivered : LinesAre s.net sizes (history v) lost (told_at s.net v) (taken_at s.net v) (λ k. put_at s.net w k ++ on_link k step.puts) (put_each (link_out scene.plan.links a) left.puts lines)
       delivered = all-put s.net sizes (history v) a lost (told_at s.net v) (taken_at s.net v) (link_out scene.plan.links a) (put_at s.net w) lines step.puts left.puts placed room long

@@ -263,7 +263,7 @@ module _ (turns : TakesTurns) (s : Setup) (table : Snapshot) (lost : Losses) (es
           let a = (image.lines l (omega (arith, p))).count in
           let b = tally-most (λ n. lost l n) (range_with_len 1 (length (put l h))) in
           let c = length-range_with_len 1 (length (put l h)) in
-          let d = put-small s (link_of s.net l).from l h wired ((turns.ran s lost es).made (link_of s.net l).from) in
+          let d = put-small s (link_of s.net l).from l h wired ((turns.fifo_run s lost es).made (link_of s.net l).from) in
           let e = turns.few s lost es (link_of s.net l).from in
           omega (arith, a, b, c, d, e, few)
 

@@ -91,7 +91,7 @@ module _ {S : Type 0} (s : Setup) (lost : Losses) (sizes : Sizes) (Stands : Worl
   took-lines es a c l step m rest v queue given image g choice took into way x is k below = by_tells (eqb_tells k l)
     where
       grown : LinesAre s.net sizes (history (turn s lost (world s lost es) (a, c))) lost (told_at s.net (world s lost es)) (taken_at s.net (world s lost es)) (put_at s.net (world s lost es)) v.lines
-      grown = lines-grown given.passing s lost sizes (world s lost es) (turn s lost (world s lost es) (a, c)) a step v.lines given.reported given.wired (given.turns.ran s lost es) g (lines-of s given.wired.ways lost sizes Stands (world s lost es) v (given.turns.ran s lost es) image)
+      grown = lines-grown given.passing s lost sizes (world s lost es) (turn s lost (world s lost es) (a, c)) a step v.lines given.reported given.wired (given.turns.fifo_run s lost es) g (lines-of s given.wired.ways lost sizes Stands (world s lost es) v (given.turns.fifo_run s lost es) image)
 
       low : l < length s.net.links
       low = (given.wired.ways.into a c l into).is_link
@@ -152,7 +152,7 @@ module _ {S : Type 0} (s : Setup) (lost : Losses) (sizes : Sizes) (Stands : Worl
     sound = given.sound;
     table = given.table;
     turns = given.turns;
-    ran = given.turns.ran s lost es;
+    fifo_run = given.turns.fifo_run s lost es;
     few = few-steps given es few;
     within = within;
     grows = given.turns.grows s lost es (a, c) step next;
@@ -249,7 +249,7 @@ module _ {S : Type 0} (s : Setup) (lost : Losses) (sizes : Sizes) (Stands : Worl
           image.lines_each
           (λ k low. let t = told-still s.net w u a step k g (still step next k low) in
           line-retold s.net sizes (history u) (link_of s.net k).from (lost k) (told_at s.net w k) (told_at s.net u k) (taken_at s.net w k) (taken_at s.net u k) (put_at s.net w k) (line_at v.lines k) t.0 t.1
-          (lines-grown given.passing s lost sizes w u a step v.lines given.reported given.wired (given.turns.ran s lost es) g (lines-of s given.wired.ways lost sizes Stands w v (given.turns.ran s lost es) image) k low))
+          (lines-grown given.passing s lost sizes w u a step v.lines given.reported given.wired (given.turns.fifo_run s lost es) g (lines-of s given.wired.ways lost sizes Stands w v (given.turns.fifo_run s lost es) image) k low))
           acts.simulates (λ b y ne z. given.follow.stays es a b c step y few next ne z))
 
       by_order : (a < length s.net.actors) ⊎ (length s.net.actors ≤ a) → next_step s lost (world s lost es) (a, c) ≡ None → turn_of rules v a c ≡ None

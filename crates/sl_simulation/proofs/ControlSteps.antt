@@ -306,6 +306,6 @@ stays turns s lost es e a sizes t reported z ne r = record {
 
     one : (l : ℕ) → Member l (links_out s.net a Poll) → known_of s.net (history w) a (serving s.net a l) ≡ known_of s.net (history (turn s lost w e)) a (serving s.net a l)
     one l m = let v = serving s.net a l in let u = (link_of s.net l).to in let h = history w a in
-        let g = (turns.extends s lost w e u).steps (dumped v.dump h) (known-steps s lost w a l reported (turns.ran s lost es) (served-at s.net a l z m)) in
+        let g = (turns.extends s lost w e u).steps (dumped v.dump h) (known-steps s lost w a l reported (turns.fifo_run s lost es) (served-at s.net a l z m)) in
         let k = turns.others s lost w e a ne in
         (λ i. known_by s.net v (sym g i) (is_outstanding v h) (is_again (action_choice s.net a) v h)) ∙ (λ i. seen s.net (action_choice s.net a) v (sym k i) (history (turn s lost w e) u))

@@ -286,7 +286,7 @@ module _ (s : Setup) (lost : Losses) (es : List Entry) (e : Entry) (d : ℕ) (si
       by_view (inr y) = absurd (let o : None ≡ Some m = sym y.acted.taken ∙ k in cc)
       by_view (inl y) = let same : y.took.message ≡ m = of_message (sym y.took.taken ∙ k) in
           let at : link_at s.net e.0 e.1 ≡ y.took.link = get_or_from_slice_get (links_into s.net e.0) e.1 y.took.link 0 (ap (slice_get (links_into s.net e.0)) (sym c) ∙ y.took.into) in
-          let f : fits_link s.net y.took.link m ≡ true = ap (fits_link s.net y.took.link) (sym same) ∙ given.turns.fits s lost (world s lost es) e.0 step (given.turns.ran s lost es) y in
+          let f : fits_link s.net y.took.link m ≡ true = ap (fits_link s.net y.took.link) (sym same) ∙ given.turns.fits s lost (world s lost es) e.0 step (given.turns.fifo_run s lost es) y in
           let puts : step.puts ≡ control_puts s.net e.0 (us e.0) step.choice m = y.took.puts ∙ ap (λ x. puts_of s e.0 x (us e.0) step.choice y.took.link y.took.message) q ∙ ap (control_puts s.net e.0 (us e.0) step.choice) same in
           let whole : step ≡ taking step.choice m (control_puts s.net e.0 (us e.0) step.choice m) = λ i. record { choice = step.choice; taken = k i; puts = puts i } in
           let g = given.turns.grows s lost es e step n in

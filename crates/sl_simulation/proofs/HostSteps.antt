@@ -83,7 +83,7 @@ module _ (turns : TakesTurns) (s : Setup) (lost : Losses) (es : List Entry) (a c
     where
       by_view : Takes s lost (world s lost es) a step ⊎ Acts s (world s lost es) a step → SimulatesIt (host_take (host_of s a i (history (world s lost es) a)) c y)
       by_view (inl t) =
-          let f = comes-frame turns s lost (world s lost es) a i step z (turns.ran s lost es) q t in
+          let f = comes-frame turns s lost (world s lost es) a i step z (turns.fifo_run s lost es) q t in
           let same : m ≡ HostMsg f.0 = (let u : Some m ≡ Some t.took.message = sym e ∙ t.took.taken in let v : m ≡ t.took.message = cc in v ∙ f.1) in
           let frame : y ≡ carrying f.0 = subst (λ m. IsMessage s.net sizes (λ u. history (world s lost es) u) b before m y) same is in
           let low = slice_get_within (links_into s.net a) step.choice t.took.link t.took.into in let one = k.one_in in

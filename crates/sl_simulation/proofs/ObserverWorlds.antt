@@ -58,7 +58,7 @@ pub other-turn : TakesTurns → (s : Setup) (lost : Losses) (table : Snapshot) (
     → observer_of s.net table (turn s lost (world s lost es) e) ≡ observer_of s.net table (world s lost es)
 other-turn turns s lost table es e reported n ne = let w = world s lost es in let v = turn s lost w e in let o = turns.others s lost w e 0 (λ q. ne (sym q)) in
     same-observer s.net table w v o (λ u i q. ap (λ h. first (known (unit_place s.net u) h) (history v u)) o
-    ∙ (turns.extends s lost w e u).steps (known (unit_place s.net u) (observer w)) (reported lost w u i (n.reports u i q) (turns.ran s lost es) q).at_most)
+    ∙ (turns.extends s lost w e u).steps (known (unit_place s.net u) (observer w)) (reported lost w u i (n.reports u i q) (turns.fifo_run s lost es) q).at_most)
 
 -- Places of units.
 
@@ -176,7 +176,7 @@ module _ (turns : TakesTurns) (s : Setup) (lost : Losses) (table : Snapshot) (es
       hears table.credits s.net u table.ring c (collected s.net w u) (first n (history w u)) y (brings u i q e d) (by_choice known_by.1) ∙ ap (unit_of table.credits s.net u) (λ j. first (k j) (h j))
     where
       known_by : (known (unit_place s.net u) (observer v) ≡ n) × ((device_of (actor_of s.net u) ≡ step.choice) ⊎ (known (unit_place s.net u) (observer w) ≡ n))
-      known_by = by-device s lost w v step u n i reported z (turns.ran s lost es) (turns.goes_on s lost w (0, c) (turns.ran s lost es)) grows q e
+      known_by = by-device s lost w v step u n i reported z (turns.fifo_run s lost es) (turns.goes_on s lost w (0, c) (turns.fifo_run s lost es)) grows q e
 
       by_choice : (device_of (actor_of s.net u) ≡ step.choice) ⊎ (known (unit_place s.net u) (observer w) ≡ n) → (device_of (actor_of s.net u) ≡ c) ⊎ (collected s.net w u ≡ first n (history w u))
       by_choice (inl q) = inl (q ∙ turns.choice s lost w (0, c) step x)

@@ -322,7 +322,7 @@ is-turn turns s lost es u c i step m q n e = of_takes (unit-takes s lost (world 
           link = t.took.link;
           into = ap (slice_get (links_into s.net u)) (sym ch) ∙ t.took.into;
           step_is = λ j. record { choice = ch j; taken = e j; puts = ps j };
-          fits = subst (λ m. fits_link s.net t.took.link m ≡ true) me (turns.fits s lost (world s lost es) u step (turns.ran s lost es) t);
+          fits = subst (λ m. fits_link s.net t.took.link m ≡ true) me (turns.fits s lost (world s lost es) u step (turns.fifo_run s lost es) t);
         }
 
 pub takes-follow : Facts → TakesTurns → (s : Setup) (table : Snapshot) (lost : Losses) (es : List Entry) (u c : ℕ) (i : UnitId) (step : Step) (m : Message) (x : Msg) (st : UnitState) (vs : ℕ → History) (a : ℕ) (was told : ℕ → ℕ)

@@ -248,7 +248,7 @@ module _ (s : Setup) (table : Snapshot) (lost : Losses) (r : IsRunnable s table 
       one k m =
           let j = joined s.net b k z m in
           let u : ℕ = (link_of s.net k).to in
-          let most = (reported lost w u j.id j.reports (turns.ran s lost es) j.unit).dumped_at_most in
+          let most = (reported lost w u j.id j.reports (turns.fifo_run s lost es) j.unit).dumped_at_most in
           let few : dumped (serving s.net b k).dump (us b) ≤ length (us u) = subst (λ x. dumped (serving s.net b k).dump (us x) ≤ length (us u)) j.control (subst (λ x. dumped x (us j.reports.control) ≤ length (us u)) (sym j.dump) most) in
           let e : us b ≡ ws b = sym (turns.others s lost w (a, c) b ne) in
           let f : first (dumped (serving s.net b k).dump (us b)) (us u) ≡ first (dumped (serving s.net b k).dump (us b)) (ws u) = sym ((turns.extends s lost w (a, c) u).steps (dumped (serving s.net b k).dump (us b)) few) in

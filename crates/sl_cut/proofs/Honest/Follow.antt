@@ -97,7 +97,7 @@ follow s lost laws (e ∷ es) z w v q at = by_next (next_step s lost w e) refl (
 
         go : (b : Bool) → is_hostile step ≡ b → Grown w (turn s lost w e) e.0 step → Goes b
         go true h g = let r = rest v (record {
-          ran = laws.turns.goes_on s lost w e at.ran;
+          fifo_run = laws.turns.goes_on s lost w e at.fifo_run;
           same = λ a. by-actor a e.0 (λ a. history v a ≡ told_in s z a (history (turn s lost w e) a))
               (at.same e.0 ∙ ap (λ b. map (anew_step (tell_in s.net z) s.net e.0) (if b then honest (history w e.0) else step ∷ honest (history w e.0))) (sym h) ∙ ap (told_in s z e.0) (sym g.same))
               (λ ne. at.same a ∙ ap (told_in s z a) (sym (g.other a ne)));
@@ -113,7 +113,7 @@ follow s lost laws (e ∷ es) z w v q at = by_next (next_step s lost w e) refl (
             let size = at.size_too in
             let too = subst (λ u. Grown v u e.0 (anew_step (tell_in s.net z) s.net e.0 step)) (sym (ap (after v e.0) made)) (grown v e.0 (anew_step (tell_in s.net z) s.net e.0 step) (omega (arith, low, size))) in
             let r = rest (turn (honest_setup s) lost v e) (record {
-              ran = laws.turns.goes_on s lost w e at.ran;
+              fifo_run = laws.turns.goes_on s lost w e at.fifo_run;
               same = λ a. by-actor a e.0 (λ a. history (turn (honest_setup s) lost v e) a ≡ told_in s z a (history (turn s lost w e) a))
                   (too.same ∙ ap (λ r. anew_step (tell_in s.net z) s.net e.0 step ∷ r) (at.same e.0)
                   ∙ ap (λ b. map (anew_step (tell_in s.net z) s.net e.0) (if b then honest (history w e.0) else step ∷ honest (history w e.0))) (sym h) ∙ ap (told_in s z e.0) (sym g.same))
@@ -134,7 +134,7 @@ follow s lost laws (e ∷ es) z w v q at = by_next (next_step s lost w e) refl (
 pub honest-run : (s : Setup) (lost : Losses) → Laws s lost → (es : List Entry)
     → Follows s lost (world s lost es) (start s.net) (start s.net) es (honest_entries s lost es)
 honest-run s lost laws es = follow s lost laws es (world s lost es) (start s.net) (start s.net) refl (record {
-  ran = laws.turns.ran s lost [];
+  fifo_run = laws.turns.fifo_run s lost [];
   same = λ a. laws.turns.starts s.net a ∙ ap (told_in s (world s lost es) a) (sym (laws.turns.starts s.net a));
   grows = λ a n p. run-grows laws.turns s lost (start s.net) es a n p;
   size = length-map s.net.actors (λ a. []);

@@ -64,7 +64,7 @@ abbrev pub told_in : Setup → World → ℕ → History → History
 told_in s z a h = told_anew (tell_in s.net z) s.net a h
 
 pub record IsAt (s : Setup) (lost : Losses) (z w v : World) : Type 0 where
-  pub ran : IsFifoRun s lost w
+  pub fifo_run : IsFifoRun s lost w
   pub same : (a : ℕ) → history v a ≡ told_in s z a (history w a)
   pub grows : (a n : ℕ) → n ≤ length (history w a) → first n (history z a) ≡ first n (history w a)
   pub size : length w ≡ length s.net.actors
@@ -148,20 +148,20 @@ floor-honest s lost u i h laws q m = λ k. fold min (fold min (unit-id s lost u 
 
 pub issued-at : (s : Setup) (lost : Losses) (z w v : World) (c : ℕ) → Laws s lost → IsAt s lost z w v → taken c (observer v) ≡ taken c (observer w)
 issued-at s lost z w v c laws at = ap (taken c) (at.same 0) ∙ taken-kept (anew_step (tell_in s.net z) s.net 0) (keeps-anew (tell_in s.net z) s.net 0) c (honest (history w 0))
-    ∙ ap (taken c) (observer-quiet s lost w 0 laws at.ran laws.wired.observer)
+    ∙ ap (taken c) (observer-quiet s lost w 0 laws at.fifo_run laws.wired.observer)
 
 pub unit_floor-at : (s : Setup) (lost : Losses) (z w v : World) (u : ℕ) (i : UnitId) → Laws s lost → IsAt s lost z w v → actor_of s.net u ≡ OfUnit i → unit_floor s.net v u ≡ unit_floor s.net w u
 unit_floor-at s lost z w v u i laws at q =
     let tell = tell_in s.net z in let p = unit_place s.net u in let hw = history w u in let n = known p (observer w) in
-    let low : n ≤ length hw = (laws.reported lost w u i (laws.wired.reports u i q) at.ran q).at_most in
+    let low : n ≤ length hw = (laws.reported lost w u i (laws.wired.reports u i q) at.fifo_run q).at_most in
     let none : tell p 0 ≡ 0 = ap (λ h. length (honest h)) (first-none (history z (slice_index_or (units s.net) p 0))) in
-    let knows : known p (observer v) ≡ tell p n = ap (known p) (at.same 0) ∙ ap (λ h. known p (map (anew_step tell s.net 0) h)) (observer-quiet s lost w 0 laws at.ran laws.wired.observer)
+    let knows : known p (observer v) ≡ tell p n = ap (known p) (at.same 0) ∙ ap (λ h. known p (map (anew_step tell s.net 0) h)) (observer-quiet s lost w 0 laws at.fifo_run laws.wired.observer)
     ∙ known-anew tell s.net 0 p none (history w 0) in
     let tells : tell p n ≡ length (honest (first n hw)) = ap (λ x. length (honest (first n (history z x)))) (unit-at s.net u i laws.wired q) ∙ ap (λ h. length (honest h)) (at.grows u n low) in
     (λ k. floor_of s.net u (first ((knows ∙ tells) k) (at.same u k)))
     ∙ ap (floor_of s.net u) (first-kept (anew_step tell s.net u) (length (honest (first n hw))) (honest hw) ∙ ap (map (anew_step tell s.net u)) (first-honest n hw))
     ∙ floor-kept (anew_step tell s.net u) (keeps-anew tell s.net u) s.net u (honest (first n hw))
-    ∙ floor-honest s lost u i (first n hw) laws q (made-first s u n hw (at.ran.made u))
+    ∙ floor-honest s lost u i (first n hw) laws q (made-first s u n hw (at.fifo_run.made u))
 
 -- what holds of each unit
 pub each-unit : (net : Net) (P : ℕ → Type 0) → ((u : ℕ) (i : UnitId) → actor_of net u ≡ OfUnit i → P u) → Each P (units net)
@@ -193,7 +193,7 @@ weigh-each f g (x ∷ xs) e = λ i. e.0 i + weigh-each f g xs e.1 i
 -- what is told of a unit's history alike without bad frames and with other numbers
 unit-same : {A : Type 0} (s : Setup) (lost : Losses) (z w v : World) (u : ℕ) (i : UnitId) (f : History → A) → IsAt s lost z w v → actor_of s.net u ≡ OfUnit i
     → ((g : History) → f (map (anew_step (tell_in s.net z) s.net u) g) ≡ f g) → ((h : History) → f (without_forged h) ≡ f h) → f (history v u) ≡ f (history w u)
-unit-same s lost z w v u i f at q kept erased = ap f (at.same u) ∙ kept (honest (history w u)) ∙ ap f (unit-honest s u i (history w u) q (at.ran.made u)) ∙ erased (history w u)
+unit-same s lost z w v u i f at q kept erased = ap f (at.same u) ∙ kept (honest (history w u)) ∙ ap f (unit-honest s u i (history w u) q (at.fifo_run.made u)) ∙ erased (history w u)
 
 verdict-at : (s : Setup) (lost : Losses) (z w v : World) (n k : ℕ) → Laws s lost → IsAt s lost z w v → verdict n s.net v k ≡ verdict n s.net w k
 verdict-at s lost z w v n k laws at =
@@ -227,7 +227,7 @@ bytes-weightless _ e = refl
 late-same : (s : Setup) (lost : Losses) (z w v : World) (u : ℕ) (i : UnitId) (k c : ℕ) (f : Message → ℕ) → Laws s lost → IsAt s lost z w v → actor_of s.net u ≡ OfUnit i
     → ((l : ℕ) (m : Message) → f (anew (tell_in s.net z) s.net l m) ≡ f m) → ((m : Message) → is_bad (Some m) ≡ true → f m ≡ 0) → weigh f (late k c (history v u)) ≡ weigh f (late k c (history w u))
 late-same s lost z w v u i k c f laws at q e g =
-    ap (λ h. weigh f (late k c h)) (at.same u ∙ ap (map (anew_step (tell_in s.net z) s.net u)) (unit-honest s u i (history w u) q (at.ran.made u)))
+    ap (λ h. weigh f (late k c h)) (at.same u ∙ ap (map (anew_step (tell_in s.net z) s.net u)) (unit-honest s u i (history w u) q (at.fifo_run.made u)))
     ∙ late-anew f k c (tell_in s.net z) s.net u e g laws.erases (history w u)
 
 -- the data channels of a unit
@@ -287,7 +287,7 @@ all-none f (x ∷ xs) e = let a = e.0 in let b = all-none f xs e.1 in omega (ari
 
 none-bad-at : (s : Setup) (lost : Losses) (z w v : World) → Laws s lost → IsAt s lost z w v → over_ingress s.net v (λ d h. bad h) ≡ 0
 none-bad-at s lost z w v laws at = all-none (λ u. bad (history v u)) (ingress_units s.net) (each-filter _ (λ u. is_ingress (actor_of s.net u)) (units s.net) (each-unit s.net _ (λ u i q.
-    ap bad (at.same u) ∙ bad-kept (anew_step (tell_in s.net z) s.net u) (keeps-anew (tell_in s.net z) s.net u) (honest (history w u)) ∙ ap bad (unit-honest s u i (history w u) q (at.ran.made u)) ∙ laws.erases.bad (history w u))))
+    ap bad (at.same u) ∙ bad-kept (anew_step (tell_in s.net z) s.net u) (keeps-anew (tell_in s.net z) s.net u) (honest (history w u)) ∙ ap bad (unit-honest s u i (history w u) q (at.fifo_run.made u)) ∙ laws.erases.bad (history w u))))
 
 -- Losses.
 
@@ -299,8 +299,8 @@ lost-at s lost z w v sort laws at ne = weigh-each (lost_on s.net lost v) (lost_o
     one l e =
         let is = laws.wired.ways.is_sort l sort e in
         let a = (link_of s.net l).from in
-        let good = each-imp (λ m. fits_link s.net l m ≡ true) IsGood (put l (history w a)) (λ m x. good-lossy (link_of s.net l).sort m (λ k. ne (ap kind_of (sym is) ∙ k)) x) (laws.passes.fits s lost w l at.ran) in
-        let same : length (put l (history v a)) ≡ length (put l (history w a)) = ap (λ h. length (put l h)) (at.same a) ∙ ap length (put-anew (tell_in s.net z) s a l (history w a) (at.ran.made a) ∙ ap (map (anew (tell_in s.net z) s.net l)) (good-all (put l (history w a)) good))
+        let good = each-imp (λ m. fits_link s.net l m ≡ true) IsGood (put l (history w a)) (λ m x. good-lossy (link_of s.net l).sort m (λ k. ne (ap kind_of (sym is) ∙ k)) x) (laws.passes.fits s lost w l at.fifo_run) in
+        let same : length (put l (history v a)) ≡ length (put l (history w a)) = ap (λ h. length (put l h)) (at.same a) ∙ ap length (put-anew (tell_in s.net z) s a l (history w a) (at.fifo_run.made a) ∙ ap (map (anew (tell_in s.net z) s.net l)) (good-all (put l (history w a)) good))
         ∙ length-map (put l (history w a)) (anew (tell_in s.net z) s.net l) in
         ap (λ n. tally (λ j. lost l j) (range_with_len 1 n)) same
 
@@ -343,9 +343,9 @@ delivered-at s lost z w v a i laws at p q =
     let b = (link_of s.net l).from in
     let got : receives (OfHost i) (link_of s.net l).sort ≡ true = ap (λ x. receives x (link_of s.net l).sort) (sym q ∙ ap (actor_of s.net) (sym into.to)) ∙ laws.wired.receiver l into.is_link in
     let ne : (j : ℕ) → actor_of s.net b ≡ OfHost j → ⊥ = (λ j e. no-both i j (link_of s.net l).sort (ap (λ x. sends x (link_of s.net l).sort) (sym e) ∙ laws.wired.sender l into.is_link) got) in
-    let good = each-imp (λ m. Member m (put l (sender s.net w l))) IsGood (takes 0 (history w a)) (λ m x. each-at IsGood m (put l (sender s.net w l)) (good-put s b l (history w b) ne (at.ran.made b)) x)
-    (laws.passes.taken s lost w a 0 l at.ran k) in
-    ap (taken 0) (at.same a) ∙ taken-anew (tell_in s.net z) s a 0 l (history w a) k (at.ran.made a) ∙ ap length (good-all (takes 0 (history w a)) good) ∙ (at.ran.fifo a 0 l k).count
+    let good = each-imp (λ m. Member m (put l (sender s.net w l))) IsGood (takes 0 (history w a)) (λ m x. each-at IsGood m (put l (sender s.net w l)) (good-put s b l (history w b) ne (at.fifo_run.made b)) x)
+    (laws.passes.taken s lost w a 0 l at.fifo_run k) in
+    ap (taken 0) (at.same a) ∙ taken-anew (tell_in s.net z) s a 0 l (history w a) k (at.fifo_run.made a) ∙ ap length (good-all (takes 0 (history w a)) good) ∙ (at.fifo_run.fifo a 0 l k).count
 
 all-delivered : (s : Setup) (lost : Losses) (z w v : World) → Laws s lost → IsAt s lost z w v → map (λ a. taken 0 (history v a)) (hosts s.net) ≡ map (λ a. taken 0 (history w a)) (hosts s.net)
 all-delivered s lost z w v laws at = map-each (λ a. taken 0 (history v a)) (λ a. taken 0 (history w a)) (hosts s.net)

@@ -221,11 +221,11 @@ pub front-at : (s : Setup) (lost : Losses) (z w v : World) (a c l : ℕ) → Law
 front-at s lost z w v a c l laws at k e =
     let f = anew (tell_in s.net z) s.net l in
     let b = (link_of s.net l).from in
-    let fifo = at.ran.fifo a c l k in
+    let fifo = at.fifo_run.fifo a c l k in
     let got = takes c (history w a) in
     let ms = carried s.net lost w l in
-    let carries : carried s.net lost v l ≡ map f (filter is_good ms) = ap (carried_by lost l) (at.same b) ∙ carried-anew (tell_in s.net z) s lost b l (history w b) laws.spares (at.ran.made b) (laws.passes.fits s lost w l at.ran) in
-    let took : taken c (history v a) ≡ length (filter is_good got) = ap (taken c) (at.same a) ∙ taken-anew (tell_in s.net z) s a c l (history w a) k (at.ran.made a) in
+    let carries : carried s.net lost v l ≡ map f (filter is_good ms) = ap (carried_by lost l) (at.same b) ∙ carried-anew (tell_in s.net z) s lost b l (history w b) laws.spares (at.fifo_run.made b) (laws.passes.fits s lost w l at.fifo_run) in
+    let took : taken c (history v a) ≡ length (filter is_good got) = ap (taken c) (at.same a) ∙ taken-anew (tell_in s.net z) s a c l (history w a) k (at.fifo_run.made a) in
     let next : slice_get ms (taken c (history w a)) ≡ slice_get fifo.rest 0 = (λ i. slice_get (fifo.split i) (sym fifo.count i)) ∙ get-past got fifo.rest in
     (λ i. slice_get (carries i) (took i)) ∙ slice_get-map f (filter is_good ms) (length (filter is_good got))
     ∙ ap (option_map f) (ap (λ xs. slice_get (filter is_good xs) (length (filter is_good got))) fifo.split
@@ -263,25 +263,25 @@ took-at s lost z w v a c l m laws at k step is g seen = by_actor (actor_of s.net
     by_actor : (actor : ActorId) → actor_of s.net a ≡ actor → puts_of (honest_setup s) a actor (history v a) c l (anew tell s.net l m) ≡ map (anew_put tell s.net) (puts_of s a actor h c l m)
     by_actor Observer q = refl
     by_actor (OfHost i) q = refl
-    by_actor (Control d) q = ap (λ g. puts_of (honest_setup s) a (Control d) g c l (anew tell s.net l m)) (at.same a ∙ ap (map (anew_step tell s.net a)) (control-quiet s lost w a d laws at.ran q))
+    by_actor (Control d) q = ap (λ g. puts_of (honest_setup s) a (Control d) g c l (anew tell s.net l m)) (at.same a ∙ ap (map (anew_step tell s.net a)) (control-quiet s lost w a d laws at.fifo_run q))
         ∙ control-anew tell s.net a d h c l m laws.wired q k
     by_actor (OfUnit i) q = ap (λ g. puts_of (honest_setup s) a (OfUnit i) g c l (anew tell s.net l m)) (at.same a)
         ∙ unit-anew tell s.net a i (told_anew tell s.net a h) h c l m
-        (id-kept (anew_step tell s.net a) (keeps-anew tell s.net a) (honest h) ∙ unit-id s lost a i h laws q (at.ran.made a))
-        (last-kept (anew_step tell s.net a) (keeps-anew tell s.net a) c (honest h) ∙ unit-last s lost a i c h laws q (at.ran.made a))
+        (id-kept (anew_step tell s.net a) (keeps-anew tell s.net a) (honest h) ∙ unit-id s lost a i h laws q (at.fifo_run.made a))
+        (last-kept (anew_step tell s.net a) (keeps-anew tell s.net a) c (honest h) ∙ unit-last s lost a i c h laws q (at.fifo_run.made a))
         (λ e. unit-tells s lost z w v a i step laws q g seen) (laws.wired.ways.outs a Dump)
 
 acted-at : (s : Setup) (lost : Losses) (z w v : World) (a c n : ℕ) → Laws s lost → IsAt s lost z w v → (actor : ActorId) → slice_get s.net.actors a ≡ Some actor
     → is_hostile_turn (option_map (acting c) (action s (floor_for s.net w actor) a actor (history w a) n)) ≡ false
     → action (honest_setup s) (floor_for s.net v actor) a actor (history v a) n ≡ option_map (map (anew_put (tell_in s.net z) s.net)) (action s (floor_for s.net w actor) a actor (history w a) n)
 acted-at s lost z w v a c n laws at Observer q g = let tell = tell_in s.net z in let x = get_or_from_slice_get s.net.actors a Observer nobody q in
-    (λ i. action (honest_setup s) (floor-at s lost z w v laws at i) a Observer ((at.same a ∙ ap (map (anew_step tell s.net a)) (observer-quiet s lost w a laws at.ran x)) i) n)
+    (λ i. action (honest_setup s) (floor-at s lost z w v laws at i) a Observer ((at.same a ∙ ap (map (anew_step tell s.net a)) (observer-quiet s lost w a laws at.fifo_run x)) i) n)
     ∙ observer-acts tell s (floor s.net w) a (history w a) n
 acted-at s lost z w v a c n laws at (Control d) q g = let tell = tell_in s.net z in let x = get_or_from_slice_get s.net.actors a (Control d) nobody q in
-    ap (λ h. action (honest_setup s) 0 a (Control d) h n) (at.same a ∙ ap (map (anew_step tell s.net a)) (control-quiet s lost w a d laws at.ran x)) ∙ control-acts tell s 0 a d (history w a) n
+    ap (λ h. action (honest_setup s) 0 a (Control d) h n) (at.same a ∙ ap (map (anew_step tell s.net a)) (control-quiet s lost w a d laws at.fifo_run x)) ∙ control-acts tell s 0 a d (history w a) n
 acted-at s lost z w v a c n laws at (OfUnit i) q g = refl
 acted-at s lost z w v a c n laws at (OfHost i) q g = let tell = tell_in s.net z in let x = get_or_from_slice_get s.net.actors a (OfHost i) nobody q in
-    ap (λ h. action (honest_setup s) 0 a (OfHost i) h n) (at.same a) ∙ host-acts tell s 0 a i c (history w a) x (laws.wired.host_links a i q) (at.ran.made a) n g
+    ap (λ h. action (honest_setup s) 0 a (OfHost i) h n) (at.same a) ∙ host-acts tell s 0 a i c (history w a) x (laws.wired.host_links a i q) (at.fifo_run.made a) n g
 
 step-at : (s : Setup) (lost : Losses) (z w v : World) (a c : ℕ) (o : Option ℕ) → Laws s lost → IsAt s lost z w v → (actor : ActorId) → slice_get s.net.actors a ≡ Some actor → slice_get (links_into s.net a) c ≡ o
     → is_hostile_turn (step_by s lost w a c o actor) ≡ false → ((step : Step) → step_by s lost w a c o actor ≡ Some step → first (suc (length (history w a))) (history z a) ≡ step ∷ history w a)

@@ -30,7 +30,7 @@ use Rattle.sl_net.specs.Ways.{IsOut, HasWays}
 use Rattle.sl_model.proofs.Finishing.NetWiring.{Wiring}
 use Rattle.sl_model.proofs.Finishing.Phase.{loudness, no-action, side-quiet, takes-fit}
 use Rattle.sl_model.proofs.Bounded.Prices.{Pays, sends-weigh, IsPriced, frame-pays, packet-pays, once}
-use Rattle.sl_model.proofs.Worlds.ReachedWorlds.{ActsBy, Reached, StepOf, TakesBy, fifo-run-reached, step-cases}
+use Rattle.sl_model.proofs.Worlds.ReachedWorlds.{ActsBy, Reached, StepOf, TakesBy, fifo_run-reached, step-cases}
 use Rattle.sl_model.proofs.Lists.Weighed.{weigh-append, weigh-below, weigh-falls}
 use Rattle.sl_model.proofs.Bounded.Flights.{puts_weight}
 use Rattle.sl_layout.specs.Serving.{ServedUnit, served}
@@ -185,7 +185,7 @@ unit-pays s lost g p w r u i a c step n rises = by_case (step-cases s lost w u c
 
     by_case : TakesBy s lost w u c step ⊎ ActsBy s w u c step → Pays s lost w u c step 0
     by_case (inr t) = absurd (no-action s w u i c step a t)
-    by_case (inl t) = let l = t.link in let m = t.message in let x = g.wired.ways.into u c l t.at in let fit = takes-fit s lost w u c step (fifo-run-reached s lost w r) t in
+    by_case (inl t) = let l = t.link in let m = t.message in let x = g.wired.ways.into u c l t.at in let fit = takes-fit s lost w u c step (fifo_run-reached s lost w r) t in
         let k = id_after m h in
         let rc : unit_receives i.side (link_of s.net l).sort ≡ true = subst (λ y. receives y (link_of s.net l).sort ≡ true) (ap (actor_of s.net) x.to ∙ a) (g.wired.receiver l x.is_link) in
         let way = way-pays s.net g.wired.ways p u k l (suc (length h)) i m a x.to fit (λ j e. no-begins i.side (link_of s.net l).sort j (ap (fits (link_of s.net l).sort) (sym e) ∙ fit) rc) in

@@ -24,7 +24,7 @@ use Rattle.sl_model.specs.declared.message.Step.{Step}
 use Rattle.sl_model.specs.Potential.{allowance, allowed, begin_price, credit, frame_price, potential, price, round_price}
 use Rattle.sl_model.proofs.Cuts.Begins.{heard-this, last-never-falls}
 use Rattle.sl_model.proofs.Cuts.Bounds.{AllBelow, all-below, within, each-get}
-use Rattle.sl_model.proofs.Worlds.FifoRuns.{fifo-run-turn}
+use Rattle.sl_model.proofs.Worlds.FifoRuns.{fifo_run-turn}
 use Rattle.sl_model.proofs.Worlds.Stamps.{each-lost, guard-holds}
 use Rattle.sl_model.proofs.Worlds.Turns.{Steps, taken-other, taken-this}
 use Rattle.sl_model.proofs.Bounded.StepPays.{control-pays, price-pays, unit-pays}
@@ -32,7 +32,7 @@ use Rattle.sl_model.proofs.Finishing.Idle.{issued-within, none-past}
 use Rattle.sl_model.proofs.Finishing.NetWiring.{Wiring}
 use Rattle.sl_model.proofs.Finishing.Phase.{takes-fit}
 use Rattle.sl_model.proofs.Bounded.Prices.{Pays, potential-step, sends-weigh, IsPriced, priced}
-use Rattle.sl_model.proofs.Worlds.ReachedWorlds.{ActsBy, Reached, StepOf, TakesBy, choice-of-step, fifo-run-reached, reached-turn, step-cases, step-grows}
+use Rattle.sl_model.proofs.Worlds.ReachedWorlds.{ActsBy, Reached, StepOf, TakesBy, choice-of-step, fifo_run-reached, reached-turn, step-cases, step-grows}
 use Rattle.sl_model.proofs.Bounded.Flights.{puts_weight}
 use Rattle.sl_model.proofs.Worlds.Numbers.{NeverFalls}
 use Rattle.sl_model.proofs.Cuts.Collected.{stamped-sort}
@@ -41,13 +41,13 @@ use Rattle.sl_model.proofs.Cuts.Collected.{stamped-sort}
 
 stamp-above : (s : Setup) (lost : Losses) → Wiring s.net → (w : World) → Reached s lost w → (u : ℕ) (i : UnitId) → actor_of s.net u ≡ OfUnit i → (c : ℕ) (step : Step) → StepOf s lost w u c step → (t : TakesBy s lost w u c step) (k : ℕ)
     → stamp_of t.message ≡ Some k → last c (history w u) ≤ k
-stamp-above s lost g w r u i q c step n t k e = subst (λ j. last c (history w u) ≤ j) now (subst (NeverFalls (last c)) grown (last-never-falls s lost v u c t.link g.wired (fifo-run-turn s lost w (u, c) x) t.at stamped)).0
+stamp-above s lost g w r u i q c step n t k e = subst (λ j. last c (history w u) ≤ j) now (subst (NeverFalls (last c)) grown (last-never-falls s lost v u c t.link g.wired (fifo_run-turn s lost w (u, c) x) t.at stamped)).0
   where
     v : World
     v = turn s lost w (u, c)
 
     x : IsFifoRun s lost w
-    x = fifo-run-reached s lost w r
+    x = fifo_run-reached s lost w r
 
     grown : history v u ≡ step ∷ history w u
     grown = (step-grows s lost w u c step r n).same

@@ -26,7 +26,7 @@ use Rattle.sl_model.specs.Fit.{is_stamped}
 use Rattle.sl_net.specs.Ways.{IsChoice}
 use Rattle.sl_model.specs.Turns.{GrowsAt, Extends, Takes, Acts, Begins}
 use Rattle.sl_model.proofs.Worlds.Turns.{kept_by_run, Steps, turn-cases, taken-step, taken-falls, taken-other, start-empty}
-use Rattle.sl_model.proofs.Worlds.FifoRuns.{next-view, fifo-run, fifo-run-turn, made-of}
+use Rattle.sl_model.proofs.Worlds.FifoRuns.{next-view, fifo_run, fifo_run-turn, made-of}
 use Rattle.sl_model.proofs.Worlds.Numbers.{never-falls, first-grown, grown-le, NeverFalls, Says}
 use Rattle.sl_model.proofs.Worlds.Stamps.{observer-acts, id-falls, acted-by, PutBy, control-said, action-said, unit-step, each-on-link, each-lost, each-taken, says-itself, took-by}
 use Rattle.sl_model.proofs.Cuts.Begins.{last-never-falls, knows, each-last, observer-step}
@@ -123,11 +123,11 @@ floor-turn s lost w e n r = by_cases (turn-cases s lost w e)
   where
     by_cases : (turn s lost w e ≡ w) ⊎ Steps s lost w e (turn s lost w e) → floor s.net w ≤ floor s.net (turn s lost w e)
     by_cases (inl q) = subst (λ v. floor s.net w ≤ floor s.net v) (sym q) (omega arith)
-    by_cases (inr t) = floor-step s lost w (turn s lost w e) e.0 t.step n r (fifo-run-turn s lost w e r) t.grows
+    by_cases (inr t) = floor-step s lost w (turn s lost w e) e.0 t.step n r (fifo_run-turn s lost w e r) t.grows
 
 pub floor-run : (s : Setup) (lost : Losses) (w : World) (es : List Entry) → IsWired s.net → IsFifoRun s lost w → floor s.net w ≤ floor s.net (run s lost w es)
 floor-run s lost w [] n r = omega arith
-floor-run s lost w (e ∷ es) n r = omega (arith, floor-turn s lost w e n r, floor-run s lost (turn s lost w e) es n (fifo-run-turn s lost w e r))
+floor-run s lost w (e ∷ es) n r = omega (arith, floor-turn s lost w e n r, floor-run s lost (turn s lost w e) es n (fifo_run-turn s lost w e r))
 
 -- K never falls.
 
@@ -145,7 +145,7 @@ issued-run s lost w (e ∷ es) = omega (arith, issued-turn s lost w e, issued-ru
 -- K is at most F + W.
 
 pub record IsWithin (s : Setup) (lost : Losses) (w : World) : Type 0 where
-  pub fifo-run : IsFifoRun s lost w
+  pub fifo_run : IsFifoRun s lost w
   pub within : issued s.net (observer w) ≤ floor s.net w + s.window
 
 -- a step of the observer
@@ -175,15 +175,15 @@ within-step s lost w v e n r t x h = let f : floor s.net w ≤ floor s.net v = f
     by_actor (inr q) = subst (λ h. issued s.net h ≤ floor s.net w + s.window) (sym (x.grows.other 0 q.1)) h
 
 within-turn : (s : Setup) (lost : Losses) (w : World) (e : Entry) → IsWired s.net → IsWithin s lost w → IsWithin s lost (turn s lost w e)
-within-turn s lost w e n h = record { fifo-run = fifo-run-turn s lost w e h.ran; within = by_cases (turn-cases s lost w e) }
+within-turn s lost w e n h = record { fifo_run = fifo_run-turn s lost w e h.fifo_run; within = by_cases (turn-cases s lost w e) }
   where
     by_cases : (turn s lost w e ≡ w) ⊎ Steps s lost w e (turn s lost w e) → issued s.net (observer (turn s lost w e)) ≤ floor s.net (turn s lost w e) + s.window
     by_cases (inl q) = subst (λ v. issued s.net (observer v) ≤ floor s.net v + s.window) (sym q) h.within
-    by_cases (inr t) = within-step s lost w (turn s lost w e) e n h.ran (fifo-run-turn s lost w e h.ran) t h.within
+    by_cases (inr t) = within-step s lost w (turn s lost w e) e n h.fifo_run (fifo_run-turn s lost w e h.fifo_run) t h.within
 
 pub within : (s : Setup) (lost : Losses) (es : List Entry) → IsWired s.net → IsWithin s lost (run s lost (start s.net) es)
 within s lost es n = kept_by_run s lost (IsWithin s lost) (λ w e. within-turn s lost w e n) (start s.net) es
-    (record { fifo-run = fifo-run s lost []; within = let z : issued s.net (observer (start s.net)) ≡ 0 = ap (issued s.net) (start-empty s.net 0) in omega (arith, z) })
+    (record { fifo_run = fifo_run s lost []; within = let z : issued s.net (observer (start s.net)) ≡ 0 = ap (issued s.net) (start-empty s.net 0) in omega (arith, z) })
 
 -- What a unit's first steps are stays so in every longer world.
 
@@ -311,16 +311,16 @@ below-step s lost w v e n r t b l = by_actor (eqb_tells (link_of s.net l).from e
 
 -- what holds in each world of a net that is wired
 pub record RanBelow (s : Setup) (lost : Losses) (w : World) : Type 0 where
-  pub fifo-run : IsFifoRun s lost w
+  pub fifo_run : IsFifoRun s lost w
   pub below : AllBelow s.net w
 
 below-turn : (s : Setup) (lost : Losses) (w : World) (e : Entry) → IsWired s.net → RanBelow s lost w → RanBelow s lost (turn s lost w e)
-below-turn s lost w e n h = record { fifo-run = fifo-run-turn s lost w e h.ran; below = by_cases (turn-cases s lost w e) }
+below-turn s lost w e n h = record { fifo_run = fifo_run-turn s lost w e h.fifo_run; below = by_cases (turn-cases s lost w e) }
   where
     by_cases : (turn s lost w e ≡ w) ⊎ Steps s lost w e (turn s lost w e) → AllBelow s.net (turn s lost w e)
     by_cases (inl q) = subst (AllBelow s.net) (sym q) h.below
-    by_cases (inr t) = below-step s lost w (turn s lost w e) e n h.ran t h.below
+    by_cases (inr t) = below-step s lost w (turn s lost w e) e n h.fifo_run t h.below
 
 pub all-below : (s : Setup) (lost : Losses) (es : List Entry) → IsWired s.net → RanBelow s lost (run s lost (start s.net) es)
 all-below s lost es n = kept_by_run s lost (RanBelow s lost) (λ w e. below-turn s lost w e n) (start s.net) es
-    (record { fifo-run = fifo-run s lost []; below = λ l. subst (λ h. Each (IsBelow (issued s.net (observer (start s.net)))) (put l h)) (sym (start-empty s.net (link_of s.net l).from)) tt })
+    (record { fifo_run = fifo_run s lost []; below = λ l. subst (λ h. Each (IsBelow (issued s.net (observer (start s.net)))) (put l h)) (sym (start-empty s.net (link_of s.net l).from)) tt })

@@ -42,7 +42,7 @@ use Rattle.sl_model.specs.Counting.{packets, bytes}
 use Rattle.sl_model.specs.Late.{is_old, late}
 use Rattle.sl_model.specs.Collected.{IsKept}
 use Rattle.sl_model.proofs.Worlds.Turns.{kept_by_run}
-use Rattle.sl_model.proofs.Worlds.FifoRuns.{fifo-run-turn}
+use Rattle.sl_model.proofs.Worlds.FifoRuns.{fifo_run-turn}
 use Rattle.sl_parts.specs.Parts.{below}
 
 -- What is on its way.
@@ -177,7 +177,7 @@ begins-rise s lost w l n r p q = let k = n.ways.taken l p in
 -- The window law.
 
 pub in-window : (s : Setup) (lost : Losses) (es : List Entry) → IsWired s.net → IsInWindow s lost (world s lost es)
-in-window s lost es n = of_bounds (all-below s lost es n).ran (all-below s lost es n).below
+in-window s lost es n = of_bounds (all-below s lost es n).fifo_run (all-below s lost es n).below
   where
     of_bounds : IsFifoRun s lost (world s lost es) → AllBelow s.net (world s lost es) → IsInWindow s lost (world s lost es)
     of_bounds r b = record {
@@ -413,7 +413,7 @@ kept s lost w credits u k n t r q = kept-from s credits u k n (history w u) (r.m
 pub kept-ahead : (s : Setup) (lost : Losses) (w : World) (es : List Entry) (credits u k n : ℕ) → IsWired s.net → IsFifoRun s lost w → n ≤ length (history w u) → lag s.net k u (first n (history w u)) ≡ None
     → IsKept credits s.net u k (first n (history w u)) (history (run s lost w es) u)
 kept-ahead s lost w es credits u k n t r p q = let e : first n (history (run s lost w es) u) ≡ first n (history w u) = (extends-run s lost w es u).steps n p in
-    subst (λ g. IsKept credits s.net u k g (history (run s lost w es) u)) e (kept s lost (run s lost w es) credits u k n t (kept_by_run s lost (IsFifoRun s lost) (fifo-run-turn s lost) w es r) (subst (λ g. lag s.net k u g ≡ None) (sym e) q))
+    subst (λ g. IsKept credits s.net u k g (history (run s lost w es) u)) e (kept s lost (run s lost w es) credits u k n t (kept_by_run s lost (IsFifoRun s lost) (fifo_run-turn s lost) w es r) (subst (λ g. lag s.net k u g ≡ None) (sym e) q))
 
 pub distinct-channels : (net : Net) (u : ℕ) → Distinct (data_channels net u)
 distinct-channels net u = distinct-append (choices_of net u Cable) (choices_of net u Crossbar) (once Cable) (once Crossbar)

@@ -23,7 +23,7 @@ use Rattle.sl_net.specs.Wired.{IsWired}
 use Rattle.sl_model.specs.World.{Entry, carried, world, sender, receiver, taken_by}
 use Rattle.sl_model.specs.Matching.{is_data, IsDataChannel, IsConsistentCut}
 use Rattle.sl_model.specs.Late.{is_old, IsLateData}
-use Rattle.sl_model.proofs.Worlds.FifoRuns.{fifo-run}
+use Rattle.sl_model.proofs.Worlds.FifoRuns.{fifo_run}
 
 abbrev pub AllOld : ℕ → List Message → Type 0
 AllOld k ms = Each (λ m. stamp m < k) ms
@@ -268,7 +268,7 @@ cut-consistent s lost w k n r l i d t = let x = link_of s.net l in
     subst (λ h. i < length (carried_by lost l h)) (sym (before-first k (history w x.from))) (omega (arith, p, q))
 
 pub always-consistent : (s : Setup) (lost : Losses) (es : List Entry) (k : ℕ) → IsWired s.net → IsConsistentCut s.net lost (world s lost es) (cuts (world s lost es) k)
-always-consistent s lost es k n = cut-consistent s lost (world s lost es) k n (fifo-run s lost es)
+always-consistent s lost es k n = cut-consistent s lost (world s lost es) k n (fifo_run s lost es)
 
 -- The messages that cross the cut are the old ones that the receiver took outside its cut.
 pub crossing-is : (s : Setup) (lost : Losses) (w : World) (k l : ℕ) → IsWired s.net → IsFifoRun s lost w → IsDataChannel s.net l

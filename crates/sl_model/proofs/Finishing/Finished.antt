@@ -24,7 +24,7 @@ use Rattle.sl_model.proofs.Worlds.Turns.{run-append, taken-this}
 use Rattle.sl_model.proofs.Finishing.Idle.{IsIdle, action-step, each-idle, guard-fails, issued-within, none-of-idle, resent-within, settled-by-pass, there, knows-polled, polled_now}
 use Rattle.sl_model.proofs.Finishing.NetWiring.{Wiring}
 use Rattle.sl_model.proofs.Finishing.Phase.{IsPhase, IsSmall, phase-run, phase-starts, one-more-poll}
-use Rattle.sl_model.proofs.Worlds.ReachedWorlds.{Reached, fifo-run-reached, reached-run, taken-grows, choice-of-step, step-grows}
+use Rattle.sl_model.proofs.Worlds.ReachedWorlds.{Reached, fifo_run-reached, reached-run, taken-grows, choice-of-step, step-grows}
 use Rattle.std.proofs.lemmas.Bool.Decides.{eqb_tells}
 use Rattle.sl_layout.specs.Serving.{served}
 use Rattle.sl_model.specs.Words.{weigh}
@@ -119,7 +119,7 @@ knows-all s lost g t w r h k es small h' same = each-imp (λ u. (i : UnitId) × 
 
     by_polled : (u : ℕ) (i : UnitId) → actor_of s.net u ≡ OfUnit i → (history z u ≡ history w u) ⊎ (polled_now (history z u) ≡ true) → known (unit_place s.net u) (observer z) ≡ length (history z u)
     by_polled u i q (inl same) = absurd (one-more-poll s lost w u i (g.wired.reports u i q) t r h q es h' same)
-    by_polled u i q (inr now) = knows-polled s lost z u i g.wired t (fifo-run-reached s lost z rz) h' q now
+    by_polled u i q (inr now) = knows-polled s lost z u i g.wired t (fifo_run-reached s lost z rz) h' q now
 
 -- An idle resend.
 
@@ -160,7 +160,7 @@ no-retries s lost g pos w v r rv fk ni nc fs ks nr = by_guard (and-fails (nat_lt
 
 -- F is at most K.
 pub floor-within : (s : Setup) (lost : Losses) (w : World) → Wiring s.net → Reached s lost w → floor s.net w ≤ issued s.net (observer w)
-floor-within s lost w g r = subst (λ w. floor s.net w ≤ issued s.net (observer w)) r.1 (let b = all-below s lost r.0 g.wired in floor-up s lost (world s lost r.0) b.ran b.below)
+floor-within s lost w g r = subst (λ w. floor s.net w ≤ issued s.net (observer w)) r.1 (let b = all-below s lost r.0 g.wired in floor-up s lost (world s lost r.0) b.fifo_run b.below)
 
 -- Rounds of finishing.
 
@@ -323,7 +323,7 @@ left s w = ((s.count - floor s.net w) + (s.count - issued s.net (observer w))) +
 
 pub left-falls : (s : Setup) (lost : Losses) → Wiring s.net → (w : World) → Reached s lost w → (es : List Entry) → left s (run s lost w es) ≤ left s w
 left-falls s lost g w r es = let v = run s lost w es in
-    let a : floor s.net w ≤ floor s.net v = floor-run s lost w es g.wired (fifo-run-reached s lost w r) in
+    let a : floor s.net w ≤ floor s.net v = floor-run s lost w es g.wired (fifo_run-reached s lost w r) in
     let b : issued s.net (observer w) ≤ issued s.net (observer v) = taken-grows s lost 0 (action_choice s.net 0) w es in
     let c : resent s.net (observer w) ≤ resent s.net (observer v) = taken-grows s lost 0 (suc (action_choice s.net 0)) w es in
     of_numbers s.count s.retries (floor s.net w) (floor s.net v) (issued s.net (observer w)) (issued s.net (observer v)) (resent s.net (observer w)) (resent s.net (observer v)) a b c
@@ -337,7 +337,7 @@ or-true false b h = inr h
 
 pub rose-left : (s : Setup) (lost : Losses) → Wiring s.net → (v : World) → Reached s lost v → (es : List Entry) → rose s.net v (run s lost v es) ≡ true → suc (left s (run s lost v es)) ≤ left s v
 rose-left s lost g v r es h = let z = run s lost v es in let rz : Reached s lost z = reached-run s lost v es r in
-    let a : floor s.net v ≤ floor s.net z = floor-run s lost v es g.wired (fifo-run-reached s lost v r) in
+    let a : floor s.net v ≤ floor s.net z = floor-run s lost v es g.wired (fifo_run-reached s lost v r) in
     let b : issued s.net (observer v) ≤ issued s.net (observer z) = taken-grows s lost 0 (action_choice s.net 0) v es in
     let c : resent s.net (observer v) ≤ resent s.net (observer z) = taken-grows s lost 0 (suc (action_choice s.net 0)) v es in
     of_numbers s.count s.retries (floor s.net v) (floor s.net z) (issued s.net (observer v)) (issued s.net (observer z)) (resent s.net (observer v)) (resent s.net (observer z)) a b c (floor-within s lost z g rz) (issued-within s lost g z rz)
@@ -364,7 +364,7 @@ resend-left s lost g z r k ks h = subst (λ es. suc (left s (run s lost z es)) �
     by_step None q = let n : kept_from s lost z (resend_entry s.net ∷ []) ≡ [] = ap (λ o. cond (is_some o) (resend_entry s.net ∷ []) []) q in absurd (let x : [] ≡ k ∷ ks = sym n ∙ h in cc)
     by_step (Some step) q = let y = turn s lost z (resend_entry s.net) in let c = suc (action_choice s.net 0) in
         let m : resent s.net (observer y) ≡ suc (resent s.net (observer z)) = ap (taken c) (step-grows s lost z 0 c step r q).same ∙ taken-this c step (observer z) (choice-of-step s lost z 0 c step q) in
-        let a : floor s.net z ≤ floor s.net y = floor-run s lost z (resend_entry s.net ∷ []) g.wired (fifo-run-reached s lost z r) in
+        let a : floor s.net z ≤ floor s.net y = floor-run s lost z (resend_entry s.net ∷ []) g.wired (fifo_run-reached s lost z r) in
         let b : issued s.net (observer z) ≤ issued s.net (observer y) = taken-grows s lost 0 (action_choice s.net 0) z (resend_entry s.net ∷ []) in
         let t : resent s.net (observer y) ≤ s.retries = resent-within s lost g y (reached-run s lost z (resend_entry s.net ∷ []) r) in
         of_numbers s.count s.retries (floor s.net z) (floor s.net y) (issued s.net (observer z)) (issued s.net (observer y)) (resent s.net (observer z)) (resent s.net (observer y)) a b m t

@@ -21,7 +21,7 @@ use Rattle.sl_model.specs.declared.message.Message.TheVariants.{Host as HostMsg,
 use Rattle.sl_model.specs.declared.message.Put.{Put}
 use Rattle.sl_model.specs.declared.message.Step.{Step}
 use Rattle.sl_model.proofs.Finishing.NetWiring.{Wiring}
-use Rattle.sl_model.proofs.Worlds.ReachedWorlds.{ActsBy, Reached, StepOf, TakesBy, counted-below, fifo-run-reached, step-cases}
+use Rattle.sl_model.proofs.Worlds.ReachedWorlds.{ActsBy, Reached, StepOf, TakesBy, counted-below, fifo_run-reached, step-cases}
 use Rattle.std.proofs.lemmas.Bool.Decides.{eqb_tells}
 use Rattle.sl_layout.specs.Serving.{ServedUnit, choice_from, served, serving}
 use Rattle.sl_net.specs.Wired.{IsWired, Reports}
@@ -158,7 +158,7 @@ settled-by-pass s lost g w r k = record { taken_all = all_taken; sent_all = all_
         let i : IsIdle s lost w (a, c) = idle (a, c) (link-in-pass s.net a c (g.to_actor l h) (slice_get_within (links_into s.net a) c l f)) in
         let n = next-of s lost w a c (actor_of s.net a) (there s.net a (g.to_actor l h)) ∙ ap (λ o. step_by s lost w a c o (actor_of s.net a)) f in
         let e : front s.net lost w a c l ≡ None = none-of-idle (λ m. taking c m (puts_of s a (actor_of s.net a) (history w a) c l m)) (front s.net lost w a c l) (subst (λ o. is_some o ≡ false) n i) in
-        let x = (fifo-run-reached s lost w r).fifo a c l f in
+        let x = (fifo_run-reached s lost w r).fifo a c l f in
         omega (arith, none-past (carried s.net lost w l) (taken c (history w a)) e, x.count, ap length x.split, length-append (takes c (history w a)) x.rest)
 
     all_sent : AllSent s w

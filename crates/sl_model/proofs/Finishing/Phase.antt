@@ -31,7 +31,7 @@ use Rattle.sl_model.proofs.Worlds.Stamps.{taken-fits, each-lost, put-fits, guard
 use Rattle.sl_model.proofs.Worlds.Turns.{Steps, taken-other, taken-this, turn-cases}
 use Rattle.sl_model.proofs.Finishing.Idle.{own-step, there, all-counted, answer-put, member-some, put-member, served-dump, served-member, served_as, get-past, none-past, got-member, is_poll, polled_now}
 use Rattle.sl_model.proofs.Finishing.NetWiring.{in-net, Wiring}
-use Rattle.sl_model.proofs.Worlds.ReachedWorlds.{Reached, put-grows, fifo-run-reached, reached-turn, step-grows, ActsBy, StepOf, TakesBy, choice-of-step, history-keeps, step-cases, step-within, taken-grows}
+use Rattle.sl_model.proofs.Worlds.ReachedWorlds.{Reached, put-grows, fifo_run-reached, reached-turn, step-grows, ActsBy, StepOf, TakesBy, choice-of-step, history-keeps, step-cases, step-within, taken-grows}
 use Rattle.std.proofs.lemmas.Option.{get_or_from_slice_get, slice_get_within}
 use Rattle.sl_layout.specs.declared.actor.Side.{Side}
 use Rattle.sl_layout.specs.declared.actor.Side.TheVariants.{Egress, Ingress}
@@ -183,7 +183,7 @@ in-sweeps net c d q = let h = in-net net c (Control d) q (λ e. cc) in
 pub one-more-poll : (s : Setup) (lost : Losses) (w : World) (u : ℕ) (i : UnitId) (r : Reports s.net u) → IsLossTable s.net lost → Reached s lost w → AllTaken s.net lost w → actor_of s.net u ≡ OfUnit i
     → (es : List Entry) → AllTaken s.net lost (run s lost (run s lost w (sweeps s.net)) es) → (history (run s lost (run s lost w (sweeps s.net)) es) u ≡ history w u → ⊥)
 one-more-poll s lost w u i r t x h q es h' same = let v = run s lost w (sweeps s.net) in let z = run s lost v es in
-    let k : IsPolled s.net u r w v = sweeps-poll s lost u r w (none-outstanding s lost w u i r t (fifo-run-reached s lost w x) h q) (sweeps s.net) (sweeps-own s.net r.control) (in-sweeps s.net r.control r.device r.is_control) w x (inl refl) in
+    let k : IsPolled s.net u r w v = sweeps-poll s lost u r w (none-outstanding s lost w u i r t (fifo_run-reached s lost w x) h q) (sweeps s.net) (sweeps-own s.net r.control) (in-sweeps s.net r.control r.device r.is_control) w x (inl refl) in
     omega (arith, k, put-grows s lost r.control r.poll v es, polls-taken s lost w u r t h, polls-taken s lost z u r t h', ap (taken (choice_of s.net r.poll)) same)
 
 -- From a settled world on, while no number is issued or issued again, nothing goes round but polls, notices, dumps and Dones.
@@ -360,7 +360,7 @@ polled-step s lost g w1 w v e r t z u i q k = history-keeps s lost u (λ h. (h �
         by_case (inr x) = absurd (no-action s w u i c step q x)
         by_case (inl x) = let l = g.wired.ways.into u c x.link x.at in
             let rc : unit_receives i.side (link_of s.net x.link).sort ≡ true = subst (λ a. receives a (link_of s.net x.link).sort ≡ true) (ap (actor_of s.net) l.to ∙ q) (g.wired.receiver x.link l.is_link) in
-            let o = quiet-poll i.side (link_of s.net x.link).sort x.message (taken-quiet s g.wired.ways lost w u c step z x) (takes-fit s lost w u c step (fifo-run-reached s lost w r) x) rc in
+            let o = quiet-poll i.side (link_of s.net x.link).sort x.message (taken-quiet s g.wired.ways lost w u c step z x) (takes-fit s lost w u c step (fifo_run-reached s lost w r) x) rc in
             inr (ap (λ y. is_poll y.taken) x.is ∙ o)
 
 -- a step of a pass or a sweep puts quiet messages, or issues a number

@@ -32,7 +32,7 @@ use Rattle.sl_model.specs.World.{Entry, run, receiver}
 use Rattle.sl_model.specs.Made.{Took, Acted, IsMade, IsFifoRun}
 use Rattle.sl_model.specs.Fit.{fits_link}
 use Rattle.sl_model.proofs.Worlds.Turns.{kept_by_run}
-use Rattle.sl_model.proofs.Worlds.FifoRuns.{fifo-run-turn}
+use Rattle.sl_model.proofs.Worlds.FifoRuns.{fifo_run-turn}
 use Rattle.sl_model.proofs.Worlds.Numbers.{never-falls, NeverFalls}
 use Rattle.sl_model.proofs.Worlds.Stamps.{id-falls}
 use Rattle.sl_model.proofs.Cuts.Begins.{TakesFit, fit-taken, fit-before, fit-last, last-never-falls, heard-this}
@@ -319,7 +319,7 @@ row-later s lost w credits cs u k n m t r p q = of_reached (reached-of s.net k u
 pub row-ahead : (s : Setup) (lost : Losses) (w : World) (es : List Entry) (credits : ℕ) (cs : List ℕ) (u k n : ℕ) → IsWired s.net → IsFifoRun s lost w → n ≤ length (history w u) → lag s.net k u (first n (history w u)) ≡ None
     → row credits cs k (history (run s lost w es) u) ≡ row credits cs k (first n (history w u))
 row-ahead s lost w es credits cs u k n t r p q = let e : first n (history (run s lost w es) u) ≡ first n (history w u) = (extends-run s lost w es u).steps n p in
-    row-kept s lost (run s lost w es) credits cs u k n t (kept_by_run s lost (IsFifoRun s lost) (fifo-run-turn s lost) w es r) (subst (λ g. lag s.net k u g ≡ None) (sym e) q) ∙ ap (row credits cs k) e
+    row-kept s lost (run s lost w es) credits cs u k n t (kept_by_run s lost (IsFifoRun s lost) (fifo_run-turn s lost) w es r) (subst (λ g. lag s.net k u g ≡ None) (sym e) q) ∙ ap (row credits cs k) e
 
 -- The totals of a unit's row are the values of its data channels.
 

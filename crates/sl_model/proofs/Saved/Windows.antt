@@ -27,7 +27,7 @@ use Rattle.sl_model.specs.Fit.{fits, fits_link, is_stamped, stamp}
 use Rattle.sl_model.specs.Window.{on_way, IsInWindow, IsNear, begun}
 use Rattle.sl_net.specs.Ways.{IsInto, HasWays, IsOut}
 use Rattle.sl_model.proofs.Worlds.Turns.{kept_by_run, Steps, turn-cases, run-append, start-empty, grows-after, next-within}
-use Rattle.sl_model.proofs.Worlds.FifoRuns.{next-view, fifo-run, fifo-run-turn}
+use Rattle.sl_model.proofs.Worlds.FifoRuns.{next-view, fifo_run, fifo_run-turn}
 use Rattle.sl_model.proofs.Worlds.Stamps.{each-lost, put-fits, id-falls}
 use Rattle.sl_model.proofs.Cuts.Collected.{in-window, near, on-way-is, least-start, least-each, floor-id, floor-unit, Reached, lag-of, data-fits}
 use Rattle.sl_model.specs.Calls.{credit, credits_in, step_calls, calls}
@@ -183,7 +183,7 @@ next-calls s lost w u i step n r x few q (inr t) = idle-calls s.window (data_cha
 
 pub next-calls-within : (s : Setup) (lost : Losses) (es : List Entry) (e : Entry) (i : UnitId) (step : Step) → IsWired s.net → length (data_channels s.net e.0) ≤ 8 → actor_of s.net e.0 ≡ OfUnit i
     → next_step s lost (world s lost es) e ≡ Some step → Each (IsWithin s.window) (step_calls (data_channels s.net e.0) (history (world s lost es) e.0) step)
-next-calls-within s lost es e i step n few q x = next-calls s lost (world s lost es) e.0 i step n (fifo-run s lost es) (in-window s lost es n) few q (next-view s lost (world s lost es) e step x)
+next-calls-within s lost es e i step n few q x = next-calls s lost (world s lost es) e.0 i step n (fifo_run s lost es) (in-window s lost es n) few q (next-view s lost (world s lost es) e step x)
 
 -- A stamp that comes next lies within the window.
 
@@ -214,7 +214,7 @@ keeps-turn s lost u P n f w e k = record { entries = k.entries ++ e ∷ []; is =
     by_actor : (v : World) (t : Steps s lost w e v) → ((nat_eq u e.0 ≡ true) × (u ≡ e.0)) ⊎ ((nat_eq u e.0 ≡ false) × (u ≡ e.0 → ⊥)) → P (history v u)
     by_actor v t (inr x) = subst P (sym (t.grows.other u x.1)) k.holds
     by_actor v t (inl x) = subst P (sym (ap (history v) x.1 ∙ t.grows.same ∙ ap (λ a. t.step ∷ history w a) (sym x.1)))
-        (f w t.step (subst (IsFifoRun s lost) k.is (fifo-run s lost k.entries)) (subst (IsInWindow s lost) k.is (in-window s lost k.entries n))
+        (f w t.step (subst (IsFifoRun s lost) k.is (fifo_run s lost k.entries)) (subst (IsInWindow s lost) k.is (in-window s lost k.entries n))
         (subst (λ a. Takes s lost w a t.step ⊎ Acts s w a t.step) (sym x.1) (next-view s lost w e t.step t.next)) k.holds)
 
     by_cases : (turn s lost w e ≡ w) ⊎ Steps s lost w e (turn s lost w e) → P (history (turn s lost w e) u)
@@ -390,5 +390,5 @@ done-from-next s lost w v u n i step z r t x q g m = brings s lost w u (known (u
 pub unit-done : (s : Setup) (lost : Losses) (es : List Entry) (c n : ℕ) (step : Step) → IsWired s.net → next_step s lost (world s lost es) (0, c) ≡ Some step
     → (u : ℕ) (i : UnitId) → actor_of s.net u ≡ OfUnit i → step.taken ≡ Some (DoneMsg (unit_place s.net u) n) → IsBrought s.net s.window u (history (world s lost es) u) (known (unit_place s.net u) (observer (world s lost es))) n
 unit-done s lost es c n step z e u i q m = let w = world s lost es in
-    done-from-next s lost w (after w 0 (Some step)) u n i step z (fifo-run s lost es) (subst (λ o. IsFifoRun s lost (after w 0 o)) e (fifo-run-turn s lost w (0, c) (fifo-run s lost es))) (in-window s lost es z) q
+    done-from-next s lost w (after w 0 (Some step)) u n i step z (fifo_run s lost es) (subst (λ o. IsFifoRun s lost (after w 0 o)) e (fifo_run-turn s lost w (0, c) (fifo_run s lost es))) (in-window s lost es z) q
     (grows-after w 0 step (let a = next-within s lost w (0, c) step e in let b = world-length s lost es in omega (arith, a, b))) m

@@ -153,8 +153,8 @@ pub all-fifo : (s : Setup) (lost : Losses) (es : List Entry) → AllFifo s.net l
 all-fifo s lost es = kept_by_run s lost (AllFifo s.net lost) (fifo-turn s lost) (start s.net) es
     (λ a c l k. subst (λ h. Fifo c h (carried s.net lost (start s.net) l)) (sym (start-empty s.net a)) (record { rest = carried s.net lost (start s.net) l; split = refl; count = refl }))
 
-pub fifo-run : (s : Setup) (lost : Losses) (es : List Entry) → IsFifoRun s lost (run s lost (start s.net) es)
-fifo-run s lost es = record { made = all-made s lost es; fifo = all-fifo s lost es }
+pub fifo_run : (s : Setup) (lost : Losses) (es : List Entry) → IsFifoRun s lost (run s lost (start s.net) es)
+fifo_run s lost es = record { made = all-made s lost es; fifo = all-fifo s lost es }
 
-pub fifo-run-turn : (s : Setup) (lost : Losses) (w : World) (e : Entry) → IsFifoRun s lost w → IsFifoRun s lost (turn s lost w e)
-fifo-run-turn s lost w e r = record { made = made-turn s lost w e r.made; fifo = fifo-turn s lost w e r.fifo }
+pub fifo_run-turn : (s : Setup) (lost : Losses) (w : World) (e : Entry) → IsFifoRun s lost w → IsFifoRun s lost (turn s lost w e)
+fifo_run-turn s lost w e r = record { made = made-turn s lost w e r.made; fifo = fifo-turn s lost w e r.fifo }

@@ -29,7 +29,7 @@ use Rattle.sl_model.specs.Puts.{send, send_all, crossbar_to, onward, route, rout
 use Rattle.sl_model.specs.World.{Entry, start, turn, world, carried, sender}
 use Rattle.sl_model.specs.Turns.{Takes, Acts, TakesTurns}
 use Rattle.sl_model.proofs.Worlds.Turns.{kept_by_run, Steps, turn-cases, start-empty, run-append, next-within, taken-step, taken-this, taken-other}
-use Rattle.sl_model.proofs.Worlds.FifoRuns.{next-view, fifo-run, fifo-run-turn}
+use Rattle.sl_model.proofs.Worlds.FifoRuns.{next-view, fifo_run, fifo_run-turn}
 use Rattle.sl_model.proofs.Worlds.Stamps.{each-on-link, each-lost, each-taken, put-fits, unit-dumps, PutBy, observer-acts, step-said}
 use Rattle.sl_model.proofs.Saved.Windows.{world-length}
 use Rattle.sl_parts.specs.Parts.{below}
@@ -442,8 +442,8 @@ takes-turns = record {
   counted = taken-this;
   uncounted = taken-other;
   at_most = few-taken;
-  fifo-run = fifo-run;
-  goes_on = fifo-run-turn;
+  fifo_run = fifo_run;
+  goes_on = fifo_run-turn;
   few = few-steps;
   all_few = λ s lost es. world_size s lost (world s lost es) es refl;
   ingress = ingress_size;

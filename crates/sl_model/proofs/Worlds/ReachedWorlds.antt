@@ -19,7 +19,7 @@ use Rattle.sl_model.specs.declared.message.Message.{Message}
 use Rattle.sl_model.specs.declared.message.Put.{Put}
 use Rattle.sl_model.specs.declared.message.Step.{Step}
 use Rattle.sl_model.specs.Turns.{GrowsAt}
-use Rattle.sl_model.proofs.Worlds.FifoRuns.{fifo-run}
+use Rattle.sl_model.proofs.Worlds.FifoRuns.{fifo_run}
 use Rattle.sl_model.proofs.Worlds.Turns.{Steps, grows-after, kept_by_run, next-within, run-append, start-empty, stepped, taken-falls, taken-other, taken-step, turn-cases}
 
 -- a schedule leads to the world
@@ -35,8 +35,8 @@ reached-run s lost w es r = (r.0 ++ es, run-append s lost (start s.net) r.0 es �
 pub reached-turn : (s : Setup) (lost : Losses) (w : World) (e : Entry) → Reached s lost w → Reached s lost (turn s lost w e)
 reached-turn s lost w e r = reached-run s lost w (e ∷ []) r
 
-pub fifo-run-reached : (s : Setup) (lost : Losses) (w : World) → Reached s lost w → IsFifoRun s lost w
-fifo-run-reached s lost w r = subst (IsFifoRun s lost) r.1 (fifo-run s lost r.0)
+pub fifo_run-reached : (s : Setup) (lost : Losses) (w : World) → Reached s lost w → IsFifoRun s lost w
+fifo_run-reached s lost w r = subst (IsFifoRun s lost) r.1 (fifo_run s lost r.0)
 
 -- what holds at first and is kept by each step holds in each world that is reached
 pub world-law : (s : Setup) (lost : Losses) (P : World → Type 0) → P (start s.net)

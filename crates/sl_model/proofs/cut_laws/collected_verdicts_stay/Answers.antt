@@ -10,4 +10,4 @@ pub returns : goal.returns
 returns c s lost es fs k n p =
     let t = c.nets_are_wired.ensures s.net n in
     let b = all-below s lost es t in
-    ap (λ v. verdict s.credits s.net v k) (run-append s lost (start s.net) es fs) ∙ verdict-stays s lost (world s lost es) fs k t b.ran b.below p
+    ap (λ v. verdict s.credits s.net v k) (run-append s lost (start s.net) es fs) ∙ verdict-stays s lost (world s lost es) fs k t b.fifo_run b.below p

@@ -1,5 +1,5 @@
 use Rattle.sl_model.proofs.cut_laws.worlds_are_runs.Goals as goal
-use Rattle.sl_model.proofs.Worlds.FifoRuns.{fifo-run}
+use Rattle.sl_model.proofs.Worlds.FifoRuns.{fifo_run}
 
 pub returns : goal.returns
-returns c s lost es = fifo-run s lost es
+returns c s lost es = fifo_run s lost es

@@ -65,7 +65,7 @@ returns c s table lost r = record {
     observer-takes es (suc a) k l step m x next into taken msg q o st = absurd (let e : suc a ≡ 0 = wired.one_observer (suc a) q in omega (arith, e))
     observer-takes es zero k l step m x next into taken msg q o st = let w = world s lost es in let v = turn s lost w (0, k) in
         let g = λ (told : ℕ → ℕ). c.observers_take.ensures s lost table es k (sizes_of table) (link_of s.net l).from told step m x o (record { net = r.net; next = next; taken = taken }) r.is_table refl st
-        (retold s.net (sizes_of table) (history w) (link_of s.net l).from (told_by k (history w 0)) (known_at w) m x (told-known turns c.links_pass_messages.ensures s lost w k l m step reported wired (turns.ran s lost es) next into taken) msg) in
+        (retold s.net (sizes_of table) (history w) (link_of s.net l).from (told_by k (history w 0)) (known_at w) m x (told-known turns c.links_pass_messages.ensures s lost w k l m step reported wired (turns.fifo_run s lost es) next into taken) msg) in
         leaves s table w v 0 step Observer (as_node ObserverNode (observer_take o k x)) q (g untold).stands (put-by-any s.net (sizes_of table) (history v) 0 (history w 0) step.puts (observer_take o k x).puts (λ told. (g told).sent))
 
     takes : (es : List Entry) (a k l : ℕ) (step : Step) (m : Message) (x : Msg) → length es < 2 ^ 40 → next_step s lost (world s lost es) (a, k) ≡ Some step → slice_get (links_into s.net a) k ≡ Some l → step.taken ≡ Some m
@@ -77,7 +77,7 @@ returns c s table lost r = record {
         let g = c.controls_take.ensures s lost es (a, k) d (sizes_of table) step m (told_by k (history w a)) x o (record { net = r.net; next = next; taken = taken }) q (record { few_bits = r.is_table.few_bits; apart = omega (arith, size, apart); room = omega (arith, size, room) }) r.is_table.some_credits few
         (subst (λ l. IsMessage s.net (sizes_of table) (history w) (link_of s.net l).from (told_by k (history w a)) m x) (sym at) msg) st in
         leaves s table w v a step (Control d) (as_node ControlNode (control_take o k x)) q g.stands
-        (put-by-told s.net (sizes_of table) (history v) a (told_at s.net (history w) a) (history w a) step.puts (control_take o k x).puts (step-dones turns c.links_pass_messages.ensures s lost w a d k step reported wired (turns.ran s lost es) q next) g.sent)
+        (put-by-told s.net (sizes_of table) (history v) a (told_at s.net (history w) a) (history w a) step.puts (control_take o k x).puts (step-dones turns c.links_pass_messages.ensures s lost w a d k step reported wired (turns.fifo_run s lost es) q next) g.sent)
     takes es a k l step m x few next into taken msg (OfUnit i) q (UnitNode o) st = let w = world s lost es in let v = turn s lost w (a, k) in
         let g = λ (told : ℕ → ℕ). c.units_take_messages.ensures.follows s table lost es a k (link_of s.net l).from i step m x o (history w) (told_by k (history w a)) told (record { net = r.net; next = next; taken = taken }) (sym r.is_table.window) r.is_table.apart r.is_table.room r.is_table.carried r.short few q msg st in
         leaves s table w v a step (OfUnit i) (as_node UnitNode (unit_rules.take o k x)) q (g untold).stands (put-by-any s.net (sizes_of table) (history v) a (history w a) step.puts (unit_rules.take o k x).puts (λ told. (g told).sent))
@@ -104,7 +104,7 @@ returns c s table lost r = record {
     acts es a k step next none (Control d) q (ControlNode o) st = let w = world s lost es in let v = turn s lost w (a, k) in
         let g = c.controls_act.ensures.acts s lost es (a, k) d (sizes_of table) step o r.net q next (takes-none turns s lost w a k step next none) st in
         does s table w v a step (Control d) (as_node ControlNode g.after) (node_rules.act (ControlNode o) k) (ap (option_map (as_node ControlNode)) g.is) q g.simulates.stands
-        (put-by-told s.net (sizes_of table) (history v) a (told_at s.net (history w) a) (history w a) step.puts g.after.puts (step-dones turns c.links_pass_messages.ensures s lost w a d k step reported wired (turns.ran s lost es) q next) g.simulates.sent)
+        (put-by-told s.net (sizes_of table) (history v) a (told_at s.net (history w) a) (history w a) step.puts g.after.puts (step-dones turns c.links_pass_messages.ensures s lost w a d k step reported wired (turns.fifo_run s lost es) q next) g.simulates.sent)
     acts es a k step next none (OfUnit i) q (UnitNode o) st = absurd (let e = subst (λ o. IsSome o) none (c.units_take_messages.ensures.link s lost es a k i step q next) in cc)
     acts es a k step next none (OfHost i) q (HostNode o) st = let w = world s lost es in let v = turn s lost w (a, k) in let at = is-host a i (turns.within s lost w (a, k) step next) q in
         let g = λ (told : ℕ → ℕ). c.hosts_act.ensures.did s lost es a k i (sizes_of table) told step o r.net at st next (takes-none turns s lost w a k step next none) in

@@ -423,7 +423,7 @@ module _ (s : Setup) (lost : Losses) (es : List Entry) (known : IsKnown s lost e
   lost_few : (l : ℕ) → is_lossy_sort (link_of s.net l).sort ≡ true → lost_on s.net lost w l ≤ 2 ^ 42
   lost_few l h =
       let a = (link_of s.net l).from in
-      let p = put_few s l h (λ b g step m. known.turns.puts s b g step m) a (history w a) ((known.turns.ran s lost es).made a) in
+      let p = put_few s l h (λ b g step m. known.turns.puts s b g step m) a (history w a) ((known.turns.fifo_run s lost es).made a) in
       omega (arith, tally_most (λ n. lost l n) (range_with_len 1 (length (put l (history w a)))), length-range_with_len 1 (length (put l (history w a))), p, steps a)
 
   lost_small : (t : Sort) → is_lossy_sort t ≡ true → IsSmall (lost_of s.net lost w t)

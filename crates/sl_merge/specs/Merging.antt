@@ -22,7 +22,7 @@ all_entries logs = joined (length logs) (λ a. slice_index_or logs a [])
 abbrev pub IsLog : List (ℕ × ℕ) → Type 0
 IsLog log = (i j : ℕ) (d : ℕ × ℕ) → i < j → j < length log → (slice_index_or log i d).0 < (slice_index_or log j d).0
 
--- a book has just these entries, and its numbers never fall; entries of one number may stand in any order
+-- a book has just these entries, and its numbers never fall; which of two with one number stands first is left to IsAscending
 pub record IsMerge (entries book : List Entry) : Type 0 where
   pub same_entries : IsPermutation entries book
   pub rising : IsNonDecreasingBy (λ e. e.number) book

@@ -61,7 +61,7 @@ floors_of us = map (λ u. u.floor) us
 abbrev pub register_floor : ObserverState → ℕ
 register_floor s = unwrap_or (least (floors_of s.units)) s.issued
 
--- Reports.
+-- Dones.
 
 -- rows of the numbers after n, ascending without a gap
 abbrev pub is_after : ℕ → List (ℕ × Saved) → Bool

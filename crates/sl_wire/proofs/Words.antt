@@ -3,7 +3,7 @@ use Rattle.std.proofs.Common.{◌≡◌, ℕ, ◌+◌, ◌*◌, ◌/◌, ◌%◌
 use Rattle.std.specs.Prelude.{◌&&◌, slice_range}
 use Rattle.std.proofs.Math.Bool.{and_assoc, and-true}
 use Rattle.std.proofs.lemmas.Bool.{ne_eqb}
-use Rattle.sl_wire.specs.Frames.{word, all_zero, packet_of, IsBytes}
+use Rattle.sl_wire.specs.Frames.{word, all_zero, packet_of, reserved_in, IsBytes}
 use Rattle.sl_wire.specs.Framed.{first, second, third, fourth, bytes_in, frame_in}
 use Rattle.sl_wire.proofs.FrameLemmas.{by_cells, split, high, low}
 
@@ -57,6 +57,19 @@ first_seven w = omega arith
 -- the eleven bytes of a packet, in the number in front and the one in the middle, by whether the first are 0
 pub no_packet : (front middle back : ℕ) (b : Bool) → (front % 4294967296 == 0) ≡ b → (b && middle / 256 == 0) ≡ all_zero (slice_range (frame_in front middle back).bytes 4 15)
 no_packet front middle back b is = ap (λ c. c && middle / 256 == 0) (sym is) ∙ rw (last_four front, first_seven middle) (simp (joined, and_assoc, and-true))
+
+last_six : (w : ℕ) → w % 281474976710656 ≡ ((((second w / 256 * 256 + second w % 256) * 256 + third w / 256) * 256 + third w % 256) * 256 + fourth w / 256) * 256 + fourth w % 256
+last_six w = omega arith
+
+all_eight : (w : ℕ) → w ≡ ((((((first w / 256 * 256 + first w % 256) * 256 + second w / 256) * 256 + second w % 256) * 256 + third w / 256) * 256 + third w % 256) * 256 + fourth w / 256) * 256 + fourth w % 256
+all_eight w = omega arith
+
+-- the bytes after the check, or after the version, in the number at the back
+pub reserved_two : (front middle back v : ℕ) → v ≡ 2 → (back % 281474976710656 == 0) ≡ all_zero (reserved_in v (frame_in front middle back).bytes)
+reserved_two front middle back v is = ap (λ n. n == 0) (last_six back) ∙ rw is (simp (joined, and_assoc, and-true))
+
+pub reserved_else : (front middle back v : ℕ) → (v == 2) ≡ false → (back == 0) ≡ all_zero (reserved_in v (frame_in front middle back).bytes)
+reserved_else front middle back v is = ap (λ n. n == 0) (all_eight back) ∙ rw is (simp (joined, and_assoc, and-true))
 
 -- ---- the packet that is read off
 first_four : (w : ℕ) → first w * 65536 + second w ≡ w / 4294967296

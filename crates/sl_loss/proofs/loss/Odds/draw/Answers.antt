@@ -11,3 +11,6 @@ returns-then-self-gt0-clause-odds c = λ n holds.
       rising = holds.rising;
       same = holds.same;
     }
+
+pub returns-else-self-gt0-clause-odds : goal.returns-else-self-gt0-clause-odds
+returns-else-self-gt0-clause-odds c = λ n holds. record { next = λ some. absurd (omega arith); rising = holds.rising; same = holds.same }

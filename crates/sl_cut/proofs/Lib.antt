@@ -1,4 +1,5 @@
 pub mod Judging
+pub mod Passing
 pub mod Sent
 pub mod ForwardSteps
 pub mod ForwardLosses

@@ -10,3 +10,6 @@ returns-then-branch c = (
   },
   λ f. refl,
 )
+
+pub returns-then-resent-input : goal.returns-then-resent-input
+returns-then-resent-input c = search rules

@@ -12,6 +12,8 @@ use Rattle.sl_words.specs.Words.{words_of}
 use Rattle.sl_check.specs.declared.answer.CheckFault.{CheckFault}
 use Rattle.sl_check.specs.Answer.{IsChecked}
 use Rattle.sl_net.specs.Input.{Input}
+use Rattle.sl_read.specs.declared.fault.InputFault.{InputFault}
+use Rattle.sl_read.specs.Inputs.{input_of}
 use Rattle.sl_app.specs.Texts.{write_fault_text, refusal_text, many_text}
 use Rattle.sl_app.specs.declared.ended.Refusal.{Refusal}
 use Rattle.sl_app.specs.declared.ended.Refusal.TheVariants.{Usage, Input as InputRefused, Stream as StreamRefused, ReadFault, TooMany, Memory}
@@ -20,7 +22,7 @@ use Rattle.sl_machine.specs.Book.{Book}
 use Rattle.sl_proto.specs.Nodes.{NodeState}
 use Rattle.sl_app.specs.declared.run.Served.{Served}
 use Rattle.sl_app.specs.Served.{states_of}
-use Rattle.sl_app.specs.Ends.{SourceChange, SinkChange, TellsWriteFault, Refuses, HasReadStream, TellsStreamFault, TellsTooMany, WasRead, HasCause, asks_for_run, reads, IsUnread, IsServed, Serves, ServesSample}
+use Rattle.sl_app.specs.Ends.{SourceChange, SinkChange, TellsWriteFault, Refuses, HasRead, HasReadStream, TellsFault, TellsStreamFault, TellsTooMany, WasRead, HasCause, asks_for_run, reads_input, reads, IsUnread, IsServed, Serves, ServesSample}
 
 -- a stream that is refused for a fault
 pub stream_refused : (r : SourceChange) (bytes : List ℕ) (fault : CheckFault) (e : Refusal) → words_of r.words ≡ Some Check → HasReadStream r bytes → IsChecked bytes (Err fault)
@@ -32,6 +34,16 @@ stream_refused r bytes fault Usage words read checked told = absurd told
 stream_refused r bytes fault (InputRefused line) words read checked told = absurd told
 stream_refused r bytes fault ReadFault words read checked told = absurd told
 stream_refused r bytes fault (TooMany line) words read checked told = absurd told
+
+-- an input that is refused for a fault
+pub input_refused : (r : SourceChange) (bytes : List ℕ) (fault : InputFault) (e : Refusal) → reads_input (words_of r.words) → reads (words_of r.words) → HasRead r bytes
+    → input_of bytes ≡ Err fault → TellsFault fault e → HasCause r e
+input_refused r bytes fault (InputRefused line) asks words read refused told = (asks, record { bytes = bytes; fault = fault; read = read; refused = refused; line_is = told })
+input_refused r bytes fault Memory asks words read refused told = λ none. absurd (none words)
+input_refused r bytes fault Usage asks words read refused told = absurd told
+input_refused r bytes fault (StreamRefused line) asks words read refused told = absurd told
+input_refused r bytes fault ReadFault asks words read refused told = absurd told
+input_refused r bytes fault (TooMany line) asks words read refused told = absurd told
 
 -- an input whose net has too many actors for threads
 pub too_many_told : (r : SourceChange) (i : Input) (actors : ℕ) (e : Refusal) → asks_for_run (words_of r.words) → WasRead r i → 256 < length i.net.actors → actors ≡ length i.net.actors

@@ -1,4 +1,4 @@
-use Rattle.std.proofs.Common.{◌≡◌, ◌<◌, arith}
+use Rattle.std.proofs.Common.{arith}
 use Rattle.sl_app.proofs.run.serve_threads.Goals as goal
 
 pub returns-clause-passed : goal.returns-clause-passed

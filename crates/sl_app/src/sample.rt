@@ -45,8 +45,17 @@ fn summary_of(alloc: Global, number: u8) -> Result<Vec<u8>, Memory>
     nets_are_wired();
     input_bounds_are_small();
     let input = input_of(alloc, number)?;
-    let run = run_stepped(alloc, &input)?;
-    summary_bytes(alloc, u64::from(number), &input, &run.findings)
+    let run = match run_stepped(alloc, &input) {
+        Ok(run) => run,
+        Err(fault) => {
+            drop(input);
+            return Err(fault);
+        }
+    };
+    let text = summary_bytes(alloc, u64::from(number), &input, &run.findings);
+    drop(run);
+    drop(input);
+    text
 }
 
 /// The text of a sample's input where that is asked for, and else the summary of its run.

@@ -81,7 +81,9 @@ fn step<I: Source>(
     ensures { Serves (source_change I.Source (texts_of words.now) input.old input.new) result }
 {
     let accepted = accept(alloc, words, input)?;
-    Ok(serve_run(alloc, &accepted, trace)?)
+    let served = serve_run(alloc, &accepted, trace);
+    drop(accepted);
+    Ok(served?)
 }
 
 /// The line for a net of so many actors.
@@ -115,7 +117,9 @@ fn run<R: Threads + Wait + Sync, I: Source, G: Gate + Sync>(
     ensures passed { IfOk result (λ s. NodesPassed G.passed gate.now (states_of s.nodes)) }
 {
     let accepted = accept(alloc, words, input)?;
-    match serve_threads(rt, alloc, &accepted, trace, gate) {
+    let served = serve_threads(rt, alloc, &accepted, trace, gate);
+    drop(accepted);
+    match served {
         Ok(served) => Ok(served),
         Err(EmulFault::TooMany(actors)) => Err(too_many(alloc, actors)),
         Err(EmulFault::Memory) => Err(Refusal::Memory),
@@ -143,7 +147,9 @@ fn balance<I: Source>(alloc: Global, words: &[String], input: &mut I) -> Result<
     ensures { Serves (source_change I.Source (texts_of words.now) input.old input.new) result }
 {
     let accepted = accept(alloc, words, input)?;
-    Ok(serve_balance(alloc, &accepted)?)
+    let served = serve_balance(alloc, &accepted);
+    drop(accepted);
+    Ok(served?)
 }
 
 fn poll<I: Source>(
@@ -157,7 +163,9 @@ fn poll<I: Source>(
     ensures { Serves (source_change I.Source (texts_of words.now) input.old input.new) result }
 {
     let accepted = accept(alloc, words, input)?;
-    Ok(serve_poll(alloc, &accepted, start, gap)?)
+    let served = serve_poll(alloc, &accepted, start, gap);
+    drop(accepted);
+    Ok(served?)
 }
 
 fn values<I: Source>(alloc: Global, words: &[String], input: &mut I) -> Result<Served, Refusal>
@@ -165,7 +173,9 @@ fn values<I: Source>(alloc: Global, words: &[String], input: &mut I) -> Result<S
     ensures { Serves (source_change I.Source (texts_of words.now) input.old input.new) result }
 {
     let accepted = accept(alloc, words, input)?;
-    Ok(serve_values(alloc, &accepted)?)
+    let served = serve_values(alloc, &accepted);
+    drop(accepted);
+    Ok(served?)
 }
 
 fn routes<I: Source>(alloc: Global, words: &[String], input: &mut I) -> Result<Served, Refusal>
@@ -173,7 +183,9 @@ fn routes<I: Source>(alloc: Global, words: &[String], input: &mut I) -> Result<S
     ensures { Serves (source_change I.Source (texts_of words.now) input.old input.new) result }
 {
     let accepted = accept(alloc, words, input)?;
-    Ok(serve_routes(alloc, &accepted)?)
+    let served = serve_routes(alloc, &accepted);
+    drop(accepted);
+    Ok(served?)
 }
 
 fn sample(alloc: Global, number: u8, text: bool) -> Result<Served, Refusal>

@@ -18,11 +18,11 @@ pub returns : goal.returns
 returns c =
     let n = c.args.number in
     let input = c.in_ok-input.input in
-    let run = c.in_ok-run.run' in
-    let told = c.in_ok-run.ensures in
+    let run = c.in-Ok.run' in
+    let told = c.in-Ok.ensures in
     let is = c.in_ok-input.ensures.input in
     let sample = subst IsSample is c.in_ok-input.ensures.holds in
     let small : input_bound input < 2 ^ 27 = subst (λ (i : Input). input_bound i < 2 ^ 27) (sym is) (small_sample c.input_bounds_are_small.ensures c.nets_are_wired.ensures (sample_parts n) (sample_runs n sample) sample) in
-    IfOk-weaker c.summary_bytes.result _ _
+    IfOk-weaker c.summary_bytes-text.result _ _
     (λ text same. subst (λ (i : Input). IsSummary n i text.items) is (record { book = run.book.entries; front = run.front; small = small; run = told.run; text_is = same ∙ (ap (λ m. summary_text m input.net run.findings) c.from.ensures ∙ ap (summary_text n input.net) told.tells) }))
-    c.summary_bytes.ensures
+    c.summary_bytes-text.ensures

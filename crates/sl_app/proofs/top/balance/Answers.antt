@@ -5,7 +5,7 @@ use Rattle.sl_app.proofs.top.balance.Goals as goal
 
 pub returns : goal.returns
 returns g c = let e = c.in_ok-accepted.ensures in
-    tabled _ c.in_ok-accepted.accepted c.requires e.accepts.0 e.small _ _ _ _ _ c.in_ok-serve_balance.ensures.table c.in_ok-serve_balance.ensures.status
+    tabled _ c.in_ok-accepted.accepted c.requires e.accepts.0 e.small _ _ _ _ _ c.in_ok-served.ensures.table c.in_ok-served.ensures.status
 
-pub returns-in_err-serve_balance : goal.returns-in_err-serve_balance
-returns-in_err-serve_balance g c = memory_told _ Balance c.from_residual-in_err-serve_balance.result c.requires tt c.from_residual-in_err-serve_balance.ensures
+pub returns-in_err-served : goal.returns-in_err-served
+returns-in_err-served g c = memory_told _ Balance c.from_residual-in_err-served.result c.requires tt c.from_residual-in_err-served.ensures

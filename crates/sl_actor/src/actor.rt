@@ -1,24 +1,28 @@
 // An actor: a machine with its log, the ends from which it takes and the links on which it puts.
-ghost use Rattle.std.specs.Prelude.{◌≡◌, ◌+◌, ◌<◌, ◌≤◌, ◌++◌, ◌∷◌, [], Some, Ok, length, IfOk};
+ghost use Rattle.std.specs.Prelude.{◌≡◌, ◌+◌, ◌<◌, ◌≤◌, ◌++◌, ◌∷◌, [], Some, Ok, List, length, map, IfOk};
 ghost use Rattle.std.specs.Prelude.{IfSome, OnOk, OnErr};
 ghost use Rattle.std.specs.Bool.{OnTrue, OnFalse};
 ghost use Rattle.std.specs.List.{All};
 ghost use Rattle.std.specs.Vec.{vec_capacity, vec_len};
 ghost use Rattle.sl_machine.specs.Machine.{IsChoice};
+ghost use Rattle.sl_actor.specs.declared.part.OutPart.{OutPart};
+ghost use Rattle.sl_actor.specs.Made.{IsNewPart};
 ghost use Rattle.sl_actor.specs.Outs.{AreOffered, SomePut};
 ghost use Rattle.sl_actor.specs.Rows.{IsFilled};
 ghost use Rattle.sl_actor.specs.Waiting.{AreSpare, views};
 
 use crate::moved::Moved;
+use crate::neighbours::Neighbours;
 use crate::outs::Outs;
 use crate::part::OutPart;
+use crate::roster::Roster;
 use crate::rows::Row;
 use crate::sleeper::Sleeper;
 use crate::steps::{moved, next_number, note};
 use sl_link::TakeEnd;
 use sl_machine::{Machine, Memory, Outputs};
 use std::alloc::Global;
-use std::sync::Wait;
+use std::sync::{Arc, Wait};
 
 /// A machine with its log, its incoming links and its outgoing links.
 #[derive(Drop)]
@@ -50,6 +54,30 @@ pub struct ActorParts<A: Machine> {
     pub outs: Vec<OutPart<A::Msg>>,
 }
 
+/// The ends that fill these rows, and room for what a step puts on the outgoing links.
+fn new_ends<M: Drop>(
+    alloc: Global,
+    takes: Row<TakeEnd<M>>,
+    outs: Row<OutPart<M>>,
+) -> Result<(Vec<TakeEnd<M>>, Outs<M>, Outputs<M>), Memory>
+    requires takes { All IsFilled takes }
+    requires outs { All IsFilled outs }
+    requires empty { All (λ p. IfSome p IsNewPart) outs }
+    ensures takes { IfOk result (λ e. map Some e.0.items ≡ takes) }
+    ensures outs { IfOk result
+        (λ e. (parts : List (OutPart M)) × (map Some parts ≡ outs)
+        × (views e.1.parts.items ≡ views parts)) }
+    ensures clear { IfOk result (λ e. length e.2.items ≡ 0) }
+    ensures room { IfOk result (λ e. length outs ≤ e.2.room) }
+{
+    let count = outs.len();
+    let parts = outs.into_list(alloc)?;
+    let outs = Outs::new(alloc, parts)?;
+    let takes = takes.into_list(alloc)?;
+    let out = Outputs::with_room(alloc, count)?;
+    Ok((takes, outs, out))
+}
+
 impl<A: Machine> Actor<A> {
     ghost use Rattle.sl_actor.specs.Held.{held};
     ghost use Rattle.sl_actor.specs.Follows.{Follows};
@@ -64,7 +92,8 @@ impl<A: Machine> Actor<A> {
         machine: A,
         takes: Row<TakeEnd<A::Msg>>,
         outs: Row<OutPart<A::Msg>>,
-        sleeper: Sleeper,
+        roster: &Arc<Roster, Global>,
+        neighbours: &Neighbours,
     ) -> Result<Actor<A>, Memory>
         requires takes { All IsFilled takes }
         requires outs { All IsFilled outs }
@@ -74,19 +103,31 @@ impl<A: Machine> Actor<A> {
         ensures { IfOk result
             (λ a. IsNew place (A.state machine) (A.counts machine) takes outs (held a)) }
     {
-        let out = Outputs::with_room(alloc, outs.len())?;
-        let takes = takes.into_list(alloc)?;
-        let outs = Outs::new(alloc, outs.into_list(alloc)?)?;
-        Ok(Actor {
-            place,
-            machine,
-            number: 0,
-            log: Vec::new(alloc),
-            takes,
-            outs,
-            out,
-            sleeper,
-        })
+        match new_ends(alloc, takes, outs) {
+            Err(fault) => {
+                drop(machine);
+                Err(fault)
+            }
+            Ok((takes, outs, out)) => match Sleeper::of(alloc, roster, neighbours, place) {
+                Err(fault) => {
+                    drop(machine);
+                    drop(takes);
+                    drop(outs);
+                    drop(out);
+                    Err(fault)
+                }
+                Ok(sleeper) => Ok(Actor {
+                    place,
+                    machine,
+                    number: 0,
+                    log: Vec::new(alloc),
+                    takes,
+                    outs,
+                    out,
+                    sleeper,
+                }),
+            },
+        }
     }
 
     /// The actor's machine.

@@ -4,6 +4,7 @@ ghost use Rattle.std.specs.Prelude.{slice_index_or, IfOk, OnOk, OnErr};
 ghost use Rattle.std.specs.List.{All};
 ghost use Rattle.std.specs.VecDeque.{deque_len};
 ghost use Rattle.sl_machine.specs.Fit.{Fits, ins_of, outs_of};
+ghost use Rattle.sl_machine.specs.Plan.{IsSound};
 ghost use Rattle.sl_loss.specs.Loss.{IsFresh};
 ghost use Rattle.sl_actor.specs.Made.{IsNewEnd, IsNewPart, FitRows, AreJoined, Joins, AreNew};
 ghost use Rattle.sl_actor.specs.Made.{ArePlaced, EachFollows, HasEnds, AreTied};
@@ -15,7 +16,6 @@ use crate::neighbours::Neighbours;
 use crate::part::OutPart;
 use crate::roster::Roster;
 use crate::rows::{Row, empty_rows, fill_at};
-use crate::sleeper::Sleeper;
 use sl_link::{TakeEnd, make_link};
 use sl_loss::Loss;
 use sl_machine::{Link, Machine, Memory, Wiring};
@@ -46,11 +46,39 @@ pub fn make_actors<A: Machine>(
     ensures tied { IfOk result
         (λ v. AreTied wiring.now.links losses.items capacity (map held v.items)) }
 {
+    match joined_rows(alloc, wiring, losses, capacity) {
+        Ok((takes, outs)) => assemble(alloc, wiring, machines, takes, outs),
+        Err(fault) => {
+            drop(machines);
+            Err(fault)
+        }
+    }
+}
+
+/// The ends of all links of a wiring, each at its place.
+fn joined_rows<M: Drop>(
+    alloc: Global,
+    wiring: &Wiring,
+    losses: Vec<Option<Loss>>,
+    capacity: u32,
+) -> Result<(Vec<Row<TakeEnd<M>>>, Vec<Row<OutPart<M>>>), Memory>
+    requires sound { IsSound wiring.now }
+    requires losses { length losses.items ≡ length wiring.now.links }
+    requires fresh { All IsFresh losses.items }
+    requires capacity { (1 ≤ capacity) × (capacity ≤ 1024) }
+    ensures takes { IfOk result (λ r. map length r.0.items ≡ wiring.now.ins) }
+    ensures outs { IfOk result (λ r. map length r.1.items ≡ wiring.now.outs) }
+    ensures ends { IfOk result (λ r. AreSuch IsNewEnd r.0.items) }
+    ensures parts { IfOk result (λ r. AreSuch IsNewPart r.1.items) }
+    ensures joined { IfOk result
+        (λ r. AreJoined wiring.now.links losses.items capacity (length wiring.now.links)
+        r.0.items r.1.items) }
+{
     let mut takes = empty_rows(alloc, wiring.in_counts.as_slice())?;
     let mut outs = empty_rows(alloc, wiring.out_counts.as_slice())?;
     let links = wiring.links.as_slice();
     join_all(alloc, links, losses, capacity, &mut takes, &mut outs)?;
-    assemble(alloc, wiring, machines, takes, outs)
+    Ok((takes, outs))
 }
 
 /// The actors of these machines, whose links have these ends.
@@ -72,18 +100,43 @@ fn assemble<A: Machine>(
         (λ v. AreNew A.state A.counts machines.items (length machines.items) takes.items outs.items
         (map held v.items)) }
 {
-    let roster = Roster::shared(alloc, wiring)?;
-    let neighbours = Neighbours::in_wiring(alloc, wiring)?;
     let mut machines = VecDeque::from(machines);
     let mut takes = VecDeque::from(takes);
     let mut outs = VecDeque::from(outs);
+    let actors = assemble_each(alloc, wiring, &mut machines, &mut takes, &mut outs);
+    drop(outs);
+    drop(takes);
+    drop(machines);
+    actors
+}
+
+/// The same, of what it takes from these one by one.
+fn assemble_each<A: Machine>(
+    alloc: Global,
+    wiring: &Wiring,
+    machines: &mut VecDeque<A>,
+    takes: &mut VecDeque<Row<TakeEnd<A::Msg>>>,
+    outs: &mut VecDeque<Row<OutPart<A::Msg>>>,
+) -> Result<Vec<Actor<A>>, Memory>
+    requires few { length machines.old.items < 2 ^ 32 }
+    requires takes_each { map length takes.old.items ≡ ins_of A.counts machines.old.items }
+    requires outs_each { map length outs.old.items ≡ outs_of A.counts machines.old.items }
+    requires takes { All (λ row. All IsFilled row) takes.old.items }
+    requires outs { All (λ row. All IsFilled row) outs.old.items }
+    requires parts { AreSuch IsNewPart outs.old.items }
+    ensures len { IfOk result (λ v. length v.items ≡ length machines.old.items) }
+    ensures new { IfOk result
+        (λ v. AreNew A.state A.counts machines.old.items (length machines.old.items)
+        takes.old.items outs.old.items (map held v.items)) }
+{
+    let roster = Roster::shared(alloc, wiring)?;
+    let neighbours = Neighbours::in_wiring(alloc, wiring)?;
     let mut actors = Vec::new(alloc);
     while let Some(machine) = machines.pop_front() {
-        let ends = first(&mut takes);
-        let parts = first(&mut outs);
+        let ends = first(takes);
+        let parts = first(outs);
         let place = actors.len() as u32;
-        let sleeper = Sleeper::of(alloc, &roster, &neighbours, place)?;
-        let actor = Actor::new(alloc, place, machine, ends, parts, sleeper)?;
+        let actor = Actor::new(alloc, place, machine, ends, parts, &roster, &neighbours)?;
         actors.push(actor)?;
     }
     Ok(actors)

@@ -1,5 +1,5 @@
 use Rattle.std.proofs.Common.{◌≡◌, ◌∙◌, ◌++◌, ◌∷◌, [], None, sym, ap, arith, rules, map, take, replicate, Option, length, ◌<◌, ℕ}
-use Rattle.std.proofs.lemmas.List.{map-append, take_more}
+use Rattle.std.proofs.lemmas.List.{map-append, take_more, take_all}
 use Rattle.sl_actor.proofs.rows.empty_rows.Goals as goal
 
 pub loop-count-preserved : goal.loop-count-preserved
@@ -11,3 +11,9 @@ loop-count-preserved g c =
     let f = λ (n : ℕ). replicate {A = Option g.row.T.Denot} n None in
     pushed ∙ ap (λ l. l ++ c.in_ok-row.row ∷ []) c.loop-count.invariant ∙ ap (λ r. map f (take i counts) ++ r ∷ []) c.in_ok-row.ensures
     ∙ sym (map-append f (take i counts) _) ∙ ap (map f) (sym (take_more counts i 0 low))
+
+pub loop-count-init : goal.loop-count-init
+loop-count-init g c = c.new-rows.ensures.items
+
+pub returns : goal.returns
+returns g c = c.loop-count.invariant ∙ ap (map (λ (n : ℕ). replicate {A = Option g.row.T.Denot} n None)) (take_all _ _ c.loop-count-test.false)

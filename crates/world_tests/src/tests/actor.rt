@@ -201,7 +201,9 @@ fn first_rests<R: Wait>(
 #[test]
 fn an_actor_rests(rt: HostRuntime) -> Result<(), Fail> {
     let mut actors = actors_in_line(rt.alloc(), &[])?;
-    assert!(rt; first_rests(&rt, rt.alloc(), &mut actors)?);
+    let right = first_rests(&rt, rt.alloc(), &mut actors);
+    drop(actors);
+    assert!(rt; right?);
     Ok(())
 }
 
@@ -216,8 +218,11 @@ fn a_thread_for_each(rt: HostRuntime) -> Result<(), Fail> {
     let alloc = rt.alloc();
     let actors = actors_in_line(alloc, &[])?;
     let mut actors = thread::map_vec(&rt, actors, &|actor| run_one(&rt, alloc, actor))?;
-    settle(&rt, &mut actors)?;
-    assert!(rt; have_seen(actors.as_slice(), &[0, 3, 3, 3]));
+    let settled = settle(&rt, &mut actors);
+    let came = have_seen(actors.as_slice(), &[0, 3, 3, 3]);
+    drop(actors);
+    settled?;
+    assert!(rt; came);
     Ok(())
 }
 
@@ -232,14 +237,21 @@ fn cases() -> &'static [(&'static [u64], [u32; 4])] {
     &CASES
 }
 
+/// How many moves the first actor makes. Then all go on until nothing moves any more.
+fn moves_and_settle<R: Wait>(rt: &R, actors: &mut Vec<Actor<Relay>>) -> Result<u32, Memory> {
+    let moves = moves_of_first(rt, actors)?;
+    settle(rt, actors)?;
+    Ok(moves)
+}
+
 /// Whether the first actor makes three moves, these many tokens come to each actor, and each put
 /// that is to be lost is lost and no other.
 fn delivers<R: Wait>(rt: &R, alloc: Global, drops: &[u64], seen: &[u32]) -> Result<bool, Memory> {
     let mut actors = actors_in_line(alloc, drops)?;
-    let moves = moves_of_first(rt, &mut actors)?;
-    settle(rt, &mut actors)?;
+    let moves = moves_and_settle(rt, &mut actors);
     let came = have_seen(actors.as_slice(), seen);
-    Ok(moves == 3 && came && lost_by(actors) == (drops.len() as u64, false))
+    let lost = lost_by(actors);
+    Ok(moves? == 3 && came && lost == (drops.len() as u64, false))
 }
 
 #[test]

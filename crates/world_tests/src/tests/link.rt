@@ -163,6 +163,7 @@ fn what_is_told_is_found(rt: HostRuntime) -> Result<(), Fail> {
     let mut ends = make_link::<u32>(rt.alloc(), 1)?;
     let first = through(&rt, &mut ends, 5);
     let second = through(&rt, &mut ends, 6);
+    drop(ends);
     assert_eq!(rt; (first, second), (5, 6));
     Ok(())
 }

@@ -144,13 +144,13 @@ fn merged_line<R: Wait>(rt: &R, alloc: Global) -> Result<World<Relay>, Fail>
     ensures { IfOk result (λ w. (scene w).plan ≡ in_line) }
 {
     made_actors_are_wired::<Relay>();
+    let first = machines_in_line(alloc)?;
+    let wiring = line_wiring(alloc)?;
     let mut actors = actors_in_line(alloc, &[2])?;
     let wrong = first_wrong(rt, &mut actors, turns())?;
     if wrong.is_some() || !are_short(actors.as_slice()) {
         return Err("another turn".into());
     }
-    let first = machines_in_line(alloc)?;
-    let wiring = line_wiring(alloc)?;
     Ok(merge(rt, alloc, actors, first.as_slice(), &wiring)?)
 }
 
@@ -229,9 +229,11 @@ fn actors_are_merged(rt: HostRuntime) -> Result<(), Fail> {
 #[test]
 fn a_merged_world_goes_on(rt: HostRuntime) -> Result<(), Fail> {
     let mut world = merged_line(&rt, rt.alloc())?;
-    let turns = all_turns_on(&mut world)?;
-    assert_eq!(rt; (turns, lost_between(&world)), ([2, 1, 2, 0], 1));
+    let turns = all_turns_on(&mut world);
+    let lost = lost_between(&world);
     let seen = [(0, 0), (3, 1), (2, 0), (2, 0)];
-    assert!(rt; ends_as(world, 10, merged_entries().as_slice(), &seen));
+    let right = ends_as(world, 10, merged_entries().as_slice(), &seen);
+    assert_eq!(rt; (turns?, lost), ([2, 1, 2, 0], 1));
+    assert!(rt; right);
     Ok(())
 }

@@ -71,13 +71,25 @@ fn rounds_of<R: Wait>(
     Ok(rounds)
 }
 
+/// The rounds that the first relay takes until it is quiet for 200, and then the second for one.
+fn rounds_of_relays<R: Wait>(
+    rt: &R,
+    alloc: Global,
+    actors: &mut Vec<Actor<Relay>>,
+) -> Result<(u64, u64), Fail> {
+    let first = rounds_of(rt, alloc, actors, 1, 200)?;
+    let second = rounds_of(rt, alloc, actors, 2, 1)?;
+    Ok((first, second))
+}
+
 /// An actor of one empty link rests after as many rounds as it is to be quiet.
 #[test]
 fn quiet_rounds(rt: HostRuntime) -> Result<(), Fail> {
     let alloc = rt.alloc();
     let mut actors = actors_in_line(alloc, &[])?;
-    assert_eq!(rt; rounds_of(&rt, alloc, &mut actors, 1, 200)?, 200);
-    assert_eq!(rt; rounds_of(&rt, alloc, &mut actors, 2, 1)?, 1);
+    let rounds = rounds_of_relays(&rt, alloc, &mut actors);
+    drop(actors);
+    assert_eq!(rt; rounds?, (200, 1));
     Ok(())
 }
 
@@ -97,15 +109,26 @@ fn turns_at<R: Wait>(
     Ok(())
 }
 
+/// The rounds that the first host takes after three turns of its own and one of the relay.
+fn rounds_after_turns<R: Wait>(
+    rt: &R,
+    alloc: Global,
+    actors: &mut Vec<Actor<Relay>>,
+) -> Result<u64, Fail> {
+    turns_at(rt, actors, 0, 3)?;
+    turns_at(rt, actors, 1, 1)?;
+    rounds_of(rt, alloc, actors, 0, 1)
+}
+
 /// The first host's three tokens wait, one on its link and two behind it. The relay takes the one,
 /// so in the first round another goes on the link, and only the next round is quiet.
 #[test]
 fn a_round_that_puts(rt: HostRuntime) -> Result<(), Fail> {
     let alloc = rt.alloc();
     let mut actors = actors_in_line(alloc, &[])?;
-    turns_at(&rt, &mut actors, 0, 3)?;
-    turns_at(&rt, &mut actors, 1, 1)?;
-    assert_eq!(rt; rounds_of(&rt, alloc, &mut actors, 0, 1)?, 2);
+    let rounds = rounds_after_turns(&rt, alloc, &mut actors);
+    drop(actors);
+    assert_eq!(rt; rounds?, 2);
     Ok(())
 }
 
@@ -117,13 +140,24 @@ fn actors_in_ring(alloc: Global) -> Result<Vec<Actor<Relay>>, Memory> {
     make_actors(alloc, machines, &wiring, losses, 16)
 }
 
+/// The rounds that the first actor takes after two turns of the second.
+fn rounds_in_ring<R: Wait>(
+    rt: &R,
+    alloc: Global,
+    actors: &mut Vec<Actor<Relay>>,
+) -> Result<u64, Fail> {
+    turns_at(rt, actors, 1, 2)?;
+    rounds_of(rt, alloc, actors, 0, 1)
+}
+
 /// Two tokens came to the first actor and two are left to it: in each of two rounds it takes one and
 /// sends one, and the third is quiet.
 #[test]
 fn rounds_try_all(rt: HostRuntime) -> Result<(), Fail> {
     let alloc = rt.alloc();
     let mut actors = actors_in_ring(alloc)?;
-    turns_at(&rt, &mut actors, 1, 2)?;
-    assert_eq!(rt; rounds_of(&rt, alloc, &mut actors, 0, 1)?, 3);
+    let rounds = rounds_in_ring(&rt, alloc, &mut actors);
+    drop(actors);
+    assert_eq!(rt; rounds?, 3);
     Ok(())
 }

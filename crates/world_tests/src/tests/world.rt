@@ -139,9 +139,10 @@ fn ends_right(world: World<Relay>) -> bool {
 /// Whether tokens go round in the ring, where links are looked up or not.
 fn goes_round(alloc: Global, by_links: bool) -> Result<bool, Fail> {
     let mut world = ring_world(alloc)?;
-    let wrong = play(alloc, &mut world, by_links)?;
+    let wrong = play(alloc, &mut world, by_links);
     let lost = lost(&world);
-    Ok(wrong == (None, None) && lost == (1, 0) && ends_right(world))
+    let right = ends_right(world);
+    Ok(wrong? == (None, None) && lost == (1, 0) && right)
 }
 
 #[test]
@@ -222,8 +223,9 @@ fn goes_on(world: &mut World<Relay>) -> Result<bool, Fail>
 fn a_world_goes_on(rt: HostRuntime) -> Result<(), Fail> {
     let rest = vec![in rt.alloc(); 4, 3]?;
     let mut world = ring_later(rt.alloc(), rest)?;
-    let right = goes_on(&mut world)?;
-    assert!(rt; right);
+    let right = goes_on(&mut world);
+    drop(world);
+    assert!(rt; right?);
     Ok(())
 }
 
@@ -245,7 +247,9 @@ fn goes_on_again(alloc: Global, mut world: World<Relay>) -> Result<bool, Fail>
         return Ok(false);
     }
     let mut again = ring_again(alloc, world)?;
-    sends_last(&mut again)
+    let right = sends_last(&mut again);
+    drop(again);
+    right
 }
 
 #[test]
@@ -291,8 +295,10 @@ fn seen_last(world: World<Relay>) -> Option<u32> {
 /// What the first actor saw last of so many messages, whose numbers go down from 300.
 fn last_of(alloc: Global, count: u32) -> Result<Option<u32>, Fail> {
     let mut world = ring_later(alloc, numbers_down(alloc, 300)?)?;
-    take_many(&mut world, count)?;
-    Ok(seen_last(world))
+    let taken = take_many(&mut world, count);
+    let last = seen_last(world);
+    taken?;
+    Ok(last)
 }
 
 #[test]

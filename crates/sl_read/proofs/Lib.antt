@@ -2,3 +2,4 @@ pub mod RowLemmas
 pub mod Steps
 pub mod Ranges
 pub mod Settled
+pub mod Walks

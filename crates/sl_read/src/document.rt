@@ -1,7 +1,13 @@
 // Trusted types: Document.
 // The tables of the input, one after the other.
+ghost use Rattle.std.specs.Prelude.{Ok};
 ghost use Rattle.toml.specs.View.{table_view};
-ghost use Rattle.sl_form.specs.Refusals.{Answers};
+ghost use Rattle.sl_form.specs.Refusals.{◌>>=◌ as ◌then◌, Answers};
+ghost use Rattle.sl_form.specs.declared.path.TableName.TheVariants.{Top};
+ghost use Rattle.sl_form.specs.declared.path.Key.TheVariants.{Device, Cable, Host, Flow, Raw};
+ghost use Rattle.sl_read.specs.Rows.{rows};
+ghost use Rattle.sl_read.specs.Tables.{device_of, cable_of, host_of, snapshot_of, any_loss_of};
+ghost use Rattle.sl_read.specs.Tables.{flow_of, raw_of, any_script_of};
 ghost use Rattle.sl_read.specs.Sections.{sections_view};
 ghost use Rattle.sl_read.specs.Documents.{walk_of, document_of};
 
@@ -33,20 +39,84 @@ pub struct Document {
     pub script: Listed<Text>,
 }
 
-#[tactic(auto, unfolding(crate::specs::Documents::walk_of))]
-fn walk(alloc: Global, sections: &Sections<'_>) -> Result<Document, ReadError>
-    ensures { Answers result (walk_of (sections_view sections.now)) }
+/// The lists of which the net is made.
+#[derive(Drop)]
+struct NetRows {
+    devices: Listed<DevicePart>,
+    cables: Listed<CableRow>,
+    hosts: Listed<HostRow>,
+}
+
+/// What is read after these lists.
+#[derive(Drop)]
+struct RunRows {
+    snapshot: Snapshot,
+    loss: LossRow,
+    flows: Listed<FlowRow>,
+    raws: Listed<RawRow>,
+    script: Listed<Text>,
+}
+
+fn net_rows(alloc: Global, sections: &Sections<'_>) -> Result<NetRows, ReadError>
+    ensures { let s = sections_view sections.now in Answers result
+        (rows Top Device device_of 0 s.devices then (λ devices.
+        rows Top Cable cable_of 0 s.cables then (λ cables.
+        rows Top Host host_of 0 s.hosts then (λ hosts.
+        Ok (record { devices = devices; cables = cables; hosts = hosts }))))) }
 {
     let at = TableName::Top;
-    Ok(Document {
+    Ok(NetRows {
         devices: rows::<DevicePart>(alloc, at, Key::Device, sections.devices)?,
         cables: rows::<CableRow>(alloc, at, Key::Cable, sections.cables)?,
         hosts: rows::<HostRow>(alloc, at, Key::Host, sections.hosts)?,
+    })
+}
+
+fn run_rows(alloc: Global, sections: &Sections<'_>) -> Result<RunRows, ReadError>
+    ensures { let s = sections_view sections.now in Answers result
+        (snapshot_of s.snapshot then (λ snapshot.
+        any_loss_of s.loss then (λ loss.
+        rows Top Flow flow_of 0 s.flows then (λ flows.
+        rows Top Raw raw_of 0 s.raws then (λ raws.
+        any_script_of s.script then (λ script.
+        Ok (record {
+          snapshot = snapshot;
+          loss = loss;
+          flows = flows;
+          raws = raws;
+          script = script;
+        }))))))) }
+{
+    let at = TableName::Top;
+    Ok(RunRows {
         snapshot: read_snapshot(sections.snapshot)?,
         loss: read_loss(alloc, sections.loss)?,
         flows: rows::<FlowRow>(alloc, at, Key::Flow, sections.flows)?,
         raws: rows::<RawRow>(alloc, at, Key::Raw, sections.raws)?,
         script: read_script(alloc, sections.script)?,
+    })
+}
+
+fn walk(alloc: Global, sections: &Sections<'_>) -> Result<Document, ReadError>
+    ensures { Answers result (walk_of (sections_view sections.now)) }
+{
+    let net = net_rows(alloc, sections)?;
+    let run = match run_rows(alloc, sections) {
+        Ok(run) => run,
+        Err(error) => {
+            drop(net);
+            return Err(error);
+        }
+    };
+    Ok(Document {
+        devices: net.devices,
+        cables: net.cables,
+        hosts: net.hosts,
+        snapshot: run.snapshot,
+        loss: run.loss,
+        flows: run.flows,
+        raws: run.raws,
+        script: run.script,
     })
 }
 

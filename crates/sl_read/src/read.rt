@@ -3,9 +3,10 @@
 ghost use Rattle.std.specs.Prelude.{◌≡◌, ◌≢◌, ◌≤◌, Ok, Err, IfOk, IfErr, option_map, map};
 ghost use Rattle.std.specs.List.{sum};
 ghost use Rattle.toml.specs.View.{table_view};
-ghost use Rattle.sl_form.specs.Refusals.{Answers};
+ghost use Rattle.sl_form.specs.Refusals.{◌>>=◌ as ◌then◌, Answers};
 ghost use Rattle.sl_parts.specs.Valid.{AreVersioned};
 ghost use Rattle.sl_read.specs.Accepted.{HasVersions, IsAccepted};
+ghost use Rattle.sl_read.specs.Limits.{limits_kept};
 ghost use Rattle.sl_read.specs.Inputs.{built, packets, few_packets, losses, net_in, traffic_in};
 ghost use Rattle.sl_read.specs.Inputs.{contents_in, settled, tables_of, text_of, reading_of};
 ghost use Rattle.sl_read.specs.Inputs.{input_of};
@@ -21,7 +22,8 @@ use crate::raw::RawRow;
 use sl_form::{ReadError, Refusal};
 use sl_machine::Listed;
 use sl_net::{
-    Drop1, Flow, HostPart, Input, LossSpec, Net, NetFault, Parts, RawPart, Script1, one_spelling,
+    Drop1, Flow, HostPart, Input, LossSpec, Net, NetFault, Parts, RawPart, Script1, Snapshot,
+    one_spelling,
 };
 use std::alloc::Global;
 use toml::Table;
@@ -156,6 +158,44 @@ fn contents_in(alloc: Global, net: &Net, document: &Document) -> Result<Contents
     })
 }
 
+/// What stands in the net, where the limits are kept.
+fn kept_in(alloc: Global, net: &Net, document: &Document) -> Result<Contents, ReadError>
+    requires { document.now.snapshot.count ≤ 100000 }
+    ensures { Answers result
+        (contents_in net.now document.now then (λ contents.
+        limits_kept net.now document.now.snapshot then (λ _. Ok contents))) }
+{
+    let contents = contents_in(alloc, net, document)?;
+    match limits_kept(net, &document.snapshot) {
+        Ok(()) => Ok(contents),
+        Err(error) => {
+            drop(contents);
+            Err(error)
+        }
+    }
+}
+
+/// The input of a net, with what stands in it.
+fn input_in(net: Net, snapshot: Snapshot, contents: Contents) -> Input
+    ensures { result ≡ record {
+      net = net;
+      snapshot = snapshot;
+      loss = contents.loss;
+      flows = contents.flows;
+      raws = contents.raws;
+      script = contents.script;
+    } }
+{
+    Input {
+        net,
+        snapshot,
+        loss: contents.loss,
+        flows: contents.flows.items,
+        raws: contents.raws.items,
+        script: contents.script.items,
+    }
+}
+
 #[tactic(auto, unfolding(crate::specs::Inputs::settled))]
 fn settle(alloc: Global, document: &Document) -> Result<Input, ReadError>
     requires versions { HasVersions document.now }
@@ -163,16 +203,13 @@ fn settle(alloc: Global, document: &Document) -> Result<Input, ReadError>
     ensures { Answers result (settled document.now) }
 {
     let net = net_in(alloc, document)?;
-    let contents = contents_in(alloc, &net, document)?;
-    limits_kept(&net, &document.snapshot)?;
-    Ok(Input {
-        net,
-        snapshot: document.snapshot,
-        loss: contents.loss,
-        flows: contents.flows.items,
-        raws: contents.raws.items,
-        script: contents.script.items,
-    })
+    match kept_in(alloc, &net, document) {
+        Ok(contents) => Ok(input_in(net, document.snapshot, contents)),
+        Err(error) => {
+            drop(net);
+            Err(error)
+        }
+    }
 }
 
 #[tactic(auto, unfolding(crate::specs::Inputs::tables_of))]
@@ -180,7 +217,9 @@ fn read_table(alloc: Global, table: &Table) -> Result<Input, ReadError>
     ensures { Answers result (tables_of (table_view table.now)) }
 {
     let document = read_document(alloc, table)?;
-    settle(alloc, &document)
+    let input = settle(alloc, &document);
+    drop(document);
+    input
 }
 
 #[tactic(auto, using(sl_form::proofs::FormLemmas::texts))]

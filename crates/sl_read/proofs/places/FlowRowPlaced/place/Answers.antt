@@ -1,5 +1,4 @@
 use Rattle.std.proofs.Common.{refl}
-use Rattle.sl_form.specs.declared.refusal.Refusal.{Refusal}
 use Rattle.sl_read.specs.Places.{known}
 use Rattle.sl_read.proofs.RowLemmas.{refused_part}
 use Rattle.sl_read.proofs.places.FlowRowPlaced.place.Goals as goal

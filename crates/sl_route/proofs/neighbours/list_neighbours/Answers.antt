@@ -1,3 +1,4 @@
+use Rattle.std.proofs.lemmas.Grind.{common_steps}
 use Rattle.std.proofs.Common.{◌≡◌, ℕ, ◌<◌, List, ◌++◌, ◌∷◌, [], length, get_or, set, take, map, ap, ◌∙◌, arith}
 use Rattle.std.proofs.lemmas.List.Elements.{All-same}
 use Rattle.std.proofs.lemmas.List.FromFn.{length-map-range_with_len}
@@ -42,3 +43,9 @@ loop-cable-preserved c =
     c.in_ok-add_neighbour.ensures ∙ ap (λ t. set t x (get_or t x [] ++ c.neighbour_by.result ∷ [])) c.loop-cable.invariant
     ∙ ap (λ k. set table x (get_or table x [] ++ k ∷ [])) c.neighbour_by.ensures
     ∙ table-more cables (length parts.devices) i none c.loop-cable-test.true near
+
+pub loop-cable-init : goal.loop-cable-init
+loop-cable-init c = grind (arith, common_steps)
+
+pub returns : goal.returns
+returns c = grind (arith, common_steps)

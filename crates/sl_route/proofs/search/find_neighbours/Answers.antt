@@ -1,4 +1,5 @@
-use Rattle.std.proofs.Common.{◌+◌, get_or, take}
+use Rattle.std.proofs.lemmas.Grind.{common_steps}
+use Rattle.std.proofs.Common.{◌+◌, get_or, take, arith}
 use Rattle.std.specs.Prelude.{◌==◌}
 use Rattle.std.specs.List.{list_any}
 use Rattle.std.proofs.lemmas.List.Folds.{list_any_more}
@@ -15,3 +16,9 @@ loop-neighbour-preserved c =
     let i = c.loop-neighbour.neighbour-index in
     finds-more c.args.hops (λ d. list_any (λ (k : Neighbour). k.device == d) (take i ks)) (λ d. (get_or ks i none).device == d) (λ d. list_any (λ (k : Neighbour). k.device == d) (take (i + 1) ks))
     _ _ _ _ _ _ c.loop-neighbour.invariant c.in_ok-find.ensures (λ d. list_any_more (λ (k : Neighbour). k.device == d) ks i none c.loop-neighbour-test.true)
+
+pub returns : goal.returns
+returns c = grind (arith, common_steps)
+
+pub loop-neighbour-init : goal.loop-neighbour-init
+loop-neighbour-init c = grind (arith, common_steps)

@@ -78,3 +78,17 @@ returns-clause-leads g c x pos h =
     let old = run_at x (g.T.Taker.scene c.args.taker.now) in
     let now = run_at x (g.T.Taker.scene c.loop-round.taker) in
     leads-somewhere x.setup x.lost (IsFin x.setup x.lost old.world) (IsFin x.setup x.lost now.world) old now (c.loop-round.invariant.leads x pos h)
+
+pub returns-in_err-settle_by-clause-keeps : goal.returns-in_err-settle_by-clause-keeps
+returns-in_err-settle_by-clause-keeps g c = keeps_on g.T.Taker.scene g.T.Taker.fixed c.args.net.now c.args.taker.now c.loop-round.taker c.settle_by.new.taker c.loop-round.invariant.keeps c.settle_by.ensures.keeps
+
+pub returns-in_err-take_round-clause-keeps : goal.returns-in_err-take_round-clause-keeps
+returns-in_err-take_round-clause-keeps g c = keeps_on g.T.Taker.scene g.T.Taker.fixed c.args.net.now c.args.taker.now c.settle_by.new.taker c.take_round.new.taker
+    (keeps_on g.T.Taker.scene g.T.Taker.fixed c.args.net.now c.args.taker.now c.loop-round.taker c.settle_by.new.taker c.loop-round.invariant.keeps c.settle_by.ensures.keeps) c.take_round.ensures.keeps
+
+pub returns-then-not-branch-clause-keeps : goal.returns-then-not-branch-clause-keeps
+returns-then-not-branch-clause-keeps g c = keeps_on g.T.Taker.scene g.T.Taker.fixed c.args.net.now c.args.taker.now c.settle_by.new.taker c.take_round.new.taker
+    (keeps_on g.T.Taker.scene g.T.Taker.fixed c.args.net.now c.args.taker.now c.loop-round.taker c.settle_by.new.taker c.loop-round.invariant.keeps c.settle_by.ensures.keeps) c.take_round.ensures.keeps
+
+pub returns-clause-keeps : goal.returns-clause-keeps
+returns-clause-keeps g c = c.loop-round.invariant.keeps

@@ -40,3 +40,12 @@ returns-clause-leads g c x h =
     let old = run_at x (g.T.Taker.scene c.args.taker.now) in
     let now = run_at x (g.T.Taker.scene c.loop-pass.taker) in
     leads-somewhere x.setup x.lost (SettlesBy x.setup x.lost old.world) (SettlesBy x.setup x.lost now.world) old now (c.loop-pass.invariant.leads x h)
+
+pub returns-in_err-drive-clause-keeps : goal.returns-in_err-drive-clause-keeps
+returns-in_err-drive-clause-keeps g c = keeps_on g.T.Taker.scene g.T.Taker.fixed c.args.net.now c.args.taker.now c.loop-pass.taker c.drive.new.taker c.loop-pass.invariant.keeps c.drive.ensures.driven.keeps
+
+pub returns-then-entries-before-clause-keeps : goal.returns-then-entries-before-clause-keeps
+returns-then-entries-before-clause-keeps g c = keeps_on g.T.Taker.scene g.T.Taker.fixed c.args.net.now c.args.taker.now c.loop-pass.taker c.drive.new.taker c.loop-pass.invariant.keeps c.drive.ensures.driven.keeps
+
+pub returns-clause-keeps : goal.returns-clause-keeps
+returns-clause-keeps g c = c.loop-pass.invariant.keeps

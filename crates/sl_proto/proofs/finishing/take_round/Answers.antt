@@ -5,6 +5,7 @@ use Rattle.sl_model.specs.Books.{schedule_of}
 use Rattle.sl_proto.specs.Standing.{world_of, run_at}
 use Rattle.sl_proto.specs.Calls.{AllDone, RoundsLeft}
 use Rattle.sl_proto.specs.Fronts.{SettlesBy, SweepsBy, Whatever}
+use Rattle.sl_proto.proofs.Standing.{keeps_none, keeps_on}
 use Rattle.sl_proto.proofs.Fronts.{leads-somewhere, rounds-short, collected-ends, round-swept, round-front, round-rose, round-level}
 use Rattle.sl_proto.proofs.finishing.take_round.Goals as goal
 
@@ -63,3 +64,19 @@ returns-clause-leads g c x pos h settled =
     let q : is_collected x.setup (world_of x v) ≡ false = sym (c.is_collected.ensures x (schedule_of v.book) h.runnable.net pos settled before) ∙ c.if-is_collected.false in
     let r : rose x.setup.net (world_of x v) (world_of x u) ≡ false = sym (c.rose_since.ensures x (world_of x v) (world_of x u) before (c.tell.ensures net x here)) ∙ c.if-rose_since.false in
     round-level net x v (scene c.drive.new.taker) c.args.sweep.now h c.requires.sweep q (swept.follows x h) u z (RoundsLeft x z c.take_resend.result) (settles.leads x there) r (c.take_resend.ensures.leads x here)
+
+pub returns-then-is_collected-clause-keeps : goal.returns-then-is_collected-clause-keeps
+returns-then-is_collected-clause-keeps g c = keeps_none g.T.Taker.scene g.T.Taker.fixed c.args.net.now c.args.taker.now c.requires.plan
+
+pub returns-in_err-drive-clause-keeps : goal.returns-in_err-drive-clause-keeps
+returns-in_err-drive-clause-keeps g c = c.drive.ensures.driven.keeps
+
+pub returns-in_err-settle_by-clause-keeps : goal.returns-in_err-settle_by-clause-keeps
+returns-in_err-settle_by-clause-keeps g c = keeps_on g.T.Taker.scene g.T.Taker.fixed c.args.net.now c.args.taker.now c.drive.new.taker c.settle_by.new.taker c.drive.ensures.driven.keeps c.settle_by.ensures.keeps
+
+pub returns-then-rose_since-clause-keeps : goal.returns-then-rose_since-clause-keeps
+returns-then-rose_since-clause-keeps g c = keeps_on g.T.Taker.scene g.T.Taker.fixed c.args.net.now c.args.taker.now c.drive.new.taker c.settle_by.new.taker c.drive.ensures.driven.keeps c.settle_by.ensures.keeps
+
+pub returns-clause-keeps : goal.returns-clause-keeps
+returns-clause-keeps g c = keeps_on g.T.Taker.scene g.T.Taker.fixed c.args.net.now c.args.taker.now c.settle_by.new.taker c.take_resend.new.taker
+    (keeps_on g.T.Taker.scene g.T.Taker.fixed c.args.net.now c.args.taker.now c.drive.new.taker c.settle_by.new.taker c.drive.ensures.driven.keeps c.settle_by.ensures.keeps) c.take_resend.ensures.keeps

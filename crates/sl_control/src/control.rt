@@ -104,12 +104,14 @@ impl Control {
             bits: snapshot.width,
         };
         let units = units_of(alloc, net, actor)?;
+        let inits = inits_of(alloc, net, actor)?;
+        let done = done_of(alloc, net, actor)?;
         let blanks = Blanks::new(alloc, units.len())?;
         Ok(Control {
             links: net.links_into(actor).len() as u32,
             outs: net.links_from(actor).len() as u32,
-            inits: inits_of(alloc, net, actor)?,
-            done: done_of(alloc, net, actor)?,
+            inits,
+            done,
             width,
             version: snapshot.version,
             ring: snapshot.ring,
@@ -198,7 +200,10 @@ impl Machine for Control {
                 self.prepared = None;
                 ask_one(&mut self.units, link, &mut self.blanks.spares, out);
             }
-            _ => self.prepared = None,
+            other => {
+                self.prepared = None;
+                drop(other);
+            }
         }
     }
 

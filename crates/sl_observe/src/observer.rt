@@ -73,10 +73,10 @@ impl Observer {
         let _ = net.parts();
         let ins = net.links_into(0).len() as u32;
         let outs = net.links_from(0).len() as u32;
+        let shorts = no_shorts(alloc, ins)?;
         let units = list_units(alloc, net)?;
         let floors = Floors::zeros(alloc, units.len())?;
         let spans = Span::list(alloc, units.as_slice(), ins)?;
-        let shorts = no_shorts(alloc, ins)?;
         Ok(Observer {
             ins,
             outs,
@@ -195,15 +195,19 @@ impl Machine for Observer {
 
     fn take(&mut self, link: u32, m: Msg, _out: &mut Outputs<Msg>) {
         self.prepared = None;
-        if let Msg::Done(done) = m {
-            hear(
-                &mut self.units,
-                &mut self.floors,
-                &mut self.shorts,
-                self.snapshot.ring,
-                link,
-                done.get(),
-            );
+        match m {
+            Msg::Done(done) => {
+                hear(
+                    &mut self.units,
+                    &mut self.floors,
+                    &mut self.shorts,
+                    self.snapshot.ring,
+                    link,
+                    done.get(),
+                );
+                drop(done);
+            }
+            other => drop(other),
         }
     }
 

@@ -9,12 +9,13 @@ ghost use Rattle.sl_model.specs.Setup.{setup_of};
 ghost use Rattle.sl_model.specs.Books.{schedule_of};
 ghost use Rattle.sl_model.specs.End.{IsFinished};
 ghost use Rattle.sl_model.specs.Findings.{findings};
-ghost use Rattle.sl_report.specs.Report.{finding_text, report_text};
+ghost use Rattle.sl_report.specs.Report.{finding_text, report_front, report_back, report_text};
 ghost use Rattle.sl_world.specs.World.{scene};
 ghost use Rattle.sl_proto.specs.Standing.{case_of, world_of, StandsFor};
 ghost use Rattle.sl_proto.specs.Told.{HasAllRows, accounts_of};
 
 use sl_machine::Memory;
+use sl_model::Findings;
 use sl_net::{Input, Net};
 use sl_observe::Observer;
 use sl_proto::{Node, finding, findings_but_list, nodes_tell_findings, observer_of};
@@ -44,6 +45,26 @@ fn push_snapshots(
     Ok(())
 }
 
+/// The text of a report by what was found but of the snapshots, of which the observer tells.
+fn report_by(
+    alloc: Global,
+    input: &Input,
+    observer: &Observer,
+    rest: &Findings,
+) -> Result<Vec<u8>, Memory>
+    requires { HasAllRows input.now.net observer.now.state }
+    ensures { IfOk result
+        (λ bytes. bytes.items ≡ (report_front input.now.net input.now.snapshot.count rest.now
+        ++ flat_map (finding_text input.now.net)
+        (map (finding_by observer.now.state.issued (accounts_of observer.now.state))
+        (range_with_len 1 input.now.snapshot.count))) ++ report_back input.now.net rest.now) }
+{
+    let mut out = report_front(alloc, input, rest)?;
+    push_snapshots(alloc, &mut out, &input.net, observer, input.snapshot.count)?;
+    push_back(&mut out, &input.net, rest)?;
+    Ok(out.into_bytes())
+}
+
 /// The text of the report of a finished world of nodes of an input: of the findings of the world of
 /// histories that it stands for.
 pub fn report_of(alloc: Global, input: &Input, world: &World<Node>) -> Result<Vec<u8>, Memory>
@@ -59,8 +80,7 @@ pub fn report_of(alloc: Global, input: &Input, world: &World<Node>) -> Result<Ve
     nodes_tell_findings();
     let rest = findings_but_list(alloc, input, world)?;
     let observer = observer_of(input, world);
-    let mut out = report_front(alloc, input, &rest)?;
-    push_snapshots(alloc, &mut out, &input.net, observer, input.snapshot.count)?;
-    push_back(&mut out, &input.net, &rest)?;
-    Ok(out.into_bytes())
+    let text = report_by(alloc, input, observer, &rest);
+    drop(rest);
+    text
 }

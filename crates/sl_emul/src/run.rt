@@ -47,8 +47,13 @@ pub fn finish_run(
     ensures { IfOk result
         (λ r. IsFinishedFrom input.now (losses input.now) (scene world) (scene r.world) r.front) }
 {
-    let front = end_run(alloc, &input.net, &mut world)?;
-    Ok(FinishedRun { world, front })
+    match end_run(alloc, &input.net, &mut world) {
+        Ok(front) => Ok(FinishedRun { world, front }),
+        Err(fault) => {
+            drop(world);
+            Err(fault)
+        }
+    }
 }
 
 /// Tells what a run came to.
@@ -62,7 +67,13 @@ pub fn tell_run(alloc: Global, input: &Input, ran: FinishedRun) -> Result<Run, M
         (λ r. IsToldOf input.now (losses input.now) (scene ran.world)
         ran.front r.book.entries r.front r.findings (map node_state r.nodes.items)) }
 {
-    let findings = findings(alloc, input, &ran.world)?;
+    let findings = match findings(alloc, input, &ran.world) {
+        Ok(findings) => findings,
+        Err(fault) => {
+            drop(ran);
+            return Err(fault);
+        }
+    };
     let (nodes, book) = ran.world.into_book();
     Ok(Run {
         book,

@@ -19,8 +19,13 @@ pub fn finish_stepped(alloc: Global, input: &Input) -> Result<FinishedRun, Memor
         (λ r. HasEnded IsRunBook input.now (losses input.now) (scene r.world) r.front) }
 {
     let mut world = first_world(alloc, input)?;
-    let front = run_script(alloc, input, &mut world)?;
-    Ok(FinishedRun { world, front })
+    match run_script(alloc, input, &mut world) {
+        Ok(front) => Ok(FinishedRun { world, front }),
+        Err(fault) => {
+            drop(world);
+            Err(fault)
+        }
+    }
 }
 
 /// Runs an input as `finish_stepped` does, and tells what the run came to.

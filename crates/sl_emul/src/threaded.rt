@@ -109,12 +109,18 @@ pub fn threaded_world<R: Threads + Wait + Sync, G: Gate + Sync>(
     nodes_follow_their_books();
     nodes_stand_for_histories();
     every_schedule::<Node>();
-    let nodes = build_nodes(alloc, input)?;
-    let first = build_nodes(alloc, input)?;
     let losses = make_losses(alloc, input)?;
     let plans = plans_of(alloc, &input.net)?;
+    let nodes = build_nodes(alloc, input)?;
+    let first = match build_nodes(alloc, input) {
+        Ok(first) => first,
+        Err(fault) => {
+            drop(nodes);
+            return Err(fault);
+        }
+    };
     let wiring = input.net.wiring();
-    run_machines(
+    let world = run_machines(
         rt,
         alloc,
         nodes,
@@ -123,7 +129,9 @@ pub fn threaded_world<R: Threads + Wait + Sync, G: Gate + Sync>(
         losses,
         plans,
         gate,
-    )
+    );
+    drop(first);
+    world
 }
 
 /// Runs an input of a net of few actors: in threads, and then finishes in one.

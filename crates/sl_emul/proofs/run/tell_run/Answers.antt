@@ -9,6 +9,6 @@ pub returns : goal.returns
 returns c = record {
   book_is = c.into_book-nodes.ensures.book;
   front_is = refl;
-  tells = c.in_ok-findings.ensures (losses c.args.input.now) c.requires.stands c.requires.finished;
+  tells = c.in-Ok.ensures (losses c.args.input.now) c.requires.stands c.requires.finished;
   nodes_are = c.into_book-nodes.ensures.machines;
 }

@@ -26,8 +26,8 @@ use Rattle.sl_emul.proofs.threaded.threaded_world.Goals as goal
 abbrev node_counts : NodeView → Counts
 node_counts = node_counts_by (λ c. c.counts)
 
-pub run_machines-requires-clause-fit : goal.run_machines-requires-clause-fit
-run_machines-requires-clause-fit g c =
+pub run_machines-world-requires-clause-fit : goal.run_machines-world-requires-clause-fit
+run_machines-world-requires-clause-fit g c =
     let i = c.args.input.now in
     let plan : c.wiring-wiring.result.now ≡ plan_of i.net = c.wiring-wiring.ensures.now ∙ ap (λ (i : Input). plan_of i.net) c.input.view_is in
     let fit : Fits node_counts c.wiring-wiring.result.now c.in_ok-nodes.nodes.items c.in_ok-losses.losses.items = record {
@@ -37,8 +37,8 @@ run_machines-requires-clause-fit g c =
     } in
     search (rules, fit)
 
-pub run_machines-requires-clause-plans : goal.run_machines-requires-clause-plans
-run_machines-requires-clause-plans g c =
+pub run_machines-world-requires-clause-plans : goal.run_machines-world-requires-clause-plans
+run_machines-world-requires-clause-plans g c =
     let i = c.args.input.now in
     let plans : map (λ (p : Vec ℕ Global). p.items) c.in_ok-plans.plans.items ≡ plans_of i.net = c.in_ok-plans.ensures ∙ ap (λ (i : Input). plans_of i.net) c.input.view_is in
     let fit : ArePlans (map node_counts c.in_ok-nodes.nodes.items) (map (λ (p : Vec ℕ Global). p.items) c.in_ok-plans.plans.items) =
@@ -49,8 +49,8 @@ run_machines-requires-clause-plans g c =
 node-each : (net : Net) (nodes : List NodeView) → HasCounts node_counts (plan_of net) nodes → length nodes ≡ length net.actors
 node-each net nodes fit = sym (length-map nodes (λ a. (node_counts a).ins)) ∙ ap length fit.ins_are ∙ length-map-range_with_len (λ a. length (links_into net a)) 0 (length net.actors)
 
-pub run_machines-requires-clause-few : goal.run_machines-requires-clause-few
-run_machines-requires-clause-few g c = omega (arith, node-each c.args.input.now.net c.in_ok-nodes.nodes.items c.in_ok-nodes.ensures.fit, c.requires.few)
+pub run_machines-world-requires-clause-few : goal.run_machines-world-requires-clause-few
+run_machines-world-requires-clause-few g c = omega (arith, node-each c.args.input.now.net c.in_ok-nodes.nodes.items c.in_ok-nodes.ensures.fit, c.requires.few)
 
 pub returns : goal.returns
 returns g c =
@@ -63,24 +63,24 @@ returns g c =
     let ls = map (loss_on i) (link_numbers i.net) in
     let new : AreNewLosses i.net (losses i) ls = subst (AreNewLosses i.net (losses i)) c.in_ok-losses.ensures.losses (record { each = c.in_ok-losses.ensures.each; go = c.in_ok-losses.ensures.go }) in
     let f = first-nodes i (losses i) ls can c.requires.can.snapshot (c.nodes_start.ensures.each i) c.nodes_start.ensures.stand new in
-    let e = c.run_machines.ensures in
+    let e = c.run_machines-world.ensures in
     let only = c.every_schedule.ensures.only in
     let law = c.nodes_stand_for_histories.ensures in
     let come = has-come i c.wiring-wiring.result.now (map node_state c.in_ok-nodes.nodes.items) c.in_ok-losses.losses.items (map (λ (p : Vec ℕ Global). p.items) c.in_ok-plans.plans.items)
-    plan c.in_ok-nodes.ensures.states c.in_ok-losses.ensures.losses plans c.run_machines.result (λ w. scene w) e.run e.numbers e.order e.plan e.short e.chosen e.rest in
+    plan c.in_ok-nodes.ensures.states c.in_ok-losses.ensures.losses plans c.run_machines-world.result (λ w. scene w) e.run e.numbers e.order e.plan e.short e.chosen e.rest in
     record {
-      stands = IfOk-weaker c.run_machines.result _ _ (λ w h. stands-by-run x f (scene w) only h.run law.image law.only (below40 _ h.short)) come;
-      observer = IfOk-weaker c.run_machines.result _ _ (λ w h. has-observer x f (scene w) only h.run
+      stands = IfOk-weaker c.run_machines-world.result _ _ (λ w h. stands-by-run x f (scene w) only h.run law.image law.only (below40 _ h.short)) come;
+      observer = IfOk-weaker c.run_machines-world.result _ _ (λ w h. has-observer x f (scene w) only h.run
           (c.nodes_follow_their_books.ensures.observer (scene_of f) (schedule_of (scene w).book) (c.nodes_stand_at_first.ensures.observer i ls c.requires.can.net))) come;
-      plan = IfOk-weaker c.run_machines.result _ _ (λ w h. h.plan) come;
-      front = IfOk-weaker c.run_machines.result _ _ (λ w h. record {
+      plan = IfOk-weaker c.run_machines-world.result _ _ (λ w h. h.plan) come;
+      front = IfOk-weaker c.run_machines-world.result _ _ (λ w h. record {
         no_sweep = no-sweeps i.net (scene w).book h.planned;
         no_resend = no-resends i.net (scene w).book h.planned;
         order = h.order;
         numbers = h.numbers ∙ clocks-are x f (c.nets_have_ways.ensures i.net) c.worlds_take_turns.ensures law.image (schedule_of (scene w).book) h.run.world
             (subst (λ (n : ℕ). n < 2 ^ 40) (sym (length-map (scene w).book _)) (below40 _ h.short)) (stands-by-run x f (scene w) only h.run law.image law.only (below40 _ h.short)).legal h.run.run;
       }) come;
-      rest = IfOk-weaker c.run_machines.result _ _ (λ w h few. rested x (scene w) (stands-by-run x f (scene w) only h.run law.image law.only (below40 _ h.short)) (below40 _ h.short)
+      rest = IfOk-weaker c.run_machines-world.result _ _ (λ w h few. rested x (scene w) (stands-by-run x f (scene w) only h.run law.image law.only (below40 _ h.short)) (below40 _ h.short)
           (c.nodes_follow.ensures (setup_of i) i.snapshot (losses i) can) (h.rest few)) come;
-      passed = IfOk-weaker c.run_machines.result _ _ (λ w h few actor low. h few actor (subst (λ n. actor < n) (sym (node-each i.net c.in_ok-nodes.nodes.items c.in_ok-nodes.ensures.fit)) low)) e.passed;
+      passed = IfOk-weaker c.run_machines-world.result _ _ (λ w h few actor low. h few actor (subst (λ n. actor < n) (sym (node-each i.net c.in_ok-nodes.nodes.items c.in_ok-nodes.ensures.fit)) low)) e.passed;
     }

@@ -65,7 +65,11 @@ fn ending(alloc: Global, input: &Input, claim: &str) -> Result<Option<Ending>, F
     requires { All HasAddresses input.now.flows }
 {
     match read_claim(alloc, &input.net, claim.as_bytes())? {
-        Some(claim) => Ok(Some(ending_of(alloc, input, claim.schedule.as_slice())?)),
+        Some(claim) => {
+            let ending = ending_of(alloc, input, claim.schedule.as_slice());
+            drop(claim);
+            Ok(Some(ending?))
+        }
         None => Ok(None),
     }
 }
@@ -85,7 +89,9 @@ fn wrong_row(alloc: Global, input: &Input) -> Result<Option<&'static str>, Fail>
 
 fn wrong_ending(alloc: Global) -> Result<Option<&'static str>, Fail> {
     let input = input_of(alloc, ONE_PORT)?;
-    wrong_row(alloc, &input)
+    let wrong = wrong_row(alloc, &input);
+    drop(input);
+    wrong
 }
 
 /// Whole histories end as the nodes do.

@@ -65,7 +65,9 @@ fn is_told(alloc: Global, input: &Input) -> Result<bool, Fail>
     requires { All HasAddresses input.now.flows }
 {
     let trail = trail_along(alloc, input, way())?;
-    Ok(trail.pairs.as_slice() == pairs() && trail.counted.as_slice() == counted())
+    let told = trail.pairs.as_slice() == pairs() && trail.counted.as_slice() == counted();
+    drop(trail);
+    Ok(told)
 }
 
 /// That trail, written out.
@@ -118,7 +120,9 @@ fn reads(
     broken: Option<Pair>,
 ) -> Result<bool, Fail> {
     let polled = reading_along(alloc, net, start, gap)?;
-    Ok(is_read(&polled, expected, broken))
+    let read = is_read(&polled, expected, broken);
+    drop(polled);
+    Ok(read)
 }
 
 /// Where each unit is read one entry after the one before, the last one after the packet came and
@@ -143,7 +147,9 @@ fn polled_of(alloc: Global, input: &Input) -> Result<(bool, bool), Fail>
 
 fn polled(alloc: Global) -> Result<(bool, bool), Fail> {
     let input = input_of(alloc, ONE_PACKET)?;
-    polled_of(alloc, &input)
+    let polled = polled_of(alloc, &input);
+    drop(input);
+    polled
 }
 
 /// A trail is told, and it is read.

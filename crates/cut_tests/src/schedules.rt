@@ -24,7 +24,9 @@ fn report_of(alloc: Global, input: &Input, schedule: &[(u32, u32)]) -> Result<Ve
     requires { All HasAddresses input.now.flows }
 {
     let findings = findings_of(alloc, input, schedule)?;
-    Ok(report_bytes(alloc, input, &findings)?)
+    let report = report_bytes(alloc, input, &findings);
+    drop(findings);
+    Ok(report?)
 }
 
 /// Whether the findings of a row's schedule are what it says.
@@ -38,7 +40,9 @@ fn is_reported(alloc: Global, input: &Input, row: &Row) -> Result<bool, Fail>
 
 fn is_right(alloc: Global, row: &Row) -> Result<bool, Fail> {
     let input = input_of(alloc, row.input)?;
-    is_reported(alloc, &input, row)
+    let right = is_reported(alloc, &input, row);
+    drop(input);
+    right
 }
 
 /// The name of the first row whose schedule has other findings.

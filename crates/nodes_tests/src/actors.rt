@@ -154,7 +154,9 @@ fn come_to<R: Wait>(rt: &R, alloc: Global, input: &Input, capacity: u32) -> Resu
     requires { CanRun input.now }
 {
     let mut actors = actors_of(alloc, input, capacity)?;
-    rest_right(rt, alloc, &input.net, &mut actors)
+    let right = rest_right(rt, alloc, &input.net, &mut actors);
+    drop(actors);
+    right
 }
 
 /// Whether they do with links that hold one message, two and sixteen.
@@ -169,7 +171,9 @@ fn all_come_to<R: Wait>(rt: &R, alloc: Global, input: &Input) -> Result<bool, Fa
 
 fn deliver<R: Wait>(rt: &R, alloc: Global) -> Result<bool, Fail> {
     let input = runnable(alloc, THREE_PACKETS)?;
-    all_come_to(rt, alloc, &input)
+    let right = all_come_to(rt, alloc, &input);
+    drop(input);
+    right
 }
 
 /// However much a link holds, all packets are delivered and the snapshot is collected.

@@ -92,7 +92,9 @@ fn settled(alloc: Global, input: &Input) -> Result<(u64, u64, u64), Memory>
     requires { CanRun input.now }
 {
     let mut world = first_world(alloc, input)?;
-    settled_in(alloc, &input.net, &mut world)
+    let settled = settled_in(alloc, &input.net, &mut world);
+    drop(world);
+    settled
 }
 
 /// Whether the trace of a book with one choice is the number of its entries and their spellings.
@@ -126,7 +128,9 @@ fn called_on(alloc: Global, input: &Input) -> Result<(bool, (u64, u64, u64), boo
 
 fn called(alloc: Global) -> Result<(bool, (u64, u64, u64), bool), Fail> {
     let input = runnable(alloc, ONE_PACKET)?;
-    called_on(alloc, &input)
+    let called = called_on(alloc, &input);
+    drop(input);
+    called
 }
 
 /// Settling takes 36 turns: an issue, a Begin, an injecting and three that take the packet, two

@@ -113,15 +113,22 @@ fn are_told(alloc: Global, nodes: &[Node], turns: usize) -> Result<bool, Fail> {
 /// Whether those of a world have.
 fn ends_right(alloc: Global, world: World<Node>) -> Result<bool, Fail> {
     let (nodes, book) = world.into_book();
-    are_told(alloc, nodes.as_slice(), book.entries.len())
+    let told = are_told(alloc, nodes.as_slice(), book.entries.len());
+    drop(nodes);
+    told
 }
 
 fn comes_to(alloc: Global, input: &Input, looks_up: bool) -> Result<bool, Fail>
     requires { CanRun input.now }
 {
     let mut world = first_world(alloc, input)?;
-    run_all(alloc, &input.net, &mut world, looks_up)?;
-    ends_right(alloc, world)
+    match run_all(alloc, &input.net, &mut world, looks_up) {
+        Ok(()) => ends_right(alloc, world),
+        Err(fault) => {
+            drop(world);
+            Err(fault)
+        }
+    }
 }
 
 /// Whether it does where links are looked up before, and where they are not.
@@ -135,7 +142,9 @@ fn both_come_to(alloc: Global, input: &Input) -> Result<(bool, bool), Fail>
 
 fn two_in_flight(alloc: Global) -> Result<(bool, bool), Fail> {
     let input = runnable(alloc, THREE_PACKETS)?;
-    both_come_to(alloc, &input)
+    let both = both_come_to(alloc, &input);
+    drop(input);
+    both
 }
 
 /// Two packets are credited to the snapshot that the egress unit adopted before it took them.

@@ -83,7 +83,9 @@ fn answers_nothing(alloc: Global, input: &Input) -> Result<bool, Memory>
         return Ok(false);
     }
     let control = ValueControl::new(alloc, &input.net, 1, &input.snapshot)?;
-    Ok(control.value(4, 1).is_none())
+    let nothing = control.value(4, 1).is_none();
+    drop(control);
+    Ok(nothing)
 }
 
 /// The same of a run of an input, and whether a new control plane has no value.
@@ -93,12 +95,15 @@ fn found_of(alloc: Global, input: &Input) -> Result<((usize, usize, usize), bool
     let is_new = answers_nothing(alloc, input)?;
     let run = run_values(alloc, input)?;
     let (told, has_none) = found_in(&run);
+    drop(run);
     Ok((told, has_none, is_new))
 }
 
 fn found(alloc: Global) -> Result<((usize, usize, usize), bool, bool), Fail> {
     let input = runnable(alloc, TWO_SWITCHES)?;
-    found_of(alloc, &input)
+    let found = found_of(alloc, &input);
+    drop(input);
+    found
 }
 
 /// Each value is what the control plane of its unit's device answers, and no other does; none has

@@ -1,6 +1,6 @@
 // Calls over sources and sinks in memory, with faults at each.
 use crate::inputs::input_of;
-use crate::streams::{Streams, call_on, streams_of};
+use crate::streams::{Streams, call_on, left_by, streams_of};
 use sl_actor::FreeGate;
 use sl_app::one_thread;
 use std::alloc::{AllocError, Global};
@@ -96,7 +96,7 @@ pub fn is_told(streams: &Streams, status: u8, error: &str) -> bool {
 }
 
 /// A call, and what it leaves.
-#[derive(Drop)]
+#[derive(Clone, Copy)]
 struct Call<'a> {
     fails: (u64, u64, u64),
     status: u8,
@@ -106,14 +106,14 @@ struct Call<'a> {
     words: &'a str,
 }
 
-/// The call of a line.
-fn call_of(line: &str) -> Result<Call<'_>, Fail> {
-    let (head, words) = line.split_once(" =>").ok_or("no arrow")?;
-    let (fails, head) = head.split_once(" ").ok_or("no status")?;
-    let (status, head) = head.split_once(" ").ok_or("no error")?;
-    let (error, head) = head.split_once(" ").ok_or("no input")?;
-    let (input, book) = head.split_once(" ").ok_or("no book")?;
-    Ok(Call {
+/// The call of a line, where it has all its columns.
+fn call_of(line: &str) -> Option<Call<'_>> {
+    let (head, words) = line.split_once(" =>")?;
+    let (fails, head) = head.split_once(" ")?;
+    let (status, head) = head.split_once(" ")?;
+    let (error, head) = head.split_once(" ")?;
+    let (input, book) = head.split_once(" ")?;
+    Some(Call {
         fails: (fail(fails, 0), fail(fails, 1), fail(fails, 2)),
         status: digit(status, 0),
         error: error_of(error),
@@ -137,7 +137,15 @@ fn leaves_on<R: Threads + Wait + Sync>(
 /// Whether a call leaves what is told of it.
 fn leaves<R: Threads + Wait + Sync>(rt: &R, alloc: Global, call: &Call<'_>) -> Result<bool, Fail> {
     let mut streams = streams_of(alloc, call.input, call.fails)?;
-    Ok(leaves_on(rt, alloc, call, &mut streams)?)
+    let left = leaves_on(rt, alloc, call, &mut streams);
+    drop(streams);
+    Ok(left?)
+}
+
+/// Whether the call of a line does.
+fn is_right<R: Threads + Wait + Sync>(rt: &R, alloc: Global, line: &str) -> Result<bool, Fail> {
+    let call = call_of(line).ok_or("no call")?;
+    leaves(rt, alloc, &call)
 }
 
 /// The first line of the table that is not so.
@@ -147,7 +155,7 @@ fn wrong_line<'a, R: Threads + Wait + Sync>(
     table: &'a str,
 ) -> Result<Option<&'a str>, Fail> {
     for line in table.lines() {
-        if !leaves(rt, alloc, &call_of(line)?)? {
+        if !is_right(rt, alloc, line)? {
             return Ok(Some(line));
         }
     }
@@ -161,22 +169,29 @@ fn words_and_faults(rt: HostRuntime) -> Result<(), Fail> {
     Ok(())
 }
 
-/// Whether a call without a word tells how the program is used.
-fn tells_usage(alloc: Global, streams: &mut Streams) -> bool {
-    let ended = one_thread(
+/// Whether a call without a word on such streams tells how the program is used.
+fn tells_usage_on(alloc: Global, streams: &mut Streams) -> bool {
+    let left = left_by(one_thread(
         alloc,
         &[],
         &mut streams.input,
         &mut streams.out,
         &mut streams.err,
-    );
-    ended.status == 2 && ended.book.is_none() && is_told(streams, 2, USAGE)
+    ));
+    left == (2, false) && is_told(streams, 2, USAGE)
+}
+
+/// The same on new streams.
+fn tells_usage(alloc: Global) -> Result<bool, Fail> {
+    let mut streams = streams_of(alloc, "", (0, 0, 0))?;
+    let told = tells_usage_on(alloc, &mut streams);
+    drop(streams);
+    Ok(told)
 }
 
 /// The call that takes no handle.
 #[test]
 fn no_words(rt: HostRuntime) -> Result<(), Fail> {
-    let mut streams = streams_of(rt.alloc(), "", (0, 0, 0))?;
-    assert!(rt; tells_usage(rt.alloc(), &mut streams));
+    assert!(rt; tells_usage(rt.alloc())?);
     Ok(())
 }

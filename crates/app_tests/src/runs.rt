@@ -54,7 +54,9 @@ fn runs_on<R: Threads + Wait + Sync>(
 /// The same on new streams.
 fn runs_at<R: Threads + Wait + Sync>(rt: &R, alloc: Global, gate: &Meeting) -> Result<bool, Fail> {
     let mut streams = streams_of(alloc, NO_PACKET, (0, 0, 0))?;
-    Ok(runs_on(rt, alloc, gate, &mut streams)?)
+    let right = runs_on(rt, alloc, gate, &mut streams);
+    drop(streams);
+    Ok(right?)
 }
 
 /// How many of two actors see the other in its first round, and whether the report is right.
@@ -65,8 +67,10 @@ fn meet<R: Threads + Wait + Sync>(
     other: u32,
 ) -> Result<(u64, bool), Fail> {
     let gate = Meeting::new(one, other);
-    let right = runs_at(rt, alloc, &gate)?;
-    Ok((gate.met(), right))
+    let right = runs_at(rt, alloc, &gate);
+    let met = gate.met();
+    drop(gate);
+    Ok((met, right?))
 }
 
 /// Two actors are in their first round at the same moment, so they run in two threads.

@@ -71,7 +71,9 @@ fn step<R: Threads + Wait + Sync>(
     requires { 0 < most }
 {
     let mut streams = short_streams(alloc, most, fail)?;
-    Ok(step_on(rt, alloc, &mut streams)?)
+    let left = step_on(rt, alloc, &mut streams);
+    drop(streams);
+    Ok(left?)
 }
 
 /// Whether a call left this status and a book, and wrote so many bytes of a report.
@@ -90,16 +92,36 @@ fn leaves<R: Threads + Wait + Sync>(
     written: usize,
 ) -> Result<bool, Fail> {
     let left = step(rt, alloc, 1, fail)?;
-    Ok(is_right(&left, status, report, written))
+    let right = is_right(&left, status, report, written);
+    drop(left);
+    Ok(right)
 }
 
-/// A report that is written byte by byte is the same, and of one whose hundredth byte fails the
-/// first ninety-nine stand.
+/// Whether a report that is written byte by byte is this one, and of one whose hundredth byte fails
+/// the first ninety-nine stand.
+fn leave_bytes<R: Threads + Wait + Sync>(
+    rt: &R,
+    alloc: Global,
+    report: &[u8],
+) -> Result<(bool, bool), Fail> {
+    let whole = leaves(rt, alloc, 0, 0, report, report.len())?;
+    let front = leaves(rt, alloc, 100, 5, report, 99)?;
+    Ok((whole, front))
+}
+
+/// The same of the report that is written at once.
+fn leave_bytes_of_report<R: Threads + Wait + Sync>(
+    rt: &R,
+    alloc: Global,
+) -> Result<(bool, bool), Fail> {
+    let whole = step(rt, alloc, 4096, 0)?;
+    let right = leave_bytes(rt, alloc, whole.out.as_slice());
+    drop(whole);
+    right
+}
+
 #[test]
 fn one_byte_at_a_time(rt: HostRuntime) -> Result<(), Fail> {
-    let whole = step(&rt, rt.alloc(), 4096, 0)?;
-    let report = whole.out.as_slice();
-    assert!(rt; leaves(&rt, rt.alloc(), 0, 0, report, report.len())?);
-    assert!(rt; leaves(&rt, rt.alloc(), 100, 5, report, 99)?);
+    assert_eq!(rt; leave_bytes_of_report(&rt, rt.alloc())?, (true, true));
     Ok(())
 }

@@ -1,6 +1,6 @@
 // The words and the streams of a call, and the call.
 use sl_actor::Gate;
-use sl_app::speedlight;
+use sl_app::{Ended, speedlight};
 use sl_io::{MemorySink, MemorySource, Sink, Source};
 use std::alloc::{AllocError, Global};
 use std::sync::Wait;
@@ -28,22 +28,52 @@ fn sink(alloc: Global, fail: u64) -> Result<MemorySink, Fail> {
 /// The streams of a call with this input, where the read, the write and the write of errors of these
 /// numbers fail; none does at 0.
 pub fn streams_of(alloc: Global, text: &str, fails: (u64, u64, u64)) -> Result<Streams, Fail> {
-    Ok(Streams {
-        input: source(alloc, text, fails.0)?,
-        out: sink(alloc, fails.1)?,
-        err: sink(alloc, fails.2)?,
-    })
+    let input = source(alloc, text, fails.0)?;
+    let out = match sink(alloc, fails.1) {
+        Ok(out) => out,
+        Err(fault) => {
+            drop(input);
+            return Err(fault);
+        }
+    };
+    match sink(alloc, fails.2) {
+        Ok(err) => Ok(Streams { input, out, err }),
+        Err(fault) => {
+            drop(input);
+            drop(out);
+            Err(fault)
+        }
+    }
+}
+
+/// Adds the words of a line, of which `''` is the empty one.
+fn add_words(alloc: Global, words: &mut Vec<String>, line: &str) -> Result<(), AllocError> {
+    for word in line.split(" ") {
+        if !word.is_empty() {
+            let word = if word == "''" { "" } else { word };
+            words.push(String::from_str(alloc, word)?)?;
+        }
+    }
+    Ok(())
 }
 
 /// The words of a line.
 pub fn words_in(alloc: Global, line: &str) -> Result<Vec<String>, AllocError> {
     let mut words = Vec::new(alloc);
-    for word in line.split(" ") {
-        if !word.is_empty() {
-            words.push(String::from_str(alloc, word)?)?;
+    match add_words(alloc, &mut words, line) {
+        Ok(()) => Ok(words),
+        Err(fault) => {
+            drop(words);
+            Err(fault)
         }
     }
-    Ok(words)
+}
+
+/// What a call left: the status, and whether there is a book.
+pub fn left_by(ended: Ended) -> (u8, bool) {
+    let left = (ended.status, ended.book.is_some());
+    drop(ended);
+    left
 }
 
 /// Calls the program with the words of a line: the status, and whether there is a book.
@@ -57,8 +87,9 @@ pub fn call<R: Threads + Wait + Sync, I: Source, O: Sink, E: Sink, G: Gate + Syn
     gate: &G,
 ) -> Result<(u8, bool), AllocError> {
     let words = words_in(alloc, line)?;
-    let ended = speedlight(rt, alloc, words.as_slice(), input, out, err, gate);
-    Ok((ended.status, ended.book.is_some()))
+    let left = left_by(speedlight(rt, alloc, words.as_slice(), input, out, err, gate));
+    drop(words);
+    Ok(left)
 }
 
 /// The same on streams in memory.

@@ -104,12 +104,17 @@ impl ValueControl {
         ensures ready { IfOk result (λ c. c.ready ≡ None) }
     {
         let control = Control::new(alloc, net, device, snapshot)?;
-        let kept = kept_units(alloc, net, control_of(net, device))?;
-        Ok(ValueControl {
-            control,
-            kept,
-            prepared: None,
-        })
+        match kept_units(alloc, net, control_of(net, device)) {
+            Ok(kept) => Ok(ValueControl {
+                control,
+                kept,
+                prepared: None,
+            }),
+            Err(fault) => {
+                drop(control);
+                Err(fault)
+            }
+        }
     }
 
     /// The value that is kept of a unit, by its place among the units, for a number. None where the

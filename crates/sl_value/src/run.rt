@@ -48,8 +48,13 @@ fn finished_world(alloc: Global, input: &Input) -> Result<(ValueWorld<'_>, u64),
     ensures input { IfOk result (λ r. r.0.input ≡ input.now) }
 {
     let mut world = ValueWorld::new(alloc, input)?;
-    let front = run_script(alloc, input, &mut world)?;
-    Ok((world, front))
+    match run_script(alloc, input, &mut world) {
+        Ok(front) => Ok((world, front)),
+        Err(fault) => {
+            drop(world);
+            Err(fault)
+        }
+    }
 }
 
 /// Adds a node that is a control plane.
@@ -58,10 +63,13 @@ fn add_control(controls: &mut Vec<ValueControl>, node: ValueNode) -> Result<(), 
         (map (λ c. c.state) controls.new.items ≡ map (λ c. c.state) controls.old.items
         ++ controls_in (value_node_state node ∷ [])) }
 {
-    if let Node::Control(control) = node {
-        controls.push(control)?;
+    match node {
+        Node::Control(control) => Ok(controls.push(control)?),
+        other => {
+            drop(other);
+            Ok(())
+        }
     }
-    Ok(())
 }
 
 /// The control planes among the nodes, in order.
@@ -73,8 +81,16 @@ fn controls(alloc: Global, mut nodes: Vec<ValueNode>) -> Result<Vec<ValueControl
     nodes.reverse();
     let mut made = Vec::new(alloc);
     while let Some(node) = nodes.pop() {
-        add_control(&mut made, node)?;
+        match add_control(&mut made, node) {
+            Ok(()) => {}
+            Err(fault) => {
+                drop(made);
+                drop(nodes);
+                return Err(fault);
+            }
+        }
     }
+    drop(nodes);
     Ok(made)
 }
 
@@ -108,9 +124,21 @@ pub fn run_values(alloc: Global, input: &Input) -> Result<ValueRun, Memory>
     worlds_are_in_window();
     let (world, front) = finished_world(alloc, input)?;
     world.is_run();
-    let list = list(alloc, &world, world.observer(), input.snapshot.count)?;
+    let list = match list(alloc, &world, world.observer(), input.snapshot.count) {
+        Ok(list) => list,
+        Err(fault) => {
+            drop(world);
+            return Err(fault);
+        }
+    };
     let actors = input.net.actors().len() as u32;
-    let (sent, delivered) = count_traffic(alloc, &world, actors)?;
+    let (sent, delivered) = match count_traffic(alloc, &world, actors) {
+        Ok(counts) => counts,
+        Err(fault) => {
+            drop(world);
+            return Err(fault);
+        }
+    };
     let (nodes, book) = world.into_parts();
     let controls = controls(alloc, nodes)?;
     Ok(ValueRun {

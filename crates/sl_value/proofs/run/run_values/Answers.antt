@@ -42,7 +42,7 @@ pub returns-clause-list : goal.returns-clause-list
 returns-clause-list c =
     let i = c.args.input.now in
     let w = c.in_ok-world.world in
-    c.in_ok-list.ensures
+    c.in-Ok.ensures
     ∙ ap (λ (j : Input). map (value_finding j.net (world (setup_of j) (losses j) (schedule_of w.scene.book))) (range_with_len 1 c.input.inside.snapshot.count)) c.in_ok-world.ensures.input
     ∙ ap (λ (j : Input). map (value_finding i.net (world (setup_of i) (losses i) (schedule_of w.scene.book))) (range_with_len 1 j.snapshot.count)) c.input.view_is
     ∙ ap (λ (b : List Entry). map (value_finding i.net (world (setup_of i) (losses i) (schedule_of b))) (range_with_len 1 i.snapshot.count)) (sym c.into_parts-nodes.ensures.book)
@@ -54,12 +54,12 @@ left of i tells before after told here is same = here ∙ ap of is ∙ ap (λ (b
 
 pub returns-clause-sent : goal.returns-clause-sent
 returns-clause-sent c = let i = c.args.input.now in let w = c.in_ok-world.world in let e = c.in_ok-world.ensures in
-    left (λ f. f.sent) i _ w.scene.book _ _ c.in_ok-sent.ensures.sent
+    left (λ f. f.sent) i _ w.scene.book _ _ c.in-Ok-count_traffic.ensures.sent
     (c.nodes_tell_findings.ensures.told i (losses i) (plain_scene w.scene) c.observer.result.now.state e.stands c.observer.ensures e.few e.book.ended.finished) c.into_parts-nodes.ensures.book
 
 pub returns-clause-delivered : goal.returns-clause-delivered
 returns-clause-delivered c = let i = c.args.input.now in let w = c.in_ok-world.world in let e = c.in_ok-world.ensures in
-    left (λ f. f.delivered) i _ w.scene.book _ _ c.in_ok-sent.ensures.delivered
+    left (λ f. f.delivered) i _ w.scene.book _ _ c.in-Ok-count_traffic.ensures.delivered
     (c.nodes_tell_findings.ensures.told i (losses i) (plain_scene w.scene) c.observer.result.now.state e.stands c.observer.ensures e.few e.book.ended.finished) c.into_parts-nodes.ensures.book
 
 pub returns-clause-answered : goal.returns-clause-answered
@@ -70,13 +70,13 @@ returns-clause-answered c =
     let es = schedule_of w.scene.book in
     let e = c.in_ok-world.ensures in
     let run : IsValueRun i w.scene = subst (λ (j : Input). IsValueRun j w.scene) e.input c.is_run.ensures in
-    let list : c.in_ok-list.list ≡ map (value_finding i.net (world s (losses i) es)) (range_with_len 1 i.snapshot.count) =
-    c.in_ok-list.ensures
+    let list : c.in-Ok.list ≡ map (value_finding i.net (world s (losses i) es)) (range_with_len 1 i.snapshot.count) =
+    c.in-Ok.ensures
     ∙ ap (λ (j : Input). map (value_finding j.net (world (setup_of j) (losses j) es)) (range_with_len 1 c.input.inside.snapshot.count)) e.input
     ∙ ap (λ (j : Input). map (value_finding i.net (world s (losses i) es)) (range_with_len 1 j.snapshot.count)) c.input.view_is in
     let controls : map (λ x. x.state) c.in_ok-controls.controls.items ≡ controls_in w.scene.states =
     c.in_ok-controls.ensures ∙ ap controls_in c.into_parts-nodes.ensures.nodes in
-    subst (λ (cs : List ValueState). All (IsAnswered i.net cs) c.in_ok-list.list) (sym controls)
+    subst (λ (cs : List ValueState). All (IsAnswered i.net cs) c.in-Ok.list) (sym controls)
     (subst (All (IsAnswered i.net (controls_in w.scene.states))) (sym list)
     (answered i w.scene (c.nets_are_wired.ensures i.net c.requires.net) e.stands
     (c.worlds_are_in_window.ensures s (losses i) es c.requires.net)

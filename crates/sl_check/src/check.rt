@@ -42,7 +42,9 @@ fn is_report(alloc: Global, input: &Input, world: &World<Node>, text: &[u8]) -> 
         return Err(Memory);
     }
     let found = findings(alloc, input, world)?;
-    let report = report_bytes(alloc, input, &found)?;
+    let report = report_bytes(alloc, input, &found);
+    drop(found);
+    let report = report?;
     Ok(report.as_slice() == text)
 }
 
@@ -82,5 +84,7 @@ pub fn check_bytes(alloc: Global, bytes: &[u8]) -> Result<Checked, CheckFault>
         return Err(CheckFault::NoMark);
     };
     let input = read_input(alloc, front)?;
-    Ok(check_claim(alloc, &input, claim)?)
+    let checked = check_claim(alloc, &input, claim);
+    drop(input);
+    Ok(checked?)
 }

@@ -33,9 +33,13 @@ pub fn serve_poll(alloc: Global, input: &Input, start: u64, gap: u64) -> Result<
     ensures status { IfOk result (λ s. s.status ≡ 0) }
 {
     let ran = finish_stepped(alloc, input)?;
-    let (_nodes, book) = ran.world.into_book();
+    let (nodes, book) = ran.world.into_book();
+    drop(nodes);
     let schedule = schedule_of(alloc, book.entries.as_slice())?;
-    let polled = poll_of(alloc, input, schedule.as_slice(), start, gap)?;
-    let text = polled_bytes(alloc, &input.net, &polled)?;
-    Ok(text_of_run(book, ran.front, text))
+    let polled = poll_of(alloc, input, schedule.as_slice(), start, gap);
+    drop(schedule);
+    let polled = polled?;
+    let text = polled_bytes(alloc, &input.net, &polled);
+    drop(polled);
+    Ok(text_of_run(book, ran.front, text?))
 }

@@ -111,7 +111,13 @@ fn report_run(alloc: Global, input: &Input, ran: FinishedRun, trace: bool) -> Re
     ensures front { IfOk result (λ s. s.front ≡ ran.front) }
 {
     legal_books_are_choices();
-    let mut text = report_of(alloc, input, &ran.world)?;
+    let mut text = match report_of(alloc, input, &ran.world) {
+        Ok(text) => text,
+        Err(fault) => {
+            drop(ran);
+            return Err(fault);
+        }
+    };
     let (nodes, book) = ran.world.into_book();
     add_trace_if(alloc, &mut text, &input.net, &book, trace)?;
     Ok(Served {
@@ -161,6 +167,7 @@ pub fn serve_routes(alloc: Global, input: &Input) -> Result<Served, Memory>
     ensures status { IfOk result (λ s. s.status ≡ 0) }
 {
     let routes = Routes::make(alloc, &input.net)?;
-    let text = routes_bytes(alloc, &input.net, &routes)?;
-    Ok(only_text(0, text))
+    let text = routes_bytes(alloc, &input.net, &routes);
+    drop(routes);
+    Ok(only_text(0, text?))
 }

@@ -19,6 +19,10 @@ pub fn serve_values(alloc: Global, input: &Input) -> Result<Served, Memory>
     ensures status { IfOk result (λ s. s.status ≡ 0) }
 {
     let run = run_values(alloc, input)?;
-    let text = values_bytes(alloc, input, &run)?;
-    Ok(text_of_run(run.book, run.front, text))
+    let text = values_bytes(alloc, input, &run);
+    drop(run.list);
+    drop(run.sent);
+    drop(run.delivered);
+    drop(run.controls);
+    Ok(text_of_run(run.book, run.front, text?))
 }

@@ -7,7 +7,7 @@ ghost use Rattle.sl_control.specs.Wires.{control_of, first_control, control_coun
 
 use crate::blanks::Blanks;
 use crate::known::Known;
-use crate::units::{answer_all, ask_all, ask_one, initiation, is_swept, put_inits};
+use crate::units::{answer_dump, ask_all, ask_one, initiation, is_swept, put_inits};
 use crate::wires::{control_of, done_of, inits_of, units_of};
 use sl_ids::Width;
 use sl_machine::{Machine, Memory, Outputs};
@@ -149,7 +149,7 @@ impl Control {
         ensures spent { self.new.ready ≡ None }
     {
         self.prepared = None;
-        answer_all(
+        answer_dump(
             &mut self.units,
             self.width,
             self.ring,

@@ -200,7 +200,7 @@ fn answer_one(
 }
 
 /// What a dump by this choice does to the units.
-pub fn answer_all(
+pub fn answer_dump(
     units: &mut Vec<Known>,
     width: Width,
     ring: u16,

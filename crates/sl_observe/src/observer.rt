@@ -10,7 +10,7 @@ ghost use Rattle.sl_observe.specs.Kept.{Acted};
 use crate::floors::Floors;
 use crate::spans::Span;
 use crate::unit::{Collected, Seen};
-use crate::units::{hear, list_units, no_shorts, prepare};
+use crate::units::{list_units, no_shorts, prepare, take_done};
 use sl_machine::{Machine, Memory, Outputs};
 use sl_net::{Net, Snapshot};
 use sl_saves::Saved;
@@ -197,7 +197,7 @@ impl Machine for Observer {
         self.prepared = None;
         match m {
             Msg::Done(done) => {
-                hear(
+                take_done(
                     &mut self.units,
                     &mut self.floors,
                     &mut self.shorts,

@@ -160,7 +160,7 @@ impl Collected {
     }
 
     /// Takes a Done that came from a device.
-    pub fn hear(&mut self, ring: u16, link: u32, done: &Done)
+    pub fn collect(&mut self, ring: u16, link: u32, done: &Done)
         requires { self.old.state.device ≡ link → ring ≤ self.old.room }
         ensures state { self.new.state ≡ after_done ring link done.now self.old.state }
         ensures same { (self.new.state.device ≡ link → ⊥) → self.new ≡ self.old }

@@ -154,7 +154,7 @@ pub fn prepare(
     }
 }
 
-fn hear_at(units: &mut Vec<Collected>, place: usize, ring: u16, link: u32, done: &Done)
+fn collect_at(units: &mut Vec<Collected>, place: usize, ring: u16, link: u32, done: &Done)
     requires place { place < length units.old.items }
     requires room { HasRoom ring link units.old.items }
     ensures set { states units.new.items ≡ slice_set (states units.old.items) place
@@ -166,7 +166,7 @@ fn hear_at(units: &mut Vec<Collected>, place: usize, ring: u16, link: u32, done:
         → collected_at units.new.items k ≡ collected_at units.old.items k }
 {
     let unit = &mut units[place];
-    unit.hear(ring, link, done);
+    unit.collect(ring, link, done);
 }
 
 fn floor_at(units: &[Collected], place: usize) -> u64
@@ -179,7 +179,7 @@ fn floor_at(units: &[Collected], place: usize) -> u64
 
 /// Takes a Done that came from a device, keeps the floors of the units, and notes which unit of
 /// the device may lack room from then on.
-pub fn hear(
+pub fn take_done(
     units: &mut Vec<Collected>,
     floors: &mut Floors,
     shorts: &mut Vec<Option<usize>>,
@@ -199,7 +199,7 @@ pub fn hear(
 {
     let place = done.unit as usize;
     if place < units.len() {
-        hear_at(units, place, ring, link, done);
+        collect_at(units, place, ring, link, done);
         floors.set(place, floor_at(units.as_slice(), place));
         shorts[link as usize] = Some(place);
     }

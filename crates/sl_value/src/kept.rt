@@ -26,7 +26,7 @@ impl Kept {
         Ok(self.values.reserve(room as usize)?)
     }
 
-    /// Adds the values of the numbers that a report brings.
+    /// Adds the values of the numbers that a Done brings.
     fn add(&mut self, view: &View, done: &Done)
         requires room { HasRoom (length done.now.rows) self.old }
         requires at { view.now.at < length view.now.slots }
@@ -40,8 +40,8 @@ impl Kept {
         }
     }
 
-    /// Keeps the values of the numbers that a report brings, where it is one of this unit.
-    fn hear(&mut self, view: &View, done: &Done)
+    /// Keeps the values of the numbers that a Done brings, where it is one of this unit.
+    fn take_values(&mut self, view: &View, done: &Done)
         requires room { HasRoom (length done.now.rows) self.old }
         requires at { view.now.at < length view.now.slots }
         requires rows { AllByRecursion (λ r. CanRead view.now done.now.id r.0) done.now.rows }
@@ -63,7 +63,7 @@ impl Kept {
     }
 }
 
-/// The report that a message is.
+/// The Done that a message is.
 fn done_in(m: &Msg) -> Option<&Done>
     ensures { option_map (λ d. d.now) result ≡ done_in m.now }
 {
@@ -96,7 +96,7 @@ pub fn make_room(kept: &mut Vec<Kept>, room: u16) -> Result<(), Memory>
     Ok(())
 }
 
-/// Keeps the values of the numbers that a report brings.
+/// Keeps the values of the numbers that a Done brings.
 pub fn keep(kept: &mut Vec<Kept>, ring: u16, view: &View, done: &Done)
     requires room { AllByRecursion (HasRoom ring) kept.old.items }
     requires read { CanReadAll ring view.now done.now }
@@ -104,7 +104,7 @@ pub fn keep(kept: &mut Vec<Kept>, ring: u16, view: &View, done: &Done)
         (map kept_view kept.old.items) }
 {
     for i in 0..kept.len() {
-        kept[i].hear(view, done);
+        kept[i].take_values(view, done);
     }
 }
 

@@ -4,11 +4,11 @@
 mod book;
 mod laws;
 mod line;
-mod lines;
 mod links;
 mod looked;
 mod machines;
 mod make;
+mod marked_lines;
 mod marks;
 mod places;
 mod world;

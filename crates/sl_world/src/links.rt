@@ -11,9 +11,9 @@ ghost use Rattle.sl_world.specs.Places.{place_of};
 ghost use Rattle.sl_world.specs.Looked.{HasRuns, step_at};
 
 use crate::line::Line;
-use crate::lines::Lines;
 use crate::looked::{Looked, Step};
 use crate::make::{copy_wiring, incoming_pairs, outgoing_pairs};
+use crate::marked_lines::MarkedLines;
 use crate::places::{Places, place_in};
 use sl_machine::{Memory, Outputs, Wiring};
 use std::alloc::Global;
@@ -25,7 +25,7 @@ pub struct Links<M> {
     wiring: Wiring,
     ins: Places,
     outs: Places,
-    lines: Lines<M>,
+    lines: MarkedLines<M>,
     // whether each outgoing link of an actor is known to have room for a message
     roomy: Vec<bool>,
 }
@@ -54,7 +54,7 @@ impl<M: Drop> Links<M> {
         let out_pairs = outgoing_pairs(alloc, wiring.links.as_slice())?;
         let outs = Places::make(alloc, wiring.out_counts.as_slice(), out_pairs.as_slice())?;
         let wiring = copy_wiring(alloc, wiring)?;
-        let lines = Lines::new(alloc, lines)?;
+        let lines = MarkedLines::new(alloc, lines)?;
         let roomy = vec![in alloc; false; wiring.in_counts.len()]?;
         Ok(Links {
             wiring,
@@ -229,7 +229,7 @@ impl<M: Drop> Links<M> {
 #[cold]
 #[inline(never)]
 fn make_room_at<M: Drop>(
-    lines: &mut Lines<M>,
+    lines: &mut MarkedLines<M>,
     outs: &Places,
     actor: usize,
     count: u32,
@@ -254,7 +254,7 @@ fn make_room_at<M: Drop>(
 /// these links has room for one more. No two go to one link, so their order doesn't matter.
 #[inline(always)]
 fn put_at_places<M: Drop>(
-    lines: &mut Lines<M>,
+    lines: &mut MarkedLines<M>,
     outs: &Places,
     actor: usize,
     out: &mut Outputs<M>,

@@ -17,9 +17,9 @@ loop-i-preserved c =
     let low : i < length c.loop-i.kept.items = omega (arith, inv.len) in
     let under : i < length us = omega (arith, inv.len, length-map c.args.kept.now.items kept_view) in
     let there : kept_view x ≡ get_or (map kept_view c.loop-i.kept.items) i (kept_view x) = ap kept_view c.index_mut.ensures.value ∙ sym (get_or-map kept_view c.loop-i.kept.items i x (kept_view x) low) in record {
-      kept = map-set kept_view c.loop-i.kept.items i c.hear.new.self ∙ ap (slice_set (map kept_view c.loop-i.kept.items) i) c.hear.ensures
+      kept = map-set kept_view c.loop-i.kept.items i c.take_values.new.self ∙ ap (slice_set (map kept_view c.loop-i.kept.items) i) c.take_values.ensures
           ∙ map_over_more f us (map kept_view c.loop-i.kept.items) i (kept_view x) under inv.kept there;
-      room = subst (λ n. AllByRecursion (HasRoom c.args.ring) (drop n (slice_set c.loop-i.kept.items i c.hear.new.self))) (sym (add-one i))
-          (all-after (HasRoom c.args.ring) c.loop-i.kept.items i c.hear.new.self low inv.room);
-      len = length-set c.loop-i.kept.items i c.hear.new.self ∙ inv.len;
+      room = subst (λ n. AllByRecursion (HasRoom c.args.ring) (drop n (slice_set c.loop-i.kept.items i c.take_values.new.self))) (sym (add-one i))
+          (all-after (HasRoom c.args.ring) c.loop-i.kept.items i c.take_values.new.self low inv.room);
+      len = length-set c.loop-i.kept.items i c.take_values.new.self ∙ inv.len;
     }

@@ -15,12 +15,12 @@ use std::marker::Model;
 /// The links. Those with a message are marked, so that many links are looked at fast. The mark past
 /// the last link stands for actions and is always set.
 #[derive(Drop)]
-pub struct Lines<M> {
+pub struct MarkedLines<M> {
     lines: Vec<Line<M>>,
     filled: Marks,
 }
 
-impl<M> Model for Lines<M> {
+impl<M> Model for MarkedLines<M> {
     ghost use Rattle.std.specs.Prelude.{List};
     ghost use Rattle.sl_world.specs.LineView.{LineView};
     ghost use Rattle.sl_world.specs.Marks.{IsMarked};
@@ -32,13 +32,13 @@ impl<M> Model for Lines<M> {
     ghost invariant = { λ a. IsMarked a.lines.items a.filled };
 }
 
-impl<M: Drop> Lines<M> {
+impl<M: Drop> MarkedLines<M> {
     /// The links of a list.
-    pub fn new(alloc: Global, lines: Vec<Line<M>>) -> Result<Lines<M>, Memory>
+    pub fn new(alloc: Global, lines: Vec<Line<M>>) -> Result<MarkedLines<M>, Memory>
         ensures { IfOk result (λ l. l ≡ lines.items) }
     {
         let filled = mark_lines(alloc, lines.as_slice())?;
-        Ok(Lines { lines, filled })
+        Ok(MarkedLines { lines, filled })
     }
 
     /// Whether nothing is on a link.

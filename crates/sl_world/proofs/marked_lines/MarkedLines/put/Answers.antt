@@ -3,7 +3,7 @@ use Rattle.sl_world.specs.Scene.{line_put, put_at}
 use Rattle.sl_world.specs.Mesh.{lines_of}
 use Rattle.sl_world.proofs.RoomLemmas.{lines_of-put}
 use Rattle.sl_world.proofs.MarkLemmas.{below_too, marked-written}
-use Rattle.sl_world.proofs.lines.Lines.put.Goals as goal
+use Rattle.sl_world.proofs.marked_lines.MarkedLines.put.Goals as goal
 
 pub invariant_of-self : goal.invariant_of-self
 invariant_of-self g c =

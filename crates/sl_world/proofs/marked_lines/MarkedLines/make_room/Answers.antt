@@ -2,7 +2,7 @@ use Rattle.std.proofs.Common.{◌≡◌, ◌∙◌, set, ap}
 use Rattle.sl_world.specs.Mesh.{lines_of}
 use Rattle.sl_world.proofs.RoomLemmas.{lines_of-same}
 use Rattle.sl_world.proofs.MarkLemmas.{marked-same}
-use Rattle.sl_world.proofs.lines.Lines.make_room.Goals as goal
+use Rattle.sl_world.proofs.marked_lines.MarkedLines.make_room.Goals as goal
 
 pub invariant_of-self : goal.invariant_of-self
 invariant_of-self g c =

@@ -3,7 +3,7 @@ use Rattle.sl_world.specs.Mesh.{lines_of, KeepsSomeRoom}
 use Rattle.sl_world.proofs.MeshLemmas.{taken_from}
 use Rattle.sl_world.proofs.MarkLemmas.{below_too, marked-written}
 use Rattle.sl_world.proofs.RoomLemmas.{some_room_set}
-use Rattle.sl_world.proofs.lines.Lines.take.Goals as goal
+use Rattle.sl_world.proofs.marked_lines.MarkedLines.take.Goals as goal
 
 pub invariant_of-self : goal.invariant_of-self
 invariant_of-self g c =

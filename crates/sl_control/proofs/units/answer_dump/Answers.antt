@@ -2,7 +2,7 @@ use Rattle.std.proofs.Common.{◌++◌, ap, sym, ◌∙◌, append-nil}
 use Rattle.std.specs.Prelude.{slice_set}
 use Rattle.sl_control.specs.declared.units.Sent.TheVariants.{Dump}
 use Rattle.sl_control.proofs.EachUnit.{dump-turn, found-turn, found-no-turn}
-use Rattle.sl_control.proofs.units.answer_all.Goals as goal
+use Rattle.sl_control.proofs.units.answer_dump.Goals as goal
 
 pub returns-in-Some-clause-units : goal.returns-in-Some-clause-units
 returns-in-Some-clause-units c =

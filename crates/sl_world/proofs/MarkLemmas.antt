@@ -1,9 +1,9 @@
 -- Marks of the links that have a message.
-use Rattle.std.proofs.Common.{◌≡◌, ◌≢◌, ◌*◌, ℕ, ◌+◌, ◌<◌, ◌↔◌, List, [], length, get_or, set, refl, sym, ap, ◌∙◌, arith, Bool, true, false, inl, inr}
+use Rattle.std.proofs.Common.{◌≡◌, ◌≢◌, ◌*◌, ℕ, ◌+◌, ◌<◌, ◌↔◌, List, [], ◌∷◌, ◌++◌, length, get_or, set, refl, sym, ap, ◌∙◌, arith, Bool, true, false, inl, inr}
 use Rattle.std.specs.Prelude.{IsTrue, not, if◌then◌else◌}
 use Rattle.std.proofs.lemmas.Bool.{cases_eq}
 use Rattle.std.proofs.lemmas.List.{map-set, length-set, get_or-set_same, get_or-set_other}
-use Rattle.sl_world.specs.Scene.{line_at, empty_line}
+use Rattle.sl_world.specs.Scene.{line_at, line_put, empty_line}
 use Rattle.sl_world.specs.LineView.{LineView}
 use Rattle.sl_world.specs.Mesh.{lines_of}
 use Rattle.sl_world.specs.Marks.{IsMarked, mark_at}
@@ -48,6 +48,49 @@ below_too xs ys k is low = omega (arith, ap length is, low)
 -- a link of a list that was read is written, and its mark
 pub marked-written : {M : Type 0} (views now : List (LineView M)) (old words : List ℕ) (k : ℕ) (new : LineView M) (empty : Bool) → views ≡ now → k < length now → IsMarked views old → IsWritten old words k (not empty) → (IsTrue empty ↔ (new.line.queue ≡ [])) → IsMarked (set views k new) words
 marked-written views now old words k new empty is low marked written holds = marked-set views old words k new empty marked written (below_too views now k is low) holds
+
+-- one link is written, and has a message only if it had one
+pub marked-kept : {M : Type 0} (views now : List (LineView M)) (words : List ℕ) (k : ℕ) (e new : LineView M) → views ≡ now → k < length now → IsMarked views words → e ≡ get_or views k e → ((e.line.queue ≡ []) ↔ (new.line.queue ≡ [])) → IsMarked (set views k new) words
+marked-kept views now words k e new is-now low-now marked read both =
+    let low : k < length views = below_too views now k is-now low-now in
+    let long : length (set views k new) ≡ length views = length-set views k new in
+    let was : line_at (lines_of views) k ≡ e.line = line_is views k e low read in
+    record {
+      room = omega (arith, marked.room, long);
+      is = λ j h.
+          elim (cases_eq j k) [
+            | inl same ↦
+                let here : line_at (lines_of (set views k new)) k ≡ new.line = line_is (set views k new) k new (omega (arith, low, long)) (sym (get_or-set_same views k new new low)) in
+                rw (same, here) (λ n. both.0 (ap (λ l. l.queue) (sym was) ∙ (marked.is k low).0 n), λ q. (marked.is k low).1 (ap (λ l. l.queue) was ∙ both.1 q))
+            | inr other ↦
+                let there : line_at (lines_of (set views k new)) j ≡ line_at (lines_of views) j = ap (λ ls. line_at ls j) (map-set (λ v. v.line) views k new) ∙ get_or-set_other (lines_of views) k j new.line empty_line other in
+                rw there (marked.is j (omega (arith, h, long)))
+          ];
+      end = ap (mark_at words) long ∙ marked.end;
+    }
+
+-- a message was put, and none is there: none was there before
+was-empty : {M : Type 0} (loses : Bool) (queue : List M) (m : M) → (if loses then queue else queue ++ m ∷ []) ≡ [] → queue ≡ []
+was-empty true queue m e = e
+was-empty false [] m e = refl
+was-empty false (x ∷ xs) m e = cc
+
+-- a message was put on one link, and nothing is there
+pub marked-lost : {M : Type 0} (views now : List (LineView M)) (words : List ℕ) (k : ℕ) (e new : LineView M) (m : M) (empty : Bool) → views ≡ now → k < length now → IsMarked views words → e ≡ get_or views k e → new.line ≡ line_put e.line m → empty ≡ true → (IsTrue empty ↔ (new.line.queue ≡ [])) → IsMarked (set views k new) words
+marked-lost views now words k e new m empty is low marked read put none holds =
+    let gone : new.line.queue ≡ [] = holds.0 none in
+    marked-kept views now words k e new is low marked read (λ _. gone, λ _. was-empty _ e.line.queue m (ap (λ l. l.queue) (sym put) ∙ gone))
+
+-- a message was taken from one link, and another is there
+pub marked-left : {M : Type 0} (views now : List (LineView M)) (words : List ℕ) (k : ℕ) (e new : LineView M) (m : M) (empty : Bool) → views ≡ now → k < length now → IsMarked views words → e ≡ get_or views k e → e.line.queue ≡ m ∷ new.line.queue → empty ≡ false → (IsTrue empty ↔ (new.line.queue ≡ [])) → IsMarked (set views k new) words
+marked-left views now words k e new m empty is low marked read queue some holds =
+    marked-kept views now words k e new is low marked read (λ q. absurd (some-is-none (sym queue ∙ q)), λ q. absurd (false-is-true (sym some ∙ holds.1 q)))
+  where
+    some-is-none : (m ∷ new.line.queue) ≡ [] → ⊥
+    some-is-none h = cc
+
+    false-is-true : false ≡ true → ⊥
+    false-is-true h = cc
 
 -- a change that leaves what is on the links
 pub marked-same : {M : Type 0} (old new : List (LineView M)) (words : List ℕ) → lines_of new ≡ lines_of old → IsMarked old words → IsMarked new words

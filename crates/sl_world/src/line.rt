@@ -9,6 +9,7 @@ use sl_machine::Memory;
 use std::alloc::Global;
 use std::collections::VecDeque;
 use std::marker::Model;
+use std::mem;
 
 /// From so many messages on a queue is large: it grows by less, and gives back memory that it no
 /// longer needs.
@@ -115,6 +116,7 @@ impl<M: Drop> Line<M> {
         };
         if is_lost {
             self.lost = self.lost.saturating_add(1);
+            drop(m);
         } else if self.first.is_none() {
             self.first = Some(m);
         } else {
@@ -131,13 +133,13 @@ impl<M: Drop> Line<M> {
         ensures line { self.new.line ≡ without_first self.old.line self.new.line.queue }
         ensures room { 0 < self.old.room → 0 < self.new.room }
     {
-        match self.first.take() {
-            Some(m) => {
-                if !self.rest.is_empty() {
-                    self.first = take_next(&mut self.rest);
-                }
-                m
-            }
+        let next = if self.rest.is_empty() {
+            None
+        } else {
+            take_next(&mut self.rest)
+        };
+        match mem::replace(&mut self.first, next) {
+            Some(m) => m,
             None => unreachable!(),
         }
     }

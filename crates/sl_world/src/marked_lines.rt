@@ -93,7 +93,9 @@ impl<M: Drop> MarkedLines<M> {
     {
         let line = &mut self.lines[link];
         let has_room = line.put(m);
-        self.filled.write(link, !line.is_empty());
+        if !line.is_empty() {
+            self.filled.write(link, true);
+        }
         has_room
     }
 
@@ -111,7 +113,9 @@ impl<M: Drop> MarkedLines<M> {
     {
         let line = &mut self.lines[link];
         let m = line.take();
-        self.filled.write(link, !line.is_empty());
+        if line.is_empty() {
+            self.filled.write(link, false);
+        }
         m
     }
 }

@@ -133,12 +133,12 @@ impl<M: Drop> Line<M> {
         ensures line { self.new.line ≡ without_first self.old.line self.new.line.queue }
         ensures room { 0 < self.old.room → 0 < self.new.room }
     {
-        let next = if self.rest.is_empty() {
-            None
+        let first = if self.rest.is_empty() {
+            self.first.take()
         } else {
-            take_next(&mut self.rest)
+            mem::replace(&mut self.first, take_next(&mut self.rest))
         };
-        match mem::replace(&mut self.first, next) {
+        match first {
             Some(m) => m,
             None => unreachable!(),
         }

@@ -4,8 +4,9 @@ ghost use Rattle.std.specs.Prelude.{◌≡◌, ◌++◌, ◌<◌, OnOk, codes, d
 use itoa::Buffer;
 use std::alloc::AllocError;
 
-/// Writes a number of one digit.
+/// Writes a number of one digit. It stands apart, so that it saves no registers for longer numbers.
 #[tactic(auto, using(std::proofs::lemmas::Fmt::decimal_digit))]
+#[inline(never)]
 fn push_digit(out: &mut String, digit: u8) -> Result<(), AllocError>
     requires { digit < 10 }
     ensures { OnOk result (string_bytes out.new ≡ string_bytes out.old ++ decimal digit) }

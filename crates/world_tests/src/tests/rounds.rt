@@ -71,28 +71,6 @@ fn rounds_of<R: Wait>(
     Ok(rounds)
 }
 
-/// The rounds that the first relay takes until it is quiet for 200, and then the second for one.
-fn rounds_of_relays<R: Wait>(
-    rt: &R,
-    alloc: Global,
-    actors: &mut Vec<Actor<Relay>>,
-) -> Result<(u64, u64), Fail> {
-    let first = rounds_of(rt, alloc, actors, 1, 200)?;
-    let second = rounds_of(rt, alloc, actors, 2, 1)?;
-    Ok((first, second))
-}
-
-/// An actor of one empty link rests after as many rounds as it is to be quiet.
-#[test]
-fn quiet_rounds(rt: HostRuntime) -> Result<(), Fail> {
-    let alloc = rt.alloc();
-    let mut actors = actors_in_line(alloc, &[])?;
-    let rounds = rounds_of_relays(&rt, alloc, &mut actors);
-    drop(actors);
-    assert_eq!(rt; rounds?, (200, 1));
-    Ok(())
-}
-
 /// One turn by each choice of the actor at a place, so often.
 fn turns_at<R: Wait>(
     rt: &R,
@@ -109,29 +87,6 @@ fn turns_at<R: Wait>(
     Ok(())
 }
 
-/// The rounds that the first host takes after three turns of its own and one of the relay.
-fn rounds_after_turns<R: Wait>(
-    rt: &R,
-    alloc: Global,
-    actors: &mut Vec<Actor<Relay>>,
-) -> Result<u64, Fail> {
-    turns_at(rt, actors, 0, 3)?;
-    turns_at(rt, actors, 1, 1)?;
-    rounds_of(rt, alloc, actors, 0, 1)
-}
-
-/// The first host's three tokens wait, one on its link and two behind it. The relay takes the one,
-/// so in the first round another goes on the link, and only the next round is quiet.
-#[test]
-fn a_round_that_puts(rt: HostRuntime) -> Result<(), Fail> {
-    let alloc = rt.alloc();
-    let mut actors = actors_in_line(alloc, &[])?;
-    let rounds = rounds_after_turns(&rt, alloc, &mut actors);
-    drop(actors);
-    assert_eq!(rt; rounds?, 2);
-    Ok(())
-}
-
 /// Two actors that send to each other: the first has two tokens, the second four.
 fn actors_in_ring(alloc: Global) -> Result<Vec<Actor<Relay>>, Memory> {
     let machines = vec![in alloc; Relay::new(1, 1, 1, 2), Relay::new(1, 1, 1, 4)]?;
@@ -140,24 +95,78 @@ fn actors_in_ring(alloc: Global) -> Result<Vec<Actor<Relay>>, Memory> {
     make_actors(alloc, machines, &wiring, losses, 16)
 }
 
-/// The rounds that the first actor takes after two turns of the second.
-fn rounds_in_ring<R: Wait>(
+/// Actors in a ring or in a line, the places of some with how many turns they take first, and then
+/// the places of those that run, for how many rounds each is to be quiet, and the rounds it takes.
+struct Case {
+    are_in_ring: bool,
+    turns: &'static [(usize, u32)],
+    runs: &'static [(u32, u64, u64)],
+}
+
+static CASES: [Case; 3] = [
+    // An actor of one empty link rests after as many rounds as it is to be quiet.
+    Case {
+        are_in_ring: false,
+        turns: &[],
+        runs: &[(1, 200, 200), (2, 1, 1)],
+    },
+    // The first host's three tokens wait, one on its link and two behind it. The relay takes the
+    // one, so in the first round another goes on the link, and only the next round is quiet.
+    Case {
+        are_in_ring: false,
+        turns: &[(0, 3), (1, 1)],
+        runs: &[(0, 1, 2)],
+    },
+    // Two tokens came to the first actor and two are left to it: in each of two rounds it takes one
+    // and sends one, and the third is quiet.
+    Case {
+        are_in_ring: true,
+        turns: &[(1, 2)],
+        runs: &[(0, 1, 3)],
+    },
+];
+
+fn cases() -> &'static [Case] {
+    &CASES
+}
+
+fn actors_of(alloc: Global, case: &Case) -> Result<Vec<Actor<Relay>>, Memory> {
+    if case.are_in_ring {
+        actors_in_ring(alloc)
+    } else {
+        actors_in_line(alloc, &[])
+    }
+}
+
+/// The place of the first run of a case that takes other rounds.
+fn wrong_run<R: Wait>(
     rt: &R,
     alloc: Global,
     actors: &mut Vec<Actor<Relay>>,
-) -> Result<u64, Fail> {
-    turns_at(rt, actors, 1, 2)?;
-    rounds_of(rt, alloc, actors, 0, 1)
+    case: &Case,
+) -> Result<Option<u32>, Fail> {
+    for (place, times) in case.turns {
+        turns_at(rt, actors, *place, *times)?;
+    }
+    for (place, quiet, rounds) in case.runs {
+        if *quiet == 0 || rounds_of(rt, alloc, actors, *place, *quiet)? != *rounds {
+            return Ok(Some(*place));
+        }
+    }
+    Ok(None)
 }
 
-/// Two tokens came to the first actor and two are left to it: in each of two rounds it takes one and
-/// sends one, and the third is quiet.
-#[test]
-fn rounds_try_all(rt: HostRuntime) -> Result<(), Fail> {
-    let alloc = rt.alloc();
-    let mut actors = actors_in_ring(alloc)?;
-    let rounds = rounds_in_ring(&rt, alloc, &mut actors);
+fn wrong_run_of<R: Wait>(rt: &R, alloc: Global, case: &Case) -> Result<Option<u32>, Fail> {
+    let mut actors = actors_of(alloc, case)?;
+    let wrong = wrong_run(rt, alloc, &mut actors, case);
     drop(actors);
-    assert_eq!(rt; rounds?, 3);
+    wrong
+}
+
+#[test]
+fn rounds_until_rest(rt: HostRuntime) -> Result<(), Fail> {
+    for case in cases() {
+        assert_eq!(rt; wrong_run_of(&rt, rt.alloc(), case)?, None);
+    }
     Ok(())
 }

@@ -1,7 +1,9 @@
 // A world of two machines in a ring, turn by turn.
-ghost use Rattle.std.specs.Prelude.{◌≡◌, ◌<◌, ◌≤◌, ◌^◌, length, IfOk, All};
+ghost use Rattle.std.specs.Prelude.{◌≡◌, ◌<◌, ◌≤◌, ◌^◌, length, map, IfOk, All};
+ghost use Rattle.sl_machine.specs.Fit.{HasCounts};
 ghost use Rattle.sl_world.specs.World.{scene};
 ghost use Rattle.world_tests.specs.Plans.{ring};
+ghost use Rattle.world_tests.specs.Relays.{relay_state, relay_counts};
 
 use crate::relay::{Relay, link};
 use sl_loss::Loss;
@@ -152,46 +154,89 @@ fn tokens_go_round(rt: HostRuntime) -> Result<(), Fail> {
     Ok(())
 }
 
-/// The ring, where seven puts were lost on the link back and these messages are on it, and the
-/// first actor has noted a turn.
-fn ring_later(alloc: Global, rest: Vec<u32>) -> Result<World<Relay>, Memory>
-    ensures plan { IfOk result (λ w. (scene w).plan ≡ ring) }
-    ensures states { IfOk result (λ w. length (scene w).states ≡ 2) }
+/// What is on the links of the ring when it goes on, where no put will be lost.
+struct Links {
+    lost: Vec<u64>,
+    rests: Vec<Vec<u32>>,
+    losses: Vec<Option<Loss>>,
+    wiring: Wiring,
+}
+
+/// These messages are on the link back, and none on the other.
+fn messages(alloc: Global, rest: Vec<u32>) -> Result<Vec<Vec<u32>>, AllocError>
+    ensures { IfOk result (λ v. length v.items ≡ 2) }
 {
-    let rests = vec![in alloc; rest, Vec::new(alloc)]?;
-    let lost = vec![in alloc; 7, 0]?;
+    Ok(vec![in alloc; rest, Vec::new(alloc)]?)
+}
+
+/// So many puts were lost on the link back, and these messages are on it.
+fn links_with(alloc: Global, lost: u64, rest: Vec<u32>) -> Result<Links, AllocError>
+    ensures lost { IfOk result (λ l. length l.lost.items ≡ 2) }
+    ensures rests { IfOk result (λ l. length l.rests.items ≡ 2) }
+    ensures losses { IfOk result (λ l. length l.losses.items ≡ 2) }
+    ensures wiring { IfOk result (λ l. l.wiring ≡ ring) }
+{
+    let rests = messages(alloc, rest)?;
+    let lost = vec![in alloc; lost, 0]?;
     let losses = vec![in alloc; None, None]?;
-    let machines = vec![in alloc; Relay::new(1, 1, 1, 0), Relay::new(1, 1, 1, 0)]?;
+    let wiring = ring_wiring(alloc)?;
+    Ok(Links {
+        lost,
+        rests,
+        losses,
+        wiring,
+    })
+}
+
+/// The ring that goes on from machines and a book, where so many puts were lost on the link back
+/// and these messages are on it.
+fn ring_on(
+    alloc: Global,
+    machines: Vec<Relay>,
+    book: Book,
+    lost: u64,
+    rest: Vec<u32>,
+) -> Result<World<Relay>, Memory>
+    requires machines { HasCounts relay_counts ring machines.items }
+    requires book { length book.entries < 2 ^ 40 }
+    requires numbers { All (λ e. e.number ≤ length book.entries) book.entries }
+    ensures plan { IfOk result (λ w. (scene w).plan ≡ ring) }
+    ensures states { IfOk result (λ w. (scene w).states ≡ map relay_state machines.items) }
+{
+    let Links {
+        lost,
+        rests,
+        losses,
+        wiring,
+    } = links_with(alloc, lost, rest)?;
+    World::resume(alloc, machines, &wiring, losses, lost, rests, book)
+}
+
+/// Two machines without tokens, and a book of one turn of the first.
+fn parts_later(alloc: Global) -> Result<(Vec<Relay>, Book), AllocError>
+    ensures machines { IfOk result (λ r. HasCounts relay_counts ring r.0.items) }
+    ensures states { IfOk result (λ r. length r.0.items ≡ 2) }
+    ensures book { IfOk result (λ r. length r.1.entries ≡ 1) }
+    ensures numbers { IfOk result (λ r. All (λ e. e.number ≤ 1) r.1.entries) }
+{
     let first = Entry {
         number: 1,
         actor: 0,
         choice: 1,
     };
     let entries = vec![in alloc; first]?;
-    let wiring = ring_wiring(alloc)?;
-    World::resume(
-        alloc,
-        machines,
-        &wiring,
-        losses,
-        lost,
-        rests,
-        Book { entries },
-    )
+    let machines = vec![in alloc; Relay::new(1, 1, 1, 0), Relay::new(1, 1, 1, 0)]?;
+    Ok((machines, Book { entries }))
 }
 
-/// The ring that goes on from the machines and the book of another, with nothing on its links.
-fn ring_again(alloc: Global, world: World<Relay>) -> Result<World<Relay>, Memory>
-    requires plan { (scene world).plan ≡ ring }
-    requires book { length (scene world).book < 2 ^ 40 }
-    ensures { IfOk result (λ w. (scene w).plan ≡ ring) }
+/// The ring, where seven puts were lost on the link back and these messages are on it, and the
+/// first actor has noted a turn.
+fn ring_later(alloc: Global, rest: Vec<u32>) -> Result<World<Relay>, Memory>
+    ensures plan { IfOk result (λ w. (scene w).plan ≡ ring) }
+    ensures states { IfOk result (λ w. length (scene w).states ≡ 2) }
 {
-    let (machines, book) = world.into_book();
-    let losses = vec![in alloc; None, None]?;
-    let lost = vec![in alloc; 0, 0]?;
-    let rests = vec![in alloc; Vec::new(alloc), Vec::new(alloc)]?;
-    let wiring = ring_wiring(alloc)?;
-    World::resume(alloc, machines, &wiring, losses, lost, rests, book)
+    let (machines, book) = parts_later(alloc)?;
+    ring_on(alloc, machines, book, 7, rest)
 }
 
 /// What actor 0 saw last, after it took a message.
@@ -238,25 +283,28 @@ fn sends_last(world: &mut World<Relay>) -> Result<bool, Fail>
     Ok(second == Turn::Did && third == Turn::Idle && has_numbers(world.book(), &[1, 2]))
 }
 
-/// Whether one does that goes on from what the ring gives after its first turn.
-fn goes_on_again(alloc: Global, mut world: World<Relay>) -> Result<bool, Fail>
-    requires { (scene world).plan ≡ ring }
+/// What the ring gives after its first turn.
+fn parts_of_first(alloc: Global) -> Result<(Vec<Relay>, Book), Fail>
+    ensures machines { IfOk result (λ r. HasCounts relay_counts ring r.0.items) }
+    ensures book { IfOk result (λ r. length r.1.entries ≤ 100) }
+    ensures numbers { IfOk result (λ r. All (λ e. e.number ≤ length r.1.entries) r.1.entries) }
 {
-    let first = turn(&mut world, 0, 1)?;
-    if first != Turn::Did || world.book().entries.len() > 100 {
-        return Ok(false);
+    let mut world = ring_world(alloc)?;
+    let first = turn(&mut world, 0, 1);
+    let (machines, book) = world.into_book();
+    if first? != Turn::Did || book.entries.len() > 100 {
+        return Err("another turn".into());
     }
-    let mut again = ring_again(alloc, world)?;
-    let right = sends_last(&mut again);
-    drop(again);
-    right
+    Ok((machines, book))
 }
 
 #[test]
 fn a_world_goes_on_from_another(rt: HostRuntime) -> Result<(), Fail> {
-    let world = ring_world(rt.alloc())?;
-    let right = goes_on_again(rt.alloc(), world)?;
-    assert!(rt; right);
+    let (machines, book) = parts_of_first(rt.alloc())?;
+    let mut again = ring_on(rt.alloc(), machines, book, 0, Vec::new(rt.alloc()))?;
+    let right = sends_last(&mut again);
+    drop(again);
+    assert!(rt; right?);
     Ok(())
 }
 

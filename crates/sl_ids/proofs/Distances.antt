@@ -1,8 +1,10 @@
 -- Distances of wrapped ids are differences of numbers.
-use Rattle.std.proofs.Common.{◌≡◌, ℕ, ◌+◌, ◌-◌, ◌*◌, ◌/◌, ◌%◌, ◌<◌, ◌≤◌, ◌⊎◌, inl, inr, sym, ◌∙◌, ap, arith}
+use Rattle.std.proofs.Common.{◌≡◌, ℕ, ◌+◌, ◌-◌, ◌*◌, ◌/◌, ◌%◌, ◌^◌, ◌<◌, ◌≤◌, ◌⊎◌, inl, inr, sym, subst, ◌∙◌, ap, arith}
+use Rattle.std.specs.Int.{◌∣◌}
 use Rattle.std.proofs.lemmas.Bool.{cases_lt}
-use Rattle.std.proofs.lemmas.Nat.{div-add-mod', mod-mul-add, mod_below, pow_pos}
-use Rattle.std.proofs.Math.Nat.{add-mod-mod, mod-add-mod, mod-eq_of_lt}
+use Rattle.std.proofs.Math.Pow.{pow_mono}
+use Rattle.std.proofs.lemmas.Nat.{div-add-mod', mod-mul-add, mod_below, pow_pos, pow-add}
+use Rattle.std.proofs.Math.Nat.{add-mod-mod, mod-add-mod, add-mod_right, mod-mod_of_dvd, dvd-mul_right, mod-eq_of_lt}
 use Rattle.sl_ids.specs.Ids.{modulus, wrapped, distance, unwrapped}
 
 -- going up from a wrapped id by its distance to another leads there
@@ -29,6 +31,25 @@ distance-by m r d b h l e = by_cases (cases_lt (r + d) m)
         let is : b ≡ r + d - m = e ∙ ap (λ n. n % m) sum ∙ mod-mul-add 1 m (r + d - m) (omega arith) in
         let back : b + m - r ≡ d = omega arith in
         ap (λ n. n % m) back ∙ mod-eq_of_lt l
+
+-- the same by a difference that wraps at a multiple of the modulus
+beyond : (m b base w : ℕ) → m ∣ b → base < b → w < m → w < b → (w + (b - base)) % b % m ≡ (w + m - base % m) % m
+beyond m b base w parts low less fits =
+    let x = (w + (b - base)) % b in
+    let pos : 0 < m = omega (arith, less) in
+    let sum : base + (w + (b - base)) ≡ w + b = omega (arith, low) in
+    let around : (base + x) % b ≡ w = add-mod-mod base (w + (b - base)) b ∙ (ap (λ n. n % b) sum ∙ (add-mod_right w b ∙ mod-eq_of_lt fits)) in
+    let same : (base + x) % m ≡ w = sym (mod-mod_of_dvd m (base + x) parts) ∙ (ap (λ n. n % m) around ∙ mod-eq_of_lt less) in
+    let each : w ≡ (base % m + x % m) % m = sym (mod-add-mod base m (x % m) ∙ (add-mod-mod base x m ∙ same)) in
+    sym (distance-by m (base % m) (x % m) w (mod_below base m pos) (mod_below x m pos) each)
+
+pub distance-beyond : (bits base w : ℕ) → bits ≤ 64 → base < 2 ^ 64 → w < modulus bits → (w + (2 ^ 64 - base)) % 2 ^ 64 % modulus bits ≡ distance bits (wrapped bits base) w
+distance-beyond bits base w few low less =
+    let sum : bits + (64 - bits) ≡ 64 = omega (arith, few) in
+    let split : modulus bits * 2 ^ (64 - bits) ≡ 2 ^ 64 = sym (pow-add 2 bits (64 - bits)) ∙ ap (λ n. 2 ^ n) sum in
+    let parts : modulus bits ∣ 2 ^ 64 = subst (λ n. modulus bits ∣ n) split (dvd-mul_right (modulus bits) (2 ^ (64 - bits))) in
+    let most : modulus bits ≤ 2 ^ 64 = pow_mono few in
+    beyond (modulus bits) (2 ^ 64) base w parts low less (omega (arith, less, most))
 
 -- the distance between the wrapped ids of numbers that lie less than the modulus apart
 pub distance-wrapped : (bits a b : ℕ) → a ≤ b → b < a + modulus bits → distance bits (wrapped bits a) (wrapped bits b) ≡ b - a

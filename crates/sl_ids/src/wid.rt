@@ -43,6 +43,15 @@ pub fn distance(width: Width, from: Wid, to: Wid) -> u16
     }
 }
 
+/// How far one goes up from a number until its wrapped id is `w`.
+fn distance_from(width: Width, base: u64, w: Wid) -> u64
+    requires { w.raw < modulus width.bits }
+    ensures { result ≡ distance width.bits (wrapped width.bits base) w.raw }
+{
+    let mask = u64::from(width.modulus()) - 1;
+    u64::from(w.raw).wrapping_sub(base) & mask
+}
+
 /// The least number from `base` on whose wrapped id is `w`.
 pub fn unwrap_from(width: Width, base: u64, w: Wid) -> u64
     requires wid { w.raw < modulus width.bits }
@@ -56,7 +65,7 @@ pub fn unwrap_from(width: Width, base: u64, w: Wid) -> u64
     ensures only { (n : ℕ) → base ≤ n → n < base + modulus width.bits
         → wrapped width.bits n ≡ w.raw → result ≡ n }
 {
-    base + u64::from(distance(width, wrap(width, base), w))
+    base + distance_from(width, base, w)
 }
 
 /// Whether `a` lies further above `base` than `b` does.

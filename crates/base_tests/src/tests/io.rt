@@ -99,7 +99,9 @@ fn pieces() -> &'static [WriteRow] {
 /// Whether three pieces are written to a sink as a row says.
 fn is_written(alloc: Global, (call, room, left, whole): WriteRow) -> Result<bool, Fail> {
     let fail = Vec::from_slice(alloc, &[call])?;
-    let mut sink = MemorySink::new(alloc, room, fail).ok().ok_or("memory")?;
+    let Ok(mut sink) = MemorySink::new(alloc, room, fail) else {
+        return Err("memory".into());
+    };
     let right = writes(&mut sink) == whole;
     Ok(right && sink.bytes() == left.as_bytes())
 }

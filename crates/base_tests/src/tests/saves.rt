@@ -1,5 +1,5 @@
 // Saved entries, kept as a list and in a ring, and what their views say of a number.
-ghost use Rattle.std.specs.Prelude.{◌≡◌, ◌<◌, ◌≤◌, length};
+ghost use Rattle.std.specs.Prelude.{◌≡◌, ◌<◌, ◌≤◌, length, IfOk, OnOk};
 ghost use Rattle.sl_saves.specs.Lists.{list_window, list_size};
 ghost use Rattle.sl_saves.specs.Rings.{ring_window, ring_size, ring_view};
 
@@ -124,24 +124,38 @@ fn check_two_credits<S: Saves>(saves: &mut S) -> Result<bool, Memory>
     Ok(says(&view, TWICE))
 }
 
-/// Whether both are right of a list.
-fn list_entries(alloc: Global) -> Result<(bool, bool), Memory> {
-    let once = check_entries(&mut ListSaves::new(alloc, 3, 3, 1)?)?;
-    let twice = check_two_credits(&mut ListSaves::new(alloc, 3, 3, 2)?)?;
-    Ok((once, twice))
+/// Whether both are right, of what credits go to one number in, and to two.
+fn both_right<S: Saves>(mut one: S, mut two: S) -> Result<(bool, bool), Memory>
+    requires one { S.window one ≡ 3 }
+    requires one_size { S.size one ≡ 3 }
+    requires two { S.window two ≡ 3 }
+    requires two_size { S.size two ≡ 3 }
+{
+    let once = check_entries(&mut one);
+    let twice = check_two_credits(&mut two);
+    drop(one);
+    drop(two);
+    Ok((once?, twice?))
 }
 
-/// The same of a ring.
+/// Whether both are right of lists.
+fn list_entries(alloc: Global) -> Result<(bool, bool), Memory> {
+    let one = ListSaves::new(alloc, 3, 3, 1)?;
+    let two = ListSaves::new(alloc, 3, 3, 2)?;
+    both_right(one, two)
+}
+
+/// The same of rings.
 fn ring_entries(alloc: Global) -> Result<(bool, bool), Memory> {
-    let once = check_entries(&mut RingSaves::new(alloc, 3, 3, 1)?)?;
-    let twice = check_two_credits(&mut RingSaves::new(alloc, 3, 3, 2)?)?;
-    Ok((once, twice))
+    let one = RingSaves::new(alloc, 3, 3, 1)?;
+    let two = RingSaves::new(alloc, 3, 3, 2)?;
+    both_right(one, two)
 }
 
 #[test]
 fn saved_entries(rt: HostRuntime) -> Result<(), Fail> {
-    assert_eq!(rt; list_entries(rt.alloc())?, (true, true));
-    assert_eq!(rt; ring_entries(rt.alloc())?, (true, true));
+    let (list, ring) = (list_entries(rt.alloc())?, ring_entries(rt.alloc())?);
+    assert_eq!(rt; (list, ring), ((true, true), (true, true)));
     Ok(())
 }
 
@@ -309,8 +323,106 @@ fn compare_shown(
     Ok(())
 }
 
+/// Two views that are filled, one by which the ring shows itself after each turn, and one by which
+/// it does now and then.
+#[derive(Drop)]
+struct Views {
+    one: View,
+    other: View,
+    shown: View,
+    held: View,
+}
+
+/// A view of each.
+fn two_views<S: Saves, T: Saves>(first: &S, second: &T) -> Result<(View, View), Memory>
+    ensures first { IfOk result (λ v. length v.0.slots ≡ S.size first.now) }
+    ensures second { IfOk result (λ v. length v.1.slots ≡ T.size second.now) }
+{
+    let one = first.view()?;
+    let other = second.view()?;
+    Ok((one, other))
+}
+
+fn views_of(list: &ListSaves, slots: &RingSaves) -> Result<Views, Memory>
+    ensures one { IfOk result (λ v. length v.one.slots ≡ list_size list.now) }
+    ensures other { IfOk result (λ v. length v.other.slots ≡ ring_size slots.now) }
+{
+    let (one, other) = two_views(list, slots)?;
+    let (shown, held) = two_views(slots, slots)?;
+    Ok(Views {
+        one,
+        other,
+        shown,
+        held,
+    })
+}
+
+/// A turn on a list and on a ring, whose views are then compared.
+fn compare_turn(
+    list: &mut ListSaves,
+    slots: &mut RingSaves,
+    window: u16,
+    ring: u16,
+    random: u32,
+    views: &mut Views,
+    tally: &mut Tally,
+) -> Result<(), Memory>
+    requires some { 1 ≤ window }
+    requires list_window { list_window list.old ≡ window }
+    requires ring_window { ring_window slots.old ≡ window }
+    requires list_size { list_size list.old ≡ ring }
+    requires ring_size { ring_size slots.old ≡ ring }
+    requires one { length views.old.one.slots ≡ ring }
+    requires other { length views.old.other.slots ≡ ring }
+    ensures list_window { OnOk result (list_window list.new ≡ window) }
+    ensures ring_window { OnOk result (ring_window slots.new ≡ window) }
+    ensures list_size { OnOk result (list_size list.new ≡ ring) }
+    ensures ring_size { OnOk result (ring_size slots.new ≡ ring) }
+    ensures one { OnOk result (length views.new.one.slots ≡ ring) }
+    ensures other { OnOk result (length views.new.other.slots ≡ ring) }
+{
+    take_turns(list, slots, window, random, tally)?;
+    compare_filled(list, slots, ring, &mut views.one, &mut views.other, tally);
+    compare_new(list, slots, ring, tally)?;
+    compare_shown(slots, ring, &views.one, &mut views.shown, tally)?;
+    // What another view holds is not written.
+    if random % 4 == 0 {
+        compare_shown(slots, ring, &views.one, &mut views.held, tally)?;
+    }
+    Ok(())
+}
+
 /// A thousand turns on a list and on a ring, whose views say the same.
 fn compare_turns(
+    list: &mut ListSaves,
+    slots: &mut RingSaves,
+    window: u16,
+    ring: u16,
+    views: &mut Views,
+) -> Result<Tally, Memory>
+    requires some { 1 ≤ window }
+    requires list_window { list_window list.old ≡ window }
+    requires ring_window { ring_window slots.old ≡ window }
+    requires list_size { list_size list.old ≡ ring }
+    requires ring_size { ring_size slots.old ≡ ring }
+    requires one { length views.old.one.slots ≡ ring }
+    requires other { length views.old.other.slots ≡ ring }
+{
+    let mut generator = Lcg64Xsh32::new(1, 1);
+    let mut tally = Tally {
+        id: 0,
+        values: 0,
+        wrong: 0,
+    };
+    for _ in 0..1000 {
+        let random = generator.next_word();
+        compare_turn(list, slots, window, ring, random, views, &mut tally)?;
+    }
+    Ok(tally)
+}
+
+/// The same with new views.
+fn compare_from_new(
     list: &mut ListSaves,
     slots: &mut RingSaves,
     window: u16,
@@ -322,28 +434,8 @@ fn compare_turns(
     requires list_size { list_size list.old ≡ ring }
     requires ring_size { ring_size slots.old ≡ ring }
 {
-    let mut one = list.view()?;
-    let mut other = slots.view()?;
-    let mut shown = slots.view()?;
-    let mut held = slots.view()?;
-    let mut generator = Lcg64Xsh32::new(1, 1);
-    let mut tally = Tally {
-        id: 0,
-        values: 0,
-        wrong: 0,
-    };
-    for _ in 0..1000 {
-        let random = generator.next_word();
-        take_turns(list, slots, window, random, &mut tally)?;
-        compare_filled(list, slots, ring, &mut one, &mut other, &mut tally);
-        compare_new(list, slots, ring, &mut tally)?;
-        compare_shown(slots, ring, &one, &mut shown, &mut tally)?;
-        // What another view holds is not written.
-        if random % 4 == 0 {
-            compare_shown(slots, ring, &one, &mut held, &mut tally)?;
-        }
-    }
-    Ok(tally)
+    let mut views = views_of(list, slots)?;
+    compare_turns(list, slots, window, ring, &mut views)
 }
 
 /// Whether they are read alike, with such a window, ring and credits.
@@ -355,7 +447,10 @@ fn are_alike(alloc: Global, window: u16, ring: u16, credits: u8) -> Result<bool,
 {
     let mut list = ListSaves::new(alloc, window, ring, credits)?;
     let mut slots = RingSaves::new(alloc, window, ring, credits)?;
-    let tally = compare_turns(&mut list, &mut slots, window, ring)?;
+    let compared = compare_from_new(&mut list, &mut slots, window, ring);
+    drop(slots);
+    drop(list);
+    let tally = compared?;
     Ok(tally.wrong == 0 && tally.values > 1000 && tally.id > 400)
 }
 
@@ -395,19 +490,29 @@ fn adopt_unready(list: &mut ListSaves, slots: &mut RingSaves) -> Result<(), Memo
 }
 
 /// What views say after them, and once the ring was made ready.
-fn unready(alloc: Global) -> Result<Tally, Memory> {
-    let mut list = ListSaves::new(alloc, 7, 40, 4)?;
-    let mut slots = RingSaves::new(alloc, 7, 40, 4)?;
-    adopt_unready(&mut list, &mut slots)?;
+fn compare_unready(list: &mut ListSaves, slots: &mut RingSaves) -> Result<Tally, Memory>
+    requires list_window { list_window list.old ≡ 7 }
+    requires ring_window { ring_window slots.old ≡ 7 }
+    requires list_size { list_size list.old ≡ 40 }
+    requires ring_size { ring_size slots.old ≡ 40 }
+{
+    adopt_unready(list, slots)?;
     let mut tally = Tally {
         id: 30,
         values: 0,
         wrong: 0,
     };
-    compare_new(&list, &slots, 40, &mut tally)?;
+    compare_new(list, slots, 40, &mut tally)?;
     slots.ready()?;
-    compare_new(&list, &slots, 40, &mut tally)?;
+    compare_new(list, slots, 40, &mut tally)?;
     Ok(tally)
+}
+
+/// The same of a new list and ring.
+fn unready(alloc: Global) -> Result<Tally, Memory> {
+    let mut list = ListSaves::new(alloc, 7, 40, 4)?;
+    let mut slots = RingSaves::new(alloc, 7, 40, 4)?;
+    compare_unready(&mut list, &mut slots)
 }
 
 #[test]

@@ -95,9 +95,12 @@ fn frames_and_back(rt: HostRuntime) {
 #[test]
 fn the_least_is_reached(rt: HostRuntime) -> Result<(), Fail> {
     let last = [7, 8, 6, 0, 0, 0, 0, 0];
-    assert_eq!(rt; reached(2, 9, &last), 7);
-    assert_eq!(rt; reached(3, 5, &last), 5);
-    assert_eq!(rt; reached(0, 9, &last), 9);
+    let least = (
+        reached(2, 9, &last),
+        reached(3, 5, &last),
+        reached(0, 9, &last),
+    );
+    assert_eq!(rt; least, (7, 5, 9));
     Ok(())
 }
 
@@ -228,6 +231,11 @@ fn done(alloc: Global, unit: u32) -> Result<Msg, AllocError> {
     Ok(Msg::Done(Boxed::new(alloc, done)?))
 }
 
+/// Whether a message is a dump.
+fn is_dump(message: Msg) -> bool {
+    matches!(message, Msg::Dump(_))
+}
+
 /// Which unit a report is of.
 fn unit_of(message: Msg) -> Option<u32> {
     match message {
@@ -238,8 +246,7 @@ fn unit_of(message: Msg) -> Option<u32> {
 
 #[test]
 fn messages_go_to_other_threads(rt: HostRuntime) -> Result<(), Fail> {
-    let dump = sent(dump(rt.alloc())?);
-    assert!(rt; matches!(dump, Msg::Dump(_)));
+    assert!(rt; is_dump(sent(dump(rt.alloc())?)));
     assert_eq!(rt; unit_of(sent(done(rt.alloc(), 3)?)), Some(3));
     Ok(())
 }

@@ -9,6 +9,6 @@ invariant-loop l = record {
   of_list_size : list_size l.list ≡ l.ring;
   of_ring_window : ring_window l.slots ≡ l.window;
   of_ring_size : ring_size l.slots ≡ l.ring;
-  one_slots : length l.one.slots ≡ l.ring;
-  other_slots : length l.other.slots ≡ l.ring;
+  one_slots : length l.views.one.slots ≡ l.ring;
+  other_slots : length l.views.other.slots ≡ l.ring;
 }

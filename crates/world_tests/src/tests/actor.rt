@@ -71,22 +71,17 @@ pub fn turns_of<R: Wait>(rt: &R, actor: &mut Actor<Relay>) -> Result<bool, Memor
     Ok(moved)
 }
 
-/// How often one turn by each choice of an actor moves something, until it does not.
-fn moves_of<R: Wait>(rt: &R, actor: &mut Actor<Relay>) -> Result<u32, Memory> {
+/// How often one turn by each choice of the first actor moves something, until it does not.
+fn moves_of_first<R: Wait>(rt: &R, actors: &mut Vec<Actor<Relay>>) -> Result<u32, Memory> {
+    let Some(host) = actors.first_mut() else {
+        return Ok(10);
+    };
     for moves in 0..10 {
-        if !turns_of(rt, actor)? {
+        if !turns_of(rt, host)? {
             return Ok(moves);
         }
     }
     Ok(10)
-}
-
-/// The same of the first actor.
-fn moves_of_first<R: Wait>(rt: &R, actors: &mut Vec<Actor<Relay>>) -> Result<u32, Memory> {
-    match actors.first_mut() {
-        Some(host) => moves_of(rt, host),
-        None => Ok(10),
-    }
 }
 
 /// One turn by each choice of each actor. Whether anything moved.
@@ -113,8 +108,12 @@ fn settle<R: Wait>(rt: &R, actors: &mut Vec<Actor<Relay>>) -> Result<(), Memory>
 
 /// Whether just so many tokens came to each actor.
 fn have_seen(actors: &[Actor<Relay>], seen: &[u32]) -> bool {
-    let each = actors.iter().zip(seen).all(|(a, n)| a.machine().seen == *n);
-    each && actors.len() == seen.len()
+    for (actor, tokens) in actors.iter().zip(seen) {
+        if actor.machine().seen != *tokens {
+            return false;
+        }
+    }
+    actors.len() == seen.len()
 }
 
 /// How many puts the links of an actor lost, and whether a message waits in an outbox of it.

@@ -198,11 +198,12 @@ fn lost_between(world: &World<Relay>) -> u64
 
 /// Whether just so many tokens came to each machine, with so many hops the last of them.
 fn have_seen(machines: &[Relay], seen: &[(u32, u32)]) -> bool {
-    let each = machines
-        .iter()
-        .zip(seen)
-        .all(|(m, n)| m.seen == n.0 && m.last == n.1);
-    each && machines.len() == seen.len()
+    for (machine, tokens) in machines.iter().zip(seen) {
+        if (machine.seen, machine.last) != *tokens {
+            return false;
+        }
+    }
+    machines.len() == seen.len()
 }
 
 /// Whether the book of a world has so many entries, of which these are the first, and just so many

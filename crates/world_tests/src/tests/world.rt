@@ -123,12 +123,12 @@ fn play(
 
 /// Whether the entries of a book have just these numbers.
 fn has_numbers(book: &Book, numbers: &[u64]) -> bool {
-    let each = book
-        .entries
-        .iter()
-        .zip(numbers)
-        .all(|(e, n)| e.number == *n);
-    each && book.entries.len() == numbers.len()
+    for (entry, number) in book.entries.iter().zip(numbers) {
+        if entry.number != *number {
+            return false;
+        }
+    }
+    book.entries.len() == numbers.len()
 }
 
 /// Whether both machines saw a token with one hop last, and five turns are in the book.

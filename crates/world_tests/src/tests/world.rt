@@ -154,8 +154,8 @@ fn tokens_go_round(rt: HostRuntime) -> Result<(), Fail> {
     Ok(())
 }
 
-/// What is on the links of the ring when it goes on, where no put will be lost.
-struct Links {
+/// What is on the links of the ring when it goes on, where no further put will be lost.
+struct LinksAgain {
     lost: Vec<u64>,
     rests: Vec<Vec<u32>>,
     losses: Vec<Option<Loss>>,
@@ -170,7 +170,7 @@ fn messages(alloc: Global, rest: Vec<u32>) -> Result<Vec<Vec<u32>>, AllocError>
 }
 
 /// So many puts were lost on the link back, and these messages are on it.
-fn links_with(alloc: Global, lost: u64, rest: Vec<u32>) -> Result<Links, AllocError>
+fn links_with(alloc: Global, lost: u64, rest: Vec<u32>) -> Result<LinksAgain, AllocError>
     ensures lost { IfOk result (λ l. length l.lost.items ≡ 2) }
     ensures rests { IfOk result (λ l. length l.rests.items ≡ 2) }
     ensures losses { IfOk result (λ l. length l.losses.items ≡ 2) }
@@ -180,7 +180,7 @@ fn links_with(alloc: Global, lost: u64, rest: Vec<u32>) -> Result<Links, AllocEr
     let lost = vec![in alloc; lost, 0]?;
     let losses = vec![in alloc; None, None]?;
     let wiring = ring_wiring(alloc)?;
-    Ok(Links {
+    Ok(LinksAgain {
         lost,
         rests,
         losses,
@@ -203,7 +203,7 @@ fn ring_on(
     ensures plan { IfOk result (λ w. (scene w).plan ≡ ring) }
     ensures states { IfOk result (λ w. (scene w).states ≡ map relay_state machines.items) }
 {
-    let Links {
+    let LinksAgain {
         lost,
         rests,
         losses,

@@ -1,5 +1,4 @@
 use Rattle.std.proofs.Common.{rules, refl, sym, ◌∙◌, inl}
-use Rattle.sl_model.specs.End.{IsFinished}
 use Rattle.sl_cut.proofs.ending.is_finished.Goals as goal
 
 pub returns-then-branch : goal.returns-then-branch

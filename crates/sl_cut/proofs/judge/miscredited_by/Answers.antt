@@ -1,5 +1,6 @@
-use Rattle.std.proofs.Common.{◌≡◌, ℕ, ◌+◌, ◌-◌, List, ◌∷◌, ap, sym, ◌∙◌, take, min, max, Option, Some}
-use Rattle.std.specs.Prelude.{Bool, reverse, cond, ◌&&◌, nat_lt, unwrap_or, if◌then◌else◌, slice_index_or}
+use Rattle.std.proofs.lemmas.Grind.{common_steps}
+use Rattle.std.proofs.Common.{◌≡◌, ℕ, ◌+◌, ◌-◌, List, ◌∷◌, ap, sym, ◌∙◌, take, min, max, Option, Some, arith}
+use Rattle.std.specs.Prelude.{Bool, reverse, ◌&&◌, nat_lt, unwrap_or, if◌then◌else◌, slice_index_or}
 use Rattle.sl_model.specs.declared.message.Step.{Step}
 use Rattle.sl_model.specs.History.{History, id, stamp_taken}
 use Rattle.sl_model.specs.Verdict.{adopted, is_old_data, miscredits}
@@ -33,3 +34,6 @@ loop-step-preserved c =
           ∙ sym (least_if (is_old_data k s.taken && nat_lt k (slice_index_or (adopted (s ∷ h)) (n - 1) 0)) (slice_index_or (adopted (s ∷ h)) (n - 1) 0) (miscredits n k h)) ∙ ap (λ (g : History). least (miscredits n k g)) (sym more);
       adopted = grown ∙ ap adopted (sym more);
     }
+
+pub returns : goal.returns
+returns c = grind (arith, common_steps)

@@ -1,3 +1,4 @@
+use Rattle.std.proofs.lemmas.Grind.{common_steps}
 use Rattle.std.proofs.Common.{◌≡◌, ◌++◌, ◌∷◌, [], ◌+◌, ap, sym, ◌∙◌, arith, take}
 use Rattle.std.specs.Prelude.{cond}
 use Rattle.sl_loss.specs.Loss.{loses_next, after_put}
@@ -14,3 +15,6 @@ loop-message-preserved c = let i = c.args.input.now in let l = c.args.link in le
           ∙ ap (λ x. without_lost (losses i l) 0 (take n ms) ++ cond (losses i l (n + 1)) [] (x ∷ [])) c.message-item.is ∙ sym (without_more (losses i l) ms n m (omega arith)),
       c.loses_next.ensures.after ∙ ap after_put c.loop-message.invariant.1 ∙ c.losses_answer_in_order.ensures.after i l n (omega arith),
     )
+
+pub returns : goal.returns
+returns c = grind (arith, common_steps)

@@ -1,3 +1,4 @@
+use Rattle.std.proofs.lemmas.Grind.{common_steps}
 use Rattle.sl_model.specs.History.{World, steps_in}
 use Rattle.sl_model.specs.Losses.{losses}
 use Rattle.sl_model.specs.Setup.{setup_of}
@@ -18,3 +19,9 @@ returns-clause-size c =
     let k : steps_in c.loop-actor.world ≤ length es = subst (λ (w : World). steps_in w ≤ length es) (sym c.loop-actor.invariant.reached)
     (c.worlds_take_turns.ensures.all_few (setup_of c.args.input.now) (losses c.args.input.now) es) in
     omega (arith, k, length-take c.loop-actor.actor-index c.args.schedule.now)
+
+pub returns-clause-world : goal.returns-clause-world
+returns-clause-world c = grind (arith, common_steps)
+
+pub returns-clause-actors : goal.returns-clause-actors
+returns-clause-actors c = grind (arith, common_steps)

@@ -1,4 +1,5 @@
-use Rattle.std.proofs.Common.{◌≡◌, ℕ, ap, ◌∙◌, get_or}
+use Rattle.std.proofs.lemmas.Grind.{common_steps}
+use Rattle.std.proofs.Common.{◌≡◌, ℕ, ap, ◌∙◌, get_or, arith}
 use Rattle.sl_layout.specs.declared.actor.LinkPart.{LinkPart}
 use Rattle.sl_layout.specs.declared.actor.ActorId.{ActorId}
 use Rattle.sl_layout.specs.Net.{actor_of, egress, link_of, same_actor}
@@ -15,3 +16,6 @@ loop-link-preserved c =
     let is : c.is_this_unit.result ≡ test (get_or links i 0) = c.is_this_unit.ensures
     ∙ ap (λ (a : ActorId). same_actor a to) (c.actor.ensures.actor ∙ ap (λ (l : LinkPart). actor_of net l.to) c.link.ensures.link) in
     passing_more test links i _ _ _ c.loop-link-test.true is c.in_ok-push_if.ensures c.loop-link.invariant
+
+pub returns : goal.returns
+returns c = grind (arith, common_steps)

@@ -1,3 +1,4 @@
+use Rattle.std.proofs.lemmas.Grind.{common_steps}
 use Rattle.sl_layout.specs.declared.actor.LinkPart.{LinkPart}
 use Rattle.std.proofs.Common.{◌≡◌, ◌<◌, ℕ, List, ap, subst, sym, ◌∙◌, arith, length, get_or}
 use Rattle.std.specs.Prelude.{filter}
@@ -23,3 +24,6 @@ loop-link-preserved c =
     let test = λ (l : ℕ). same_sort (link_of c.args.net.now l).sort c.args.sort in
     let is : c.is.result ≡ test (get_or links i 0) = c.is.ensures ∙ ap (λ (l : LinkPart). same_sort l.sort c.args.sort) c.link.ensures.link in
     passing_more test links i _ _ _ c.loop-link-test.true is c.in_ok-push_if.ensures c.loop-link.invariant
+
+pub returns-clause-links : goal.returns-clause-links
+returns-clause-links c = grind (arith, common_steps)

@@ -80,7 +80,6 @@ fn asks(sweep: usize, one: &Serving, choice: u32, taken: &Option<Message>) -> bo
 }
 
 /// Whether a notice of the unit or a sweep came after the last poll to it.
-#[tactic(auto, using(crate::proofs::ForwardSteps::reverse_more))]
 fn is_again(sweep: usize, one: &Serving, steps: &[Step]) -> bool
     ensures { result ≡ is_again sweep one.now (reverse steps.now) }
 {

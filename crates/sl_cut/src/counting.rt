@@ -3,7 +3,7 @@ ghost use Rattle.std.specs.Prelude.{◌≡◌, ◌*◌, ◌≤◌, ◌<◌, ◌^
 ghost use Rattle.std.specs.Prelude.{option_map};
 ghost use Rattle.sl_layout.specs.Net.{Net};
 ghost use Rattle.sl_route.specs.Routes.{IsRoutesOf};
-ghost use Rattle.sl_model.specs.Counting.{counted_in, counted, packets, bytes, is_bad};
+ghost use Rattle.sl_model.specs.Counting.{counted, packets, bytes, is_bad};
 ghost use Rattle.sl_model.specs.Counting.{is_expired, is_noroute, bad, expired, noroute};
 
 use sl_input::packet_of;
@@ -11,28 +11,18 @@ use sl_model::{Message, Step};
 use sl_net::Packet;
 use sl_route::Routes;
 
-fn counted_in(message: &Message) -> Option<Packet>
-    ensures { result ≡ counted_in message.now }
-{
-    match message {
-        Message::Host(bytes) => packet_of(bytes),
-        Message::Data(_, packet) => Some(*packet),
-        _ => None,
-    }
-}
-
 /// The data packet that a step counts, if there is one.
 fn counted(step: &Step) -> Option<Packet>
     ensures { result ≡ counted step.now }
 {
     match &step.taken {
-        Some(message) => counted_in(message),
-        None => None,
+        Some(Message::Host(bytes)) => packet_of(bytes),
+        Some(Message::Data(_, packet)) => Some(*packet),
+        _ => None,
     }
 }
 
 /// How many data packets a unit took.
-#[tactic(auto, using(crate::proofs::ForwardSteps::reverse_more))]
 pub fn packets(steps: &[Step]) -> u64
     ensures value { result ≡ packets (reverse steps.now) }
     ensures bound { result ≤ length steps.now }
@@ -57,7 +47,6 @@ fn len_counted(step: &Step) -> u64
 }
 
 /// The bytes of the data packets that a unit took.
-#[tactic(auto, using(crate::proofs::ForwardSteps::reverse_more))]
 pub fn bytes(steps: &[Step]) -> u64
     requires { length steps.now < 2 ^ 40 }
     ensures { result ≡ bytes (reverse steps.now) }
@@ -99,7 +88,6 @@ fn is_noroute(routes: &Routes, device: u32, packet: Option<Packet>) -> bool
 }
 
 /// How many frames from its host an ingress unit dropped for their form.
-#[tactic(auto, using(crate::proofs::ForwardSteps::reverse_more))]
 pub fn bad(steps: &[Step]) -> u64
     ensures value { result ≡ bad (reverse steps.now) }
     ensures bound { result ≤ length steps.now }
@@ -114,7 +102,6 @@ pub fn bad(steps: &[Step]) -> u64
 }
 
 /// How many packets an ingress unit dropped for their hop limit.
-#[tactic(auto, using(crate::proofs::ForwardSteps::reverse_more))]
 pub fn expired(steps: &[Step]) -> u64
     ensures value { result ≡ expired (reverse steps.now) }
     ensures bound { result ≤ length steps.now }

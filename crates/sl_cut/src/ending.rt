@@ -2,6 +2,7 @@
 ghost use Rattle.std.specs.Prelude.{◌≡◌, ◌<◌, ◌≤◌, IfOk, length, count_by, ◌==◌};
 ghost use Rattle.std.specs.Bool.{Decides};
 ghost use Rattle.sl_flow.specs.Flow.{HaveAddresses};
+ghost use Rattle.sl_model.specs.Knowledge.{floor};
 ghost use Rattle.sl_model.specs.Losses.{losses};
 ghost use Rattle.sl_model.specs.Setup.{setup_of, frames_of};
 ghost use Rattle.sl_model.specs.World.{receiver, carried, taken_by};
@@ -102,12 +103,13 @@ fn knows_all(net: &Net, world: &World) -> bool
     true
 }
 
-/// Whether all snapshots are issued and collected.
-fn is_collected(alloc: Global, input: &Input, world: &World) -> Result<bool, Memory>
-    ensures { IfOk result (λ done. done ≡ is_collected (setup_of input.now) world.now) }
+/// Whether all snapshots are issued and collected, at a world's floor.
+fn is_collected(input: &Input, world: &World, lowest: u64) -> bool
+    requires { lowest ≡ floor input.now.net world.now }
+    ensures { result ≡ is_collected (setup_of input.now) world.now }
 {
     let number = issued(&input.net, world.steps(0));
-    Ok(floor(alloc, &input.net, world)? == number && number == input.snapshot.count)
+    lowest == number && number == input.snapshot.count
 }
 
 fn is_finished(alloc: Global, input: &Input, world: &World) -> Result<bool, Memory>
@@ -115,13 +117,17 @@ fn is_finished(alloc: Global, input: &Input, world: &World) -> Result<bool, Memo
     ensures { IfOk result
         (λ done. Decides done (IsFinished (setup_of input.now) (losses input.now) world.now)) }
 {
-    if !all_taken(alloc, input, world)? || !all_sent(alloc, input, world)? {
+    if !all_taken(alloc, input, world)? {
         return Ok(false);
     }
-    if can_issue(input, floor(alloc, &input.net, world)?, world.steps(0)) {
+    if !all_sent(alloc, input, world)? {
         return Ok(false);
     }
-    if is_collected(alloc, input, world)? {
+    let lowest = floor(alloc, &input.net, world)?;
+    if can_issue(input, lowest, world.steps(0)) {
+        return Ok(false);
+    }
+    if is_collected(input, world, lowest) {
         return Ok(true);
     }
     Ok(resent(&input.net, world.steps(0)) == input.snapshot.retries && knows_all(&input.net, world))

@@ -190,23 +190,35 @@ fn delivered_to(alloc: Global, world: &World, hosts: &[u32]) -> Result<Counts, M
     Ok(Counts { items })
 }
 
-fn findings_in(alloc: Global, input: &Input, world: &World) -> Result<Findings, Memory>
+/// The findings of a world, where these are the hosts.
+fn findings_in(
+    alloc: Global,
+    input: &Input,
+    world: &World,
+    host_list: &[u32],
+) -> Result<Findings, Memory>
     requires small { steps_in world.now < 2 ^ 40 }
     requires actors { length world.now ≡ length input.now.net.actors }
+    requires hosts { host_list.now ≡ hosts input.now.net }
+    requires each { All (λ a. a < length input.now.net.actors) host_list.now }
     ensures { IfOk result
         (λ all. all ≡ findings_in (setup_of input.now) (losses input.now) world.now) }
 {
     let net = &input.net;
-    let hosts = hosts(alloc, net)?;
+    let floor = floor(alloc, net, world)?;
+    let drops = drops_of(alloc, net, world)?;
+    let lost = losses_of(alloc, input, world)?;
+    let sent = sent_by(alloc, net, world, host_list)?;
+    let delivered = delivered_to(alloc, world, host_list)?;
     Ok(Findings {
         issued: issued(net, world.steps(0)),
-        floor: floor(alloc, net, world)?,
+        floor,
         resent: resent(net, world.steps(0)),
         list: finding_list(alloc, input, world, input.snapshot.count)?,
-        sent: sent_by(alloc, net, world, &hosts)?,
-        delivered: delivered_to(alloc, world, &hosts)?,
-        drops: drops_of(alloc, net, world)?,
-        lost: losses_of(alloc, input, world)?,
+        sent,
+        delivered,
+        drops,
+        lost,
     })
 }
 
@@ -226,5 +238,5 @@ pub fn findings_of(
         return Err(Memory);
     }
     let world = follow(alloc, input, schedule)?;
-    findings_in(alloc, input, &world)
+    findings_in(alloc, input, &world, &hosts(alloc, &input.net)?)
 }

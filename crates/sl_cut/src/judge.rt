@@ -21,7 +21,6 @@ use sl_net::Net;
 use std::alloc::Global;
 
 /// The number to which a unit skipped a snapshot, if it did.
-#[tactic(auto, using(crate::proofs::ForwardSteps::reverse_more))]
 fn skipped_to(snapshot: u64, steps: &[Step]) -> Option<u64>
     ensures { result ≡ skipped_to snapshot (reverse steps.now) }
 {
@@ -80,7 +79,6 @@ fn least_with(by: Option<u64>, counts: bool, number: u64) -> Option<u64>
 }
 
 /// The least number by which a unit miscredited a snapshot, if it did.
-#[tactic(auto, using(crate::proofs::ForwardSteps::reverse_more, crate::proofs::Judging::least_if))]
 fn miscredited_by(
     alloc: Global,
     credits: u8,
@@ -213,17 +211,23 @@ fn units_of(net: &Net) -> &[u32]
     net.unit_actors()
 }
 
-/// The first of some units at a floor, by its place, 0 where there is none.
-fn holder_of(alloc: Global, net: &Net, world: &World, units: &[u32]) -> Result<u32, Memory>
+/// The first of some units at the floor, by its place, 0 where there is none.
+fn holder_of(
+    alloc: Global,
+    net: &Net,
+    world: &World,
+    lowest: u64,
+    units: &[u32],
+) -> Result<u32, Memory>
+    requires floor { lowest ≡ floor net.now world.now }
     requires each { All (λ u. u < length net.now.actors) units.now }
     requires few { length units.now < 2 ^ 32 }
     ensures { IfOk result
         (λ place. place ≡ place_or_zero (first_told (holds_floor net.now world.now) units.now)) }
 {
-    let floor = floor(alloc, net, world)?;
     let mut place = 0;
     for unit in units {
-        if unit_floor(alloc, net, world, *unit)? == floor {
+        if unit_floor(alloc, net, world, *unit)? == lowest {
             return Ok(place);
         }
         place += 1;
@@ -237,8 +241,8 @@ fn not_issued(alloc: Global, net: &Net, world: &World) -> Result<Verdict, Memory
         (λ answer. answer
         ≡ Verdict.NotIssued (floor_holder net.now world.now) (floor net.now world.now)) }
 {
-    let unit = holder_of(alloc, net, world, units_of(net))?;
     let floor = floor(alloc, net, world)?;
+    let unit = holder_of(alloc, net, world, floor, units_of(net))?;
     Ok(Verdict::NotIssued { unit, floor })
 }
 

@@ -11,7 +11,6 @@ use sl_net::{Net, Sort};
 use std::alloc::Global;
 
 /// Adds a message on each of some links.
-#[tactic(auto, using(crate::proofs::ForwardPuts::send_all_more))]
 pub fn add_sends(
     alloc: Global,
     puts: &mut Vec<Put>,

@@ -90,51 +90,37 @@ fn add_puts(
     }
 }
 
-fn begin_all(alloc: Global, net: &Net, number: u64) -> Result<Puts, Memory>
-    ensures { IfOk result (λ puts. puts ≡ begin_all net.now number) }
+/// A message on each link of a sort on which an actor puts.
+fn put_out(
+    alloc: Global,
+    net: &Net,
+    actor: u32,
+    sort: Sort,
+    message: &Message,
+) -> Result<Puts, Memory>
+    requires { actor < length net.now.actors }
+    ensures { IfOk result (λ puts. puts ≡ send_all message.now (links_out net.now actor sort)) }
 {
     let mut items = Vec::new(alloc);
-    let by = Putter {
-        alloc,
-        net,
-        actor: observer(net),
-    };
-    add_out(&by, &mut items, Sort::Begin, &Message::Begin(number))?;
+    add_out(&Putter { alloc, net, actor }, &mut items, sort, message)?;
     Ok(Puts { items })
 }
 
-fn issue_puts(
-    alloc: Global,
-    input: &Input,
-    floor: u64,
-    steps: &[Step],
-) -> Result<Option<Puts>, Memory>
-    ensures { let h = reverse steps.now in
-        IfOk result (λ puts. puts ≡ guarded (can_issue (setup_of input.now) floor h)
-        (begin_all input.now.net (suc (issued input.now.net h)))) }
+/// Begins a snapshot at each control plane, where a guard passes.
+fn begin_if(alloc: Global, net: &Net, passes: bool, number: u64) -> Result<Option<Puts>, Memory>
+    ensures { IfOk result (λ puts. puts ≡ guarded passes (begin_all net.now number)) }
 {
-    if !can_issue(input, floor, steps) {
+    if !passes {
         return Ok(None);
     }
-    let number = issued(&input.net, steps) + 1;
-    Ok(Some(begin_all(alloc, &input.net, number)?))
-}
-
-fn resend_puts(
-    alloc: Global,
-    input: &Input,
-    floor: u64,
-    steps: &[Step],
-) -> Result<Option<Puts>, Memory>
-    ensures { let h = reverse steps.now in
-        IfOk result (λ puts. puts ≡ guarded (can_resend (setup_of input.now) floor h)
-        (begin_all input.now.net (issued input.now.net h))) }
-{
-    if !can_resend(input, floor, steps) {
-        return Ok(None);
-    }
-    let number = issued(&input.net, steps);
-    Ok(Some(begin_all(alloc, &input.net, number)?))
+    let begin = put_out(
+        alloc,
+        net,
+        observer(net),
+        Sort::Begin,
+        &Message::Begin(number),
+    )?;
+    Ok(Some(begin))
 }
 
 fn sweep_puts(alloc: Global, net: &Net, actor: u32, steps: &[Step]) -> Result<Option<Puts>, Memory>
@@ -149,17 +135,6 @@ fn sweep_puts(alloc: Global, net: &Net, actor: u32, steps: &[Step]) -> Result<Op
     let mut items = Vec::new(alloc);
     add_sweep(&Putter { alloc, net, actor }, &mut items, steps)?;
     Ok(Some(Puts { items }))
-}
-
-fn send_frame(alloc: Global, net: &Net, actor: u32, frame: &Message) -> Result<Puts, Memory>
-    requires { actor < length net.now.actors }
-    ensures { IfOk result
-        (λ puts. puts ≡ send_all frame.now (links_out net.now actor Sort.FromHost)) }
-{
-    let mut items = Vec::new(alloc);
-    let by = Putter { alloc, net, actor };
-    add_out(&by, &mut items, Sort::FromHost, frame)?;
-    Ok(Puts { items })
 }
 
 fn inject(
@@ -177,7 +152,10 @@ fn inject(
 {
     let place = taken(action_choice(&input.net, actor), steps);
     match frame_at(alloc, input, host, place)? {
-        Some(frame) => Ok(Some(send_frame(alloc, &input.net, actor, &Message::Host(frame))?)),
+        Some(frame) => {
+            let frame = Message::Host(frame);
+            Ok(Some(put_out(alloc, &input.net, actor, Sort::FromHost, &frame)?))
+        }
         None => Ok(None),
     }
 }
@@ -196,9 +174,11 @@ fn observer_action(
         (history world.now actor) number) }
 {
     let floor = floor(alloc, &input.net, world)?;
+    let steps = world.steps(actor);
+    let last = issued(&input.net, steps);
     match number {
-        0 => issue_puts(alloc, input, floor, world.steps(actor)),
-        1 => resend_puts(alloc, input, floor, world.steps(actor)),
+        0 => begin_if(alloc, &input.net, can_issue(input, floor, steps), last + 1),
+        1 => begin_if(alloc, &input.net, can_resend(input, floor, steps), last),
         _ => Ok(None),
     }
 }

@@ -34,7 +34,6 @@ pub fn stamp_taken(step: &Step) -> Option<u64>
 }
 
 /// The id of a unit.
-#[tactic(auto, using(crate::proofs::ForwardSteps::reverse_more))]
 pub fn id(steps: &[Step]) -> u64
     ensures { result ≡ id (reverse steps.now) }
 {
@@ -46,7 +45,6 @@ pub fn id(steps: &[Step]) -> u64
 }
 
 /// The stamp of the last stamped message that was taken by a choice.
-#[tactic(auto, using(crate::proofs::ForwardSteps::reverse_more))]
 pub fn last(choice: u32, steps: &[Step]) -> u64
     ensures { result ≡ last choice (reverse steps.now) }
 {
@@ -60,7 +58,6 @@ pub fn last(choice: u32, steps: &[Step]) -> u64
 }
 
 /// How many steps have a choice.
-#[tactic(auto, using(crate::proofs::ForwardSteps::reverse_more))]
 pub fn taken(choice: usize, steps: &[Step]) -> usize
     ensures value { result ≡ taken choice (reverse steps.now) }
     ensures bound { result ≤ length steps.now }
@@ -101,7 +98,6 @@ fn add_on_link(
 }
 
 /// All messages put on a link.
-#[tactic(auto, using(crate::proofs::ForwardSteps::reverse_more))]
 pub fn put(alloc: Global, link: u32, steps: &[Step]) -> Result<Vec<Message>, Memory>
     ensures { IfOk result (λ messages. messages.items ≡ put link (reverse steps.now)) }
 {
@@ -112,26 +108,16 @@ pub fn put(alloc: Global, link: u32, steps: &[Step]) -> Result<Vec<Message>, Mem
     Ok(messages)
 }
 
-fn done_of(place: u32, message: &Message) -> Option<u64>
-    ensures { result ≡ done_of place message.now }
-{
-    match message {
-        Message::Done(unit, count) => { if place == *unit { Some(*count) } else { None } }
-        _ => None,
-    }
-}
-
 fn done_taken(place: u32, step: &Step) -> Option<u64>
     ensures { result ≡ option_and_then (done_of place) step.now.taken }
 {
     match &step.taken {
-        Some(message) => done_of(place, message),
-        None => None,
+        Some(Message::Done(unit, count)) => { if place == *unit { Some(*count) } else { None } }
+        _ => None,
     }
 }
 
 /// How many steps of the unit at a place the observer knows.
-#[tactic(auto, using(crate::proofs::ForwardSteps::reverse_more))]
 pub fn known(place: u32, steps: &[Step]) -> u64
     ensures { result ≡ known place (reverse steps.now) }
 {
@@ -143,7 +129,6 @@ pub fn known(place: u32, steps: &[Step]) -> u64
 }
 
 /// Whether something is put on a link.
-#[tactic(auto, using(crate::proofs::ForwardSteps::puts_on_more))]
 pub fn puts_on(link: u32, puts: &[Put]) -> bool
     ensures { result ≡ puts_on link puts.now }
 {
@@ -155,7 +140,6 @@ pub fn puts_on(link: u32, puts: &[Put]) -> bool
 }
 
 /// The least of a number and the last stamps of some choices.
-#[tactic(auto, using(crate::proofs::ForwardSteps::least_more))]
 pub fn least_last(start: u64, choices: &[u32], steps: &[Step]) -> u64
     ensures { result ≡ fold min start (map (λ c. last c (reverse steps.now)) choices.now) }
 {

@@ -133,10 +133,13 @@ fn add_egress_data(
         ++ (send_all (Message.Data id packet) (links_out net by.now.actor Sort.Cable)
         ++ send_all (Message.Host (plain_frame packet)) (links_out net by.now.actor Sort.ToHost))) }
 {
-    let data = Message::Data(id, packet);
-    add_out(by, puts, Sort::Cable, &data)?;
-    let frame = Message::Host(plain_frame(by.alloc, packet)?);
-    add_out(by, puts, Sort::ToHost, &frame)
+    add_out(by, puts, Sort::Cable, &Message::Data(id, packet))?;
+    add_out(
+        by,
+        puts,
+        Sort::ToHost,
+        &Message::Host(plain_frame(by.alloc, packet)?),
+    )
 }
 
 fn add_egress(

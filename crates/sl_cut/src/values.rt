@@ -21,7 +21,6 @@ use sl_saves::Total;
 use std::alloc::Global;
 
 /// The steps after which the id of a unit is below a snapshot.
-#[tactic(auto, using(crate::proofs::ForwardSteps::reverse_more))]
 fn before(snapshot: u64, steps: &[Step]) -> &[Step]
     ensures value { reverse result.now ≡ before snapshot (reverse steps.now) }
     ensures bound { length result.now ≤ length steps.now }

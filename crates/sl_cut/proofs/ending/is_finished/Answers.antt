@@ -1,11 +1,11 @@
 use Rattle.std.proofs.Common.{rules, refl, sym, ◌∙◌, inl}
 use Rattle.sl_cut.proofs.ending.is_finished.Goals as goal
 
-pub returns-then-branch : goal.returns-then-branch
-returns-then-branch c = (
+pub returns-then-is_collected : goal.returns-then-is_collected
+returns-then-is_collected c = (
   λ e. record {
     settled = record { taken_all = c.in_ok-all_taken.ensures.0 c.if-not-branch.false; sent_all = c.in_ok-all_sent.ensures.0 c.if-not-branch-2.false; none_to_issue = search rules };
-    ended = inl (sym c.in_ok-is_collected.ensures ∙ c.if-branch.true);
+    ended = inl (sym c.is_collected.ensures ∙ c.if-is_collected.true);
   },
   λ f. refl,
 )

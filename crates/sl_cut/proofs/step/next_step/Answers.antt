@@ -1,3 +1,4 @@
+use Rattle.std.proofs.lemmas.Grind.{elements}
 use Rattle.std.proofs.Common.{◌≡◌, ◌-◌, ◌<◌, ℕ, List, Some, None, length, ap, sym, ◌∙◌, arith}
 use Rattle.std.specs.Prelude.{slice_get, slice_index_or, option_map, option_and_then}
 use Rattle.std.proofs.lemmas.Option.{slice_get_past, slice_get-get_or}
@@ -25,3 +26,6 @@ returns-in_ok-puts-in-None c =
     let number = c.saturating_sub-number.ensures ∙ ap (λ k. c.args.choice - k) (c.action_choice.ensures.value ∙ ap (λ (m : Net). action_choice m a) n) in
     c.acting.ensures ∙ ap (option_map (acting c.args.choice)) (c.in_ok-puts-in-None.ensures ∙ ap (action (setup_of i) (floor_for i.net w of) a of (history w a)) number)
     ∙ ap (λ o. step o of) (sym none) ∙ ap (option_and_then (step (slice_get (links_into i.net a) c.args.choice))) (sym here)
+
+pub returns-then-actor-actors : goal.returns-then-actor-actors
+returns-then-actor-actors c = grind (arith, elements)

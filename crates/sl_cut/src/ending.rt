@@ -52,7 +52,13 @@ fn raw_count(raws: &[RawPart], host: u32) -> usize
     ensures count { result ≡ count_by (λ r. r.from == host) raws.now }
     ensures bound { result ≤ length raws.now }
 {
-    raws.iter().filter(|raw| raw.from == host).count()
+    let mut count = 0;
+    for raw in raws {
+        if raw.from == host {
+            count += 1;
+        }
+    }
+    count
 }
 
 /// How many frames a host sends.

@@ -1,5 +1,5 @@
 // The step that an entry makes.
-ghost use Rattle.std.specs.Prelude.{◌≡◌, ◌++◌, ◌<◌, length, suc, zero, reverse, not, OnOk, IfOk};
+ghost use Rattle.std.specs.Prelude.{◌≡◌, ◌++◌, ◌<◌, length, zero, reverse, not, OnOk, IfOk};
 ghost use Rattle.std.specs.Prelude.{slice_get, Some, flat_map, option_map};
 ghost use Rattle.sl_layout.specs.Serving.{served};
 ghost use Rattle.sl_layout.specs.Roster.{IsActor};

@@ -3,7 +3,7 @@ ghost use Rattle.std.specs.Prelude.{◌≡◌, ◌++◌, ◌<◌, length, revers
 ghost use Rattle.sl_layout.specs.Net.{links_out};
 ghost use Rattle.sl_route.specs.Routes.{IsRoutesOf};
 ghost use Rattle.sl_model.specs.Frame.{plain_frame};
-ghost use Rattle.sl_model.specs.Puts.{send_all, crossbar_to, onward, route, ingress_puts};
+ghost use Rattle.sl_model.specs.Puts.{send_all, crossbar_to, route, ingress_puts};
 ghost use Rattle.sl_model.specs.Puts.{egress_puts, notice_puts, unit_puts};
 
 use crate::frames::plain_frame;
@@ -46,28 +46,6 @@ fn crossbar_to(
     Ok(links)
 }
 
-fn add_onward(
-    by: &Putter<'_>,
-    puts: &mut Vec<Put>,
-    device: u32,
-    id: u64,
-    packet: Packet,
-    port: Option<u8>,
-) -> Result<(), Memory>
-    requires { by.now.actor < length by.now.net.now.actors }
-    ensures { OnOk result
-        (puts.new.items ≡ puts.old.items
-        ++ onward by.now.net.now by.now.actor device id packet port) }
-{
-    match port {
-        None => Ok(()),
-        Some(port) => {
-            let links = crossbar_to(by.alloc, by.net, by.actor, device, port as u32)?;
-            add_sends(by.alloc, puts, &Message::Data(id, packet), &links)
-        }
-    }
-}
-
 /// Sends a packet to the egress unit of its next port.
 fn add_route(
     by: &Putter<'_>,
@@ -86,12 +64,15 @@ fn add_route(
     if packet.hops == 0 {
         return Ok(());
     }
-    let port = routes.next_port(device, packet.dst as u32);
+    let Some(port) = routes.next_port(device, packet.dst as u32) else {
+        return Ok(());
+    };
     let onward = Packet {
         hops: packet.hops - 1,
         ..packet
     };
-    add_onward(by, puts, device, id, onward, port)
+    let links = crossbar_to(by.alloc, by.net, by.actor, device, port as u32)?;
+    add_sends(by.alloc, puts, &Message::Data(id, onward), &links)
 }
 
 fn add_ingress(

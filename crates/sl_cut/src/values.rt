@@ -36,18 +36,13 @@ fn before(snapshot: u64, steps: &[Step]) -> &[Step]
     &steps[..count]
 }
 
-fn first_of(messages: &[Message], count: usize) -> &[Message]
-    ensures value { result.now ≡ take count messages.now }
-    ensures bound { length result.now ≤ count }
+/// The messages from a place on, up to another.
+fn part_of(messages: &[Message], from: usize, upto: usize) -> &[Message]
+    ensures value { result.now ≡ drop from (take upto messages.now) }
+    ensures bound { length result.now ≤ upto }
 {
-    &messages[..count.min(messages.len())]
-}
-
-fn rest_of(messages: &[Message], count: usize) -> &[Message]
-    ensures value { result.now ≡ drop count messages.now }
-    ensures bound { length result.now ≤ length messages.now }
-{
-    &messages[count.min(messages.len())..]
+    let first = &messages[..upto.min(messages.len())];
+    &first[from.min(first.len())..]
 }
 
 fn count_data(message: &Message) -> u64
@@ -106,8 +101,9 @@ fn channel_value(
     let sender = before(snapshot, world.steps(ends.from));
     let messages = carried(alloc, input, link, sender)?;
     let receiver = world.steps(ends.to);
-    let matched = first_of(&messages, taken(choice, receiver));
-    Ok(total_of(rest_of(matched, taken(choice, before(snapshot, receiver)))))
+    let upto = taken(choice, receiver);
+    let from = taken(choice, before(snapshot, receiver));
+    Ok(total_of(part_of(&messages, from, upto)))
 }
 
 fn channel_values(

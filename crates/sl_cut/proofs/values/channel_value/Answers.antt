@@ -17,10 +17,11 @@ returns c = let l = c.args.link in let net = c.args.input.now.net in let w = c.a
     let sent : c.in_ok-messages.messages.items ≡ carried_by (losses c.args.input.now) l (before k (sender net w l)) = c.in_ok-messages.ensures
     ∙ ap (carried_by (losses c.args.input.now) l) (c.before-sender.ensures.value ∙ ap (before k) (c.steps.ensures.steps ∙ ap (λ e. history w e.from) ends)) in
     let taker : reverse c.steps-receiver.result.now ≡ receiver net w l = c.steps-receiver.ensures.steps ∙ ap (λ e. history w e.to) ends in
-    let all : c.taken.result ≡ taken_by net l (receiver net w l) = c.taken.ensures.value ∙ ap (λ ch. taken ch (reverse c.steps-receiver.result.now)) choice ∙ ap (taken (choice_of net l)) taker in
-    let inside : c.taken-2.result ≡ taken_by net l (before k (receiver net w l)) = c.taken-2.ensures.value ∙ ap (λ ch. taken ch (reverse c.before-2.result.now)) choice
+    let all : c.taken-upto.result ≡ taken_by net l (receiver net w l) = c.taken-upto.ensures.value ∙ ap (λ ch. taken ch (reverse c.steps-receiver.result.now)) choice ∙ ap (taken (choice_of net l)) taker in
+    let inside : c.taken-from.result ≡ taken_by net l (before k (receiver net w l)) = c.taken-from.ensures.value ∙ ap (λ ch. taken ch (reverse c.before-2.result.now)) choice
     ∙ ap (taken (choice_of net l)) (c.before-2.ensures.value ∙ ap (before k) taker) in
-    let x : c.rest_of.result.now ≡ crossing net (losses c.args.input.now) w k l = c.rest_of.ensures.value
-    ∙ ap (drop c.taken-2.result) (c.first_of-matched.ensures.value ∙ ap (take c.taken.result) (c.deref.ensures.value ∙ sent) ∙ ap (λ n. take n (carried_by (losses c.args.input.now) l (before k (sender net w l)))) all)
-    ∙ ap (λ n. drop n (take (taken_by net l (receiver net w l)) (carried_by (losses c.args.input.now) l (before k (sender net w l))))) inside in
+    let sent_in = carried_by (losses c.args.input.now) l (before k (sender net w l)) in
+    let x : c.part_of.result.now ≡ crossing net (losses c.args.input.now) w k l = c.part_of.ensures.value
+    ∙ ap (λ ms. drop c.taken-from.result (take c.taken-upto.result ms)) (c.deref.ensures.value ∙ sent)
+    ∙ ap (λ n. drop c.taken-from.result (take n sent_in)) all ∙ ap (λ n. drop n (take (taken_by net l (receiver net w l)) sent_in)) inside in
     total-same c.total_of.result _ _ (c.total_of.ensures.packets ∙ ap (weigh data_count) x) (c.total_of.ensures.bytes ∙ ap (weigh data_bytes) x)

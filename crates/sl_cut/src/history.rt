@@ -47,14 +47,6 @@ impl History {
         }
     }
 
-    /// Adds a step, the newest.
-    fn push(&mut self, step: Step) -> Result<(), Memory>
-        ensures { OnOk result (self.new ≡ step ∷ self.old) }
-    {
-        self.items.push(step)?;
-        Ok(())
-    }
-
     /// The steps, the oldest first.
     pub fn steps(&self) -> &[Step]
         ensures { reverse result.now ≡ self.now }
@@ -82,7 +74,8 @@ impl World {
             (self.new ≡ slice_set self.old actor (step ∷ history self.old actor)) }
     {
         let history = &mut self.items[actor];
-        history.push(step)
+        history.items.push(step)?;
+        Ok(())
     }
 
     /// The steps of an actor, the oldest first; none past the last actor.

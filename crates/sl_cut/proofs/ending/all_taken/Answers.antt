@@ -1,11 +1,11 @@
-use Rattle.std.proofs.Common.{◌≡◌, arith, ap, length, refl}
-use Rattle.std.proofs.lemmas.Grind.{common_steps}
+use Rattle.std.proofs.Common.{below_more, ◌≡◌, arith, ap, length, refl}
+use Rattle.std.proofs.lemmas.Bool.Decides.{nat_tests}
 use Rattle.sl_layout.specs.Net.{Net}
 use Rattle.sl_net.specs.Input.{Input}
 use Rattle.sl_cut.proofs.ending.all_taken.Goals as goal
 
 pub loop-link-preserved : goal.loop-link-preserved
-loop-link-preserved c = grind (arith, common_steps)
+loop-link-preserved c = below_more _ _ c.loop-link.invariant (grind (arith, nat_tests))
 
 pub returns : goal.returns
 returns c =

@@ -12,3 +12,9 @@ returns-then-is_collected c = (
 
 pub returns-then-resent-input : goal.returns-then-resent-input
 returns-then-resent-input c = search rules
+
+pub returns-then-not-branch : goal.returns-then-not-branch
+returns-then-not-branch c = (λ e. absurd cc, λ f. sym c.if-not-branch.true ∙ c.in_ok-all_taken.ensures.1 f.settled.taken_all)
+
+pub returns-then-not-branch-2 : goal.returns-then-not-branch-2
+returns-then-not-branch-2 c = (λ e. absurd cc, λ f. sym c.if-not-branch-2.true ∙ c.in_ok-all_sent.ensures.1 f.settled.sent_all)

@@ -14,3 +14,6 @@ returns-clause-each c =
     let whole : c.loop-actor.actor ≡ length c.actors.result.now = omega (arith, c.loop-actor.auto.actor-end, c.loop-actor-test.false) in
     subst (λ (n : ℕ). All (λ (a : ℕ). a < n) c.loop-actor.hosts.items) (whole ∙ ap length c.actors.ensures.now)
     (subst (λ (xs : List ℕ). All (λ (a : ℕ). a < c.loop-actor.actor) xs) (sym c.loop-actor.invariant) (low_filter (λ a. is_host (actor_of c.args.net.now a)) c.loop-actor.actor))
+
+pub returns-clause-hosts : goal.returns-clause-hosts
+returns-clause-hosts c = grind (arith, common_steps)

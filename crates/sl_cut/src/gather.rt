@@ -169,25 +169,25 @@ fn drops_of(alloc: Global, net: &Net, world: &World) -> Result<Drops, Memory>
     Ok(drops)
 }
 
-fn sent_by(alloc: Global, net: &Net, world: &World, hosts: &[u32]) -> Result<Counts, Memory>
+/// What each of some hosts sent, and what was delivered to it.
+fn host_counts(
+    alloc: Global,
+    net: &Net,
+    world: &World,
+    hosts: &[u32],
+) -> Result<(Counts, Counts), Memory>
     requires { All (λ a. a < length net.now.actors) hosts.now }
-    ensures { IfOk result (λ counts. counts ≡ map (sent_by net.now world.now) hosts.now) }
+    ensures sent { IfOk result (λ r. r.0 ≡ map (sent_by net.now world.now) hosts.now) }
+    ensures delivered { IfOk result (λ r. r.1 ≡ map (delivered_to world.now) hosts.now) }
 {
-    let mut items = Vec::new(alloc);
+    let mut sent = Vec::new(alloc);
+    let mut delivered = Vec::new(alloc);
     for host in hosts {
-        items.push(taken(action_choice(net, *host), world.steps(*host)) as u64)?;
+        let steps = world.steps(*host);
+        sent.push(taken(action_choice(net, *host), steps) as u64)?;
+        delivered.push(taken(0, steps) as u64)?;
     }
-    Ok(Counts { items })
-}
-
-fn delivered_to(alloc: Global, world: &World, hosts: &[u32]) -> Result<Counts, Memory>
-    ensures { IfOk result (λ counts. counts ≡ map (delivered_to world.now) hosts.now) }
-{
-    let mut items = Vec::new(alloc);
-    for host in hosts {
-        items.push(taken(0, world.steps(*host)) as u64)?;
-    }
-    Ok(Counts { items })
+    Ok((Counts { items: sent }, Counts { items: delivered }))
 }
 
 /// The findings of a world, where these are the hosts.
@@ -208,8 +208,7 @@ fn findings_in(
     let floor = floor(alloc, net, world)?;
     let drops = drops_of(alloc, net, world)?;
     let lost = losses_of(alloc, input, world)?;
-    let sent = sent_by(alloc, net, world, host_list)?;
-    let delivered = delivered_to(alloc, world, host_list)?;
+    let (sent, delivered) = host_counts(alloc, net, world, host_list)?;
     Ok(Findings {
         issued: issued(net, world.steps(0)),
         floor,

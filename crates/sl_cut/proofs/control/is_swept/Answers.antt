@@ -7,3 +7,6 @@ loop-one-preserved c = grind (arith, common_steps)
 
 pub returns : goal.returns
 returns c = grind (arith, common_steps)
+
+pub returns-then-not-branch : goal.returns-then-not-branch
+returns-then-not-branch c = grind (arith, common_steps)

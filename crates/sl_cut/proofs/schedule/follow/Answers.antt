@@ -25,3 +25,6 @@ returns-clause-world c = grind (arith, common_steps)
 
 pub returns-clause-actors : goal.returns-clause-actors
 returns-clause-actors c = grind (arith, common_steps)
+
+pub loop-actor-init : goal.loop-actor-init
+loop-actor-init c = grind (arith, common_steps)

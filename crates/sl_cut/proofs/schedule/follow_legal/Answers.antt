@@ -41,3 +41,6 @@ returns-then-not-branch c =
       within = omega arith;
       idle = idle_at s lost c.args.schedule.now c.loop-i.i z c.loop-i.world c.take_turn.new.world idle same;
     }
+
+pub loop-i-init : goal.loop-i-init
+loop-i-init c = grind (arith, common_steps)

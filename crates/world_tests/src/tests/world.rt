@@ -67,18 +67,17 @@ fn turn(world: &mut World<Relay>, actor: u32, choice: u32) -> Result<Turn, Fail>
     Ok(world.turn(actor, choice)?)
 }
 
-/// The place of the first turn that went wrong.
-fn first_wrong(world: &mut World<Relay>, turns: &[(u32, u32, Turn)]) -> Result<Option<usize>, Fail>
+/// Whether these turns do what they should.
+fn go_right(world: &mut World<Relay>, turns: &[(u32, u32, Turn)]) -> Result<bool, Fail>
     requires { (scene world.old).plan ≡ ring }
     ensures { (scene world.new).plan ≡ ring }
 {
-    for i in 0..turns.len() {
-        let (actor, choice, expected) = turns[i];
-        if turn(world, actor, choice)? != expected {
-            return Ok(Some(i));
+    for (actor, choice, expected) in turns {
+        if turn(world, *actor, *choice)? != *expected {
+            return Ok(false);
         }
     }
-    Ok(None)
+    Ok(true)
 }
 
 /// The second token goes to actor 1, which sends none by itself, and so does the first. The links of
@@ -106,52 +105,66 @@ fn lost(world: &World<Relay>) -> (u64, u64)
     (world.lost(0), world.lost(1))
 }
 
-/// The places of the first turns that went wrong, before the run of a schedule and after it.
-fn play(
-    alloc: Global,
-    world: &mut World<Relay>,
-    by_links: bool,
-) -> Result<(Option<usize>, Option<usize>), Fail>
+/// Whether turns go right before the run of a schedule and after it.
+fn play(alloc: Global, world: &mut World<Relay>, by_links: bool) -> Result<bool, Fail>
     requires { (scene world.old).plan ≡ ring }
     ensures { (scene world.new).plan ≡ ring }
 {
-    let before = first_wrong(world, turns_before())?;
+    let before = go_right(world, turns_before())?;
     run_three(alloc, world, by_links)?;
-    let after = first_wrong(world, turns_after())?;
-    Ok((before, after))
+    Ok(go_right(world, turns_after())? && before)
 }
 
-/// Whether the entries of a book have just these numbers.
-fn has_numbers(book: &Book, numbers: &[u64]) -> bool {
-    for (entry, number) in book.entries.iter().zip(numbers) {
-        if entry.number != *number {
+/// Whether a book has just so many entries, numbered from 1 on.
+fn is_numbered(book: &Book, count: usize) -> bool {
+    for i in 0..book.entries.len() {
+        if book.entries[i].number != (i as u64).wrapping_add(1) {
             return false;
         }
     }
-    book.entries.len() == numbers.len()
+    book.entries.len() == count
+}
+
+/// Whether a token with so many hops came last to each machine.
+fn saw_last(machines: &[Relay], hops: u32) -> bool {
+    for machine in machines {
+        if machine.last != hops {
+            return false;
+        }
+    }
+    true
 }
 
 /// Whether both machines saw a token with one hop last, and five turns are in the book.
 fn ends_right(world: World<Relay>) -> bool {
     let (machines, book) = world.into_book();
-    let each = machines.iter().all(|m| m.last == 1);
-    each && machines.len() == 2 && has_numbers(&book, &[1, 2, 3, 4, 5])
+    machines.len() == 2 && saw_last(machines.as_slice(), 1) && is_numbered(&book, 5)
 }
 
 /// Whether tokens go round in the ring, where links are looked up or not.
 fn goes_round(alloc: Global, by_links: bool) -> Result<bool, Fail> {
     let mut world = ring_world(alloc)?;
-    let wrong = play(alloc, &mut world, by_links);
+    let played = play(alloc, &mut world, by_links);
     let lost = lost(&world);
     let right = ends_right(world);
-    Ok(wrong? == (None, None) && lost == (1, 0) && right)
+    Ok(played? && lost == (1, 0) && right)
 }
 
 #[test]
 fn tokens_go_round(rt: HostRuntime) -> Result<(), Fail> {
-    assert!(rt; goes_round(rt.alloc(), false)?);
-    assert!(rt; goes_round(rt.alloc(), true)?);
+    let by_links = goes_round(rt.alloc(), true)?;
+    let without = goes_round(rt.alloc(), false)?;
+    assert_eq!(rt; (by_links, without), (true, true));
     Ok(())
+}
+
+/// What is on the link back of a ring that goes on: how many puts were lost there, and so many
+/// messages, from this one down.
+#[derive(Clone, Copy)]
+struct Back {
+    lost: u64,
+    first: u32,
+    count: u32,
 }
 
 /// What is on the links of the ring when it goes on, where no further put will be lost.
@@ -162,22 +175,25 @@ struct LinksAgain {
     wiring: Wiring,
 }
 
-/// These messages are on the link back, and none on the other.
-fn messages(alloc: Global, rest: Vec<u32>) -> Result<Vec<Vec<u32>>, AllocError>
+/// The messages on the link back, and none on the other.
+fn messages(alloc: Global, back: &Back) -> Result<Vec<Vec<u32>>, AllocError>
     ensures { IfOk result (λ v. length v.items ≡ 2) }
 {
+    let mut rest = Vec::new(alloc);
+    for behind in 0..back.count {
+        rest.push(back.first.saturating_sub(behind))?;
+    }
     Ok(vec![in alloc; rest, Vec::new(alloc)]?)
 }
 
-/// So many puts were lost on the link back, and these messages are on it.
-fn links_with(alloc: Global, lost: u64, rest: Vec<u32>) -> Result<LinksAgain, AllocError>
+fn links_with(alloc: Global, back: &Back) -> Result<LinksAgain, AllocError>
     ensures lost { IfOk result (λ l. length l.lost.items ≡ 2) }
     ensures rests { IfOk result (λ l. length l.rests.items ≡ 2) }
     ensures losses { IfOk result (λ l. length l.losses.items ≡ 2) }
     ensures wiring { IfOk result (λ l. l.wiring ≡ ring) }
 {
-    let rests = messages(alloc, rest)?;
-    let lost = vec![in alloc; lost, 0]?;
+    let rests = messages(alloc, back)?;
+    let lost = vec![in alloc; back.lost, 0]?;
     let losses = vec![in alloc; None, None]?;
     let wiring = ring_wiring(alloc)?;
     Ok(LinksAgain {
@@ -188,14 +204,12 @@ fn links_with(alloc: Global, lost: u64, rest: Vec<u32>) -> Result<LinksAgain, Al
     })
 }
 
-/// The ring that goes on from machines and a book, where so many puts were lost on the link back
-/// and these messages are on it.
+/// The ring that goes on from machines and a book, with this on the link back.
 fn ring_on(
     alloc: Global,
     machines: Vec<Relay>,
     book: Book,
-    lost: u64,
-    rest: Vec<u32>,
+    back: &Back,
 ) -> Result<World<Relay>, Memory>
     requires machines { HasCounts relay_counts ring machines.items }
     requires book { length book.entries < 2 ^ 40 }
@@ -208,16 +222,14 @@ fn ring_on(
         rests,
         losses,
         wiring,
-    } = links_with(alloc, lost, rest)?;
+    } = links_with(alloc, back)?;
     World::resume(alloc, machines, &wiring, losses, lost, rests, book)
 }
 
-/// Two machines without tokens, and a book of one turn of the first.
-fn parts_later(alloc: Global) -> Result<(Vec<Relay>, Book), AllocError>
-    ensures machines { IfOk result (λ r. HasCounts relay_counts ring r.0.items) }
-    ensures states { IfOk result (λ r. length r.0.items ≡ 2) }
-    ensures book { IfOk result (λ r. length r.1.entries ≡ 1) }
-    ensures numbers { IfOk result (λ r. All (λ e. e.number ≤ 1) r.1.entries) }
+/// The ring with machines without tokens and a book of one turn of the first.
+fn ring_later(alloc: Global, back: &Back) -> Result<World<Relay>, Memory>
+    ensures plan { IfOk result (λ w. (scene w).plan ≡ ring) }
+    ensures states { IfOk result (λ w. length (scene w).states ≡ 2) }
 {
     let first = Entry {
         number: 1,
@@ -226,51 +238,73 @@ fn parts_later(alloc: Global) -> Result<(Vec<Relay>, Book), AllocError>
     };
     let entries = vec![in alloc; first]?;
     let machines = vec![in alloc; Relay::new(1, 1, 1, 0), Relay::new(1, 1, 1, 0)]?;
-    Ok((machines, Book { entries }))
+    ring_on(alloc, machines, Book { entries }, back)
 }
 
-/// The ring, where seven puts were lost on the link back and these messages are on it, and the
-/// first actor has noted a turn.
-fn ring_later(alloc: Global, rest: Vec<u32>) -> Result<World<Relay>, Memory>
-    ensures plan { IfOk result (λ w. (scene w).plan ≡ ring) }
-    ensures states { IfOk result (λ w. length (scene w).states ≡ 2) }
-{
-    let (machines, book) = parts_later(alloc)?;
-    ring_on(alloc, machines, book, 7, rest)
-}
-
-/// What actor 0 saw last, after it took a message.
-fn last_after_take(world: &mut World<Relay>) -> Result<Option<u32>, Fail>
+/// Whether actor 0 takes so many messages.
+fn takes(world: &mut World<Relay>, count: usize) -> Result<bool, Fail>
     requires plan { (scene world.old).plan ≡ ring }
     requires states { length (scene world.old).states ≡ 2 }
+    ensures plan { (scene world.new).plan ≡ ring }
+    ensures states { length (scene world.new).states ≡ 2 }
 {
     every_schedule::<Relay>();
-    if world.book().entries.len() > 100 {
-        return Err("too many turns".into());
+    for _i in 0..count {
+        if world.book().entries.len() > 1000 {
+            return Err("too many turns".into());
+        }
+        if world.turn(0, 0)? != Turn::Did {
+            return Ok(false);
+        }
     }
-    match world.turn(0, 0)? {
-        Turn::Idle => Ok(None),
-        Turn::Did => Ok(Some(world.machine(0).last)),
-    }
+    Ok(true)
 }
 
-/// Whether the lost puts are known, actor 0 takes the first message, and the book goes on.
-fn goes_on(world: &mut World<Relay>) -> Result<bool, Fail>
+/// So many messages are on the link back, from this one down; actor 0 takes so many of them, and
+/// this one last.
+type Case = (u32, u32, usize, u32);
+
+static CASES: [Case; 6] = [
+    (4, 2, 1, 4),
+    (300, 300, 1, 300),
+    (300, 300, 2, 299),
+    (300, 300, 3, 298),
+    (300, 300, 299, 2),
+    (300, 300, 300, 1),
+];
+
+fn cases() -> &'static [Case] {
+    &CASES
+}
+
+/// Whether seven lost puts are known, actor 0 takes so many messages and this one last, and the
+/// book goes on.
+fn takes_in_order(world: &mut World<Relay>, count: usize, last: u32) -> Result<bool, Fail>
     requires plan { (scene world.old).plan ≡ ring }
     requires states { length (scene world.old).states ≡ 2 }
 {
-    let lost = lost(world);
-    let last = last_after_take(world)?;
-    Ok(lost == (7, 0) && last == Some(4) && has_numbers(world.book(), &[1, 2]))
+    let known = lost(world) == (7, 0);
+    let took = takes(world, count)?;
+    let book = is_numbered(world.book(), count.saturating_add(1));
+    Ok(known && took && book && world.machine(0).last == last)
+}
+
+fn goes_on(alloc: Global, case: &Case) -> Result<bool, Fail> {
+    let (first, count, taken, last) = *case;
+    let back = Back {
+        lost: 7,
+        first,
+        count,
+    };
+    let mut world = ring_later(alloc, &back)?;
+    takes_in_order(&mut world, taken, last)
 }
 
 #[test]
 fn a_world_goes_on(rt: HostRuntime) -> Result<(), Fail> {
-    let rest = vec![in rt.alloc(); 4, 3]?;
-    let mut world = ring_later(rt.alloc(), rest)?;
-    let right = goes_on(&mut world);
-    drop(world);
-    assert!(rt; right?);
+    for case in cases() {
+        assert!(rt; goes_on(rt.alloc(), case)?);
+    }
     Ok(())
 }
 
@@ -280,7 +314,19 @@ fn sends_last(world: &mut World<Relay>) -> Result<bool, Fail>
 {
     let second = turn(world, 0, 1)?;
     let third = turn(world, 0, 1)?;
-    Ok(second == Turn::Did && third == Turn::Idle && has_numbers(world.book(), &[1, 2]))
+    Ok(second == Turn::Did && third == Turn::Idle && is_numbered(world.book(), 2))
+}
+
+/// Sends the first token.
+fn send_first(world: &mut World<Relay>) -> Result<(), Fail>
+    requires { (scene world.old).plan ≡ ring }
+    ensures plan { (scene world.new).plan ≡ ring }
+    ensures book { IfOk result (λ _. length (scene world.new).book ≤ 100) }
+{
+    if turn(world, 0, 1)? != Turn::Did || world.book().entries.len() > 100 {
+        return Err("another turn".into());
+    }
+    Ok(())
 }
 
 /// What the ring gives after its first turn.
@@ -290,69 +336,23 @@ fn parts_of_first(alloc: Global) -> Result<(Vec<Relay>, Book), Fail>
     ensures numbers { IfOk result (λ r. All (λ e. e.number ≤ length r.1.entries) r.1.entries) }
 {
     let mut world = ring_world(alloc)?;
-    let first = turn(&mut world, 0, 1);
-    let (machines, book) = world.into_book();
-    if first? != Turn::Did || book.entries.len() > 100 {
-        return Err("another turn".into());
-    }
-    Ok((machines, book))
+    send_first(&mut world)?;
+    Ok(world.into_book())
+}
+
+fn goes_on_from_another(alloc: Global) -> Result<bool, Fail> {
+    let none = Back {
+        lost: 0,
+        first: 0,
+        count: 0,
+    };
+    let (machines, book) = parts_of_first(alloc)?;
+    let mut again = ring_on(alloc, machines, book, &none)?;
+    sends_last(&mut again)
 }
 
 #[test]
 fn a_world_goes_on_from_another(rt: HostRuntime) -> Result<(), Fail> {
-    let (machines, book) = parts_of_first(rt.alloc())?;
-    let mut again = ring_on(rt.alloc(), machines, book, 0, Vec::new(rt.alloc()))?;
-    let right = sends_last(&mut again);
-    drop(again);
-    assert!(rt; right?);
-    Ok(())
-}
-
-/// The numbers from this one down to 1.
-fn numbers_down(alloc: Global, first: u32) -> Result<Vec<u32>, AllocError> {
-    let mut numbers = Vec::new(alloc);
-    for behind in 0..first {
-        numbers.push(first - behind)?;
-    }
-    Ok(numbers)
-}
-
-/// Takes so many messages from the link to actor 0.
-fn take_many(world: &mut World<Relay>, count: u32) -> Result<(), Fail>
-    requires { (scene world.old).plan ≡ ring }
-    ensures { (scene world.new).plan ≡ ring }
-{
-    for _i in 0..count {
-        if world.book().entries.len() > 1000 {
-            return Err("too many turns".into());
-        }
-        world.turn(0, 0)?;
-    }
-    Ok(())
-}
-
-/// What the first actor saw last.
-fn seen_last(world: World<Relay>) -> Option<u32> {
-    let (machines, _book) = world.into_book();
-    match machines.first() {
-        Some(machine) => Some(machine.last),
-        None => None,
-    }
-}
-
-/// What the first actor saw last of so many messages, whose numbers go down from 300.
-fn last_of(alloc: Global, count: u32) -> Result<Option<u32>, Fail> {
-    let mut world = ring_later(alloc, numbers_down(alloc, 300)?)?;
-    let taken = take_many(&mut world, count);
-    let last = seen_last(world);
-    taken?;
-    Ok(last)
-}
-
-#[test]
-fn many_messages_keep_their_order(rt: HostRuntime) -> Result<(), Fail> {
-    for count in [1, 2, 3, 299, 300] {
-        assert_eq!(rt; last_of(rt.alloc(), count)?, Some(301 - count));
-    }
+    assert!(rt; goes_on_from_another(rt.alloc())?);
     Ok(())
 }

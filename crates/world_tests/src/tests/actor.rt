@@ -71,13 +71,10 @@ pub fn turns_of<R: Wait>(rt: &R, actor: &mut Actor<Relay>) -> Result<bool, Memor
     Ok(moved)
 }
 
-/// How often one turn by each choice of the first actor moves something, until it does not.
-fn moves_of_first<R: Wait>(rt: &R, actors: &mut Vec<Actor<Relay>>) -> Result<u32, Memory> {
-    let Some(host) = actors.first_mut() else {
-        return Ok(10);
-    };
+/// How often one turn by each choice of an actor moves something, until it does not.
+fn moves_of<R: Wait>(rt: &R, actor: &mut Actor<Relay>) -> Result<u32, Memory> {
     for moves in 0..10 {
-        if !turns_of(rt, host)? {
+        if !turns_of(rt, actor)? {
             return Ok(moves);
         }
     }
@@ -108,12 +105,15 @@ fn settle<R: Wait>(rt: &R, actors: &mut Vec<Actor<Relay>>) -> Result<(), Memory>
 
 /// Whether just so many tokens came to each actor.
 fn have_seen(actors: &[Actor<Relay>], seen: &[u32]) -> bool {
-    for (actor, tokens) in actors.iter().zip(seen) {
-        if actor.machine().seen != *tokens {
+    if actors.len() != seen.len() {
+        return false;
+    }
+    for i in 0..actors.len() {
+        if actors[i].machine().seen != seen[i] {
             return false;
         }
     }
-    actors.len() == seen.len()
+    true
 }
 
 /// How many puts the links of an actor lost, and whether a message waits in an outbox of it.
@@ -188,13 +188,12 @@ fn first_rests<R: Wait>(
     alloc: Global,
     actors: &mut Vec<Actor<Relay>>,
 ) -> Result<bool, Memory> {
-    match actors.first_mut() {
-        Some(host) => {
-            let wrong = first_wrong(rt, alloc, host, runs())?;
-            Ok(wrong.is_none() && host.log() == [(1, 0), (2, 0), (3, 0)].as_slice())
-        }
-        None => Ok(false),
+    if actors.is_empty() {
+        return Ok(false);
     }
+    let host = &mut actors[0];
+    let wrong = first_wrong(rt, alloc, host, runs())?;
+    Ok(wrong.is_none() && host.log() == [(1, 0), (2, 0), (3, 0)].as_slice())
 }
 
 #[test]
@@ -211,17 +210,19 @@ fn run_one<R: Wait>(rt: &R, alloc: Global, mut actor: Actor<Relay>) -> Actor<Rel
     actor
 }
 
+/// Whether three tokens come to each actor but the first, where turns deliver what is on its way.
+fn come_by_turns<R: Wait>(rt: &R, mut actors: Vec<Actor<Relay>>) -> Result<bool, Memory> {
+    settle(rt, &mut actors)?;
+    Ok(have_seen(actors.as_slice(), &[0, 3, 3, 3]))
+}
+
 /// Each actor runs in a thread of its own; what is then still on its way is delivered by turns.
 #[test]
 fn a_thread_for_each(rt: HostRuntime) -> Result<(), Fail> {
     let alloc = rt.alloc();
     let actors = actors_in_line(alloc, &[])?;
-    let mut actors = thread::map_vec(&rt, actors, &|actor| run_one(&rt, alloc, actor))?;
-    let settled = settle(&rt, &mut actors);
-    let came = have_seen(actors.as_slice(), &[0, 3, 3, 3]);
-    drop(actors);
-    settled?;
-    assert!(rt; came);
+    let actors = thread::map_vec(&rt, actors, &|actor| run_one(&rt, alloc, actor))?;
+    assert!(rt; come_by_turns(&rt, actors)?);
     Ok(())
 }
 
@@ -238,7 +239,10 @@ fn cases() -> &'static [(&'static [u64], [u32; 4])] {
 
 /// How many moves the first actor makes. Then all go on until nothing moves any more.
 fn moves_and_settle<R: Wait>(rt: &R, actors: &mut Vec<Actor<Relay>>) -> Result<u32, Memory> {
-    let moves = moves_of_first(rt, actors)?;
+    if actors.is_empty() {
+        return Ok(10);
+    }
+    let moves = moves_of(rt, &mut actors[0])?;
     settle(rt, actors)?;
     Ok(moves)
 }

@@ -139,18 +139,37 @@ fn are_short(actors: &[Actor<Relay>]) -> bool
     true
 }
 
-/// The world that actors in a line are merged to after the turns; the relays' link loses its second put.
+/// Takes the turns, all of which have to go right.
+fn take_turns<R: Wait>(rt: &R, actors: &mut Vec<Actor<Relay>>) -> Result<(), Fail>
+    requires { AreUnderWay (map held actors.old.items) }
+    ensures way { IfOk result (λ _. AreUnderWay (map held actors.new.items)) }
+    ensures short { IfOk result (λ _. All (λ a. length (held a).log ≤ 100) actors.new.items) }
+{
+    let wrong = first_wrong(rt, actors, turns())?;
+    if wrong.is_some() || !are_short(actors.as_slice()) {
+        return Err("another turn".into());
+    }
+    Ok(())
+}
+
+/// Actors in a line after the turns; the relays' link loses its second put.
+fn line_after_turns<R: Wait>(rt: &R, alloc: Global) -> Result<Vec<Actor<Relay>>, Fail>
+    ensures way { IfOk result (λ v. AreUnderWay (map held v.items)) }
+    ensures short { IfOk result (λ v. All (λ a. length (held a).log ≤ 100) v.items) }
+{
+    let mut actors = actors_in_line(alloc, &[2])?;
+    take_turns(rt, &mut actors)?;
+    Ok(actors)
+}
+
+/// The world that they are merged to.
 fn merged_line<R: Wait>(rt: &R, alloc: Global) -> Result<World<Relay>, Fail>
     ensures { IfOk result (λ w. (scene w).plan ≡ in_line) }
 {
     made_actors_are_wired::<Relay>();
     let first = machines_in_line(alloc)?;
     let wiring = line_wiring(alloc)?;
-    let mut actors = actors_in_line(alloc, &[2])?;
-    let wrong = first_wrong(rt, &mut actors, turns())?;
-    if wrong.is_some() || !are_short(actors.as_slice()) {
-        return Err("another turn".into());
-    }
+    let actors = line_after_turns(rt, alloc)?;
     Ok(merge(rt, alloc, actors, first.as_slice(), &wiring)?)
 }
 
@@ -198,12 +217,16 @@ fn lost_between(world: &World<Relay>) -> u64
 
 /// Whether just so many tokens came to each machine, with so many hops the last of them.
 fn have_seen(machines: &[Relay], seen: &[(u32, u32)]) -> bool {
-    for (machine, tokens) in machines.iter().zip(seen) {
-        if (machine.seen, machine.last) != *tokens {
+    if machines.len() != seen.len() {
+        return false;
+    }
+    for i in 0..machines.len() {
+        let machine = &machines[i];
+        if (machine.seen, machine.last) != seen[i] {
             return false;
         }
     }
-    machines.len() == seen.len()
+    true
 }
 
 /// Whether the book of a world has so many entries, of which these are the first, and just so many
@@ -234,7 +257,6 @@ fn a_merged_world_goes_on(rt: HostRuntime) -> Result<(), Fail> {
     let lost = lost_between(&world);
     let seen = [(0, 0), (3, 1), (2, 0), (2, 0)];
     let right = ends_as(world, 10, merged_entries().as_slice(), &seen);
-    assert_eq!(rt; (turns?, lost), ([2, 1, 2, 0], 1));
-    assert!(rt; right);
+    assert_eq!(rt; (turns?, lost, right), ([2, 1, 2, 0], 1, true));
     Ok(())
 }

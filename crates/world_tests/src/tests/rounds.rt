@@ -59,10 +59,11 @@ fn rounds_of<R: Wait>(
 ) -> Result<u64, Fail>
     requires { 1 ≤ quiet }
 {
-    let Some(actor) = actors.get_mut(place as usize) else {
+    if place as usize >= actors.len() {
         return Err("no actor".into());
-    };
+    }
     let gate = Counter::new(place);
+    let actor = &mut actors[place as usize];
     let rest = run_all(rt, alloc, actor, 1000, quiet, &gate)?;
     let (rounds, wrong) = gate.told();
     if rest != Rest::Rested || wrong != 0 {
@@ -78,9 +79,10 @@ fn turns_at<R: Wait>(
     place: usize,
     times: u32,
 ) -> Result<(), Fail> {
-    let Some(actor) = actors.get_mut(place) else {
+    if place >= actors.len() {
         return Err("no actor".into());
-    };
+    }
+    let actor = &mut actors[place];
     for _ in 0..times {
         turns_of(rt, actor)?;
     }

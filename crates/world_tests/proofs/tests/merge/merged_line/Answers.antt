@@ -10,13 +10,12 @@ use Rattle.world_tests.proofs.tests.merge.merged_line.Goals as goal
 
 pub merge-requires-clause-follows : goal.merge-requires-clause-follows
 merge-requires-clause-follows g c =
-    subst (λ (s : List RelayState). EachFollows relay_rules s (map held c.first_wrong.new.actors.items)) (sym (ap (map relay_state) c.as_slice-2.ensures.value ∙ c.in_ok-first.ensures.states)) c.first_wrong.ensures.follow
+    subst (λ (s : List RelayState). EachFollows relay_rules s (map held c.in_ok-actors.actors.items)) (sym (ap (map relay_state) c.as_slice.ensures.value ∙ c.in_ok-first.ensures.states)) c.in_ok-actors.ensures.way.follow
 
 pub merge-requires-clause-few : goal.merge-requires-clause-few
 merge-requires-clause-few g c =
-    let actors = map held c.first_wrong.new.actors.items in
-    let four : length actors ≡ 4 = sym (length-map actors (λ a. a.counts.ins)) ∙ ap length c.first_wrong.ensures.wired.counts.ins_are in
-    let short : All (λ (a : ActorView RelayState ℕ). length a.log ≤ 100) actors = All-map (λ (a : ActorView RelayState ℕ). length a.log ≤ 100) held c.first_wrong.new.actors.items
-    (subst (All (λ a. length (held a).log ≤ 100)) c.as_slice.ensures.value (c.are_short.ensures c.if-not-are_short.false)) in
+    let actors = map held c.in_ok-actors.actors.items in
+    let four : length actors ≡ 4 = sym (length-map actors (λ a. a.counts.ins)) ∙ ap length c.in_ok-actors.ensures.way.wired.counts.ins_are in
+    let short : All (λ (a : ActorView RelayState ℕ). length a.log ≤ 100) actors = All-map (λ (a : ActorView RelayState ℕ). length a.log ≤ 100) held c.in_ok-actors.actors.items c.in_ok-actors.ensures.short in
     let few = c.made_actors_are_wired.ensures.few 100 actors short in
     omega (arith, four, few)

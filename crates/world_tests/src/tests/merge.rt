@@ -109,24 +109,6 @@ fn turn_at<R: Wait>(rt: &R, actors: &mut Vec<Actor<Relay>>, place: usize) -> Res
     Ok(actor.turn(rt, 0)?)
 }
 
-/// The place of the first turn that went wrong.
-fn first_wrong<R: Wait>(
-    rt: &R,
-    actors: &mut Vec<Actor<Relay>>,
-    turns: &[(usize, Moved)],
-) -> Result<Option<usize>, Fail>
-    requires { AreUnderWay (map held actors.old.items) }
-    ensures { AreUnderWay (map held actors.new.items) }
-{
-    for i in 0..turns.len() {
-        let (place, expected) = turns[i];
-        if turn_at(rt, actors, place)? != expected {
-            return Ok(Some(i));
-        }
-    }
-    Ok(None)
-}
-
 /// Whether no actor has logged more than a hundred turns.
 fn are_short(actors: &[Actor<Relay>]) -> bool
     ensures { IsTrue result → All (λ a. length (held a).log ≤ 100) actors.now }
@@ -145,9 +127,13 @@ fn take_turns<R: Wait>(rt: &R, actors: &mut Vec<Actor<Relay>>) -> Result<(), Fai
     ensures way { IfOk result (λ _. AreUnderWay (map held actors.new.items)) }
     ensures short { IfOk result (λ _. All (λ a. length (held a).log ≤ 100) actors.new.items) }
 {
-    let wrong = first_wrong(rt, actors, turns())?;
-    if wrong.is_some() || !are_short(actors.as_slice()) {
-        return Err("another turn".into());
+    for (place, expected) in turns() {
+        if turn_at(rt, actors, *place)? != *expected {
+            return Err("another turn".into());
+        }
+    }
+    if !are_short(actors.as_slice()) {
+        return Err("long log".into());
     }
     Ok(())
 }

@@ -3,7 +3,7 @@ ghost use Rattle.std.specs.Prelude.{◌≡◌, ◌<◌, IfOk, length};
 ghost use Rattle.sl_layout.specs.Net.{links_into, links_from};
 
 use super::messages::Event::{Act, Begin, Dump, Notice};
-use super::nets::{net, sent};
+use super::nets::{let_go, net, sent};
 use super::rig::{IDLE, Rig, Turn, first_wrong};
 use sl_control::Control;
 use sl_machine::Memory;
@@ -80,13 +80,19 @@ fn control_of(alloc: Global, net: &Net) -> Result<Rig<Control>, Fail> {
 
 fn control(alloc: Global) -> Result<Rig<Control>, Fail> {
     let net = net(alloc, 2)?;
-    control_of(alloc, &net)
+    let control = control_of(alloc, &net);
+    let_go(net);
+    control
+}
+
+/// The place of the first turn that goes wrong.
+fn wrong_turn(alloc: Global) -> Result<Option<usize>, Fail> {
+    let mut control = control(alloc)?;
+    first_wrong(alloc, &mut control, turns())
 }
 
 #[test]
 fn turns_of_a_control_plane(rt: HostRuntime) -> Result<(), Fail> {
-    let alloc = rt.alloc();
-    let mut control = control(alloc)?;
-    assert_eq!(rt; first_wrong(alloc, &mut control, turns())?, None);
+    assert_eq!(rt; wrong_turn(rt.alloc())?, None);
     Ok(())
 }

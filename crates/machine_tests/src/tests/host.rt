@@ -23,8 +23,9 @@ fn raw(alloc: Global, from: u32, byte: u8) -> Result<RawPart, AllocError> {
 /// Raw frames of the host and of another.
 fn raws(alloc: Global) -> Result<Vec<RawPart>, AllocError> {
     let mut raws = Vec::new(alloc);
-    for (from, byte) in [(0, 1), (1, 2), (0, 3)] {
-        raws.push(raw(alloc, from, byte)?)?;
+    let parts = [(0, 1), (1, 2), (0, 3)];
+    for (from, byte) in &parts {
+        raws.push(raw(alloc, *from, *byte)?)?;
     }
     Ok(raws)
 }
@@ -138,10 +139,15 @@ fn sends(alloc: Global, host: &mut Rig<Host>) -> Result<(usize, bool, u64), Fail
     Ok((right, is_done, host.machine.sent()))
 }
 
+/// The same of a new host.
+fn sent_by_new(alloc: Global) -> Result<(usize, bool, u64), Fail> {
+    let mut host = host(alloc)?;
+    sends(alloc, &mut host)
+}
+
 #[test]
 fn packets_then_raw_frames(rt: HostRuntime) -> Result<(), Fail> {
-    let mut host = host(rt.alloc())?;
-    assert_eq!(rt; sends(rt.alloc(), &mut host)?, (4, true, 4));
+    assert_eq!(rt; sent_by_new(rt.alloc())?, (4, true, 4));
     Ok(())
 }
 
@@ -167,9 +173,14 @@ fn all_taken(alloc: Global, host: &mut Rig<Host>) -> Result<(u64, u64, u64), Fai
     Ok((first, second, third))
 }
 
+/// The same of a new host.
+fn taken_by_new(alloc: Global) -> Result<(u64, u64, u64), Fail> {
+    let mut host = host(alloc)?;
+    all_taken(alloc, &mut host)
+}
+
 #[test]
 fn frames_are_counted(rt: HostRuntime) -> Result<(), Fail> {
-    let mut host = host(rt.alloc())?;
-    assert_eq!(rt; all_taken(rt.alloc(), &mut host)?, (1, 2, 2));
+    assert_eq!(rt; taken_by_new(rt.alloc())?, (1, 2, 2));
     Ok(())
 }

@@ -21,23 +21,38 @@ fn host(alloc: Global, port: u32) -> Result<HostPart, Fail> {
     })
 }
 
-/// A device with one port or two.
-pub fn net(alloc: Global, ports: u32) -> Result<Net, Fail> {
-    let device = DevicePart {
-        name: name(alloc, "a")?,
-        ports,
-    };
+fn hosts(alloc: Global, ports: u32) -> Result<Vec<HostPart>, Fail> {
     let mut hosts = Vec::new(alloc);
     for port in 0..ports {
         hosts.push(host(alloc, port)?)?;
     }
-    let parts = Parts {
-        devices: vec![in alloc; device]?,
-        cables: Vec::new(alloc),
-        hosts,
-    };
-    Ok(Net::build(alloc, parts).map_err(|_| "refused")?)
+    Ok(hosts)
 }
+
+fn devices(alloc: Global, ports: u32) -> Result<Vec<DevicePart>, Fail> {
+    let device = DevicePart {
+        name: name(alloc, "a")?,
+        ports,
+    };
+    Ok(vec![in alloc; device]?)
+}
+
+/// A device with one port or two.
+pub fn net(alloc: Global, ports: u32) -> Result<Net, Fail> {
+    let devices = devices(alloc, ports)?;
+    let parts = Parts {
+        devices,
+        cables: Vec::new(alloc),
+        hosts: hosts(alloc, ports)?,
+    };
+    match Net::build(alloc, parts) {
+        Ok(net) => Ok(net),
+        Err(_) => Err("refused".into()),
+    }
+}
+
+/// Lets a net go. A net is large, so this is proved here and not in each test.
+pub fn let_go(_net: Net) {}
 
 /// Gives a value back that may go to another thread.
 pub fn sent<T: Send>(value: T) -> T

@@ -3,7 +3,7 @@ ghost use Rattle.std.specs.Prelude.{◌≡◌, length};
 
 use super::messages::Event::{Act, Done};
 use super::messages::report;
-use super::nets::{net, sent};
+use super::nets::{let_go, net, sent};
 use super::rig::{IDLE, Rig, Turn, first_wrong};
 use sl_net::{Net, Snapshot};
 use sl_observe::Observer;
@@ -74,7 +74,9 @@ fn collector_of(alloc: Global, net: &Net) -> Result<Collector, Fail> {
 
 fn make_collector(alloc: Global) -> Result<Collector, Fail> {
     let net = net(alloc, 1)?;
-    collector_of(alloc, &net)
+    let collector = collector_of(alloc, &net);
+    let_go(net);
+    collector
 }
 
 /// The choice by which the observer issues the next snapshot.

@@ -5,7 +5,7 @@ ghost use Rattle.sl_unit.specs.Made.{IsRanged};
 ghost use Rattle.sl_unit.specs.Units.{unit_counts};
 
 use super::messages::Event::{Data, Frame, Probe};
-use super::nets::net;
+use super::nets::{let_go, net};
 use super::rig::{Rig, Turn, first_wrong};
 use sl_machine::Memory;
 use sl_net::{Net, Side, Snapshot};
@@ -80,7 +80,9 @@ fn unit(alloc: Global, place: u32, credits: u8) -> Result<Rig<Unit>, Fail>
     requires most { credits ≤ 4 }
 {
     let net = net(alloc, 2)?;
-    joined(alloc, &net, place, credits)
+    let unit = joined(alloc, &net, place, credits);
+    let_go(net);
+    unit
 }
 
 /// The dump with which a unit answers a poll by its last choice. The poll takes another one back.
@@ -199,7 +201,7 @@ fn is_blank(dump: &Dump) -> bool {
 }
 
 /// Whether the registers of a unit are blank, and it counted nothing.
-fn counts_nothing(unit: &Unit) -> Result<bool, Memory> {
+fn counts_nothing(unit: &Unit) -> Result<bool, Fail> {
     let none = UnitCounts {
         packets: 0,
         bytes: 0,
@@ -214,7 +216,7 @@ fn counts_nothing(unit: &Unit) -> Result<bool, Memory> {
 /// Whether those of a new unit are.
 fn is_new(alloc: Global, place: u32) -> Result<bool, Fail> {
     let unit = unit(alloc, place, 1)?;
-    Ok(counts_nothing(&unit.machine)?)
+    counts_nothing(&unit.machine)
 }
 
 #[test]

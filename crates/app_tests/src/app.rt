@@ -3,7 +3,7 @@ use crate::inputs::input_of;
 use crate::streams::{Streams, call_on, left_by, streams_of};
 use sl_actor::FreeGate;
 use sl_app::one_thread;
-use std::alloc::{AllocError, Global};
+use std::alloc::Global;
 use std::sync::Wait;
 use std::test::Fail;
 use std::thread::Threads;
@@ -89,83 +89,65 @@ fn fail(text: &str, place: usize) -> u64 {
     u64::from(digit(text, place))
 }
 
-/// Whether a call that left this status left this on the error sink, and wrote where it was served.
-pub fn is_told(streams: &Streams, status: u8, error: &str) -> bool {
-    let writes = status == 0 || status == 8;
-    streams.err.bytes() == error.as_bytes() && streams.out.bytes().is_empty() != writes
+/// Whether bytes are those of a text.
+pub fn is_text(bytes: &[u8], text: &str) -> bool {
+    bytes == text.as_bytes()
 }
 
-/// A call, and what it leaves.
-#[derive(Clone, Copy)]
-struct Call<'a> {
-    fails: (u64, u64, u64),
-    status: u8,
-    error: &'a str,
-    input: &'a str,
-    book: &'a str,
-    words: &'a str,
+/// Whether a call left the status and the book that it should, and this on the error sink, and wrote
+/// where it was served.
+pub fn is_told(streams: &Streams, left: (u8, bool), wanted: (u8, bool), error: &str) -> bool {
+    let is_written = !streams.out.bytes().is_empty();
+    let is_error = is_text(streams.err.bytes(), error);
+    left == wanted && is_error && is_written == matches!(wanted.0, 0 | 8)
 }
 
-/// The call of a line, where it has all its columns.
-fn call_of(line: &str) -> Option<Call<'_>> {
-    let (head, words) = line.split_once(" =>")?;
-    let (fails, head) = head.split_once(" ")?;
-    let (status, head) = head.split_once(" ")?;
-    let (error, head) = head.split_once(" ")?;
-    let (input, book) = head.split_once(" ")?;
-    Some(Call {
-        fails: (fail(fails, 0), fail(fails, 1), fail(fails, 2)),
-        status: digit(status, 0),
-        error: error_of(error),
-        input: input_of(input),
-        book,
-        words,
-    })
+/// The text at a place of a line.
+fn column(line: &str, place: usize) -> &str {
+    line.split(" ").nth(place).unwrap_or("")
 }
 
-/// Whether a call on such streams leaves what is told of it.
+/// The words of a line.
+fn words_of(line: &str) -> &str {
+    match line.split_once(" =>") {
+        Some((_, words)) => words,
+        None => "",
+    }
+}
+
+/// Whether the call of a line on such streams leaves what is told of it.
 fn leaves_on<R: Threads + Wait + Sync>(
     rt: &R,
     alloc: Global,
-    call: &Call<'_>,
+    line: &str,
     streams: &mut Streams,
-) -> Result<bool, AllocError> {
-    let left = call_on(rt, alloc, call.words, streams, &FreeGate)?;
-    Ok(left == (call.status, call.book == "book") && is_told(streams, call.status, call.error))
+) -> Result<bool, Fail> {
+    let left = call_on(rt, alloc, words_of(line), streams, &FreeGate)?;
+    let wanted = (digit(column(line, 1), 0), column(line, 4) == "book");
+    Ok(is_told(streams, left, wanted, error_of(column(line, 2))))
 }
 
-/// Whether a call leaves what is told of it.
-fn leaves<R: Threads + Wait + Sync>(rt: &R, alloc: Global, call: &Call<'_>) -> Result<bool, Fail> {
-    let mut streams = streams_of(alloc, call.input, call.fails)?;
-    let left = leaves_on(rt, alloc, call, &mut streams);
+/// The streams of the call of a line.
+fn streams_for(alloc: Global, line: &str) -> Result<Streams, Fail> {
+    let fails = column(line, 0);
+    let fails = (fail(fails, 0), fail(fails, 1), fail(fails, 2));
+    streams_of(alloc, input_of(column(line, 3)), fails)
+}
+
+/// Whether the call of a line leaves what is told of it.
+fn leaves<R: Threads + Wait + Sync>(rt: &R, alloc: Global, line: &str) -> Result<bool, Fail> {
+    let mut streams = streams_for(alloc, line)?;
+    let left = leaves_on(rt, alloc, line, &mut streams);
     drop(streams);
-    Ok(left?)
-}
-
-/// Whether the call of a line does.
-fn is_right<R: Threads + Wait + Sync>(rt: &R, alloc: Global, line: &str) -> Result<bool, Fail> {
-    let call = call_of(line).ok_or("no call")?;
-    leaves(rt, alloc, &call)
-}
-
-/// The first line of the table that is not so.
-fn wrong_line<'a, R: Threads + Wait + Sync>(
-    rt: &R,
-    alloc: Global,
-    table: &'a str,
-) -> Result<Option<&'a str>, Fail> {
-    for line in table.lines() {
-        if !is_right(rt, alloc, line)? {
-            return Ok(Some(line));
-        }
-    }
-    Ok(None)
+    left
 }
 
 /// Words, faults at each call, and where there is a book.
 #[test]
 fn words_and_faults(rt: HostRuntime) -> Result<(), Fail> {
-    assert_eq!(rt; wrong_line(&rt, rt.alloc(), table())?, None);
+    for line in table().lines() {
+        assert!(rt; leaves(&rt, rt.alloc(), line)?, "{line}");
+    }
     Ok(())
 }
 
@@ -178,7 +160,7 @@ fn tells_usage_on(alloc: Global, streams: &mut Streams) -> bool {
         &mut streams.out,
         &mut streams.err,
     ));
-    left == (2, false) && is_told(streams, 2, USAGE)
+    is_told(streams, left, (2, false), USAGE)
 }
 
 /// The same on new streams.

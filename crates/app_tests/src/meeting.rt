@@ -10,16 +10,20 @@ const TRIES: u64 = 100_000_000;
 /// doesn't see that, it goes on all the same, and that is noted.
 #[derive(Drop)]
 pub struct Meeting {
-    pair: (u32, u32),
-    began: (AtomicU64, AtomicU64),
+    one: u32,
+    other: u32,
+    one_began: AtomicU64,
+    other_began: AtomicU64,
     met: AtomicU64,
 }
 
 impl Meeting {
     pub fn new(one: u32, other: u32) -> Meeting {
         Meeting {
-            pair: (one, other),
-            began: (AtomicU64::new(0), AtomicU64::new(0)),
+            one,
+            other,
+            one_began: AtomicU64::new(0),
+            other_began: AtomicU64::new(0),
             met: AtomicU64::new(0),
         }
     }
@@ -59,11 +63,11 @@ impl Gate for Meeting {
     ghost passed = { λ gate actor round. ⊤ };
 
     fn pass(&self, actor: u32, round: u64) {
-        if actor == self.pair.0 {
-            wait_for(&self.began.0, &self.began.1, &self.met, round);
+        if actor == self.one {
+            wait_for(&self.one_began, &self.other_began, &self.met, round);
         }
-        if actor == self.pair.1 {
-            wait_for(&self.began.1, &self.began.0, &self.met, round);
+        if actor == self.other {
+            wait_for(&self.other_began, &self.one_began, &self.met, round);
         }
     }
 }

@@ -1,61 +1,57 @@
 // The samples.
 use sl_flow::{sample_input, sample_parts};
-use sl_net::{Flow, Input, LossSpec, Parts, RawPart, Script1, Snapshot};
+use sl_net::Input;
 use sl_read::read_input;
 use std::alloc::{AllocError, Global};
 use std::test::Fail;
 
-fn tell_parts(text: &mut String, parts: &Parts) -> Result<(), AllocError> {
-    write!(text, "{parts:?}")
-}
-
-fn tell_tables(text: &mut String, snapshot: Snapshot, loss: &LossSpec) -> Result<(), AllocError> {
-    write!(text, "{snapshot:?} {loss:?}")
-}
-
-fn tell_lists(
-    text: &mut String,
-    flows: &[Flow],
-    raws: &[RawPart],
-    script: &[Script1],
-) -> Result<(), AllocError> {
-    write!(text, "{flows:?} {raws:?} {script:?}")
-}
-
 /// Writes out all that an input says.
 fn tell_input(text: &mut String, input: &Input) -> Result<(), AllocError> {
-    tell_parts(text, input.net.parts())?;
-    tell_tables(text, input.snapshot, &input.loss)?;
-    tell_lists(
+    let parts = input.net.parts();
+    let snapshot = input.snapshot;
+    let loss = &input.loss;
+    let flows = input.flows.as_slice();
+    let raws = input.raws.as_slice();
+    let script = input.script.as_slice();
+    write!(
         text,
-        input.flows.as_slice(),
-        input.raws.as_slice(),
-        input.script.as_slice(),
+        "{parts:?} {snapshot:?} {loss:?} {flows:?} {raws:?} {script:?}"
     )
+}
+
+/// The same, and lets the input go.
+fn tell(told: &mut String, input: Input) -> Result<(), Fail> {
+    let done = tell_input(told, &input);
+    drop(input);
+    Ok(done?)
 }
 
 /// Writes out the input that a text is read as.
 fn tell_read(alloc: Global, told: &mut String, text: &[u8]) -> Result<(), Fail> {
-    let input = read_input(alloc, text).ok().ok_or("refused")?;
-    let done = tell_input(told, &input);
-    drop(input);
-    Ok(done?)
+    match read_input(alloc, text) {
+        Ok(input) => tell(told, input),
+        Err(_) => Err("refused".into()),
+    }
 }
 
 /// Writes out the input of a sample.
 fn tell_sample(alloc: Global, told: &mut String, number: u64) -> Result<(), Fail> {
-    let input = sample_parts(alloc, number).ok().ok_or("no sample")?;
-    let done = tell_input(told, &input);
-    drop(input);
-    Ok(done?)
+    match sample_parts(alloc, number) {
+        Ok(input) => tell(told, input),
+        Err(_) => Err("no sample".into()),
+    }
 }
 
 /// Writes out what the text of a sample is read as.
 fn tell_text(alloc: Global, told: &mut String, number: u64) -> Result<(), Fail> {
-    let text = sample_input(alloc, number).ok().ok_or("no text")?;
-    let done = tell_read(alloc, told, text.as_slice());
-    drop(text);
-    done
+    match sample_input(alloc, number) {
+        Ok(text) => {
+            let done = tell_read(alloc, told, text.as_slice());
+            drop(text);
+            done
+        }
+        Err(_) => Err("no text".into()),
+    }
 }
 
 /// Writes out a sample as its text is read and as it is, and answers whether this is the same.

@@ -30,21 +30,13 @@ fn short_streams(alloc: Global, most: usize, fail: u64) -> Result<ShortStreams, 
     })
 }
 
-/// What a call leaves.
-#[derive(Drop)]
-struct Left {
-    status: u8,
-    has_book: bool,
-    out: Vec<u8>,
-}
-
 /// What `step` leaves on such streams.
 fn step_on<R: Threads + Wait + Sync>(
     rt: &R,
     alloc: Global,
     streams: &mut ShortStreams,
-) -> Result<Left, AllocError> {
-    let (status, has_book) = call(
+) -> Result<(u8, bool), AllocError> {
+    call(
         rt,
         alloc,
         "step",
@@ -52,34 +44,32 @@ fn step_on<R: Threads + Wait + Sync>(
         &mut streams.out,
         &mut streams.err,
         &FreeGate,
-    )?;
-    let out = Vec::from_slice(alloc, streams.out.inner.bytes())?;
-    Ok(Left {
-        status,
-        has_book,
-        out,
-    })
-}
-
-/// The same on new ones, of which each call moves at most so many bytes and this write fails.
-fn step<R: Threads + Wait + Sync>(
-    rt: &R,
-    alloc: Global,
-    most: usize,
-    fail: u64,
-) -> Result<Left, Fail>
-    requires { 0 < most }
-{
-    let mut streams = short_streams(alloc, most, fail)?;
-    let left = step_on(rt, alloc, &mut streams);
-    drop(streams);
-    Ok(left?)
+    )
 }
 
 /// Whether a call left this status and a book, and wrote so many bytes of a report.
-fn is_right(left: &Left, status: u8, report: &[u8], written: usize) -> bool {
-    let told = report.starts_with(left.out.as_slice()) && left.out.len() == written;
-    told && left.status == status && left.has_book
+fn is_right(
+    streams: &ShortStreams,
+    left: (u8, bool),
+    status: u8,
+    report: &[u8],
+    written: usize,
+) -> bool {
+    let out = streams.out.inner.bytes();
+    left == (status, true) && out.len() == written && report.starts_with(out)
+}
+
+/// Whether `step` on such streams does.
+fn leaves_on<R: Threads + Wait + Sync>(
+    rt: &R,
+    alloc: Global,
+    streams: &mut ShortStreams,
+    status: u8,
+    report: &[u8],
+    written: usize,
+) -> Result<bool, Fail> {
+    let left = step_on(rt, alloc, streams)?;
+    Ok(is_right(streams, left, status, report, written))
 }
 
 /// Whether `step` does, where each call moves one byte and this write fails.
@@ -91,10 +81,10 @@ fn leaves<R: Threads + Wait + Sync>(
     report: &[u8],
     written: usize,
 ) -> Result<bool, Fail> {
-    let left = step(rt, alloc, 1, fail)?;
-    let right = is_right(&left, status, report, written);
-    drop(left);
-    Ok(right)
+    let mut streams = short_streams(alloc, 1, fail)?;
+    let right = leaves_on(rt, alloc, &mut streams, status, report, written);
+    drop(streams);
+    right
 }
 
 /// Whether a report that is written byte by byte is this one, and of one whose hundredth byte fails
@@ -103,25 +93,32 @@ fn leave_bytes<R: Threads + Wait + Sync>(
     rt: &R,
     alloc: Global,
     report: &[u8],
-) -> Result<(bool, bool), Fail> {
+) -> Result<bool, Fail> {
     let whole = leaves(rt, alloc, 0, 0, report, report.len())?;
     let front = leaves(rt, alloc, 100, 5, report, 99)?;
-    Ok((whole, front))
+    Ok(whole && front)
+}
+
+/// The same of the report that is written on these streams.
+fn leave_bytes_on<R: Threads + Wait + Sync>(
+    rt: &R,
+    alloc: Global,
+    streams: &mut ShortStreams,
+) -> Result<bool, Fail> {
+    step_on(rt, alloc, streams)?;
+    leave_bytes(rt, alloc, streams.out.inner.bytes())
 }
 
 /// The same of the report that is written at once.
-fn leave_bytes_of_report<R: Threads + Wait + Sync>(
-    rt: &R,
-    alloc: Global,
-) -> Result<(bool, bool), Fail> {
-    let whole = step(rt, alloc, 4096, 0)?;
-    let right = leave_bytes(rt, alloc, whole.out.as_slice());
-    drop(whole);
+fn leave_bytes_of_report<R: Threads + Wait + Sync>(rt: &R, alloc: Global) -> Result<bool, Fail> {
+    let mut streams = short_streams(alloc, 4096, 0)?;
+    let right = leave_bytes_on(rt, alloc, &mut streams);
+    drop(streams);
     right
 }
 
 #[test]
 fn one_byte_at_a_time(rt: HostRuntime) -> Result<(), Fail> {
-    assert_eq!(rt; leave_bytes_of_report(&rt, rt.alloc())?, (true, true));
+    assert!(rt; leave_bytes_of_report(&rt, rt.alloc())?);
     Ok(())
 }

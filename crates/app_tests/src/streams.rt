@@ -15,14 +15,20 @@ pub struct Streams {
     pub err: MemorySink,
 }
 
+/// The calls that fail: the one of this number.
+fn failing(alloc: Global, fail: u64) -> Result<Vec<u64>, AllocError> {
+    Vec::from_slice(alloc, &[fail])
+}
+
 fn source(alloc: Global, text: &str, fail: u64) -> Result<MemorySource, AllocError> {
     let bytes = Vec::from_slice(alloc, text.as_bytes())?;
-    Ok(MemorySource::new(bytes, Vec::from_slice(alloc, &[fail])?))
+    let fails = failing(alloc, fail)?;
+    Ok(MemorySource::new(bytes, fails))
 }
 
 fn sink(alloc: Global, fail: u64) -> Result<MemorySink, Fail> {
-    let fails = Vec::from_slice(alloc, &[fail])?;
-    Ok(MemorySink::new(alloc, 4096, fails).ok().ok_or("memory")?)
+    let fails = failing(alloc, fail)?;
+    Ok(MemorySink::new(alloc, 4096, fails)?)
 }
 
 /// The streams of a call with this input, where the read, the write and the write of errors of these
@@ -48,11 +54,9 @@ pub fn streams_of(alloc: Global, text: &str, fails: (u64, u64, u64)) -> Result<S
 
 /// Adds the words of a line, of which `''` is the empty one.
 fn add_words(alloc: Global, words: &mut Vec<String>, line: &str) -> Result<(), AllocError> {
-    for word in line.split(" ") {
-        if !word.is_empty() {
-            let word = if word == "''" { "" } else { word };
-            words.push(String::from_str(alloc, word)?)?;
-        }
+    for word in line.split_whitespace() {
+        let word = if word == "''" { "" } else { word };
+        words.push(String::from_str(alloc, word)?)?;
     }
     Ok(())
 }

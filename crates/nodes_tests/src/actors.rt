@@ -12,7 +12,7 @@ use sl_actor::{Actor, Moved, make_actors};
 use sl_machine::Memory;
 use sl_net::{Input, Net};
 use sl_proto::{Node, build_nodes, make_losses, pass_of};
-use std::alloc::{AllocError, Global};
+use std::alloc::Global;
 use std::sync::Wait;
 use std::test::Fail;
 
@@ -32,7 +32,7 @@ fn at_last() -> &'static [(u64, u64)] {
 }
 
 /// What an observer has issued and collected, or a host sent and taken.
-fn told(node: &Node) -> Option<(u64, u64)> {
+pub fn counted(node: &Node) -> Option<(u64, u64)> {
     match node {
         Node::Observer(observer) => Some((observer.issued(), observer.floor())),
         Node::Host(host) => Some((host.sent(), host.delivered())),
@@ -123,15 +123,26 @@ fn settle<R: Wait>(
     Ok(false)
 }
 
-/// What the observer has issued and collected, and what hosts sent and took.
-fn told_by(alloc: Global, actors: &[Actor<Node>]) -> Result<Vec<(u64, u64)>, AllocError> {
-    let mut all = Vec::new(alloc);
+/// Whether these counts are expected at a place.
+pub fn is_at(expected: &[(u64, u64)], place: usize, counts: (u64, u64)) -> bool {
+    match expected.get(place) {
+        Some(at) => *at == counts,
+        None => false,
+    }
+}
+
+/// Whether the observer and the hosts have counted what is expected.
+fn are_told(actors: &[Actor<Node>]) -> bool {
+    let mut place: usize = 0;
     for actor in actors {
-        if let Some(counts) = told(actor.machine()) {
-            all.push(counts)?;
+        if let Some(counts) = counted(actor.machine()) {
+            if !is_at(at_last(), place, counts) {
+                return false;
+            }
+            place = place.saturating_add(1);
         }
     }
-    Ok(all)
+    place == at_last().len()
 }
 
 /// Whether actors of a net come to what is expected.
@@ -145,8 +156,7 @@ fn rest_right<R: Wait>(
 {
     let entries = pass_of(alloc, net, true)?;
     let rests = settle(rt, net, actors, entries.as_slice())?;
-    let all = told_by(alloc, actors.as_slice())?;
-    Ok(rests && all.as_slice() == at_last())
+    Ok(rests && are_told(actors.as_slice()))
 }
 
 /// Whether those of an input do.

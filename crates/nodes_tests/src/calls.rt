@@ -12,7 +12,7 @@ use sl_proto::{Node, Taker, expand, first_world, settle};
 use sl_read::read_input;
 use sl_report::trace_bytes;
 use sl_world::World;
-use std::alloc::{AllocError, Global};
+use std::alloc::Global;
 use std::test::Fail;
 
 /// A device with two hosts, one packet and one snapshot.
@@ -41,17 +41,20 @@ fn pass() -> &'static [(u32, u32)] {
     &PASS
 }
 
-/// An issue and two passes, written out.
-fn written_out(alloc: Global) -> Result<Vec<(u32, u32)>, AllocError> {
-    let mut entries = vec![in alloc; (0, 1)]?;
+/// Whether entries are an issue and two passes, written out.
+fn is_written_out(entries: &[(u32, u32)]) -> bool {
+    let mut place: usize = 1;
     for _time in 0..2 {
         for (actor, count) in pass() {
             for choice in 0..*count {
-                entries.push((*actor, choice))?;
+                if entries.get(place) != Some(&(*actor, choice)) {
+                    return false;
+                }
+                place = place.saturating_add(1);
             }
         }
     }
-    Ok(entries)
+    entries.first() == Some(&(0, 1)) && entries.len() == place
 }
 
 /// Whether a script of an issue and two passes is these choices, in order.
@@ -61,8 +64,9 @@ fn is_expanded(alloc: Global, net: &Net) -> Result<bool, Memory> {
         choice: 1,
     };
     let entries = expand(alloc, net, &[issue, Script1::Pass(2)])?;
-    let expected = written_out(alloc)?;
-    Ok(entries.as_slice() == expected.as_slice())
+    let right = is_written_out(entries.as_slice());
+    drop(entries);
+    Ok(right)
 }
 
 /// An input that was read can run.
@@ -86,6 +90,13 @@ fn settled_in(alloc: Global, net: &Net, world: &mut World<Node>) -> Result<(u64,
     Ok((world.entries(), observer.issued(), observer.floor()))
 }
 
+/// Lets a world go by its nodes and its book.
+pub fn let_go(world: World<Node>) {
+    let (nodes, book) = world.into_book();
+    drop(nodes);
+    drop(book);
+}
+
 /// How many turns settling takes from the start, and then the greatest number issued and that up
 /// to which all units are collected.
 fn settled(alloc: Global, input: &Input) -> Result<(u64, u64, u64), Memory>
@@ -93,7 +104,7 @@ fn settled(alloc: Global, input: &Input) -> Result<(u64, u64, u64), Memory>
 {
     let mut world = first_world(alloc, input)?;
     let settled = settled_in(alloc, &input.net, &mut world);
-    drop(world);
+    let_go(world);
     settled
 }
 
@@ -116,21 +127,21 @@ fn is_spelled(alloc: Global, net: &Net) -> Result<bool, Memory> {
     }
 }
 
-/// The three on one input.
-fn called_on(alloc: Global, input: &Input) -> Result<(bool, (u64, u64, u64), bool), Fail>
+/// Whether the three answer what they should on one input.
+fn answer_on(alloc: Global, input: &Input) -> Result<bool, Fail>
     requires { CanRun input.now }
 {
     let expanded = is_expanded(alloc, &input.net)?;
     let settled = settled(alloc, input)?;
     let spelled = is_spelled(alloc, &input.net)?;
-    Ok((expanded, settled, spelled))
+    Ok(expanded && settled == (36, 1, 1) && spelled)
 }
 
-fn called(alloc: Global) -> Result<(bool, (u64, u64, u64), bool), Fail> {
+fn answer(alloc: Global) -> Result<bool, Fail> {
     let input = runnable(alloc, ONE_PACKET)?;
-    let called = called_on(alloc, &input);
+    let right = answer_on(alloc, &input);
     drop(input);
-    called
+    right
 }
 
 /// Settling takes 36 turns: an issue, a Begin, an injecting and three that take the packet, two
@@ -139,6 +150,6 @@ fn called(alloc: Global) -> Result<(bool, (u64, u64, u64), bool), Fail> {
 /// while a poll is outstanding, so there is another.
 #[test]
 fn calls_answer(rt: HostRuntime) -> Result<(), Fail> {
-    assert_eq!(rt; called(rt.alloc())?, (true, (36, 1, 1), true));
+    assert!(rt; answer(rt.alloc())?);
     Ok(())
 }

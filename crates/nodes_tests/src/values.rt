@@ -68,11 +68,11 @@ fn told_of(run: &ValueRun) -> (usize, usize, usize) {
     (controls.len(), run.list.items.len(), told)
 }
 
-/// What is told of a run, and whether no control plane has a value for 0 or for a number above those
-/// collected.
-fn found_in(run: &ValueRun) -> ((usize, usize, usize), bool) {
+/// Whether both snapshots of a run are whole and answered by its two control planes, and none of
+/// these has a value for 0 or for a number above those collected.
+fn are_found_in(run: &ValueRun) -> bool {
     let controls = run.controls.as_slice();
-    (told_of(run), has_none(controls, 0) && has_none(controls, 3))
+    told_of(run) == (2, 2, 2) && has_none(controls, 0) && has_none(controls, 3)
 }
 
 /// Whether a control plane that was just made answers nothing for its first unit.
@@ -89,19 +89,19 @@ fn answers_nothing(alloc: Global, input: &Input) -> Result<bool, Memory>
 }
 
 /// The same of a run of an input, and whether a new control plane has no value.
-fn found_of(alloc: Global, input: &Input) -> Result<((usize, usize, usize), bool, bool), Fail>
+fn are_found(alloc: Global, input: &Input) -> Result<bool, Fail>
     requires { CanRun input.now }
 {
     let is_new = answers_nothing(alloc, input)?;
     let run = run_values(alloc, input)?;
-    let (told, has_none) = found_in(&run);
+    let found = are_found_in(&run);
     drop(run);
-    Ok((told, has_none, is_new))
+    Ok(found && is_new)
 }
 
-fn found(alloc: Global) -> Result<((usize, usize, usize), bool, bool), Fail> {
+fn found(alloc: Global) -> Result<bool, Fail> {
     let input = runnable(alloc, TWO_SWITCHES)?;
-    let found = found_of(alloc, &input);
+    let found = are_found(alloc, &input);
     drop(input);
     found
 }
@@ -110,6 +110,6 @@ fn found(alloc: Global) -> Result<((usize, usize, usize), bool, bool), Fail> {
 /// a value for 0, or for a number above those collected, nor a new one for any.
 #[test]
 fn controls_answer_values(rt: HostRuntime) -> Result<(), Fail> {
-    assert_eq!(rt; found(rt.alloc())?, ((2, 2, 2), true, true));
+    assert!(rt; found(rt.alloc())?);
     Ok(())
 }

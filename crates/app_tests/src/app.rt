@@ -84,11 +84,6 @@ fn digit(text: &str, place: usize) -> u8 {
     }
 }
 
-/// The number of the call that fails, by the digit at a place.
-fn fail(text: &str, place: usize) -> u64 {
-    u64::from(digit(text, place))
-}
-
 /// Whether bytes are those of a text.
 pub fn is_text(bytes: &[u8], text: &str) -> bool {
     bytes == text.as_bytes()
@@ -123,20 +118,14 @@ fn leaves_on<R: Threads + Wait + Sync>(
     streams: &mut Streams,
 ) -> Result<bool, Fail> {
     let left = call_on(rt, alloc, words_of(line), streams, &FreeGate)?;
-    let wanted = (digit(column(line, 1), 0), column(line, 4) == "book");
+    let wanted = (digit(line, 4), column(line, 4) == "book");
     Ok(is_told(streams, left, wanted, error_of(column(line, 2))))
-}
-
-/// The streams of the call of a line.
-fn streams_for(alloc: Global, line: &str) -> Result<Streams, Fail> {
-    let fails = column(line, 0);
-    let fails = (fail(fails, 0), fail(fails, 1), fail(fails, 2));
-    streams_of(alloc, input_of(column(line, 3)), fails)
 }
 
 /// Whether the call of a line leaves what is told of it.
 fn leaves<R: Threads + Wait + Sync>(rt: &R, alloc: Global, line: &str) -> Result<bool, Fail> {
-    let mut streams = streams_for(alloc, line)?;
+    let fails = (digit(line, 0), digit(line, 1), digit(line, 2));
+    let mut streams = streams_of(alloc, input_of(column(line, 3)), fails)?;
     let left = leaves_on(rt, alloc, line, &mut streams);
     drop(streams);
     left
@@ -151,8 +140,9 @@ fn words_and_faults(rt: HostRuntime) -> Result<(), Fail> {
     Ok(())
 }
 
-/// Whether a call without a word on such streams tells how the program is used.
-fn tells_usage_on(alloc: Global, streams: &mut Streams) -> bool {
+/// Whether a call without a word tells how the program is used.
+fn tells_usage(alloc: Global) -> Result<bool, Fail> {
+    let mut streams = streams_of(alloc, "", (0, 0, 0))?;
     let left = left_by(one_thread(
         alloc,
         &[],
@@ -160,13 +150,7 @@ fn tells_usage_on(alloc: Global, streams: &mut Streams) -> bool {
         &mut streams.out,
         &mut streams.err,
     ));
-    is_told(streams, left, (2, false), USAGE)
-}
-
-/// The same on new streams.
-fn tells_usage(alloc: Global) -> Result<bool, Fail> {
-    let mut streams = streams_of(alloc, "", (0, 0, 0))?;
-    let told = tells_usage_on(alloc, &mut streams);
+    let told = is_told(&streams, left, (2, false), USAGE);
     drop(streams);
     Ok(told)
 }

@@ -54,23 +54,17 @@ fn runs_on<R: Threads + Wait + Sync>(
 }
 
 /// The same on new streams.
-fn runs_at<R: Threads + Wait + Sync>(rt: &R, alloc: Global, gate: &Meeting) -> Result<bool, Fail> {
-    let mut streams = streams_of(alloc, NO_PACKET, (0, 0, 0))?;
-    let right = runs_on(rt, alloc, gate, &mut streams);
-    drop(streams);
-    right
-}
-
-/// Whether two actors see each other in their first rounds, and the report is right.
 fn meet<R: Threads + Wait + Sync>(
     rt: &R,
     alloc: Global,
     one: u32,
     other: u32,
 ) -> Result<bool, Fail> {
+    let mut streams = streams_of(alloc, NO_PACKET, (0, 0, 0))?;
     let gate = Meeting::new(one, other);
-    let right = runs_at(rt, alloc, &gate);
+    let right = runs_on(rt, alloc, &gate, &mut streams);
     drop(gate);
+    drop(streams);
     right
 }
 

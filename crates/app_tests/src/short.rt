@@ -19,7 +19,7 @@ struct ShortStreams {
 }
 
 /// Those of `step`, of which this write fails.
-fn short_streams(alloc: Global, most: usize, fail: u64) -> Result<ShortStreams, Fail>
+fn short_streams(alloc: Global, most: usize, fail: u8) -> Result<ShortStreams, Fail>
     requires { 0 < most }
 {
     let Streams { input, out, err } = streams_of(alloc, input_of("packets"), (0, fail, 0))?;
@@ -76,7 +76,7 @@ fn leaves_on<R: Threads + Wait + Sync>(
 fn leaves<R: Threads + Wait + Sync>(
     rt: &R,
     alloc: Global,
-    fail: u64,
+    fail: u8,
     status: u8,
     report: &[u8],
     written: usize,

@@ -16,24 +16,24 @@ pub struct Streams {
 }
 
 /// The calls that fail: the one of this number.
-fn failing(alloc: Global, fail: u64) -> Result<Vec<u64>, AllocError> {
-    Vec::from_slice(alloc, &[fail])
+fn failing(alloc: Global, fail: u8) -> Result<Vec<u64>, AllocError> {
+    Vec::from_slice(alloc, &[u64::from(fail)])
 }
 
-fn source(alloc: Global, text: &str, fail: u64) -> Result<MemorySource, AllocError> {
+fn source(alloc: Global, text: &str, fail: u8) -> Result<MemorySource, AllocError> {
     let bytes = Vec::from_slice(alloc, text.as_bytes())?;
     let fails = failing(alloc, fail)?;
     Ok(MemorySource::new(bytes, fails))
 }
 
-fn sink(alloc: Global, fail: u64) -> Result<MemorySink, Fail> {
+fn sink(alloc: Global, fail: u8) -> Result<MemorySink, Fail> {
     let fails = failing(alloc, fail)?;
     Ok(MemorySink::new(alloc, 4096, fails)?)
 }
 
 /// The streams of a call with this input, where the read, the write and the write of errors of these
 /// numbers fail; none does at 0.
-pub fn streams_of(alloc: Global, text: &str, fails: (u64, u64, u64)) -> Result<Streams, Fail> {
+pub fn streams_of(alloc: Global, text: &str, fails: (u8, u8, u8)) -> Result<Streams, Fail> {
     let input = source(alloc, text, fails.0)?;
     let out = match sink(alloc, fails.1) {
         Ok(out) => out,

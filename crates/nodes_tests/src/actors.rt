@@ -179,16 +179,12 @@ fn all_come_to<R: Wait>(rt: &R, alloc: Global, input: &Input) -> Result<bool, Fa
     Ok(one && two && many)
 }
 
-fn deliver<R: Wait>(rt: &R, alloc: Global) -> Result<bool, Fail> {
-    let input = runnable(alloc, THREE_PACKETS)?;
-    let right = all_come_to(rt, alloc, &input);
-    drop(input);
-    right
-}
-
 /// However much a link holds, all packets are delivered and the snapshot is collected.
 #[test]
 fn nodes_are_actors(rt: HostRuntime) -> Result<(), Fail> {
-    assert!(rt; deliver(&rt, rt.alloc())?);
+    let input = runnable(rt.alloc(), THREE_PACKETS)?;
+    let right = all_come_to(&rt, rt.alloc(), &input);
+    drop(input);
+    assert!(rt; right?);
     Ok(())
 }

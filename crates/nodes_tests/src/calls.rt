@@ -137,19 +137,15 @@ fn answer_on(alloc: Global, input: &Input) -> Result<bool, Fail>
     Ok(expanded && settled == (36, 1, 1) && spelled)
 }
 
-fn answer(alloc: Global) -> Result<bool, Fail> {
-    let input = runnable(alloc, ONE_PACKET)?;
-    let right = answer_on(alloc, &input);
-    drop(input);
-    right
-}
-
 /// Settling takes 36 turns: an issue, a Begin, an injecting and three that take the packet, two
 /// initiations, four probes, six notices, and six polls, dumps and reports each. A unit has one
 /// notice for each channel on which the new number comes, and the second one of an egress unit comes
 /// while a poll is outstanding, so there is another.
 #[test]
 fn calls_answer(rt: HostRuntime) -> Result<(), Fail> {
-    assert!(rt; answer(rt.alloc())?);
+    let input = runnable(rt.alloc(), ONE_PACKET)?;
+    let right = answer_on(rt.alloc(), &input);
+    drop(input);
+    assert!(rt; right?);
     Ok(())
 }

@@ -141,16 +141,12 @@ fn both_come_to(alloc: Global, input: &Input) -> Result<bool, Fail>
     Ok(by_links && by_choices)
 }
 
-fn two_in_flight(alloc: Global) -> Result<bool, Fail> {
-    let input = runnable(alloc, THREE_PACKETS)?;
-    let both = both_come_to(alloc, &input);
-    drop(input);
-    both
-}
-
 /// Two packets are credited to the snapshot that the egress unit adopted before it took them.
 #[test]
 fn two_packets_are_in_flight(rt: HostRuntime) -> Result<(), Fail> {
-    assert!(rt; two_in_flight(rt.alloc())?);
+    let input = runnable(rt.alloc(), THREE_PACKETS)?;
+    let right = both_come_to(rt.alloc(), &input);
+    drop(input);
+    assert!(rt; right?);
     Ok(())
 }

@@ -99,17 +99,13 @@ fn are_found(alloc: Global, input: &Input) -> Result<bool, Fail>
     Ok(found && is_new)
 }
 
-fn found(alloc: Global) -> Result<bool, Fail> {
-    let input = runnable(alloc, TWO_SWITCHES)?;
-    let found = are_found(alloc, &input);
-    drop(input);
-    found
-}
-
 /// Each value is what the control plane of its unit's device answers, and no other does; none has
 /// a value for 0, or for a number above those collected, nor a new one for any.
 #[test]
 fn controls_answer_values(rt: HostRuntime) -> Result<(), Fail> {
-    assert!(rt; found(rt.alloc())?);
+    let input = runnable(rt.alloc(), TWO_SWITCHES)?;
+    let right = are_found(rt.alloc(), &input);
+    drop(input);
+    assert!(rt; right?);
     Ok(())
 }

@@ -140,11 +140,12 @@ fn words_and_faults(rt: HostRuntime) -> Result<(), Fail> {
     Ok(())
 }
 
-/// Whether a call without a word tells how the program is used.
-fn tells_usage(alloc: Global) -> Result<bool, Fail> {
-    let mut streams = streams_of(alloc, "", (0, 0, 0))?;
+/// The call that takes no handle, without a word, tells how the program is used.
+#[test]
+fn no_words(rt: HostRuntime) -> Result<(), Fail> {
+    let mut streams = streams_of(rt.alloc(), "", (0, 0, 0))?;
     let left = left_by(one_thread(
-        alloc,
+        rt.alloc(),
         &[],
         &mut streams.input,
         &mut streams.out,
@@ -152,12 +153,6 @@ fn tells_usage(alloc: Global) -> Result<bool, Fail> {
     ));
     let told = is_told(&streams, left, (2, false), USAGE);
     drop(streams);
-    Ok(told)
-}
-
-/// The call that takes no handle.
-#[test]
-fn no_words(rt: HostRuntime) -> Result<(), Fail> {
-    assert!(rt; tells_usage(rt.alloc())?);
+    assert!(rt; told);
     Ok(())
 }

@@ -99,7 +99,7 @@ fn leave_bytes<R: Threads + Wait + Sync>(
     Ok(whole && front)
 }
 
-/// The same of the report that is written on these streams.
+/// The same of the report that is written at once, on these streams.
 fn leave_bytes_on<R: Threads + Wait + Sync>(
     rt: &R,
     alloc: Global,
@@ -109,16 +109,11 @@ fn leave_bytes_on<R: Threads + Wait + Sync>(
     leave_bytes(rt, alloc, streams.out.inner.bytes())
 }
 
-/// The same of the report that is written at once.
-fn leave_bytes_of_report<R: Threads + Wait + Sync>(rt: &R, alloc: Global) -> Result<bool, Fail> {
-    let mut streams = short_streams(alloc, 4096, 0)?;
-    let right = leave_bytes_on(rt, alloc, &mut streams);
-    drop(streams);
-    right
-}
-
 #[test]
 fn one_byte_at_a_time(rt: HostRuntime) -> Result<(), Fail> {
-    assert!(rt; leave_bytes_of_report(&rt, rt.alloc())?);
+    let mut streams = short_streams(rt.alloc(), 4096, 0)?;
+    let right = leave_bytes_on(&rt, rt.alloc(), &mut streams);
+    drop(streams);
+    assert!(rt; right?);
     Ok(())
 }

@@ -1,6 +1,5 @@
 // The nodes of an input as actors, by turns of one thread.
 ghost use Rattle.std.specs.Prelude.{IsTrue, IfOk};
-ghost use Rattle.std.specs.List.{All};
 ghost use Rattle.sl_machine.specs.Plan.{HasChoice};
 ghost use Rattle.sl_machine.specs.Fit.{HasCounts};
 ghost use Rattle.sl_layout.specs.Wiring.{plan_of};

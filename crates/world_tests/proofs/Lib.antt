@@ -1,3 +1,1 @@
 pub mod PlanLemmas
-pub mod OrderLemmas
-mod TurnLemmas

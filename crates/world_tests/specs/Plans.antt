@@ -11,13 +11,3 @@ ring =
       outs = 1 ∷ 1 ∷ [];
       actions = 1 ∷ 1 ∷ [];
     }
-
--- a host that sends, two relays and a host that takes
-abbrev pub in_line : Plan
-in_line =
-    record {
-      links = record { from = 0; out = 0; to = 1; choice = 0 } ∷ record { from = 1; out = 0; to = 2; choice = 0 } ∷ record { from = 2; out = 0; to = 3; choice = 0 } ∷ [];
-      ins = 0 ∷ 1 ∷ 1 ∷ 1 ∷ [];
-      outs = 1 ∷ 1 ∷ 1 ∷ 0 ∷ [];
-      actions = 1 ∷ 0 ∷ 0 ∷ 0 ∷ [];
-    }

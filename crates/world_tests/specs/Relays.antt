@@ -1,11 +1,7 @@
--- The machines of the tests, and those of them that stand in a line.
-use Rattle.std.specs.Prelude.{◌+◌, ◌-◌, ◌^◌, ◌==◌, ◌∷◌, [], ℕ, min, List, Some, None, if◌then◌else◌}
+-- The machines of the tests.
+use Rattle.std.specs.Prelude.{◌+◌, ◌-◌, ◌^◌, ◌==◌, ◌∷◌, [], ℕ, min, Some, None, if◌then◌else◌}
 use Rattle.sl_machine.specs.Machine.{Rules, Counts}
-use Rattle.sl_actor.specs.Follows.{ActorView}
-use Rattle.sl_actor.specs.Made.{EachFollows}
-use Rattle.sl_merge.specs.Merged.{AreWired}
 use Rattle.world_tests.specs.declared.relay.Relay.{Relay}
-use Rattle.world_tests.specs.Plans.{in_line}
 
 -- its outgoing links, the tokens that it has left, those that came, and the hops of the last of them
 abbrev pub RelayState : Type 0
@@ -22,12 +18,3 @@ relay_rules = record {
   take = λ s link m. record { state = (s.0, s.1, min (s.2 + 1) (2 ^ 32 - 1), m); puts = if s.0 == 0 then [] else (0, m - 1) ∷ [] };
   act = λ s action. if s.0 == 0 then None else (if s.1 == 0 then None else Some (record { state = (s.0, s.1 - 1, s.2, s.3); puts = (0, s.1) ∷ [] }));
 }
-
--- the machines of the line before their first turns
-abbrev pub states_in_line : List RelayState
-states_in_line = (1, 3, 0, 0) ∷ (1, 0, 0, 0) ∷ (1, 0, 0, 0) ∷ (0, 0, 0, 0) ∷ []
-
--- actors of the line after any turns
-pub record AreUnderWay (actors : List (ActorView RelayState ℕ)) : Type 0 where
-  pub wired : AreWired in_line actors
-  pub follow : EachFollows relay_rules states_in_line actors

@@ -5,23 +5,12 @@ ghost use Rattle.sl_world.specs.World.{scene};
 ghost use Rattle.world_tests.specs.Plans.{ring};
 ghost use Rattle.world_tests.specs.Relays.{relay_state, relay_counts};
 
-use crate::relay::{Relay, link};
+use crate::relay::{Relay, ring_wiring};
 use sl_loss::Loss;
 use sl_machine::{Book, Entry, Memory, Wiring};
 use sl_world::{Turn, World, every_schedule};
 use std::alloc::{AllocError, Global};
 use std::test::Fail;
-
-pub fn ring_wiring(alloc: Global) -> Result<Wiring, AllocError>
-    ensures { IfOk result (λ w. w ≡ ring) }
-{
-    Ok(Wiring {
-        links: vec![in alloc; link(1, 0), link(0, 1)]?,
-        in_counts: vec![in alloc; 1, 1]?,
-        out_counts: vec![in alloc; 1, 1]?,
-        action_counts: vec![in alloc; 1, 1]?,
-    })
-}
 
 /// Actor 0 has two tokens, and the second put on the link back to it is lost.
 fn ring_world(alloc: Global) -> Result<World<Relay>, Memory>

@@ -3,10 +3,10 @@ use Rattle.sl_machine.specs.Plan.{Plan, IsSound}
 use Rattle.sl_machine.specs.Fit.{Fits, HasCounts}
 use Rattle.sl_actor.specs.Held.{held}
 use Rattle.sl_actor.specs.Made.{EachFollows, AreTied}
-use Rattle.world_tests.specs.Plans.{in_line}
+use Rattle.actor_tests.specs.Lines.{in_line}
 use Rattle.world_tests.specs.Relays.{RelayState, relay_counts, relay_rules}
-use Rattle.world_tests.proofs.PlanLemmas.{line_is_sound}
-use Rattle.world_tests.proofs.tests.actor.actors_in_line.Goals as goal
+use Rattle.actor_tests.proofs.LineLemmas.{line_is_sound}
+use Rattle.actor_tests.proofs.actor.actors_in_line.Goals as goal
 
 pub make_actors-requires-clause-fit : goal.make_actors-requires-clause-fit
 make_actors-requires-clause-fit c =

@@ -1,8 +1,8 @@
 use Rattle.std.proofs.Common.{arith, subst, sym}
 use Rattle.std.specs.List.Sorted.{IsNonDecreasingBy}
 use Rattle.sl_machine.specs.declared.wiring.Entry.{Entry}
-use Rattle.world_tests.proofs.OrderLemmas.{in_order}
-use Rattle.world_tests.proofs.tests.merge.two_logs.Goals as goal
+use Rattle.actor_tests.proofs.OrderLemmas.{in_order}
+use Rattle.actor_tests.proofs.merge.two_logs.Goals as goal
 
 pub returns : goal.returns
 returns c =

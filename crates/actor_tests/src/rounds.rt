@@ -1,15 +1,14 @@
 // The rounds of a run, as its gate sees them.
 ghost use Rattle.std.specs.Prelude.{◌≤◌};
 
-use super::actor::{actors_in_line, run_all, turns_of};
-use super::world::ring_wiring;
-use crate::relay::Relay;
+use crate::actor::{actors_in_line, run_all, turns_of};
 use sl_actor::{Actor, Gate, Rest, make_actors};
 use sl_machine::Memory;
 use std::alloc::Global;
 use std::sync::Wait;
 use std::sync::atomic::{AtomicU64, Ordering};
 use std::test::Fail;
+use world_tests::{Relay, ring_wiring};
 
 /// A gate that counts the rounds of one actor, and those that come out of order.
 #[derive(Drop)]

@@ -6,7 +6,7 @@ use Rattle.sl_actor.specs.Follows.{ActorView}
 use Rattle.sl_actor.specs.Held.{held}
 use Rattle.sl_actor.specs.Made.{EachFollows}
 use Rattle.world_tests.specs.Relays.{RelayState, relay_state, relay_rules}
-use Rattle.world_tests.proofs.tests.merge.merged_line.Goals as goal
+use Rattle.actor_tests.proofs.merge.merged_line.Goals as goal
 
 pub merge-requires-clause-follows : goal.merge-requires-clause-follows
 merge-requires-clause-follows g c =

@@ -1,9 +1,10 @@
 use Rattle.std.proofs.Common.{arith}
 use Rattle.sl_actor.specs.Held.{held}
-use Rattle.world_tests.specs.Plans.{in_line}
-use Rattle.world_tests.specs.Relays.{relay_rules, states_in_line}
-use Rattle.world_tests.proofs.TurnLemmas.{turned}
-use Rattle.world_tests.proofs.tests.merge.turn_at.Goals as goal
+use Rattle.actor_tests.specs.Lines.{in_line}
+use Rattle.world_tests.specs.Relays.{relay_rules}
+use Rattle.actor_tests.specs.Lines.{states_in_line}
+use Rattle.actor_tests.proofs.TurnLemmas.{turned}
+use Rattle.actor_tests.proofs.merge.turn_at.Goals as goal
 
 pub returns-in_err-turn : goal.returns-in_err-turn
 returns-in_err-turn g c =

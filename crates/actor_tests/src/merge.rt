@@ -4,11 +4,9 @@ ghost use Rattle.std.specs.List.{All};
 ghost use Rattle.std.specs.List.Sorted.{IsNonDecreasingBy};
 ghost use Rattle.sl_actor.specs.Held.{held};
 ghost use Rattle.sl_world.specs.World.{scene};
-ghost use Rattle.world_tests.specs.Plans.{in_line};
-ghost use Rattle.world_tests.specs.Relays.{AreUnderWay};
+ghost use Rattle.actor_tests.specs.Lines.{in_line, AreUnderWay};
 
-use super::actor::{actors_in_line, choices_of, line_wiring, machines_in_line};
-use crate::relay::Relay;
+use crate::actor::{actors_in_line, choices_of, line_wiring, machines_in_line};
 use sl_actor::{Actor, Moved};
 use sl_machine::{Book, Entry};
 use sl_merge::{made_actors_are_wired, merge, sort_book};
@@ -16,6 +14,7 @@ use sl_world::{Turn, World};
 use std::alloc::{AllocError, Global};
 use std::sync::Wait;
 use std::test::Fail;
+use world_tests::Relay;
 
 fn entry(number: u64, actor: u32, choice: u32) -> Entry
     ensures { result.actor ≡ actor }

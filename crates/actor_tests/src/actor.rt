@@ -2,10 +2,9 @@
 ghost use Rattle.std.specs.Prelude.{◌≡◌, ◌+◌, ◌≤◌, map, IfOk};
 ghost use Rattle.sl_machine.specs.Fit.{HasCounts};
 ghost use Rattle.sl_actor.specs.Held.{held};
-ghost use Rattle.world_tests.specs.Plans.{in_line};
-ghost use Rattle.world_tests.specs.Relays.{relay_state, relay_counts, states_in_line, AreUnderWay};
+ghost use Rattle.world_tests.specs.Relays.{relay_state, relay_counts};
+ghost use Rattle.actor_tests.specs.Lines.{in_line, states_in_line, AreUnderWay};
 
-use crate::relay::{Relay, link};
 use sl_actor::{Actor, FreeGate, Gate, Moved, Rest, make_actors};
 use sl_loss::Loss;
 use sl_machine::{Memory, Wiring};
@@ -14,6 +13,7 @@ use std::alloc::{AllocError, Global};
 use std::sync::Wait;
 use std::test::Fail;
 use std::thread;
+use world_tests::{Relay, link};
 
 pub fn line_wiring(alloc: Global) -> Result<Wiring, AllocError>
     ensures { IfOk result (λ w. w ≡ in_line) }

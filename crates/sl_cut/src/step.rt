@@ -97,13 +97,14 @@ fn put_out(
     actor: u32,
     sort: Sort,
     message: &Message,
-) -> Result<Puts, Memory>
+) -> Result<Option<Puts>, Memory>
     requires { actor < length net.now.actors }
-    ensures { IfOk result (λ puts. puts ≡ send_all message.now (links_out net.now actor sort)) }
+    ensures { IfOk result
+        (λ puts. puts ≡ Some (send_all message.now (links_out net.now actor sort))) }
 {
     let mut items = Vec::new(alloc);
     add_out(&Putter { alloc, net, actor }, &mut items, sort, message)?;
-    Ok(Puts { items })
+    Ok(Some(Puts { items }))
 }
 
 /// Begins a snapshot at each control plane, where a guard passes.
@@ -113,14 +114,13 @@ fn begin_if(alloc: Global, net: &Net, passes: bool, number: u64) -> Result<Optio
     if !passes {
         return Ok(None);
     }
-    let begin = put_out(
+    put_out(
         alloc,
         net,
         observer(net),
         Sort::Begin,
         &Message::Begin(number),
-    )?;
-    Ok(Some(begin))
+    )
 }
 
 fn sweep_puts(alloc: Global, net: &Net, actor: u32, steps: &[Step]) -> Result<Option<Puts>, Memory>
@@ -152,10 +152,13 @@ fn inject(
 {
     let place = taken(action_choice(&input.net, actor), steps);
     match frame_at(alloc, input, host, place)? {
-        Some(frame) => {
-            let frame = Message::Host(frame);
-            Ok(Some(put_out(alloc, &input.net, actor, Sort::FromHost, &frame)?))
-        }
+        Some(frame) => put_out(
+            alloc,
+            &input.net,
+            actor,
+            Sort::FromHost,
+            &Message::Host(frame),
+        ),
         None => Ok(None),
     }
 }

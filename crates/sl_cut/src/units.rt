@@ -139,11 +139,8 @@ fn add_egress(
 {
     match message {
         Message::Data(_, packet) => add_egress_data(by, puts, id, *packet),
-        Message::Probe(_) => {
-            if is_own_port(by.net, of, link) {
-                add_out(by, puts, Sort::Cable, &Message::Probe(id))?;
-            }
-            Ok(())
+        Message::Probe(_) if is_own_port(by.net, of, link) => {
+            add_out(by, puts, Sort::Cable, &Message::Probe(id))
         }
         _ => Ok(()),
     }
@@ -193,9 +190,9 @@ pub fn add_unit(
     let stamp = stamp_of(message);
     let after = stamp.unwrap_or(0).max(id(steps));
     match of.side {
-        Side::Ingress => add_ingress(by, routes, puts, of.device, after, message)?,
-        Side::Egress => add_egress(by, puts, of, after, link, message)?,
-    }
+        Side::Ingress => add_ingress(by, routes, puts, of.device, after, message),
+        Side::Egress => add_egress(by, puts, of, after, link, message),
+    }?;
     add_notice(by, puts, last(choice, steps), stamp)?;
     match message {
         Message::Poll => add_out(by, puts, Sort::Dump, &Message::Dump(steps.len() as u64 + 1)),

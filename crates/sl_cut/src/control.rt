@@ -138,11 +138,11 @@ fn add_poll_if(
         (puts.new.items ≡ puts.old.items
         ++ (if passes then poll_puts one.now (reverse steps.now) else [])) }
 {
-    if passes {
-        let outstanding = is_outstanding(alloc, one, steps)?;
-        add_poll(puts, !outstanding, one.poll)?;
+    if !passes {
+        return Ok(());
     }
-    Ok(())
+    let outstanding = is_outstanding(alloc, one, steps)?;
+    add_poll(puts, !outstanding, one.poll)
 }
 
 fn add_notice_polls(
@@ -179,13 +179,13 @@ fn add_dump_answer_if(
         ++ (if passes then dump_answer by.now.net.now by.now.actor (reverse steps.now)
         count one.now else [])) }
 {
-    if passes {
-        let place = by.net.unit_place(one.unit);
-        add_out(by, puts, Sort::Done, &Message::Done(place, count))?;
-        let sweep = action_choice(by.net, by.actor);
-        add_poll(puts, is_again(sweep, one, steps), one.poll)?;
+    if !passes {
+        return Ok(());
     }
-    Ok(())
+    let place = by.net.unit_place(one.unit);
+    add_out(by, puts, Sort::Done, &Message::Done(place, count))?;
+    let sweep = action_choice(by.net, by.actor);
+    add_poll(puts, is_again(sweep, one, steps), one.poll)
 }
 
 fn add_dump_answers(

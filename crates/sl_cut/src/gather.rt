@@ -208,12 +208,13 @@ fn findings_in(
     let floor = floor(alloc, net, world)?;
     let drops = drops_of(alloc, net, world)?;
     let lost = losses_of(alloc, input, world)?;
+    let list = finding_list(alloc, input, world, input.snapshot.count)?;
     let (sent, delivered) = host_counts(alloc, net, world, host_list)?;
     Ok(Findings {
         issued: issued(net, world.steps(0)),
         floor,
         resent: resent(net, world.steps(0)),
-        list: finding_list(alloc, input, world, input.snapshot.count)?,
+        list,
         sent,
         delivered,
         drops,
@@ -236,6 +237,7 @@ pub fn findings_of(
     if schedule.len() >= 1 << 40 {
         return Err(Memory);
     }
+    let hosts = hosts(alloc, &input.net)?;
     let world = follow(alloc, input, schedule)?;
-    findings_in(alloc, input, &world, &hosts(alloc, &input.net)?)
+    findings_in(alloc, input, &world, &hosts)
 }

@@ -39,14 +39,6 @@ impl Model for World {
 }
 
 impl History {
-    fn new(alloc: Global) -> History
-        ensures { result ≡ [] }
-    {
-        History {
-            items: Vec::new(alloc),
-        }
-    }
-
     /// The steps, the oldest first.
     pub fn steps(&self) -> &[Step]
         ensures { reverse result.now ≡ self.now }
@@ -62,7 +54,9 @@ impl World {
     {
         let mut items = Vec::new(alloc);
         for _actor in 0..actors {
-            items.push(History::new(alloc))?;
+            items.push(History {
+                items: Vec::new(alloc),
+            })?;
         }
         Ok(World { items })
     }

@@ -1,6 +1,6 @@
 -- Loops that leave out what is lost.
 use Rattle.std.proofs.Common.{◌≡◌, ℕ, suc, ◌+◌, ◌<◌, List, [], ◌∷◌, ◌++◌, length, refl, ap, ◌∙◌, take, get_or, arith, length-take, add-one}
-use Rattle.std.specs.Prelude.{Bool, true, false, cond, if◌then◌else◌}
+use Rattle.std.specs.Prelude.{Bool, true, false, cond, not, if◌then◌else◌}
 use Rattle.std.proofs.lemmas.List.{take_more}
 use Rattle.std.specs.List.{range_with_len}
 use Rattle.sl_model.specs.declared.message.Message.{Message}
@@ -26,6 +26,10 @@ pub without_more : (lost : ℕ → Bool) (xs : List Message) (i : ℕ) (d : Mess
     → without_lost lost 0 (take (i + 1) xs) ≡ without_lost lost 0 (take i xs) ++ cond (lost (i + 1)) [] (get_or xs i d ∷ [])
 without_more lost xs i d h = let few : 1 + length (take i xs) ≡ i + 1 = omega (arith, length-take i xs, h) in
     ap (without_lost lost 0) (take_more xs i d h) ∙ without-snoc lost 0 (take i xs) (get_or xs i d) ∙ ap (λ k. without_lost lost 0 (take i xs) ++ cond (lost k) [] (get_or xs i d ∷ [])) few
+
+pub cond_not : (lost : Bool) (x : Message) → cond (not lost) (x ∷ []) [] ≡ cond lost [] (x ∷ [])
+cond_not true x = refl
+cond_not false x = refl
 
 -- what is kept and what is lost is all
 pub lost_and_kept : (lost : ℕ → Bool) (n : ℕ) (xs : List Message) → length (without_lost lost n xs) + tally lost (range_with_len (suc n) (length xs)) ≡ length xs

@@ -1,29 +1,15 @@
 // What is lost of the messages that are put on a link.
-ghost use Rattle.std.specs.Prelude.{◌≡◌, [], ◌∷◌, ◌++◌, ◌<◌, length, cond, reverse, IfOk, OnOk};
+ghost use Rattle.std.specs.Prelude.{◌≡◌, ◌<◌, length, reverse, IfOk};
 ghost use Rattle.sl_model.specs.History.{carried_by};
 ghost use Rattle.sl_model.specs.Losses.{losses};
 
-use crate::message::copy_message;
+use crate::message::add_copy_if;
 use crate::tell::put;
 use sl_input::{loses_next, loss_on, losses_answer_in_order};
 use sl_machine::Memory;
 use sl_model::{Message, Step};
 use sl_net::Input;
 use std::alloc::Global;
-
-fn add_unless(
-    alloc: Global,
-    kept: &mut Vec<Message>,
-    lost: bool,
-    message: &Message,
-) -> Result<(), Memory>
-    ensures { OnOk result (kept.new.items ≡ kept.old.items ++ cond lost [] (message.now ∷ [])) }
-{
-    if !lost {
-        kept.push(copy_message(alloc, message)?)?;
-    }
-    Ok(())
-}
 
 /// The messages that a sender with these steps put on a link and that are not lost.
 pub fn carried(
@@ -41,7 +27,8 @@ pub fn carried(
     let messages = put(alloc, link, steps)?;
     let mut kept = Vec::new(alloc);
     for message in &messages {
-        add_unless(alloc, &mut kept, loses_next(&mut loss), message)?;
+        let lost = loses_next(&mut loss);
+        add_copy_if(alloc, &mut kept, !lost, message)?;
     }
     Ok(kept)
 }

@@ -1,5 +1,5 @@
 // Messages once more.
-ghost use Rattle.std.specs.Prelude.{◌≡◌, IfOk};
+ghost use Rattle.std.specs.Prelude.{◌≡◌, [], ◌∷◌, ◌++◌, cond, IfOk, OnOk};
 
 use sl_machine::Memory;
 use sl_model::Message;
@@ -30,4 +30,20 @@ pub fn copy_message(alloc: Global, message: &Message) -> Result<Message, Memory>
         Message::Begin(number) => Ok(Message::Begin(*number)),
         Message::Done(unit, count) => Ok(Message::Done(*unit, *count)),
     }
+}
+
+/// Adds the same message once more where this passes.
+pub fn add_copy_if(
+    alloc: Global,
+    messages: &mut Vec<Message>,
+    passes: bool,
+    message: &Message,
+) -> Result<(), Memory>
+    ensures { OnOk result
+        (messages.new.items ≡ messages.old.items ++ cond passes (message.now ∷ []) []) }
+{
+    if passes {
+        messages.push(copy_message(alloc, message)?)?;
+    }
+    Ok(())
 }

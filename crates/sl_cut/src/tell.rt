@@ -1,12 +1,12 @@
 // What histories tell, over slices of steps, the oldest first.
-ghost use Rattle.std.specs.Prelude.{◌≡◌, ◌≤◌, min, [], ◌∷◌, ◌++◌, length, reverse, map, OnOk};
-ghost use Rattle.std.specs.Prelude.{IfOk, cond, ◌==◌, option_and_then};
+ghost use Rattle.std.specs.Prelude.{◌≡◌, ◌≤◌, min, ◌++◌, length, reverse, map, OnOk};
+ghost use Rattle.std.specs.Prelude.{IfOk, option_and_then};
 ghost use Rattle.std.specs.List.{fold};
 ghost use Rattle.sl_model.specs.History.{stamp_of, stamp_taken, id, last, taken, put, on_link};
 ghost use Rattle.sl_model.specs.History.{done_of};
 ghost use Rattle.sl_model.specs.Knowledge.{known, puts_on};
 
-use crate::message::copy_message;
+use crate::message::add_copy_if;
 use sl_machine::Memory;
 use sl_model::{Message, Put, Step};
 use std::alloc::Global;
@@ -71,17 +71,6 @@ pub fn taken(choice: usize, steps: &[Step]) -> usize
     taken
 }
 
-fn add_if_on(alloc: Global, messages: &mut Vec<Message>, link: u32, put: &Put) -> Result<(), Memory>
-    ensures { OnOk result
-        (messages.new.items ≡ messages.old.items ++ cond (put.now.link == link)
-        (put.now.message ∷ []) []) }
-{
-    if put.link == link {
-        messages.push(copy_message(alloc, &put.message)?)?;
-    }
-    Ok(())
-}
-
 /// Adds the messages that are put on a link.
 fn add_on_link(
     alloc: Global,
@@ -92,7 +81,7 @@ fn add_on_link(
     ensures { OnOk result (messages.new.items ≡ messages.old.items ++ on_link link puts.now) }
 {
     for put in puts {
-        add_if_on(alloc, messages, link, put)?;
+        add_copy_if(alloc, messages, put.link == link, &put.message)?;
     }
     Ok(())
 }

@@ -4,7 +4,7 @@ ghost use Rattle.std.specs.Prelude.{slice_index_or};
 ghost use Rattle.std.specs.List.{All};
 ghost use Rattle.sl_model.specs.Words.{weigh};
 ghost use Rattle.sl_model.specs.Cut.{before, data_count, data_bytes, channel_value};
-ghost use Rattle.sl_model.specs.Findings.{channel_links, eight_totals, row};
+ghost use Rattle.sl_model.specs.Findings.{eight_totals, row};
 ghost use Rattle.sl_saves.specs.Keeping.{no_total};
 ghost use Rattle.sl_model.specs.Losses.{losses};
 ghost use Rattle.sl_model.specs.History.{steps_in};
@@ -16,7 +16,7 @@ use crate::tell::{stamp_taken, taken};
 use crate::wires::data_channels;
 use sl_machine::Memory;
 use sl_model::{Message, Row, Step};
-use sl_net::{Input, Net};
+use sl_net::Input;
 use sl_saves::Total;
 use std::alloc::Global;
 
@@ -106,39 +106,29 @@ fn channel_value(
     Ok(total_of(part_of(&messages, from, upto)))
 }
 
+/// The values of some channels among the links into a unit.
 fn channel_values(
     alloc: Global,
     input: &Input,
     world: &World,
     snapshot: u64,
-    links: &[u32],
+    into: &[u32],
+    channels: &[u32],
 ) -> Result<Vec<Total>, Memory>
     requires small { steps_in world.now < 2 ^ 40 }
-    requires each { All (λ l. l < length input.now.net.links) links.now }
+    requires links { All (λ l. l < length input.now.net.links) into.now }
+    requires each { All (λ c. c < length into.now) channels.now }
     ensures { IfOk result
         (λ totals. totals.items
-        ≡ map (channel_value input.now.net (losses input.now) world.now snapshot) links.now) }
+        ≡ map (channel_value input.now.net (losses input.now) world.now snapshot)
+        (map (λ c. slice_index_or into.now c 0) channels.now)) }
 {
     let mut totals = Vec::new(alloc);
-    for link in links {
-        totals.push(channel_value(alloc, input, world, snapshot, *link)?)?;
+    for channel in channels {
+        let link = into[*channel as usize];
+        totals.push(channel_value(alloc, input, world, snapshot, link)?)?;
     }
     Ok(totals)
-}
-
-/// The data channels of a unit, as links.
-fn channel_links(alloc: Global, net: &Net, unit: u32) -> Result<Vec<u32>, Memory>
-    requires { unit < length net.now.actors }
-    ensures links { IfOk result (λ links. links.items ≡ channel_links net.now unit) }
-    ensures each { IfOk result (λ links. All (λ l. l < length net.now.links) links.items) }
-{
-    let into = net.links_into(unit);
-    let channels = data_channels(alloc, net, unit)?;
-    let mut links = Vec::new(alloc);
-    for channel in &channels {
-        links.push(into[*channel as usize])?;
-    }
-    Ok(links)
 }
 
 fn total_at(totals: &[Total], place: usize) -> Total
@@ -183,13 +173,9 @@ pub fn row(
         (λ one. one ≡ row input.now.net (losses input.now) world.now snapshot unit) }
 {
     let steps = before(snapshot, world.steps(unit));
-    let totals = channel_values(
-        alloc,
-        input,
-        world,
-        snapshot,
-        &channel_links(alloc, &input.net, unit)?,
-    )?;
+    let channels = data_channels(alloc, &input.net, unit)?;
+    let into = input.net.links_into(unit);
+    let totals = channel_values(alloc, input, world, snapshot, into, &channels)?;
     Ok(Row {
         packets: packets(steps),
         bytes: bytes(steps),

@@ -158,13 +158,8 @@ fn add_notice(
         ++ notice_puts by.now.net.now by.now.actor before stamp) }
 {
     match stamp {
-        None => Ok(()),
-        Some(stamp) => {
-            if before == stamp {
-                return Ok(());
-            }
-            add_out(by, puts, Sort::Notice, &Message::Notice)
-        }
+        Some(stamp) if stamp != before => add_out(by, puts, Sort::Notice, &Message::Notice),
+        _ => Ok(()),
     }
 }
 
@@ -190,9 +185,9 @@ pub fn add_unit(
     let stamp = stamp_of(message);
     let after = stamp.unwrap_or(0).max(id(steps));
     match of.side {
-        Side::Ingress => add_ingress(by, routes, puts, of.device, after, message),
-        Side::Egress => add_egress(by, puts, of, after, link, message),
-    }?;
+        Side::Ingress => add_ingress(by, routes, puts, of.device, after, message)?,
+        Side::Egress => add_egress(by, puts, of, after, link, message)?,
+    }
     add_notice(by, puts, last(choice, steps), stamp)?;
     match message {
         Message::Poll => add_out(by, puts, Sort::Dump, &Message::Dump(steps.len() as u64 + 1)),

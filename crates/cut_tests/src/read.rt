@@ -134,10 +134,15 @@ fn told(alloc: Global, input: &Input) -> Result<String, AllocError> {
     Ok(text)
 }
 
+/// Whether this is what an input has.
+fn is_told(alloc: Global, input: &Input, wanted: &str) -> Result<bool, AllocError> {
+    Ok(told(alloc, input)?.as_str() == wanted)
+}
+
 /// Whether this is read of the text of an input.
 fn is_read(alloc: Global, text: &str, wanted: &str) -> Result<bool, AllocError> {
     match read_input(alloc, text.as_bytes()) {
-        Ok(input) => Ok(told(alloc, &input)?.as_str() == wanted),
+        Ok(input) => is_told(alloc, &input, wanted),
         Err(_) => Ok(false),
     }
 }

@@ -15,6 +15,7 @@ use std::test::Fail;
 use std::thread;
 use world_tests::{Relay, link};
 
+/// The wiring of four actors in a line.
 pub fn line_wiring(alloc: Global) -> Result<Wiring, AllocError>
     ensures { IfOk result (λ w. w ≡ in_line) }
 {

@@ -1,5 +1,5 @@
 -- What the parts of an end are: each of some places, and how many frames a host sends.
-use Rattle.std.proofs.Common.{◌≡◌, ℕ, zero, suc, ◌+◌, ◌<◌, List, [], ◌∷◌, length, get_or, map, filter, length-append, sym, ap, ◌∙◌, arith}
+use Rattle.std.proofs.Common.{◌≡◌, ℕ, suc, ◌+◌, ◌<◌, List, [], ◌∷◌, length, get_or, map, filter, length-append, sym, ap, ◌∙◌, arith}
 use Rattle.std.specs.Prelude.{count_by, ◌==◌}
 use Rattle.std.proofs.lemmas.List.{length-map}
 use Rattle.std.proofs.lemmas.List.Sums.{length-filter}
@@ -13,11 +13,6 @@ use Rattle.sl_model.specs.Setup.{Setup, frames_of}
 pub each_of_places : (P : ℕ → Type 0) (xs : List ℕ) → ((k : ℕ) → k < length xs → P (get_or xs k 0)) → Each P xs
 each_of_places P [] h = tt
 each_of_places P (x ∷ xs) h = (h 0 (omega arith), each_of_places P xs (λ k p. h (suc k) (omega (arith, p))))
-
-pub places_of_each : (P : ℕ → Type 0) (xs : List ℕ) (k : ℕ) → Each P xs → k < length xs → P (get_or xs k 0)
-places_of_each P [] k h p = absurd (omega (arith, p))
-places_of_each P (x ∷ xs) zero h p = h.0
-places_of_each P (x ∷ xs) (suc k) h p = places_of_each P xs k h.1 (omega (arith, p))
 
 pub frames_counted : (s : Setup) (host : ℕ) (xs : List Packet) (rs : List RawPart) (n k : ℕ) → xs ≡ packets_of s.flows host → n ≡ length xs → rs ≡ s.raws
     → k ≡ count_by (λ r. r.from == host) rs → n + k ≡ length (frames_of s host)

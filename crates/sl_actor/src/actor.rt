@@ -12,15 +12,13 @@ ghost use Rattle.sl_actor.specs.Rows.{IsFilled};
 ghost use Rattle.sl_actor.specs.Waiting.{AreSpare, views};
 
 use crate::moved::Moved;
-use crate::neighbours::Neighbours;
 use crate::outs::Outs;
 use crate::part::OutPart;
-use crate::roster::Roster;
 use crate::rows::Row;
-use crate::sleeper::Sleeper;
 use crate::steps::{moved, next_number, note};
 use sl_link::TakeEnd;
 use sl_machine::{Machine, Memory, Outputs};
+use sl_sleep::{Neighbours, Roster, Sleeper};
 use std::alloc::Global;
 use std::sync::{Arc, Wait};
 

@@ -12,13 +12,12 @@ ghost use Rattle.sl_actor.specs.Held.{held};
 ghost use Rattle.sl_actor.specs.Rows.{AreSuch, IsFilled};
 
 use crate::actor::Actor;
-use crate::neighbours::Neighbours;
 use crate::part::OutPart;
-use crate::roster::Roster;
 use crate::rows::{Row, empty_rows, fill_at};
 use sl_link::{TakeEnd, make_link};
 use sl_loss::Loss;
 use sl_machine::{Link, Machine, Memory, Wiring};
+use sl_sleep::{Neighbours, Roster};
 use std::alloc::Global;
 use std::collections::VecDeque;
 

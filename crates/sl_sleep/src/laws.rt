@@ -1,8 +1,8 @@
 // Laws of how actors wake one another.
 ghost use Rattle.std.specs.Prelude.{◌≡◌, ◌<◌, ℕ, List, true};
-ghost use Rattle.sl_actor.specs.Awake as count;
-ghost use Rattle.sl_actor.specs.Wakes.{Ends, Act, begun, after_all, AreAllowed, LosesNoWakeUp};
-ghost use Rattle.sl_actor.specs.Wakes.{HoldsNothingBack};
+ghost use Rattle.sl_sleep.specs.Awake as count;
+ghost use Rattle.sl_sleep.specs.Wakes.{Ends, Act, begun, after_all, AreAllowed, LosesNoWakeUp};
+ghost use Rattle.sl_sleep.specs.Wakes.{HoldsNothingBack};
 
 /// No wake-up is lost, by whatever acts of any number of actors in any order. Where an actor sleeps that
 /// nobody has woken, a link from a sender that sleeps too, or has ended, holds no message for it (`told`); and

@@ -1,7 +1,7 @@
 -- No wake-up is lost, act by act.
 use Rattle.std.proofs.Common.{◌≡◌, ◌≢◌, ◌+◌, ◌-◌, ◌<◌, ◌==◌, ◌⊎◌, inl, inr, ⊎_elim, ℕ, Bool, true, false, true≢false, List, [], ◌∷◌, if◌then◌else◌, refl, sym, ap, ◌∙◌, subst, eq-eqb, ne_eqb, arith}
 use Rattle.std.proofs.lemmas.Bool.{cases_eq}
-use Rattle.sl_actor.specs.Wakes.{Ends, Beds, Act, Put, Ask, Wake, LieDown, Sleep, GetUp, End, Begin, Rouse, FindEmpty, Take, HoldBack, PutAll, Mark, MeetFull, SeeNoMark, TakeMark, AskSender, WakeSender, at, IsAllowed, after, after_all, AreAllowed, begun, IsStill, OwesNothing, LosesNoWakeUp, HoldsNothingBack}
+use Rattle.sl_sleep.specs.Wakes.{Ends, Beds, Act, Put, Ask, Wake, LieDown, Sleep, GetUp, End, Begin, Rouse, FindEmpty, Take, HoldBack, PutAll, Mark, MeetFull, SeeNoMark, TakeMark, AskSender, WakeSender, at, IsAllowed, after, after_all, AreAllowed, begun, IsStill, OwesNothing, LosesNoWakeUp, HoldsNothingBack}
 
 module _ {X : Type 0} (i j : ℕ) (x : X) (f : ℕ → X) where
   at_is : j ≡ i → at i x f j ≡ x

@@ -1,7 +1,7 @@
 -- The count is of those awake and of those about to be woken, until all were told to end.
 use Rattle.std.proofs.Common.{◌≡◌, ◌≢◌, ◌+◌, ◌-◌, ◌<◌, ◌≤◌, ◌==◌, ◌⊎◌, inl, inr, ℕ, zero, suc, Bool, true, false, true≢false, List, [], ◌∷◌, if◌then◌else◌, refl, sym, ap, ◌∙◌, eq-eqb, ne_eqb, arith}
 use Rattle.std.proofs.lemmas.Bool.{cases_eq}
-use Rattle.sl_actor.specs.Awake.{Seat, Up, Lies, Called, Sleeps, Woken, Gone, Count, Act, LieDown, GetUp, GetUpCalled, Leave, LeaveCalled, Rise, End, Begin, CountIn, WakeLying, WakeSleeping, GiveBack, TellAll, Rouse, put, Is, IsAllowed, after, after_all, AreAllowed, begun, AreAtRest}
+use Rattle.sl_sleep.specs.Awake.{Seat, Up, Lies, Called, Sleeps, Woken, Gone, Count, Act, LieDown, GetUp, GetUpCalled, Leave, LeaveCalled, Rise, End, Begin, CountIn, WakeLying, WakeSleeping, GiveBack, TellAll, Rouse, put, Is, IsAllowed, after, after_all, AreAllowed, begun, AreAtRest}
 
 -- how often the count has an actor in
 abbrev weight : Seat → ℕ

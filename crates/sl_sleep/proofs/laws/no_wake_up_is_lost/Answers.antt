@@ -1,5 +1,5 @@
-use Rattle.sl_actor.proofs.WakeLemmas.{none_lost, none_held_back}
-use Rattle.sl_actor.proofs.laws.no_wake_up_is_lost.Goals as goal
+use Rattle.sl_sleep.proofs.WakeLemmas.{none_lost, none_held_back}
+use Rattle.sl_sleep.proofs.laws.no_wake_up_is_lost.Goals as goal
 
 pub returns-clause-told : goal.returns-clause-told
 returns-clause-told c e acts may = none_lost e acts may

@@ -3,17 +3,17 @@ use sl_machine::{Memory, Wiring};
 use std::alloc::Global;
 
 /// The bit of a choice among the news of an actor. Choices 64 apart share one.
-pub fn bit_of(choice: u32) -> u64 {
+pub(crate) fn bit_of(choice: u32) -> u64 {
     1u64 << (choice % 64)
 }
 
 /// The other end of a link.
 #[derive(Clone, Copy)]
-pub struct Neighbour {
-    pub actor: u32,
+pub(crate) struct Neighbour {
+    pub(crate) actor: u32,
     /// The link's bit at its receiver.
-    pub bit: u64,
-    pub link: usize,
+    pub(crate) bit: u64,
+    pub(crate) link: usize,
 }
 
 /// The neighbours of the actors of a wiring.
@@ -58,12 +58,12 @@ impl Neighbours {
     }
 
     /// The sender of each incoming link of an actor.
-    pub fn senders_of(&self, alloc: Global, actor: u32) -> Result<Vec<Neighbour>, Memory> {
+    pub(crate) fn senders_of(&self, alloc: Global, actor: u32) -> Result<Vec<Neighbour>, Memory> {
         row_at(alloc, &self.senders, actor as usize)
     }
 
     /// The receiver of each outgoing link of an actor.
-    pub fn receivers_of(&self, alloc: Global, actor: u32) -> Result<Vec<Neighbour>, Memory> {
+    pub(crate) fn receivers_of(&self, alloc: Global, actor: u32) -> Result<Vec<Neighbour>, Memory> {
         row_at(alloc, &self.receivers, actor as usize)
     }
 }

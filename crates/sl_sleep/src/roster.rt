@@ -101,7 +101,7 @@ impl Roster {
     }
 
     /// A run of an actor begins, its first or a later one (`Begin`).
-    pub fn count_in(&self, is_first: bool) {
+    pub(crate) fn count_in(&self, is_first: bool) {
         if is_first {
             // until now it was counted as one whose run has not begun, so this is no act of the count
             self.begun.fetch_add(1, SeqCst);
@@ -112,12 +112,12 @@ impl Roster {
     }
 
     /// Whether nothing moves any more.
-    pub fn is_over(&self) -> bool {
+    pub(crate) fn is_over(&self) -> bool {
         self.is_over.load(SeqCst)
     }
 
     /// Tells an actor that something was put on the link with this bit (2).
-    pub fn tell(&self, actor: u32, bit: u64) {
+    pub(crate) fn tell(&self, actor: u32, bit: u64) {
         if let Some(bed) = self.beds.get(actor as usize)
             && bed.news.load(SeqCst) & bit == 0
         {
@@ -126,7 +126,7 @@ impl Roster {
     }
 
     /// What an actor was told since it last asked. It looks at its links after that.
-    pub fn take_news(&self, actor: u32) -> u64 {
+    pub(crate) fn take_news(&self, actor: u32) -> u64 {
         match self.beds.get(actor as usize) {
             Some(bed) if bed.news.load(SeqCst) != 0 => bed.news.swap(0, SeqCst),
             _ => 0,
@@ -134,21 +134,21 @@ impl Roster {
     }
 
     /// An actor is about to sleep (4, `LieDown`).
-    pub fn lie_down(&self, actor: u32) {
+    pub(crate) fn lie_down(&self, actor: u32) {
         if let Some(bed) = self.beds.get(actor as usize) {
             bed.state.store(ASLEEP, SeqCst);
         }
     }
 
     /// The sender of a link waits for room on it (5, `Mark`).
-    pub fn await_room(&self, link: usize) {
+    pub(crate) fn await_room(&self, link: usize) {
         if let Some(is_awaited) = self.awaited.get(link) {
             is_awaited.store(true, SeqCst);
         }
     }
 
     /// An actor that was about to sleep stays awake (`GetUp`; on the count `GetUpCalled` where it was woken).
-    pub fn get_up(&self, actor: u32) {
+    pub(crate) fn get_up(&self, actor: u32) {
         if let Some(bed) = self.beds.get(actor as usize)
             && bed.state.swap(AWAKE, SeqCst) == AWAKE
         {
@@ -158,7 +158,7 @@ impl Roster {
     }
 
     /// A link was found empty: its sender is woken, where it waits for that (8).
-    pub fn found_empty(&self, link: usize, sender: u32) {
+    pub(crate) fn found_empty(&self, link: usize, sender: u32) {
         if let Some(is_awaited) = self.awaited.get(link)
             // `SeeNoMark`, where it is false
             && is_awaited.load(SeqCst)
@@ -170,7 +170,7 @@ impl Roster {
     }
 
     /// Wakes an actor, where it sleeps (3 and 9; also for a link that is full, `Rouse`).
-    pub fn wake(&self, actor: u32) {
+    pub(crate) fn wake(&self, actor: u32) {
         if let Some(bed) = self.beds.get(actor as usize)
             // `Ask` or `AskSender`, where it is awake
             && bed.state.load(SeqCst) != AWAKE
@@ -189,7 +189,7 @@ impl Roster {
 
     /// One less is awake (6; `Leave`, `LeaveCalled` where it was woken, `End` or `GiveBack`). Where it was the
     /// last, nothing moves any more.
-    pub fn leave(&self) {
+    pub(crate) fn leave(&self) {
         if self.awake.fetch_sub(1, SeqCst) == 1 {
             self.wake_all();
         }
@@ -208,7 +208,7 @@ impl Roster {
     /// An actor sleeps until it is woken, or some time has passed (6 and 7, `Sleep`; then `GetUp`, on the
     /// count `Rise`). Where in this time no run began although some are to begin, these come behind this
     /// one, or never, and nobody sleeps any more.
-    pub fn sleep<R: Wait>(&self, rt: &R, actor: u32) {
+    pub(crate) fn sleep<R: Wait>(&self, rt: &R, actor: u32) {
         let begun = self.begun.load(SeqCst);
         let have_all = begun >= self.beds.len() as u64;
         let most = if have_all { LONGEST } else { PATIENCE };

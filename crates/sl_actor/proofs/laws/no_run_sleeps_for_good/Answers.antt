@@ -1,5 +1,0 @@
-use Rattle.sl_actor.proofs.AwakeLemmas.{all_told}
-use Rattle.sl_actor.proofs.laws.no_run_sleeps_for_good.Goals as goal
-
-pub returns : goal.returns
-returns c n acts some may rest = all_told n acts some may rest

@@ -1,0 +1,2 @@
+mod WakeLemmas
+mod AwakeLemmas

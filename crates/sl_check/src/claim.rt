@@ -6,7 +6,7 @@ ghost use Rattle.sl_check.specs.Claim.{IsClaim, IsTrace};
 use crate::laws::spellings_are_lines;
 use crate::lines::{part_at, split_line};
 use crate::script::read_script;
-use crate::spellings::all_spelled;
+use crate::spellings::{all_spelled, places_of};
 use sl_machine::Memory;
 use sl_net::Net;
 use std::alloc::{AllocError, Global};
@@ -36,7 +36,8 @@ fn read_trace(alloc: Global, net: &Net, text: &[u8]) -> Result<Option<Vec<(u32, 
         return Ok(None);
     };
     let spelled = all_spelled(alloc, net)?;
-    let Some(schedule) = read_script(alloc, net, spelled.as_slice(), script)? else {
+    let places = places_of(alloc, spelled.as_slice())?;
+    let Some(schedule) = read_script(alloc, net, spelled.as_slice(), &places, script)? else {
         return Ok(None);
     };
     let words = count_words(alloc, schedule.len())?;

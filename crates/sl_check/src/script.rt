@@ -4,7 +4,7 @@ ghost use Rattle.std.specs.List.{All};
 ghost use Rattle.sl_check.specs.Spellings.{SpellsLines, IsSpelled, IsScript};
 
 use crate::lines::split_line;
-use crate::spellings::{Spelled, find_spelled};
+use crate::spellings::{Places, Spelled, find_spelled};
 use sl_machine::Memory;
 use sl_net::Net;
 use std::alloc::Global;
@@ -14,6 +14,7 @@ pub fn read_script(
     alloc: Global,
     net: &Net,
     spelled: &[Spelled],
+    places: &Places,
     text: &[u8],
 ) -> Result<Option<Vec<(u32, u32)>>, Memory>
     requires spelled { All (IsSpelled net.now) spelled.now }
@@ -25,7 +26,7 @@ pub fn read_script(
     let mut entries = Vec::new(alloc);
     let mut rest = text;
     while let Some((line, next)) = split_line(rest) {
-        let Some(entry) = find_spelled(alloc, net, spelled, line)? else {
+        let Some(entry) = find_spelled(alloc, net, spelled, places, line)? else {
             return Ok(None);
         };
         entries.push(entry)?;

@@ -8,6 +8,7 @@ ghost use Rattle.sl_check.specs.Spellings.{IsSpelled, FindsTurn};
 use sl_machine::Memory;
 use sl_net::{Line, Net, choice_text};
 use std::alloc::Global;
+use std::collections::HashMap;
 
 /// A choice with its spelling.
 #[derive(Drop)]
@@ -38,7 +39,7 @@ fn add_choices(
     Ok(())
 }
 
-/// The choices of a net in the order of their spellings.
+/// The choices of a net with their spellings.
 pub fn all_spelled(alloc: Global, net: &Net) -> Result<Vec<Spelled>, Memory>
     ensures { IfOk result (λ spelled. All (IsSpelled net.now) spelled.items) }
 {
@@ -46,10 +47,19 @@ pub fn all_spelled(alloc: Global, net: &Net) -> Result<Vec<Spelled>, Memory>
     for actor in 0..net.actors().len() as u32 {
         add_choices(alloc, net, &mut spelled, actor)?;
     }
-    spelled.sort_by(|a: &Spelled, b: &Spelled| {
-        a.text.items.as_slice().cmp(b.text.items.as_slice())
-    })?;
     Ok(spelled)
+}
+
+/// The places of a list by their spellings.
+pub type Places = HashMap<Vec<u8>, usize>;
+
+/// The place of each spelling in a list.
+pub fn places_of(alloc: Global, spelled: &[Spelled]) -> Result<Places, Memory> {
+    let mut places = HashMap::new(alloc);
+    for (place, one) in spelled.iter().enumerate() {
+        places.insert(one.text.items.clone()?, place)?;
+    }
+    Ok(places)
 }
 
 /// The choice of an actor with this spelling.
@@ -71,7 +81,7 @@ fn find_at(alloc: Global, net: &Net, actor: u32, text: &[u8]) -> Result<Option<u
     Ok(None)
 }
 
-/// The choice with this spelling, where the sorted list doesn't have it.
+/// The choice with this spelling, where the table doesn't have it.
 fn find_slowly(alloc: Global, net: &Net, text: &[u8]) -> Result<Option<(u32, u32)>, Memory>
     ensures { IfOk result (λ found. FindsTurn net.now text.now found) }
 {
@@ -83,23 +93,13 @@ fn find_slowly(alloc: Global, net: &Net, text: &[u8]) -> Result<Option<(u32, u32
     Ok(None)
 }
 
-/// Where the sorted list has a spelling.
-fn place_of(spelled: &[Spelled], text: &[u8]) -> Option<usize>
-    ensures { IfSome result (λ i. i < length spelled.now) }
-{
-    match spelled.binary_search_by(|s: &Spelled| s.text.items.as_slice().cmp(text)) {
-        Ok(place) => Some(place),
-        Err(_) => None,
-    }
-}
-
-/// The choice of the sorted list with this spelling.
-fn find_sorted(spelled: &[Spelled], text: &[u8]) -> Option<(u32, u32)>
+/// The choice of the list with this spelling, where the table has it.
+fn find_listed(spelled: &[Spelled], places: &Places, text: &[u8]) -> Option<(u32, u32)>
     ensures { IfSome result (λ e. (net : Net) → All (IsSpelled net) spelled.now
         → HasChoice net e.0 e.1 × (choice_text net e.0 e.1 ≡ text.now)) }
 {
-    let place = place_of(spelled, text)?;
-    let found = &spelled[place];
+    let place = *places.get(text)?;
+    let found = spelled.get(place)?;
     if found.text.items.as_slice() == text {
         Some((found.actor, found.choice))
     } else {
@@ -107,18 +107,19 @@ fn find_sorted(spelled: &[Spelled], text: &[u8]) -> Option<(u32, u32)>
     }
 }
 
-/// The choice with this spelling. The list is in the order of its spellings; where it weren't, the
+/// The choice with this spelling. The table has the places of the list; where it had others, the
 /// answer would be the same, and take longer.
 pub fn find_spelled(
     alloc: Global,
     net: &Net,
     spelled: &[Spelled],
+    places: &Places,
     text: &[u8],
 ) -> Result<Option<(u32, u32)>, Memory>
     requires { All (IsSpelled net.now) spelled.now }
     ensures { IfOk result (λ found. FindsTurn net.now text.now found) }
 {
-    match find_sorted(spelled, text) {
+    match find_listed(spelled, places, text) {
         Some(entry) => Ok(Some(entry)),
         None => find_slowly(alloc, net, text),
     }

@@ -13,9 +13,9 @@ returns-in_default-2-clause-none c = λ es t.
 pub returns-then-eq-clause-read : goal.returns-then-eq-clause-read
 returns-then-eq-clause-read c = trace_read c.args.net.now c.args.text.now c.in-Some.count.now c.in-Some.script.now c.in-Some-2.schedule.items c.in-Some.ensures.split
     (rw c.in-Some-2.is at c.in_ok-schedule.ensures.read)
-    (let t = (slice_eq-Decides Decides-eqb c.as_slice-2.result.now c.in-Some.count.now c.eq.result c.eq.ensures).0 c.if-eq.true in cc (t, c.in_ok-words.ensures, c.as_slice-2.ensures.value, c.len.ensures))
+    (let t = (slice_eq-Decides Decides-eqb c.as_slice-3.result.now c.in-Some.count.now c.eq.result c.eq.ensures).0 c.if-eq.true in cc (t, c.in_ok-words.ensures, c.as_slice-3.ensures.value, c.len.ensures))
 
 pub returns-clause-none : goal.returns-clause-none
 returns-clause-none c = λ es. other_count c.args.net.now c.args.text.now c.in-Some.count.now c.in-Some.script.now c.in-Some-2.schedule.items es
     c.spellings_are_lines.ensures c.in-Some.ensures.line c.in-Some.ensures.split (rw c.in-Some-2.is at c.in_ok-schedule.ensures.read)
-    (λ e. let t = (slice_eq-Decides Decides-eqb c.as_slice-2.result.now c.in-Some.count.now c.eq.result c.eq.ensures).1 (cc (e, c.in_ok-words.ensures, c.as_slice-2.ensures.value, c.len.ensures)) in let f = c.if-eq.false in cc)
+    (λ e. let t = (slice_eq-Decides Decides-eqb c.as_slice-3.result.now c.in-Some.count.now c.eq.result c.eq.ensures).1 (cc (e, c.in_ok-words.ensures, c.as_slice-3.ensures.value, c.len.ensures)) in let f = c.if-eq.false in cc)

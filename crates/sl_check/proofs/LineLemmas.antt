@@ -1,7 +1,7 @@
 -- A text has one first line that is a mark.
-use Rattle.std.proofs.Common.{◌≡◌, ℕ, zero, suc, ◌+◌, ◌<◌, List, [], ◌∷◌, ◌++◌, length, length-append, get_or, take, refl, sym, ap, subst, ◌∙◌, arith, append_assoc}
+use Rattle.std.proofs.Common.{◌≡◌, ℕ, ◌+◌, List, [], ◌∷◌, ◌++◌, length, length-append, take, refl, sym, ap, ◌∙◌, append_assoc}
 use Rattle.std.specs.Prelude.{codes}
-use Rattle.std.proofs.Math.Seq.{take-nil, take-append_seam}
+use Rattle.std.proofs.Math.Seq.{take-append_seam}
 use Rattle.std.proofs.lemmas.List.{append-nil}
 use Rattle.sl_parts.specs.Lists.{Each}
 use Rattle.sl_check.specs.Lines.{IsLine, lines_text, PartsAt}
@@ -67,12 +67,6 @@ pub record Passed (mark text : List ℕ) (at : ℕ) (rest : List ℕ) : Type 0 w
   pub none : Each (λ line. line ≡ mark → ⊥) lines
   pub at_is : at ≡ length (lines_text lines)
   pub whole : text ≡ lines_text lines ++ rest
-
--- no newline stands before this place
-pub line_before : (text : List ℕ) (n : ℕ) → ((k : ℕ) → k < n → get_or text k 0 ≡ 10 → ⊥) → IsLine (take n text)
-line_before [] n h = subst IsLine (sym (take-nil n)) tt
-line_before (b ∷ text) zero h = tt
-line_before (b ∷ text) (suc n) h = (h 0 (omega arith), line_before text n (λ k p. h (suc k) (omega (arith, p))))
 
 pub part_here : (mark text : List ℕ) (at : ℕ) (rest line next : List ℕ) → Passed mark text at rest → rest ≡ line ++ (codes "\n" ++ next) → line ≡ mark
     → PartsAt mark text (take at text) next

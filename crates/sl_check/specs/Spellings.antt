@@ -1,21 +1,15 @@
 -- The spellings of the choices of a net.
 --     SpellsLines net       each is a line
---     IsSpelled net s       a choice beside its spelling
 --     FindsTurn net text t  a turn with this spelling, or none where no choice has it
 --     IsScript net text es  the text has the spellings of these turns, a line each
 use Rattle.std.specs.Prelude.{◌≡◌, ℕ, List, map, Option, Some, None}
 use Rattle.std.specs.List.{All}
 use Rattle.sl_layout.specs.Net.{Net}
 use Rattle.sl_net.specs.Spelling.{choice_text, HasChoice}
-use Rattle.sl_check.specs.declared.spellings.Spelled.{Spelled}
 use Rattle.sl_check.specs.Lines.{IsLine, lines_text}
 
 abbrev pub SpellsLines : Net → Type 0
 SpellsLines net = (a c : ℕ) → HasChoice net a c → IsLine (choice_text net a c)
-
-pub record IsSpelled (net : Net) (s : Spelled) : Type 0 where
-  pub choice : HasChoice net s.actor s.choice
-  pub text : s.text ≡ choice_text net s.actor s.choice
 
 abbrev pub IsTurn : Net → ℕ × ℕ → Type 0
 IsTurn net e = HasChoice net e.0 e.1

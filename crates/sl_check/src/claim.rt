@@ -6,9 +6,10 @@ ghost use Rattle.sl_check.specs.Claim.{IsClaim, IsTrace};
 use crate::laws::spellings_are_lines;
 use crate::lines::{part_at, split_line};
 use crate::script::read_script;
-use crate::spellings::{all_spelled, places_of};
+use crate::spellings::places_of;
 use sl_machine::Memory;
 use sl_net::Net;
+use sl_report::all_spelled;
 use std::alloc::{AllocError, Global};
 
 /// A report, and a schedule whose trace follows it.

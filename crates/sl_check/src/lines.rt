@@ -2,18 +2,16 @@
 ghost use Rattle.std.specs.Prelude.{◌≡◌, ◌++◌, ◌+◌, List, ℕ, IfSome, IfNone, codes};
 ghost use Rattle.sl_check.specs.Lines.{IsLine, PartsAt};
 
+use memchr::memchr;
+
 /// The first line of a text and what follows it, or none where there is no newline.
 pub fn split_line(text: &[u8]) -> Option<(&[u8], &[u8])>
     ensures line { IfSome result (λ p. IsLine p.0.now) }
     ensures split { IfSome result (λ p. text.now ≡ p.0.now ++ (codes "\n" ++ p.1.now)) }
     ensures none { IfNone result (IsLine text.now) }
 {
-    for (i, byte) in text.iter().enumerate() {
-        if *byte == b'\n' {
-            return Some((&text[..i], &text[i + 1..]));
-        }
-    }
-    None
+    let end = memchr(b'\n', text)?;
+    Some((&text[..end], &text[end + 1..]))
 }
 
 /// What stands before the first line that is exactly the mark, and what follows it.

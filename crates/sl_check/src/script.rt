@@ -1,12 +1,14 @@
 // Texts that have a spelling in each line.
 ghost use Rattle.std.specs.Prelude.{ℕ, List, IfOk, IfSome, IfNone};
 ghost use Rattle.std.specs.List.{All};
-ghost use Rattle.sl_check.specs.Spellings.{SpellsLines, IsSpelled, IsScript};
+ghost use Rattle.sl_report.specs.Spelled.{IsSpelled};
+ghost use Rattle.sl_check.specs.Spellings.{SpellsLines, IsScript};
 
 use crate::lines::split_line;
-use crate::spellings::{Places, Spelled, find_spelled};
+use crate::spellings::{Places, find_spelled};
 use sl_machine::Memory;
 use sl_net::Net;
+use sl_report::Spelled;
 use std::alloc::Global;
 
 /// The turns whose spellings are the lines of a text, or none where it is no such text.

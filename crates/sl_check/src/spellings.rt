@@ -3,52 +3,14 @@ ghost use Rattle.std.specs.Prelude.{◌≡◌, ℕ, ◌<◌, OnOk, IfOk, IfSome,
 ghost use Rattle.std.specs.List.{All};
 ghost use Rattle.sl_layout.specs.Net.{Net};
 ghost use Rattle.sl_net.specs.Spelling.{choice_text, HasChoice};
-ghost use Rattle.sl_check.specs.Spellings.{IsSpelled, FindsTurn};
+ghost use Rattle.sl_report.specs.Spelled.{IsSpelled};
+ghost use Rattle.sl_check.specs.Spellings.{FindsTurn};
 
 use sl_machine::Memory;
-use sl_net::{Line, Net, choice_text};
+use sl_net::{Net, choice_text};
+use sl_report::Spelled;
 use std::alloc::Global;
 use std::collections::HashMap;
-
-/// A choice with its spelling.
-#[derive(Drop)]
-pub struct Spelled {
-    pub text: Line,
-    pub actor: u32,
-    pub choice: u32,
-}
-
-fn add_choices(
-    alloc: Global,
-    net: &Net,
-    spelled: &mut Vec<Spelled>,
-    actor: u32,
-) -> Result<(), Memory>
-    requires { actor < length net.now.actors }
-    ensures { OnOk result (All (IsSpelled net.now) spelled.old.items
-        → All (IsSpelled net.now) spelled.new.items) }
-{
-    for choice in 0..net.choice_count(actor) {
-        let text = choice_text(alloc, net, actor, choice)?;
-        spelled.push(Spelled {
-            text,
-            actor,
-            choice,
-        })?;
-    }
-    Ok(())
-}
-
-/// The choices of a net with their spellings.
-pub fn all_spelled(alloc: Global, net: &Net) -> Result<Vec<Spelled>, Memory>
-    ensures { IfOk result (λ spelled. All (IsSpelled net.now) spelled.items) }
-{
-    let mut spelled = Vec::new(alloc);
-    for actor in 0..net.actors().len() as u32 {
-        add_choices(alloc, net, &mut spelled, actor)?;
-    }
-    Ok(spelled)
-}
 
 /// The places of a list by their spellings.
 pub type Places = HashMap<Vec<u8>, usize>;
